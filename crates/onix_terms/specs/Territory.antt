@@ -1,0 +1,79 @@
+-- Territories: which texts write one, and which countries lie in it.
+use Rattle.std.specs.Prelude.{ℕ, List, [], ◌∷◌, Bool, true, false, Option, Some, None, ◌&&◌, ◌||◌, ◌==◌, nat_lt, fold, if◌then◌else◌, option_map, Result, Ok, Err, ◌≡◌, ◌⊎◌, length, codes, Contains, IsTrue}
+use Rattle.std.specs.Char.{is_ascii_uppercase}
+use Rattle.std.specs.Str.{bytes_eq}
+use Rattle.onix_terms.specs.declared.territory.Territory.{Territory}
+use Rattle.onix_terms.specs.declared.territory.TermFault.{TermFault}
+use Rattle.onix_terms.specs.declared.territory.TermFault.TheVariants as fault
+
+infixl 10 ◌>>=◌
+-- what f makes of a value, if there is one
+abbrev pub ◌>>=◌ : {A B : Type 0} → Option A → (A → Option B) → Option B
+None >>= f = None
+(Some x) >>= f = f x
+
+-- a code ends at a space or at the end
+abbrev pub ends_code : List ℕ → Bool
+ends_code [] = true
+ends_code (b ∷ rest) = b == 32
+
+-- the codes of a text, in the order in which they stand: two letters each, with spaces between them and at the ends
+unfoldable pub codes_in : List ℕ → Option (List (List ℕ))
+codes_in [] = Some []
+codes_in (a ∷ []) = if a == 32 then Some [] else None
+codes_in (a ∷ b ∷ rest) =
+    if a == 32 then codes_in (b ∷ rest)
+    else if is_ascii_uppercase a && is_ascii_uppercase b && ends_code rest then option_map (λ codes. (a ∷ b ∷ []) ∷ codes) (codes_in rest)
+    else None
+
+-- x comes before y in the order of bytes
+abbrev pub comes_before : List ℕ → List ℕ → Bool
+comes_before [] [] = false
+comes_before [] (y ∷ ys) = true
+comes_before (x ∷ xs) [] = false
+comes_before (x ∷ xs) (y ∷ ys) = nat_lt x y || ((x == y) && comes_before xs ys)
+
+-- a code in its place among codes in order, once
+unfoldable pub with_code : List (List ℕ) → List ℕ → List (List ℕ)
+with_code [] code = code ∷ []
+with_code (x ∷ xs) code =
+    if bytes_eq code x then x ∷ xs
+    else if comes_before code x then code ∷ x ∷ xs
+    else x ∷ with_code xs code
+
+-- codes in order, without repeats
+abbrev pub in_order : List (List ℕ) → List (List ℕ)
+in_order codes = fold with_code [] codes
+
+-- a list that is not empty
+abbrev pub nonempty : {A : Type 0} → List A → Option (List A)
+nonempty [] = None
+nonempty (x ∷ xs) = Some (x ∷ xs)
+
+-- the countries of a field that is empty or has a code
+abbrev pub countries_of : List ℕ → Option (List (List ℕ))
+countries_of [] = Some []
+countries_of (b ∷ bs) = option_map in_order (codes_in (b ∷ bs)) >>= nonempty
+
+-- whether a field of regions names the world
+abbrev pub world_of : List ℕ → Option Bool
+world_of [] = Some false
+world_of (b ∷ bs) = if bytes_eq (b ∷ bs) (codes "WORLD") then Some true else None
+
+-- the territory of CountriesIncluded, RegionsIncluded and CountriesExcluded. It is the world too where nothing is included
+abbrev pub territory_of : List ℕ → List ℕ → List ℕ → Option Territory
+territory_of included regions excluded = do
+  i ← countries_of included
+  w ← world_of regions
+  e ← countries_of excluded
+  Some (record { included = i; world = w || ((length included == 0) && (length regions == 0)); excluded = e })
+
+-- not excluded, and either the territory is the world or it includes the country
+abbrev pub IsIn : List ℕ → Territory → Type 0
+IsIn country t = (Contains t.excluded country → ⊥) × (IsTrue t.world ⊎ Contains t.included country)
+
+-- a call gave what reading gives, unless memory ran out
+abbrev pub Gives : {A : Type 0} → Result A TermFault → Option A → Type 0
+Gives (Ok x) read = read ≡ Some x
+Gives (Err fault.NotATerm) read = read ≡ None
+Gives (Err fault.Memory) read = Unit {0}

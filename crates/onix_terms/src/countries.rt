@@ -1,0 +1,122 @@
+// The fields of a territory.
+
+ghost use Rattle.std.specs.Prelude.{◌≡◌, ℕ, List, IfOk, fold, option_map};
+ghost use Rattle.onix_terms.specs.CodeText.{BeginsWith};
+ghost use Rattle.onix_terms.specs.Territory.{Gives, codes_in, comes_before, countries_of, ends_code, in_order, with_code, world_of};
+
+use crate::code::Country;
+use crate::items::Items;
+use crate::territory::TermFault;
+use std::alloc::{AllocError, Global};
+
+// Whether two letters come before two others.
+fn is_before(code: [u8; 2], other: [u8; 2]) -> bool
+    ensures { result ≡ comes_before code other }
+{
+    let [a, b] = code;
+    let [x, y] = other;
+    a < x || (a == x && b < y)
+}
+
+// The codes with one more, in its place.
+#[tactic(auto, unfolding(crate::specs::Territory::with_code))]
+fn add_code(mut codes: Items<Country>, code: Country) -> Result<Items<Country>, AllocError>
+    ensures { IfOk result (λ new. new ≡ with_code codes code) }
+{
+    for i in 0..codes.as_slice().len() {
+        let other = codes.as_slice()[i];
+        if code.letters() == other.letters() {
+            return Ok(codes);
+        }
+        if is_before(code.letters(), other.letters()) {
+            codes.insert(i, code)?;
+            return Ok(codes);
+        }
+    }
+    codes.push(code)?;
+    Ok(codes)
+}
+
+fn is_code_end(rest: &[u8]) -> bool
+    ensures { result ≡ ends_code rest.now }
+{
+    match rest {
+        [] => true,
+        [b, ..] => *b == b' ',
+    }
+}
+
+/// What a text begins with.
+#[derive(Clone, Copy)]
+enum Next<'a> {
+    Nothing,
+    Space(&'a [u8]),
+    Code([u8; 2], &'a [u8]),
+    Wrong,
+}
+
+// What a text of codes begins with.
+#[tactic(auto, unfolding(crate::specs::Territory::codes_in))]
+fn next_code(text: &[u8]) -> Next<'_>
+    ensures { BeginsWith text.now result }
+{
+    match text {
+        [] => Next::Nothing,
+        [a] => if *a == b' ' { Next::Space(&text[1..]) } else { Next::Wrong },
+        [a, b, more @ ..] => {
+            if *a == b' ' {
+                return Next::Space(&text[1..]);
+            }
+            if a.is_ascii_uppercase() && b.is_ascii_uppercase() && is_code_end(more) {
+                return Next::Code([*a, *b], more);
+            }
+            Next::Wrong
+        }
+    }
+}
+
+// The codes that a text has between its spaces, in order and without repeats.
+fn read_codes(alloc: Global, text: &[u8]) -> Result<Items<Country>, TermFault>
+    ensures { Gives result (option_map in_order (codes_in text.now)) }
+{
+    let mut codes = Items::new(alloc);
+    let mut rest = text;
+    loop {
+        match next_code(rest) {
+            Next::Nothing => return Ok(codes),
+            Next::Space(more) => rest = more,
+            Next::Code(code, more) => {
+                codes = add_code(codes, Country::from_letters(code))?;
+                rest = more;
+            }
+            Next::Wrong => return Err(TermFault::NotATerm),
+        }
+    }
+}
+
+/// The countries of a field that is empty or has a code.
+pub fn read_countries(alloc: Global, text: &str) -> Result<Items<Country>, TermFault>
+    ensures { Gives result (countries_of text.now) }
+{
+    if text.is_empty() {
+        return Ok(Items::new(alloc));
+    }
+    let found = read_codes(alloc, text.as_bytes())?;
+    if found.as_slice().is_empty() {
+        return Err(TermFault::NotATerm);
+    }
+    Ok(found)
+}
+
+/// Whether a field of regions names the world.
+pub fn read_world(text: &str) -> Result<bool, TermFault>
+    ensures { Gives result (world_of text.now) }
+{
+    if text.is_empty() {
+        return Ok(false);
+    }
+    if text == "WORLD" {
+        return Ok(true);
+    }
+    Err(TermFault::NotATerm)
+}

@@ -1,0 +1,65 @@
+ghost use Rattle.std.specs.Prelude.{◌≡◌, ◌↔◌, IsTrue, Contains};
+
+use crate::code::Country;
+use crate::countries::{read_countries, read_world};
+use crate::items::Items;
+use std::alloc::{AllocError, Global};
+
+/// Why fields write no territory.
+#[derive(Debug, Drop)]
+pub enum TermFault {
+    /// They are none.
+    NotATerm,
+    /// Memory ran out.
+    Memory,
+}
+
+impl From<AllocError> for TermFault {
+    ghost use Rattle.onix_terms.specs.declared.territory.TermFault.TheVariants.{Memory};
+
+    ghost from_gives = { λ _ e. e ≡ Memory };
+
+    fn from(_e: AllocError) -> TermFault {
+        TermFault::Memory
+    }
+}
+
+/// Where a price or a market holds: countries by CountriesIncluded, RegionsIncluded and
+/// CountriesExcluded. The lists are in order without repeats.
+#[derive(Debug, Drop)]
+pub struct Territory {
+    pub included: Items<Country>,
+    pub world: bool,
+    pub excluded: Items<Country>,
+}
+
+fn has_country(countries: &[Country], country: Country) -> bool
+    ensures { IsTrue result ↔ Contains countries.now country }
+{
+    countries.iter().any(|c| *c == country)
+}
+
+impl Territory {
+    ghost use Rattle.onix_terms.specs.Territory.{Gives, IsIn, territory_of};
+
+    /// The territory of the three fields. `NotATerm` exactly where they write none.
+    pub fn read(alloc: Global, included: &str, regions: &str, excluded: &str) -> Result<Territory, TermFault>
+        ensures { Gives result (territory_of included.now regions.now excluded.now) }
+    {
+        let includes_none = included.is_empty() && regions.is_empty();
+        let included = read_countries(alloc, included)?;
+        let world = read_world(regions)?;
+        let excluded = read_countries(alloc, excluded)?;
+        Ok(Territory { included, world: world || includes_none, excluded })
+    }
+
+    /// Whether a country lies in the territory.
+    pub fn contains(&self, country: Country) -> bool
+        ensures { IsTrue result ↔ IsIn country self.now }
+    {
+        if has_country(self.excluded.as_slice(), country) {
+            return false;
+        }
+        self.world || has_country(self.included.as_slice(), country)
+    }
+}

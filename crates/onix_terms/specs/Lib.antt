@@ -1,6 +1,11 @@
+pub mod Options
 pub mod Digits
 pub mod Number
+pub mod Quantity
+pub mod Amount
+pub mod Day
 pub mod Code
 pub mod SeriesName
 pub mod Territory
 pub mod CodeText
+pub mod Plain

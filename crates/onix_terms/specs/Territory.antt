@@ -1,16 +1,12 @@
 -- Territories: which texts write one, and which countries lie in it.
 use Rattle.std.specs.Prelude.{ℕ, List, [], ◌∷◌, Bool, true, false, Option, Some, None, ◌&&◌, ◌||◌, ◌==◌, nat_lt, fold, if◌then◌else◌, option_map, Result, Ok, Err, ◌≡◌, ◌⊎◌, length, codes, Contains, IsTrue}
 use Rattle.std.specs.Char.{is_ascii_uppercase}
+use Rattle.std.specs.List.{AllPairs}
 use Rattle.std.specs.Str.{bytes_eq}
+pub use Rattle.onix_terms.specs.Options.{◌>>=◌}
 use Rattle.onix_terms.specs.declared.territory.Territory.{Territory}
 use Rattle.onix_terms.specs.declared.territory.TermFault.{TermFault}
 use Rattle.onix_terms.specs.declared.territory.TermFault.TheVariants as fault
-
-infixl 10 ◌>>=◌
--- what f makes of a value, if there is one
-abbrev pub ◌>>=◌ : {A B : Type 0} → Option A → (A → Option B) → Option B
-None >>= f = None
-(Some x) >>= f = f x
 
 -- a code ends at a space or at the end
 abbrev pub ends_code : List ℕ → Bool
@@ -44,6 +40,10 @@ with_code (x ∷ xs) code =
 -- codes in order, without repeats
 abbrev pub in_order : List (List ℕ) → List (List ℕ)
 in_order codes = fold with_code [] codes
+
+-- each code comes before all that stand behind it, so none stands there twice
+abbrev pub IsInOrder : List (List ℕ) → Type 0
+IsInOrder codes = AllPairs (λ x y. IsTrue (comes_before x y)) codes
 
 -- a list that is not empty
 abbrev pub nonempty : {A : Type 0} → List A → Option (List A)

@@ -1,8 +1,9 @@
 // Codes of fixed length.
 
-ghost use Rattle.std.specs.Prelude.{◌≡◌, ℕ, List};
+ghost use Rattle.std.specs.Prelude.{◌≡◌, Some};
 ghost use Rattle.onix_terms.specs.Code.{code2_of, country_of, currency_of};
 
+use crate::ascii::{are_capitals, are_digits, text_of};
 use std::marker::Model;
 
 /// A code of an ONIX code list: two digits.
@@ -12,11 +13,14 @@ pub struct Code2 {
 }
 
 impl Model for Code2 {
-    ghost use Rattle.std.specs.Prelude.{ℕ, List};
+    ghost use Rattle.std.specs.Prelude.{ℕ, List, ◌≡◌, Some};
+    ghost use Rattle.onix_terms.specs.Code.{code2_of};
 
     ghost Value = { List ℕ };
 
     ghost view = { λ c. c.bytes };
+
+    ghost invariant = { λ c. code2_of c.bytes ≡ Some c.bytes };
 
     ghost inverse = { λ c. record { bytes = c } };
 }
@@ -26,10 +30,19 @@ impl Code2 {
     pub fn read(text: &str) -> Option<Code2>
         ensures { result ≡ code2_of text.now }
     {
-        match text.as_bytes() {
-            [a, b] if a.is_ascii_digit() && b.is_ascii_digit() => Some(Code2 { bytes: [*a, *b] }),
-            _ => None,
+        let bytes: [u8; 2] = text.as_bytes().try_into().ok()?;
+        if !are_digits(&bytes) {
+            return None;
         }
+        Some(Code2 { bytes })
+    }
+
+    /// Its two digits.
+    pub fn as_str(&self) -> &str
+        ensures text { result.now ≡ self.now }
+        ensures read { code2_of self.now ≡ Some self.now }
+    {
+        text_of(&self.bytes)
     }
 }
 
@@ -40,17 +53,21 @@ pub struct Country {
 }
 
 impl Model for Country {
-    ghost use Rattle.std.specs.Prelude.{ℕ, List};
+    ghost use Rattle.std.specs.Prelude.{ℕ, List, ◌≡◌, Some};
+    ghost use Rattle.onix_terms.specs.Code.{country_of};
 
     ghost Value = { List ℕ };
 
     ghost view = { λ c. c.bytes };
+
+    ghost invariant = { λ c. country_of c.bytes ≡ Some c.bytes };
 
     ghost inverse = { λ c. record { bytes = c } };
 }
 
 impl Country {
     pub(crate) fn from_letters(bytes: [u8; 2]) -> Country
+        requires { country_of bytes ≡ Some bytes }
         ensures { result ≡ bytes }
     {
         Country { bytes }
@@ -66,10 +83,19 @@ impl Country {
     pub fn read(text: &str) -> Option<Country>
         ensures { result ≡ country_of text.now }
     {
-        match text.as_bytes() {
-            [a, b] if a.is_ascii_uppercase() && b.is_ascii_uppercase() => Some(Country { bytes: [*a, *b] }),
-            _ => None,
+        let bytes: [u8; 2] = text.as_bytes().try_into().ok()?;
+        if !are_capitals(&bytes) {
+            return None;
         }
+        Some(Country { bytes })
+    }
+
+    /// Its two letters.
+    pub fn as_str(&self) -> &str
+        ensures text { result.now ≡ self.now }
+        ensures read { country_of self.now ≡ Some self.now }
+    {
+        text_of(&self.bytes)
     }
 }
 
@@ -80,11 +106,14 @@ pub struct Currency {
 }
 
 impl Model for Currency {
-    ghost use Rattle.std.specs.Prelude.{ℕ, List};
+    ghost use Rattle.std.specs.Prelude.{ℕ, List, ◌≡◌, Some};
+    ghost use Rattle.onix_terms.specs.Code.{currency_of};
 
     ghost Value = { List ℕ };
 
     ghost view = { λ c. c.bytes };
+
+    ghost invariant = { λ c. currency_of c.bytes ≡ Some c.bytes };
 
     ghost inverse = { λ c. record { bytes = c } };
 }
@@ -94,9 +123,18 @@ impl Currency {
     pub fn read(text: &str) -> Option<Currency>
         ensures { result ≡ currency_of text.now }
     {
-        match text.as_bytes() {
-            [a, b, c] if a.is_ascii_uppercase() && b.is_ascii_uppercase() && c.is_ascii_uppercase() => Some(Currency { bytes: [*a, *b, *c] }),
-            _ => None,
+        let bytes: [u8; 3] = text.as_bytes().try_into().ok()?;
+        if !are_capitals(&bytes) {
+            return None;
         }
+        Some(Currency { bytes })
+    }
+
+    /// Its three letters.
+    pub fn as_str(&self) -> &str
+        ensures text { result.now ≡ self.now }
+        ensures read { currency_of self.now ≡ Some self.now }
+    {
+        text_of(&self.bytes)
     }
 }

@@ -51,7 +51,7 @@ fn is_code_end(rest: &[u8]) -> bool
 enum Next<'a> {
     Nothing,
     Space(&'a [u8]),
-    Code([u8; 2], &'a [u8]),
+    Code(Country, &'a [u8]),
     Wrong,
 }
 
@@ -68,7 +68,7 @@ fn next_code(text: &[u8]) -> Next<'_>
                 return Next::Space(&text[1..]);
             }
             if a.is_ascii_uppercase() && b.is_ascii_uppercase() && is_code_end(more) {
-                return Next::Code([*a, *b], more);
+                return Next::Code(Country::from_letters([*a, *b]), more);
             }
             Next::Wrong
         }
@@ -86,7 +86,7 @@ fn read_codes(alloc: Global, text: &[u8]) -> Result<Items<Country>, TermFault>
             Next::Nothing => return Ok(codes),
             Next::Space(more) => rest = more,
             Next::Code(code, more) => {
-                codes = add_code(codes, Country::from_letters(code))?;
+                codes = add_code(codes, code)?;
                 rest = more;
             }
             Next::Wrong => return Err(TermFault::NotATerm),

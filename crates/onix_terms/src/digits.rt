@@ -1,24 +1,15 @@
 // Decimal digits.
 
-ghost use Rattle.std.specs.Prelude.{◌≡◌};
-ghost use Rattle.std.specs.Str.{all_ascii_digits};
-ghost use Rattle.onix_terms.specs.Digits.{digits_of};
+ghost use Rattle.std.specs.Prelude.{◌≡◌, ◌<◌, ◌^◌, IfSome, length};
+ghost use Rattle.onix_terms.specs.Digits.{digits_of, two_digits};
 
-// Whether each byte is a digit.
-fn are_digits(text: &[u8]) -> bool
-    ensures { result ≡ all_ascii_digits text.now }
-{
-    for byte in text {
-        if !byte.is_ascii_digit() {
-            return false;
-        }
-    }
-    true
-}
+use crate::ascii::are_digits;
 
 /// The number that 1 to 9 digits write.
 pub fn read_digits(text: &str) -> Option<u32>
-    ensures { result ≡ digits_of text.now }
+    ensures value { result ≡ digits_of text.now }
+    ensures places { IfSome result (λ n. n < 10 ^ length text.now) }
+    ensures below { IfSome result (λ n. n < 1_000_000_000) }
 {
     if text.is_empty() || text.len() > 9 {
         return None;
@@ -29,3 +20,10 @@ pub fn read_digits(text: &str) -> Option<u32>
     text.parse::<u32>().ok()
 }
 
+/// The two digits of a number below 100.
+pub fn two_digits(n: u64) -> [u8; 2]
+    requires { n < 100 }
+    ensures { result ≡ two_digits n }
+{
+    [b'0' + (n / 10) as u8, b'0' + (n % 10) as u8]
+}

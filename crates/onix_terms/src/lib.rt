@@ -2,12 +2,24 @@
 //! the fields of a message may hold, each read from its text and from no other.
 #![tactic(auto)]
 
+use std::alloc::AllocError;
+
+/// Want of memory: a growth was refused.
+pub type Memory = AllocError;
+
+pub mod amount;
+pub mod ascii;
 pub mod code;
 pub mod countries;
+pub mod day;
 pub mod digits;
+pub mod isbn13;
 pub mod items;
+pub mod laws;
 pub mod number;
 pub mod party;
+pub mod plain;
+pub mod quantity;
 pub mod series_name;
 pub mod territory;
 pub mod text;

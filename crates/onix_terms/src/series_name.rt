@@ -1,7 +1,12 @@
-ghost use Rattle.std.specs.Prelude.{◌≡◌, ℕ, List};
+ghost use Rattle.std.specs.Prelude.{◌≡◌, ◌↔◌, IsTrue, Some};
+ghost use Rattle.std.specs.Ordering.{nat_cmp};
+ghost use Rattle.std.specs.declared.cmp.Ordering.TheVariants.{Equal, Less};
+ghost use Rattle.std.specs.Cmp.Lexicographic.{slice_cmp};
 ghost use Rattle.std.specs.List.{list_all};
-ghost use Rattle.onix_terms.specs.SeriesName.{is_name_byte};
+ghost use Rattle.onix_terms.specs.SeriesName.{is_name_byte, series_name_of};
 
+use crate::ascii::text_of;
+use std::cmp::Ordering;
 use std::marker::Model;
 
 /// The name of a series: 1 to 32 characters of `a` to `z`, `0` to `9` and `-`, which contracts
@@ -26,4 +31,49 @@ impl Model for SeriesName {
     ghost inverse = { λ name. record { bytes = padded name; len = length name } };
 
     ghost inverse_ok = { λ a h. rw (h.0, h.1) refl };
+}
+
+impl SeriesName {
+    /// The name that a text is, or `None` where it is none.
+    pub fn read(text: &str) -> Option<SeriesName>
+        ensures { result ≡ series_name_of text.now }
+    {
+        let given = text.as_bytes();
+        if given.is_empty() || given.len() > 32 || !are_name_bytes(given) {
+            return None;
+        }
+        let mut bytes = [0; 32];
+        bytes[..given.len()].copy_from_slice(given);
+        Some(SeriesName { bytes, len: given.len() })
+    }
+
+    /// The name.
+    pub fn as_str(&self) -> &str
+        ensures text { result.now ≡ self.now }
+        ensures read { series_name_of self.now ≡ Some self.now }
+    {
+        text_of(&self.bytes[..self.len])
+    }
+
+    /// The order of the bytes.
+    pub fn compare(&self, other: &SeriesName) -> Ordering
+        ensures order { result ≡ slice_cmp nat_cmp self.now other.now }
+        ensures equal { result ≡ Equal → self.now ≡ other.now }
+    {
+        self.as_str().cmp(other.as_str())
+    }
+
+    /// Whether this name comes before the other in the order of the bytes.
+    pub fn is_before(&self, other: &SeriesName) -> bool
+        ensures { IsTrue result ↔ (slice_cmp nat_cmp self.now other.now ≡ Less) }
+    {
+        self.as_str() < other.as_str()
+    }
+}
+
+// Whether each byte may stand in a name.
+fn are_name_bytes(bytes: &[u8]) -> bool
+    ensures { result ≡ list_all is_name_byte bytes.now }
+{
+    bytes.iter().all(|b| b.is_ascii_lowercase() || b.is_ascii_digit() || *b == b'-')
 }

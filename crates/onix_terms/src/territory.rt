@@ -26,7 +26,7 @@ impl From<AllocError> for TermFault {
 
 /// Where a price or a market holds: countries by CountriesIncluded, RegionsIncluded and
 /// CountriesExcluded. The lists are in order without repeats.
-#[derive(Debug, Drop)]
+#[derive(Clone, Debug, Drop, PartialEq, Eq)]
 pub struct Territory {
     pub included: Items<Country>,
     pub world: bool,

@@ -1,0 +1,134 @@
+-- The ranges of the values that are read.
+use Rattle.std.proofs.Common.{◌≡◌, ℕ, ◌<◌, ◌≤◌, ◌+◌, ◌*◌, ◌^◌, ℤ, List, Bool, true, false, Option, Some, None, refl, sym, ap, subst, arith, length, inl, inr}
+use Rattle.std.specs.Prelude.{◌&&◌, ◌==◌, nat_lt, nat_le, option_map, option_and_then, if◌then◌else◌, decimal}
+use Rattle.std.specs.List.{list_all, position_or_len, before_first, after_first}
+use Rattle.std.specs.Char.{is_ascii_digit}
+use Rattle.std.specs.Str.Parse.{digits_value}
+use Rattle.std.proofs.lemmas.Bool.{ltb-true, leb-true, cases_lt}
+use Rattle.std.proofs.lemmas.Str.Parse.{digits_value_short}
+use Rattle.onix_terms.specs.Options.{◌>>=◌}
+use Rattle.onix_terms.specs.Digits.{digits_of}
+use Rattle.onix_terms.specs.Number.{number_from, number_of}
+use Rattle.onix_terms.specs.Quantity.{quantity_from, quantity_of}
+use Rattle.onix_terms.specs.Amount.{amount_of, thousandths_of, last_digit_worth, is_point}
+use Rattle.onix_terms.specs.Day.{IsDayNumber, day_from, day_at, day_of}
+use Rattle.onix_terms.proofs.AsciiTexts.{both-true}
+use Rattle.onix_terms.proofs.DigitTexts.{own}
+use Rattle.onix_terms.proofs.DayNumbers.{day_at-in_range}
+
+-- what a test that lets a value through says
+record LetsThrough {A : Type 0} (test : Bool) (value found : A) : Type 0 where
+  holds : test ≡ true
+  same : value ≡ found
+
+lets : {A : Type 0} (test : Bool) (value found : A) → (if test then Some value else None) ≡ Some found → LetsThrough test value found
+lets true value found e = record { holds = refl; same = cc }
+lets false value found e = cc
+
+-- what a number of digits is
+record IsBounded (text : List ℕ) (n : ℕ) : Type 0 where
+  some : 0 < length text
+  few : length text ≤ 9
+  places : n < 10 ^ length text
+  below : n < 1_000_000_000
+
+digits-bound : (text : List ℕ) (n : ℕ) → digits_of text ≡ Some n → IsBounded text n
+digits-bound text n e =
+    let through = lets (nat_lt 0 (length text) && nat_le (length text) 9 && list_all is_ascii_digit text) (digits_value 10 text) n e in
+    let tests = both-true (nat_lt 0 (length text) && nat_le (length text) 9) (list_all is_ascii_digit text) through.holds in
+    let sizes = both-true (nat_lt 0 (length text)) (nat_le (length text) 9) tests.0 in
+    let some : 0 < length text = ltb-true 0 (length text) sizes.0 in
+    let few : length text ≤ 9 = leb-true (length text) 9 sizes.1 in
+    let all : list_all is_ascii_digit text ≡ true = tests.1 in
+    record {
+      some = some; few = few;
+      places = subst (λ (v : ℕ). v < 10 ^ length text) through.same (digits_value_short own text (length text) all (omega arith));
+      below = subst (λ (v : ℕ). v < 10 ^ 9) through.same (digits_value_short own text 9 all few);
+    }
+
+-- the value between two steps
+record Between {A B : Type 0} (first : Option A) (second : A → Option B) (found : B) : Type 0 where
+  value : A
+  first_gives : first ≡ Some value
+  second_gives : second value ≡ Some found
+
+between : {A B : Type 0} (first : Option A) (second : A → Option B) (found : B) → (first >>= second) ≡ Some found → Between first second found
+between None second found e = cc
+between (Some value) second found e = record { value = value; first_gives = refl; second_gives = e }
+
+and-then : {A B : Type 0} (first : Option A) (second : A → Option B) (found : B) → option_and_then second first ≡ Some found → Between first second found
+and-then None second found e = cc
+and-then (Some value) second found e = record { value = value; first_gives = refl; second_gives = e }
+
+mapped : {A B : Type 0} (first : Option A) (f : A → B) (found : B) → option_map f first ≡ Some found → Between first (λ a. Some (f a)) found
+mapped None f found e = cc
+mapped (Some value) f found e = record { value = value; first_gives = refl; second_gives = e }
+
+bounded : (n limit found : ℕ) → (if nat_lt 0 n && nat_lt n limit then Some n else None) ≡ Some found → (0 < found) × (found < limit)
+bounded n limit found e =
+    let through = lets (nat_lt 0 n && nat_lt n limit) n found e in
+    let tests = both-true (nat_lt 0 n) (nat_lt n limit) through.holds in
+    subst (λ (v : ℕ). (0 < v) × (v < limit)) through.same (ltb-true 0 n tests.0, ltb-true n limit tests.1)
+
+pub number-range : (text : List ℕ) (n : ℕ) → number_of text ≡ Some n → (0 < n) × (n < 1_000_000_000)
+number-range text n e =
+    let steps = and-then (digits_of text) number_from n e in
+    bounded steps.value 1_000_000_000 n steps.second_gives
+
+quantity-by : (short : Bool) (text : List ℕ) (n : ℕ) → (if short then digits_of text >>= quantity_from else None) ≡ Some n → (0 < n) × (n < 1_000_000)
+quantity-by false text n e = cc
+quantity-by true text n e =
+    let steps = between (digits_of text) quantity_from n e in
+    bounded steps.value 1_000_000 n steps.second_gives
+
+pub quantity-range : (text : List ℕ) (n : ℕ) → quantity_of text ≡ Some n → (0 < n) × (n < 1_000_000)
+quantity-range text n e = quantity-by (nat_le (length text) 6) text n e
+
+-- 1 to 3 digits behind the point are below one
+worth-small : (places n : ℕ) → 0 < places → places ≤ 3 → n < 10 ^ places → n * last_digit_worth places < 1000
+worth-small places n some few small =
+    elim (cases_lt places 2) [
+      | inl less ↦ let one : places ≡ 1 = omega arith in let s = subst (λ (k : ℕ). n < 10 ^ k) one small in subst (λ (k : ℕ). n * last_digit_worth k < 1000) (sym one) (omega (arith, s))
+      | inr more ↦ elim (cases_lt places 3) [
+        | inl less ↦ let two : places ≡ 2 = omega arith in let s = subst (λ (k : ℕ). n < 10 ^ k) two small in subst (λ (k : ℕ). n * last_digit_worth k < 1000) (sym two) (omega (arith, s))
+        | inr last ↦ let three : places ≡ 3 = omega arith in let s = subst (λ (k : ℕ). n < 10 ^ k) three small in subst (λ (k : ℕ). n * last_digit_worth k < 1000) (sym three) (omega (arith, s))
+      ]
+    ]
+
+part-by : (short : Bool) (text : List ℕ) (n : ℕ) → (short ≡ true → length text ≤ 3) → (if short then option_map (λ d. d * last_digit_worth (length text)) (digits_of text) else None) ≡ Some n → n < 1000
+part-by false text n few e = cc
+part-by true text n few e =
+    let steps = mapped (digits_of text) (λ d. d * last_digit_worth (length text)) n e in
+    let bound = digits-bound text steps.value steps.first_gives in
+    let same : steps.value * last_digit_worth (length text) ≡ n = cc (steps.second_gives) in
+    subst (λ (v : ℕ). v < 1000) same (worth-small (length text) steps.value bound.some (few refl) bound.places)
+
+part-range : (text : List ℕ) (n : ℕ) → thousandths_of text ≡ Some n → n < 1000
+part-range text n e = part-by (nat_le (length text) 3) text n (leb-true (length text) 3) e
+
+amount-by : (has : Bool) (before after text : List ℕ) (n : ℕ) →
+    (if has then (digits_of before >>= (λ w. thousandths_of after >>= (λ p. Some (w * 1000 + p)))) else option_map (λ w. w * 1000) (digits_of text)) ≡ Some n → n < 1_000_000_000_000
+amount-by true before after text n e =
+    let first = between (digits_of before) (λ w. thousandths_of after >>= (λ p. Some (w * 1000 + p))) n e in
+    let second = between (thousandths_of after) (λ p. Some (first.value * 1000 + p)) n first.second_gives in
+    let whole = digits-bound before first.value first.first_gives in
+    let part = part-range after second.value second.first_gives in
+    let same : first.value * 1000 + second.value ≡ n = cc (second.second_gives) in
+    omega (arith, whole.below)
+amount-by false before after text n e =
+    let steps = mapped (digits_of text) (λ w. w * 1000) n e in
+    let whole = digits-bound text steps.value steps.first_gives in
+    let same : steps.value * 1000 ≡ n = cc (steps.second_gives) in
+    omega (arith, whole.below)
+
+pub amount-range : (text : List ℕ) (n : ℕ) → amount_of text ≡ Some n → n < 1_000_000_000_000
+amount-range text n e = amount-by (nat_lt (position_or_len is_point text) (length text)) (before_first is_point text) (after_first is_point text) text n e
+
+day-by : (eight : Bool) (text : List ℕ) (day : ℤ) → (if eight then digits_of text >>= day_at else None) ≡ Some day → IsDayNumber day
+day-by false text day e = cc
+day-by true text day e =
+    let steps = between (digits_of text) day_at day e in
+    day_at-in_range steps.value day steps.second_gives
+
+pub day-range : (text : List ℕ) (day : ℤ) → day_of text ≡ Some day → IsDayNumber day
+day-range text day e = day-by (length text == 8) text day e

@@ -1,0 +1,8 @@
+-- Steps that may have no result.
+use Rattle.std.specs.Prelude.{Option, Some, None}
+
+infixl 10 ◌>>=◌
+-- what f makes of a value, if there is one
+abbrev pub ◌>>=◌ : {A B : Type 0} → Option A → (A → Option B) → Option B
+None >>= f = None
+(Some x) >>= f = f x

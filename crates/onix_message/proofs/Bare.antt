@@ -1,0 +1,74 @@
+-- A row as a record gives it has nothing below it.
+use Rattle.std.proofs.Common.{◌≡◌, ◌∷◌, [], ℕ, List, Bool, true, false, Option, Some, None, map, refl}
+use Rattle.std.specs.Prelude.{⊤, if◌then◌else◌, option_map, codes}
+use Rattle.std.specs.List.{list_all}
+use Rattle.std.specs.Str.{bytes_eq}
+use Rattle.onix_message.specs.Fields.{filled, is_clean}
+use Rattle.onix_message.specs.OpeningRow.{opening_fields}
+use Rattle.onix_message.specs.ProductRow.{pairs_of, product_of}
+use Rattle.onix_message.specs.Row.{IsBare, end_of, message_row, named_row, row_of}
+use Rattle.onix_message.specs.SupplyRow.{detail_of, supply_of}
+use Rattle.onix_message.specs.declared.parts.Product.{Product}
+use Rattle.onix_message.specs.declared.parts.ProductSupply.{ProductSupply}
+use Rattle.onix_message.specs.declared.row.Opening.{Opening}
+use Rattle.onix_message.specs.declared.row.Row.{Row}
+use Rattle.onix_message.specs.declared.row.Row.TheVariants as row
+use Rattle.onix_message.proofs.FrontRows.{bind-some}
+use Rattle.onix_message.proofs.Fronts.{cons-parts, same-some}
+use Rattle.onix_terms.specs.Code.{code2_of}
+use Rattle.onix_terms.specs.Territory.{territory_of}
+
+abbrev pub AllBare : List Row → Type 0
+AllBare [] = ⊤
+AllBare (r ∷ rows) = IsBare r × AllBare rows
+
+product-bare : (fields : List (List ℕ)) (p : Product) → product_of fields ≡ Some p → p.supplies ≡ []
+unfolding product_of
+product-bare [] p e = cc e
+product-bare (reference ∷ []) p e = cc e
+product-bare (reference ∷ notification ∷ []) p e = cc e
+product-bare (reference ∷ notification ∷ kind ∷ pairs) p e =
+    let (r, _, f) = bind-some (filled reference) _ p e in
+    let (n, _, g) = bind-some (code2_of notification) _ p f in
+    let (ids, _, h) = bind-some (pairs_of (kind ∷ pairs)) _ p g in
+    let same = same-some _ p h in
+    cc same
+
+supply-bare : (fields : List (List ℕ)) (s : ProductSupply) → supply_of fields ≡ Some s → s.details ≡ []
+supply-bare [] s e = cc e
+supply-bare (included ∷ []) s e = cc e
+supply-bare (included ∷ regions ∷ []) s e = cc e
+supply-bare (included ∷ regions ∷ excluded ∷ []) s e =
+    let (t, _, f) = bind-some (territory_of included regions excluded) _ s e in
+    let same = same-some _ s f in
+    cc same
+supply-bare (included ∷ regions ∷ excluded ∷ more ∷ fields) s e = cc e
+
+-- what a named row is made of
+made-bare : {A : Type 0} (make : A → Row) (read : Option A) → ((x : A) → read ≡ Some x → IsBare (make x)) → (r : Row) → option_map make read ≡ Some r → IsBare r
+made-bare make None own r e = cc e
+made-bare make (Some x) own r e = rw (← same-some (make x) r e) (own x refl)
+
+choose : (t : Bool) (x y : Option Row) (r : Row) → (x ≡ Some r → IsBare r) → (y ≡ Some r → IsBare r) → (if t then x else y) ≡ Some r → IsBare r
+choose true x y r f g e = f e
+choose false x y r f g e = g e
+
+named-bare : (o : Opening) (name : List ℕ) (fields : List (List ℕ)) (r : Row) → named_row o name fields ≡ Some r → IsBare r
+named-bare o name fields r =
+    choose (bytes_eq name (codes "Message")) _ _ r (made-bare message_row (opening_fields fields) (λ x e. tt) r)
+    (choose (bytes_eq name (codes "Product")) _ _ r (made-bare row.Product (product_of fields) (product-bare fields) r)
+    (choose (bytes_eq name (codes "ProductSupply")) _ _ r (made-bare row.ProductSupply (supply_of fields) (supply-bare fields) r)
+    (choose (bytes_eq name (codes "SupplyDetail")) _ _ r (made-bare row.SupplyDetail (detail_of fields) (λ x e. tt) r)
+    (choose (bytes_eq name (codes "EndMessage")) _ _ r (made-bare row.EndMessage (end_of fields) (λ x e. tt) r)
+    (λ e. cc e)))))
+
+row-bare : (o : Opening) (fields : List (List ℕ)) (r : Row) → row_of o fields ≡ Some r → IsBare r
+unfolding row_of
+row-bare o [] r e = cc e
+row-bare o (name ∷ fields) r e = choose (list_all is_clean (name ∷ fields)) _ _ r (named-bare o name fields r) (λ f. cc f) e
+
+pub all-bare : (o : Opening) (records : List (List (List ℕ))) (rows : List Row) → map (row_of o) records ≡ map Some rows → AllBare rows
+all-bare o [] [] e = tt
+all-bare o [] (x ∷ rows) e = cc e
+all-bare o (r ∷ records) [] e = cc e
+all-bare o (r ∷ records) (x ∷ rows) e = let p = cons-parts _ _ _ _ e in (row-bare o r x p.0, all-bare o records rows p.1)

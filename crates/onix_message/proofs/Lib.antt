@@ -1,0 +1,12 @@
+pub mod FieldFacts
+pub mod RecordsAre
+pub mod RecordsText
+pub mod ReadBack
+pub mod Slots
+pub mod RowLists
+pub mod Orders
+pub mod Fronts
+pub mod FrontRows
+pub mod Bare
+pub mod Nests
+pub mod Explained

@@ -1,0 +1,256 @@
+-- The parts that rows make, and the rows of these parts.
+use Rattle.std.proofs.Common.{◌≡◌, ◌≢◌, ◌++◌, ◌∷◌, ◌∙◌, ◌+◌, [], ℕ, suc, List, Bool, true, false, Option, Some, None, refl, sym, ap, arith, length, append_assoc, map}
+use Rattle.std.specs.Prelude.{⊤, if◌then◌else◌, ◌&&◌, ◌==◌}
+use Rattle.std.specs.List.{AllByRecursion, flat_map}
+use Rattle.std.proofs.lemmas.Bool.{and_from, and_parts, eq-eqb, eqb-true}
+use Rattle.std.proofs.lemmas.List.{append-nil}
+use Rattle.onix_message.specs.Grammar.{IsMessage, KeepsOrder, may_follow}
+use Rattle.onix_message.specs.Message.{Gathered, ends, front_rows, message_after, message_of, nest}
+use Rattle.onix_message.specs.Nest.{HasDetails, SuppliesHaveDetails, content_rows, detail_rows, product_rows, rows_after, supply_rows}
+use Rattle.onix_message.specs.OpeningRow.{opening_of}
+use Rattle.onix_message.specs.Row.{IsBare, message_row, row_of}
+use Rattle.onix_message.specs.declared.parts.Header.{Header}
+use Rattle.onix_message.specs.declared.parts.Product.{Product}
+use Rattle.onix_message.specs.declared.parts.ProductSupply.{ProductSupply}
+use Rattle.onix_message.specs.declared.parts.SupplyDetail.{SupplyDetail}
+use Rattle.onix_message.specs.declared.row.Opening.{Opening}
+use Rattle.onix_message.specs.declared.row.Row.{Row}
+use Rattle.onix_message.specs.declared.row.Row.TheVariants as row
+use Rattle.onix_message.proofs.FrontRows.{bind-some, computed-reads, if-some, reads-computed}
+use Rattle.onix_message.proofs.Fronts.{Reads, is-message, message-reads, reads-length, same-some}
+use Rattle.onix_message.proofs.Orders.{last-push, last_of}
+use Rattle.onix_message.proofs.Bare.{AllBare, all-bare}
+use Rattle.onix_terms.specs.Options.{◌>>=◌}
+
+-- The rows of parts make these parts.
+
+details-nest : (ds : List SupplyDetail) (rows : List Row)
+    → nest (flat_map detail_rows ds ++ rows) ≡ record { products = (nest rows).products; supplies = (nest rows).supplies; details = ds ++ (nest rows).details }
+unfolding nest
+details-nest [] rows = refl
+details-nest (d ∷ ds) rows = ap (λ (g : Gathered). record { products = g.products; supplies = g.supplies; details = d ∷ g.details }) (details-nest ds rows)
+
+-- a supply over the parts after it
+over : ProductSupply → Gathered → Gathered
+over s g = record { products = g.products; supplies = record s { details = g.details } ∷ g.supplies; details = [] }
+
+supplies-nest : (ss : List ProductSupply) (rows : List Row) → (nest rows).details ≡ []
+    → nest (flat_map supply_rows ss ++ rows) ≡ record { products = (nest rows).products; supplies = ss ++ (nest rows).supplies; details = [] }
+unfolding nest over
+supplies-nest [] rows e = ap (λ (ds : List SupplyDetail). let g : Gathered = record { products = (nest rows).products; supplies = (nest rows).supplies; details = ds } in g) e
+supplies-nest (s ∷ ss) rows e =
+    let rest = flat_map supply_rows ss ++ rows in
+    let a : (flat_map detail_rows s.details ++ flat_map supply_rows ss) ++ rows ≡ flat_map detail_rows s.details ++ rest = append_assoc (flat_map detail_rows s.details) (flat_map supply_rows ss) rows in
+    ap (λ (t : List Row). over (record s { details = [] }) (nest t)) a
+    ∙ ap (over (record s { details = [] })) (details-nest s.details rest)
+    ∙ ap (λ (g : Gathered). over (record s { details = [] }) (record { products = g.products; supplies = g.supplies; details = s.details ++ g.details })) (supplies-nest ss rows e)
+    ∙ ap (λ (ds : List SupplyDetail). over (record s { details = [] }) (record { products = (nest rows).products; supplies = ss ++ (nest rows).supplies; details = ds })) (append-nil s.details)
+
+-- a product over the parts after it
+under : Product → Gathered → Gathered
+under p g = record { products = record p { supplies = g.supplies } ∷ g.products; supplies = []; details = [] }
+
+products-nest : (ps : List Product) (rows : List Row) → (nest rows).details ≡ [] → (nest rows).supplies ≡ []
+    → nest (flat_map product_rows ps ++ rows) ≡ record { products = ps ++ (nest rows).products; supplies = []; details = [] }
+unfolding nest under
+products-nest [] rows e f =
+    ap (λ (ds : List SupplyDetail). let g : Gathered = record { products = (nest rows).products; supplies = (nest rows).supplies; details = ds } in g) e
+    ∙ ap (λ (ss : List ProductSupply). let g : Gathered = record { products = (nest rows).products; supplies = ss; details = [] } in g) f
+products-nest (p ∷ ps) rows e f =
+    let rest = flat_map product_rows ps ++ rows in
+    let a : (flat_map supply_rows p.supplies ++ flat_map product_rows ps) ++ rows ≡ flat_map supply_rows p.supplies ++ rest = append_assoc (flat_map supply_rows p.supplies) (flat_map product_rows ps) rows in
+    let h = products-nest ps rows e f in
+    ap (λ (t : List Row). under (record p { supplies = [] }) (nest t)) a
+    ∙ ap (under (record p { supplies = [] })) (supplies-nest p.supplies rest (ap (λ (g : Gathered). g.details) h))
+    ∙ ap (λ (g : Gathered). under (record p { supplies = [] }) (record { products = g.products; supplies = p.supplies ++ g.supplies; details = [] })) h
+    ∙ ap (λ (ss : List ProductSupply). under (record p { supplies = [] }) (record { products = ps ++ (nest rows).products; supplies = ss; details = [] })) (append-nil p.supplies)
+
+nest-end : (n : ℕ) → nest (row.EndMessage n ∷ []) ≡ record { products = []; supplies = []; details = [] }
+unfolding nest
+nest-end n = refl
+
+contents-nest : (c : List Product) (n : ℕ) → (nest (content_rows c ++ row.EndMessage n ∷ [])).products ≡ c
+contents-nest c n =
+    let e = nest-end n in
+    ap (λ (g : Gathered). g.products) (products-nest c (row.EndMessage n ∷ []) (ap (λ (g : Gathered). g.details) e) (ap (λ (g : Gathered). g.supplies) e))
+    ∙ ap (λ (g : Gathered). c ++ g.products) e ∙ append-nil c
+
+ends-cons : (x r : Row) (rows : List Row) → ends x (r ∷ rows) ≡ ends r rows
+ends-cons (row.Message h) r rows = refl
+ends-cons (row.Product p) r rows = refl
+ends-cons (row.ProductSupply s) r rows = refl
+ends-cons (row.SupplyDetail d) r rows = refl
+ends-cons (row.EndMessage m) r rows = refl
+
+ends-last : (first : Row) (rows : List Row) (n : ℕ) → last_of first rows ≡ row.EndMessage n → ends first rows ≡ true
+ends-last first [] n e = ap (λ (x : Row). ends x []) e
+ends-last first (r ∷ rows) n e = ends-cons first r rows ∙ ends-last r rows n e
+
+last-ends : (first : Row) (rows : List Row) → ends first rows ≡ true → (n : ℕ) × (last_of first rows ≡ row.EndMessage n)
+last-ends (row.Message h) [] e = cc e
+last-ends (row.Product p) [] e = cc e
+last-ends (row.ProductSupply s) [] e = cc e
+last-ends (row.SupplyDetail d) [] e = cc e
+last-ends (row.EndMessage n) [] e = (n, refl)
+last-ends first (r ∷ rows) e = last-ends r rows (sym (ends-cons first r rows) ∙ e)
+
+-- what a message says is what is computed
+pub message-computed : (records : List (List (List ℕ))) (h : Header) (c : List Product) → IsMessage records h c → message_of records ≡ Some (h, c)
+unfolding message_of message_after
+message-computed records h c m =
+    let o : Opening = record { form = m.form; header = h } in
+    let size : length records ≡ length m.rest + 1 = rw m.split (omega arith) in
+    let within = m.within in
+    let reads = message-reads o m.rest c (omega (arith, size, within)) m.reads m.details in
+    let rows = reads-computed o m.rest (rows_after c) reads in
+    let l = reads-length o m.rest (rows_after c) m.reads in
+    let last = last-push (message_row o) (content_rows c) (row.EndMessage (1 + length (content_rows c))) in
+    let test : ((length (rows_after c) == length m.rest) && ends (message_row o) (rows_after c)) ≡ true = and_from _ _ (eq-eqb (length (rows_after c)) (length m.rest) l) (ends-last (message_row o) (rows_after c) (1 + length (content_rows c)) last) in
+    ap message_of m.split
+    ∙ ap (λ (t : Option Opening). t >>= (λ (x : Opening). message_after x m.rest)) m.header
+    ∙ ap (λ (t : List Row). if (length t == length m.rest) && ends (message_row o) t then Some (h, (nest t).products) else None) rows
+    ∙ ap (λ (t : Bool). if t then Some (h, (nest (rows_after c)).products) else None) test
+    ∙ ap (λ (ps : List Product). Some (h, ps)) (contents-nest c (1 + length (content_rows c)))
+
+-- Rows that keep the order are those of the parts that they make.
+
+flatten : Gathered → List Row
+flatten g = flat_map detail_rows g.details ++ (flat_map supply_rows g.supplies ++ flat_map product_rows g.products)
+
+-- these rows are those of the parts that they make, with an end, and each supply has a detail
+record Rebuilt (rows : List Row) (n : ℕ) : Type 0 where
+  same : rows ≡ flatten (nest rows) ++ row.EndMessage n ∷ []
+  supplies : AllByRecursion HasDetails (nest rows).supplies
+  products : AllByRecursion SuppliesHaveDetails (nest rows).products
+
+no-message : (a : Row) (h : Header) → may_follow a (row.Message h) ≡ false
+no-message (row.Message g) h = refl
+no-message (row.Product p) h = refl
+no-message (row.ProductSupply s) h = refl
+no-message (row.SupplyDetail d) h = refl
+no-message (row.EndMessage n) h = refl
+
+no-more : (n : ℕ) (y : Row) → may_follow (row.EndMessage n) y ≡ false
+no-more n (row.Message g) = refl
+no-more n (row.Product p) = refl
+no-more n (row.ProductSupply s) = refl
+no-more n (row.SupplyDetail d) = refl
+no-more n (row.EndMessage m) = refl
+
+with-detail : (d : SupplyDetail) (rows : List Row) (n : ℕ) → Rebuilt rows n → Rebuilt (row.SupplyDetail d ∷ rows) n
+unfolding nest flatten
+with-detail d rows n r = record { same = ap (λ (t : List Row). row.SupplyDetail d ∷ t) r.same; supplies = r.supplies; products = r.products }
+
+with-supply : (s : ProductSupply) (rows : List Row) (n : ℕ) → s.details ≡ [] → (nest rows).details ≢ [] → Rebuilt rows n → Rebuilt (row.ProductSupply s ∷ rows) n
+unfolding nest flatten
+with-supply s rows n bare some r =
+    let g = nest rows in
+    let own : row.ProductSupply s ≡ row.ProductSupply (record s { details = [] }) = ap (λ (ds : List SupplyDetail). row.ProductSupply (record s { details = ds })) bare in
+    record {
+      same =
+          ap (λ (t : List Row). row.ProductSupply s ∷ t) r.same
+          ∙ ap (λ (x : Row). x ∷ ((flat_map detail_rows g.details ++ (flat_map supply_rows g.supplies ++ flat_map product_rows g.products)) ++ row.EndMessage n ∷ [])) own
+          ∙ ap (λ (t : List Row). row.ProductSupply (record s { details = [] }) ∷ (t ++ row.EndMessage n ∷ [])) (sym (append_assoc (flat_map detail_rows g.details) (flat_map supply_rows g.supplies) (flat_map product_rows g.products)));
+      supplies = (some, r.supplies);
+      products = r.products;
+    }
+
+with-product : (p : Product) (rows : List Row) (n : ℕ) → p.supplies ≡ [] → (nest rows).details ≡ [] → Rebuilt rows n → Rebuilt (row.Product p ∷ rows) n
+unfolding nest flatten
+with-product p rows n bare none r =
+    let g = nest rows in
+    let own : row.Product p ≡ row.Product (record p { supplies = [] }) = ap (λ (ss : List ProductSupply). row.Product (record p { supplies = ss })) bare in
+    record {
+      same =
+          ap (λ (t : List Row). row.Product p ∷ t) r.same
+          ∙ ap (λ (ds : List SupplyDetail). row.Product p ∷ ((flat_map detail_rows ds ++ (flat_map supply_rows g.supplies ++ flat_map product_rows g.products)) ++ row.EndMessage n ∷ [])) none
+          ∙ ap (λ (x : Row). x ∷ ((flat_map supply_rows g.supplies ++ flat_map product_rows g.products) ++ row.EndMessage n ∷ [])) own;
+      supplies = tt;
+      products = (r.supplies, r.products);
+    }
+
+detail-there : (d : SupplyDetail) (rows : List Row) → (nest (row.SupplyDetail d ∷ rows)).details ≢ []
+unfolding nest
+detail-there d rows e = cc e
+
+-- nothing that may come after a product is a detail
+no-detail : (p : Product) (y : Row) (rows : List Row) → may_follow (row.Product p) y ≡ true → (nest (y ∷ rows)).details ≡ []
+unfolding nest
+no-detail p (row.Message h) rows m = cc m
+no-detail p (row.Product q) rows m = refl
+no-detail p (row.ProductSupply s) rows m = refl
+no-detail p (row.SupplyDetail d) rows m = cc m
+no-detail p (row.EndMessage n) rows m = refl
+
+some-detail : (s : ProductSupply) (y : Row) (rows : List Row) → may_follow (row.ProductSupply s) y ≡ true → (nest (y ∷ rows)).details ≢ []
+some-detail s (row.Message h) rows m = cc m
+some-detail s (row.Product q) rows m = cc m
+some-detail s (row.ProductSupply t) rows m = cc m
+some-detail s (row.SupplyDetail d) rows m = detail-there d rows
+some-detail s (row.EndMessage n) rows m = cc m
+
+at-end : (m n : ℕ) → row.EndMessage m ≡ row.EndMessage n → Rebuilt (row.EndMessage m ∷ []) n
+unfolding nest flatten
+at-end m n e = record { same = ap (λ (x : Row). x ∷ []) e; supplies = tt; products = tt }
+
+rebuilds : (a x : Row) (rows : List Row) (n : ℕ) → AllBare (x ∷ rows) → may_follow a x ≡ true → KeepsOrder (x ∷ rows) → last_of x rows ≡ row.EndMessage n → Rebuilt (x ∷ rows) n
+rebuilds a (row.Message h) rows n bare m order last = cc (m, no-message a h)
+rebuilds a (row.EndMessage k) [] n bare m order last = at-end k n last
+rebuilds a (row.EndMessage k) (y ∷ rows) n bare m order last = cc (order.0, no-more k y)
+rebuilds a (row.Product p) [] n bare m order last = cc last
+rebuilds a (row.Product p) (y ∷ rows) n bare m order last =
+    with-product p (y ∷ rows) n bare.0 (no-detail p y rows order.0) (rebuilds (row.Product p) y rows n bare.1 order.0 order.1 last)
+rebuilds a (row.ProductSupply s) [] n bare m order last = cc last
+rebuilds a (row.ProductSupply s) (y ∷ rows) n bare m order last =
+    with-supply s (y ∷ rows) n bare.0 (some-detail s y rows order.0) (rebuilds (row.ProductSupply s) y rows n bare.1 order.0 order.1 last)
+rebuilds a (row.SupplyDetail d) [] n bare m order last = cc last
+rebuilds a (row.SupplyDetail d) (y ∷ rows) n bare m order last =
+    with-detail d (y ∷ rows) n (rebuilds (row.SupplyDetail d) y rows n bare.1 order.0 order.1 last)
+
+-- the parts that a front's rows make, at its end, stand in no other
+no-parts-left : (h : Header) (x : Row) (rows : List Row) → may_follow (row.Message h) x ≡ true → ((nest (x ∷ rows)).details ≡ []) × ((nest (x ∷ rows)).supplies ≡ [])
+unfolding nest
+no-parts-left h (row.Message g) rows m = cc m
+no-parts-left h (row.Product p) rows m = (refl, refl)
+no-parts-left h (row.ProductSupply s) rows m = cc m
+no-parts-left h (row.SupplyDetail d) rows m = cc m
+no-parts-left h (row.EndMessage n) rows m = (refl, refl)
+
+-- the rows after a header that end in an end
+pub rows-rebuilt : (h : Header) (rows : List Row) (n : ℕ) → AllBare rows → KeepsOrder (row.Message h ∷ rows) → last_of (row.Message h) rows ≡ row.EndMessage n
+    → (rows ≡ flat_map product_rows (nest rows).products ++ row.EndMessage n ∷ []) × AllByRecursion SuppliesHaveDetails (nest rows).products
+unfolding flatten
+rows-rebuilt h [] n bare order last = cc last
+rows-rebuilt h (x ∷ rows) n bare order last =
+    let r = rebuilds (row.Message h) x rows n bare order.0 order.1 last in
+    let p = no-parts-left h x rows order.0 in
+    let g = nest (x ∷ rows) in (
+      r.same
+          ∙ ap (λ (ds : List SupplyDetail). (flat_map detail_rows ds ++ (flat_map supply_rows g.supplies ++ flat_map product_rows g.products)) ++ row.EndMessage n ∷ []) p.0
+          ∙ ap (λ (ss : List ProductSupply). (flat_map supply_rows ss ++ flat_map product_rows g.products) ++ row.EndMessage n ∷ []) p.1,
+      r.products,
+    )
+
+pair-parts : (g h : Header) (c d : List Product) → ◌≡◌ {A = Header × List Product} (g, c) (h, d) → (g ≡ h) × (c ≡ d)
+pair-parts g h c d e = (ap (λ (p : Header × List Product). p.0) e, ap (λ (p : Header × List Product). p.1) e)
+
+after-meant : (first : List (List ℕ)) (rest : List (List (List ℕ))) (o : Opening) (h : Header) (c : List Product) → opening_of first ≡ Some o → message_after o rest ≡ Some (h, c) → IsMessage (first ∷ rest) h c
+unfolding message_after
+after-meant first rest o h c opens e =
+    let rows = front_rows o (message_row o) 1 rest in
+    let (test, same) = if-some ((length rows == length rest) && ends (message_row o) rows) (o.header, (nest rows).products) (h, c) e in
+    let p = and_parts _ _ test in
+    let reads = computed-reads o rest (eqb-true (length rows) (length rest) p.0) in
+    let (n, last) = last-ends (message_row o) rows p.1 in
+    let r = rows-rebuilt o.header rows n (all-bare o rest rows reads.reads) reads.order last in
+    let both = pair-parts o.header h (nest rows).products c same in
+    let m = is-message (first ∷ rest) first rest o (nest rows).products n refl opens (rw (← r.0) reads) r.1 in
+    rw (← both.0, ← both.1) m
+
+-- and what is computed is what a message says
+pub message-meant : (records : List (List (List ℕ))) (h : Header) (c : List Product) → message_of records ≡ Some (h, c) → IsMessage records h c
+unfolding message_of
+message-meant [] h c e = cc e
+message-meant (first ∷ rest) h c e =
+    let (o, opens, after) = bind-some (opening_of first) (λ (o : Opening). message_after o rest) (h, c) e in
+    after-meant first rest o h c opens after

@@ -1,0 +1,11 @@
+use Rattle.std.proofs.Common.{ℕ, List}
+use Rattle.onix_message.specs.Grammar.{IsBadRow}
+use Rattle.onix_message.specs.Message.{bad_row}
+use Rattle.onix_message.proofs.FrontRows.{bad-meant, one-bad}
+use Rattle.onix_message.proofs.laws.bad_rows.Goals as goal
+
+pub returns : goal.returns
+returns c = record {
+  computed = λ (records : List (List (List ℕ))) (place : ℕ) (b : IsBadRow records place). one-bad records place (bad_row records) b (bad-meant records);
+  meant = bad-meant;
+}

@@ -1,0 +1,6 @@
+use Rattle.onix_message.proofs.Fronts.{fronts}
+use Rattle.onix_message.proofs.Nests.{message-computed, message-meant}
+use Rattle.onix_message.proofs.laws.messages.Goals as goal
+
+pub returns : goal.returns
+returns c = record { computed = message-computed; meant = message-meant; fronts = fronts }

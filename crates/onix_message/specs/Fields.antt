@@ -1,0 +1,36 @@
+-- The fields of a record: which are wrong in themselves, and those that several rows have.
+use Rattle.std.specs.Prelude.{ℕ, List, [], ◌∷◌, Bool, Option, Some, None, ◌&&◌, ◌||◌, ◌==◌, not, nat_le, nat_lt, length, option_map}
+use Rattle.std.specs.List.{list_all}
+use Rattle.onix_terms.specs.Code.{code2_of}
+use Rattle.onix_terms.specs.Options.{◌>>=◌}
+use Rattle.onix_terms.specs.declared.party.Party.{Party}
+
+-- a byte below the space, or the delete: in UTF-8 each stands for the character of its number, and for nothing else
+abbrev pub is_control : ℕ → Bool
+is_control b = nat_lt b 32 || (b == 127)
+
+-- a field of at most 1,024 bytes and no control character
+abbrev pub is_clean : List ℕ → Bool
+is_clean field = nat_le (length field) 1024 && list_all (λ b. not (is_control b)) field
+
+-- a text that is not empty
+abbrev pub filled : List ℕ → Option (List ℕ)
+filled [] = None
+filled (b ∷ bs) = Some (b ∷ bs)
+
+-- a term, or nothing
+abbrev pub optional : {A : Type 0} → (List ℕ → Option A) → List ℕ → Option (Option A)
+optional term [] = Some None
+optional term (b ∷ bs) = option_map Some (term (b ∷ bs))
+
+-- an identifier's type and its value, which is not empty
+abbrev pub party_of : List ℕ → List ℕ → Option Party
+party_of id_type id_value = do
+  t ← code2_of id_type
+  v ← filled id_value
+  Some (record { id_type = t; id_value = v })
+
+-- a party, or two empty fields
+abbrev pub optional_party : List ℕ → List ℕ → Option (Option Party)
+optional_party [] [] = Some None
+optional_party id_type id_value = option_map Some (party_of id_type id_value)

@@ -1,0 +1,71 @@
+-- What a list of records says as a message, computed; the laws of messages tie it to the grammar.
+use Rattle.std.specs.Prelude.{ℕ, List, [], ◌∷◌, ◌≡◌, ◌+◌, ◌==◌, ◌&&◌, ⊤, Bool, true, false, suc, Option, Some, None, if◌then◌else◌, length, nat_lt}
+use Rattle.std.specs.Option.{option_map_or}
+use Rattle.onix_terms.specs.Options.{◌>>=◌}
+use Rattle.onix_message.specs.Grammar.{is_counted, may_follow, most_records}
+use Rattle.onix_message.specs.OpeningRow.{opening_of}
+use Rattle.onix_message.specs.Row.{message_row, row_of}
+use Rattle.onix_message.specs.declared.message.MessageFault.{MessageFault}
+use Rattle.onix_message.specs.declared.message.MessageFault.TheVariants as fault
+use Rattle.onix_message.specs.declared.parts.Header.{Header}
+use Rattle.onix_message.specs.declared.parts.Product.{Product}
+use Rattle.onix_message.specs.declared.parts.ProductSupply.{ProductSupply}
+use Rattle.onix_message.specs.declared.parts.SupplyDetail.{SupplyDetail}
+use Rattle.onix_message.specs.declared.row.Opening.{Opening}
+use Rattle.onix_message.specs.declared.row.Row.{Row}
+use Rattle.onix_message.specs.declared.row.Row.TheVariants as row
+
+-- the row of a record, if it may come after the last one and so many records
+abbrev pub next_row : Opening → Row → ℕ → List (List ℕ) → Option Row
+next_row o last before fields = do
+  r ← row_of o fields
+  if nat_lt before most_records && (may_follow last r && is_counted r before) then Some r else None
+
+-- the rows of records, as far as each may come next
+unfoldable pub front_rows : Opening → Row → ℕ → List (List (List ℕ)) → List Row
+front_rows o last before [] = []
+front_rows o last before (r ∷ records) = option_map_or (λ x. x ∷ front_rows o x (suc before) records) (next_row o last before r) []
+
+-- the parts that rows make, of each kind those that stand in no other
+pub record Gathered : Type 0 where
+  pub products : List Product
+  pub supplies : List ProductSupply
+  pub details : List SupplyDetail
+
+-- rows from the last to the first: each takes the parts after it that belong to it
+unfoldable pub nest : List Row → Gathered
+nest [] = record { products = []; supplies = []; details = [] }
+nest (row.Message h ∷ rows) = nest rows
+nest (row.Product p ∷ rows) = let g = nest rows in record { products = record p { supplies = g.supplies } ∷ g.products; supplies = []; details = [] }
+nest (row.ProductSupply s ∷ rows) = let g = nest rows in record { products = g.products; supplies = record s { details = g.details } ∷ g.supplies; details = [] }
+nest (row.SupplyDetail d ∷ rows) = let g = nest rows in record { products = g.products; supplies = g.supplies; details = d ∷ g.details }
+nest (row.EndMessage n ∷ rows) = record { products = []; supplies = []; details = [] }
+
+-- whether the last of a row and those after it is an end
+abbrev pub ends : Row → List Row → Bool
+ends (row.EndMessage n) [] = true
+ends _ [] = false
+ends first (r ∷ rows) = ends r rows
+
+-- the header and the contents of a message that begins so, with these records after the first
+unfoldable pub message_after : Opening → List (List (List ℕ)) → Option (Header × List Product)
+message_after o rest =
+    let rows = front_rows o (message_row o) 1 rest in
+    if (length rows == length rest) && ends (message_row o) rows then Some (o.header, (nest rows).products) else None
+
+-- the header and the contents of the message that records are
+unfoldable pub message_of : List (List (List ℕ)) → Option (Header × List Product)
+message_of [] = None
+message_of (first ∷ rest) = do
+  o ← opening_of first
+  message_after o rest
+
+-- the row at which records stop being a message
+unfoldable pub bad_row : List (List (List ℕ)) → ℕ
+bad_row [] = 1
+bad_row (first ∷ rest) = option_map_or (λ o. 2 + length (front_rows o (message_row o) 1 rest)) (opening_of first) 1
+
+-- why a message was not read: where the records stop being one, unless memory ran out
+abbrev pub Explains : List (List (List ℕ)) → MessageFault → Type 0
+Explains records (fault.Malformed row) = (message_of records ≡ None) × (row ≡ bad_row records)
+Explains records fault.Memory = ⊤

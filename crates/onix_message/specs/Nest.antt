@@ -1,0 +1,31 @@
+-- The rows of a part of a message, in order: its own, and then those of the parts in it.
+use Rattle.std.specs.Prelude.{List, [], ◌∷◌, ◌++◌, ◌≢◌, ◌+◌, length}
+use Rattle.std.specs.List.{AllByRecursion, flat_map}
+use Rattle.onix_message.specs.declared.parts.Product.{Product}
+use Rattle.onix_message.specs.declared.parts.ProductSupply.{ProductSupply}
+use Rattle.onix_message.specs.declared.parts.SupplyDetail.{SupplyDetail}
+use Rattle.onix_message.specs.declared.row.Row.{Row}
+use Rattle.onix_message.specs.declared.row.Row.TheVariants as row
+
+abbrev pub detail_rows : SupplyDetail → List Row
+detail_rows d = row.SupplyDetail d ∷ []
+
+abbrev pub supply_rows : ProductSupply → List Row
+supply_rows s = row.ProductSupply (record s { details = [] }) ∷ flat_map detail_rows s.details
+
+abbrev pub product_rows : Product → List Row
+product_rows p = row.Product (record p { supplies = [] }) ∷ flat_map supply_rows p.supplies
+
+abbrev pub content_rows : List Product → List Row
+content_rows products = flat_map product_rows products
+
+-- the rows after the first: the contents, and the end, which counts the records before it
+abbrev pub rows_after : List Product → List Row
+rows_after products = content_rows products ++ row.EndMessage (1 + length (content_rows products)) ∷ []
+
+-- each supply has a detail
+abbrev pub HasDetails : ProductSupply → Type 0
+HasDetails s = s.details ≢ []
+
+abbrev pub SuppliesHaveDetails : Product → Type 0
+SuppliesHaveDetails p = AllByRecursion HasDetails p.supplies

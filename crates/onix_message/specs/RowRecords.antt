@@ -1,0 +1,59 @@
+-- The records of rows: how a row is written, and the records of the parts of contents.
+use Rattle.std.specs.Prelude.{ℕ, List, [], ◌∷◌, ◌++◌, Option, Some, None, codes, if◌then◌else◌}
+use Rattle.std.specs.List.{flat_map}
+use Rattle.onix_message.specs.declared.parts.Product.{Product}
+use Rattle.onix_message.specs.declared.parts.ProductIdentifier.{ProductIdentifier}
+use Rattle.onix_message.specs.declared.parts.ProductSupply.{ProductSupply}
+use Rattle.onix_message.specs.declared.parts.SupplyDetail.{SupplyDetail}
+use Rattle.onix_terms.specs.declared.party.Party.{Party}
+use Rattle.onix_terms.specs.declared.territory.Territory.{Territory}
+
+-- codes with one space between them
+abbrev pub spaced : List (List ℕ) → List ℕ
+spaced [] = []
+spaced (c ∷ cs) = c ++ flat_map (λ d. 32 ∷ d) cs
+
+-- CountriesIncluded, RegionsIncluded and CountriesExcluded
+abbrev pub territory_fields : Territory → List (List ℕ)
+territory_fields t = spaced t.included ∷ (if t.world then codes "WORLD" else []) ∷ spaced t.excluded ∷ []
+
+-- an identifier's type and value
+abbrev pub identifier_fields : ProductIdentifier → List (List ℕ)
+identifier_fields i = i.id_type ∷ i.id_value ∷ []
+
+-- a party's type and value, both empty where there is none
+abbrev pub party_fields : Option Party → List (List ℕ)
+party_fields None = [] ∷ [] ∷ []
+party_fields (Some p) = p.id_type ∷ p.id_value ∷ []
+
+-- a text, or the empty one
+abbrev pub optional_text : Option (List ℕ) → List ℕ
+optional_text None = []
+optional_text (Some text) = text
+
+abbrev pub product_record : Product → List (List ℕ)
+product_record p = codes "Product" ∷ p.reference ∷ p.notification ∷ flat_map identifier_fields p.ids
+
+abbrev pub supply_record : ProductSupply → List (List ℕ)
+supply_record s = codes "ProductSupply" ∷ territory_fields s.market
+
+abbrev pub detail_record : SupplyDetail → List (List ℕ)
+detail_record d = codes "SupplyDetail" ∷ d.supplier.role ∷ (party_fields d.supplier.party ++ (d.supplier.name ∷ d.availability ∷ optional_text d.unpriced ∷ []))
+
+-- The records of a part, in order: its own, and then those of the parts in it.
+
+unfoldable pub detail_records : SupplyDetail → List (List (List ℕ))
+detail_records d = detail_record d ∷ []
+
+unfoldable pub supply_records : ProductSupply → List (List (List ℕ))
+supply_records s = supply_record s ∷ flat_map detail_records s.details
+
+unfoldable pub supplies_records : List ProductSupply → List (List (List ℕ))
+supplies_records supplies = flat_map supply_records supplies
+
+unfoldable pub product_records : Product → List (List (List ℕ))
+product_records p = product_record p ∷ supplies_records p.supplies
+
+-- the records of contents
+unfoldable pub content_records : List Product → List (List (List ℕ))
+content_records products = flat_map product_records products

@@ -1,0 +1,118 @@
+// The fields of a record, and those that several rows have.
+
+ghost use Rattle.std.specs.Prelude.{◌≡◌, not};
+ghost use Rattle.std.specs.List.{list_all};
+ghost use Rattle.onix_message.specs.Fields.{filled, is_clean, is_control, optional, optional_party, party_of};
+ghost use Rattle.onix_message.specs.Gives.{Gives};
+ghost use Rattle.onix_terms.specs.Code.{code2_of};
+ghost use Rattle.onix_terms.specs.Territory.{territory_of};
+
+use crate::row::RowFault;
+use onix_terms::code::Code2;
+use onix_terms::party::Party;
+use onix_terms::territory::{TermFault, Territory};
+use onix_terms::text::Text;
+use std::alloc::Global;
+
+// Whether a byte is a control character.
+fn is_control_byte(byte: u8) -> bool
+    ensures { result ≡ is_control byte }
+{
+    byte < 32 || byte == 127
+}
+
+fn has_no_control(field: &[u8]) -> bool
+    ensures { result ≡ list_all (λ b. not (is_control b)) field.now }
+{
+    field.iter().all(|b| !is_control_byte(*b))
+}
+
+// Whether a field is short enough and has no control character.
+fn is_clean_field(field: &[u8]) -> bool
+    ensures { result ≡ is_clean field.now }
+{
+    field.len() <= 1024 && has_no_control(field)
+}
+
+// Whether no field is wrong in itself.
+pub(crate) fn are_clean(fields: &[Text]) -> bool
+    ensures { result ≡ list_all is_clean fields.now }
+{
+    fields
+        .iter()
+        .all(|field| is_clean_field(field.as_str().as_bytes()))
+}
+
+// A text that is not empty.
+pub(crate) fn read_filled(alloc: Global, text: &Text) -> Result<Text, RowFault>
+    ensures { Gives result (filled text.now) }
+{
+    if text.as_str().is_empty() {
+        return Err(RowFault::Wrong);
+    }
+    Ok(text.copy(alloc)?)
+}
+
+pub(crate) fn read_code(text: &Text) -> Result<Code2, RowFault>
+    ensures { Gives result (code2_of text.now) }
+{
+    let Some(code) = Code2::read(text.as_str()) else {
+        return Err(RowFault::Wrong);
+    };
+    Ok(code)
+}
+
+pub(crate) fn read_optional_code(text: &Text) -> Result<Option<Code2>, RowFault>
+    ensures { Gives result (optional code2_of text.now) }
+{
+    if text.as_str().is_empty() {
+        return Ok(None);
+    }
+    let Some(code) = Code2::read(text.as_str()) else {
+        return Err(RowFault::Wrong);
+    };
+    Ok(Some(code))
+}
+
+pub(crate) fn read_party(alloc: Global, id_type: &Text, id_value: &Text) -> Result<Party, RowFault>
+    ensures { Gives result (party_of id_type.now id_value.now) }
+{
+    let Some(id_type) = Code2::read(id_type.as_str()) else {
+        return Err(RowFault::Wrong);
+    };
+    let id_value = read_filled(alloc, id_value)?;
+    Ok(Party { id_type, id_value })
+}
+
+pub(crate) fn read_optional_party(
+    alloc: Global,
+    id_type: &Text,
+    id_value: &Text,
+) -> Result<Option<Party>, RowFault>
+    ensures { Gives result (optional_party id_type.now id_value.now) }
+{
+    if id_type.as_str().is_empty() && id_value.as_str().is_empty() {
+        return Ok(None);
+    }
+    Ok(Some(read_party(alloc, id_type, id_value)?))
+}
+
+pub(crate) fn read_territory(
+    alloc: Global,
+    included: &Text,
+    regions: &Text,
+    excluded: &Text,
+) -> Result<Territory, RowFault>
+    ensures { Gives result (territory_of included.now regions.now excluded.now) }
+{
+    match Territory::read(
+        alloc,
+        included.as_str(),
+        regions.as_str(),
+        excluded.as_str(),
+    ) {
+        Ok(territory) => Ok(territory),
+        Err(TermFault::NotATerm) => Err(RowFault::Wrong),
+        Err(TermFault::Memory) => Err(RowFault::Memory),
+    }
+}

@@ -1,0 +1,37 @@
+// Laws: facts about the definitions alone. Each is the contract of a function without a body.
+
+ghost use Rattle.std.specs.Prelude.{◌≡◌, ℕ, List, Some, true};
+ghost use Rattle.csv.specs.Reading.{strip_bom};
+ghost use Rattle.onix_message.specs.Grammar.{IsBadRow, IsFront, IsMessage};
+ghost use Rattle.onix_message.specs.Message.{bad_row, message_of};
+ghost use Rattle.onix_message.specs.SameContents.{same_contents};
+ghost use Rattle.onix_message.specs.Records.{AllFilled, records_of, records_text};
+ghost use Rattle.onix_message.specs.declared.parts.Header.{Header};
+ghost use Rattle.onix_message.specs.declared.parts.Product.{Product};
+
+/// Records that each have a field have one text, which is read as these records.
+pub fn one_text()
+    ensures read { (rows : List (List (List ℕ))) → AllFilled rows → strip_bom (records_text rows) ≡ records_text rows → records_of (records_text rows) ≡ rows }
+    ensures only { (rows others : List (List (List ℕ))) → AllFilled rows → AllFilled others → records_text rows ≡ records_text others → rows ≡ others }
+{}
+
+/// The message that is computed of records is the one that they are by the grammar: there is
+/// no other, and where none is computed they are none.
+pub fn messages()
+    ensures computed { (records : List (List (List ℕ))) (h : Header) (c : List Product) → IsMessage records h c → message_of records ≡ Some (h, c) }
+    ensures meant { (records : List (List (List ℕ))) (h : Header) (c : List Product) → message_of records ≡ Some (h, c) → IsMessage records h c }
+    ensures fronts { (records : List (List (List ℕ))) (h : Header) (c : List Product) → IsMessage records h c → IsFront records }
+{}
+
+/// The row that is computed of records is the one at which they stop being a front, and no
+/// other is.
+pub fn bad_rows()
+    ensures computed { (records : List (List (List ℕ))) (place : ℕ) → IsBadRow records place → place ≡ bad_row records }
+    ensures meant { (records : List (List (List ℕ))) → IsBadRow records (bad_row records) }
+{}
+
+/// The test of contents is passed exactly by those that are equal.
+pub fn equal_contents()
+    ensures passed { (c d : List Product) → same_contents c d ≡ true → c ≡ d }
+    ensures equal { (c d : List Product) → c ≡ d → same_contents c d ≡ true }
+{}

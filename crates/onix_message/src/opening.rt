@@ -1,0 +1,154 @@
+// The row with which a message begins.
+
+ghost use Rattle.std.specs.Prelude.{◌≡◌};
+ghost use Rattle.onix_message.specs.Fields.{optional};
+ghost use Rattle.onix_message.specs.Gives.{Gives};
+ghost use Rattle.onix_message.specs.OpeningRow.{form_of, opening_fields, opening_from, opening_of};
+ghost use Rattle.onix_terms.specs.Code.{currency_of};
+ghost use Rattle.onix_terms.specs.Digits.{digits_of};
+ghost use Rattle.onix_terms.specs.Number.{number_of};
+
+use crate::fields::{are_clean, read_optional_code, read_optional_party, read_party};
+use crate::parts::Header;
+use crate::records::Record;
+use crate::row::{Form, Opening, RowFault};
+use onix_terms::code::Currency;
+use onix_terms::digits::read_digits;
+use onix_terms::number::Number;
+use onix_terms::text::Text;
+use std::alloc::Global;
+
+fn read_form(text: &Text) -> Result<Form, RowFault>
+    ensures { Gives result (form_of text.now) }
+{
+    if text.as_str() == "1" {
+        return Ok(Form::One);
+    }
+    if text.as_str() == "2" {
+        return Ok(Form::Two);
+    }
+    Err(RowFault::Wrong)
+}
+
+fn read_optional_number(text: &Text) -> Result<Option<Number>, RowFault>
+    ensures { Gives result (optional number_of text.now) }
+{
+    if text.as_str().is_empty() {
+        return Ok(None);
+    }
+    let Some(number) = Number::read(text.as_str()) else {
+        return Err(RowFault::Wrong);
+    };
+    Ok(Some(number))
+}
+
+fn read_optional_digits(text: &Text) -> Result<Option<u32>, RowFault>
+    ensures { Gives result (optional digits_of text.now) }
+{
+    if text.as_str().is_empty() {
+        return Ok(None);
+    }
+    let Some(number) = read_digits(text.as_str()) else {
+        return Err(RowFault::Wrong);
+    };
+    Ok(Some(number))
+}
+
+fn read_optional_currency(text: &Text) -> Result<Option<Currency>, RowFault>
+    ensures { Gives result (optional currency_of text.now) }
+{
+    if text.as_str().is_empty() {
+        return Ok(None);
+    }
+    let Some(currency) = Currency::read(text.as_str()) else {
+        return Err(RowFault::Wrong);
+    };
+    Ok(Some(currency))
+}
+
+#[tactic(auto, unfolding(crate::specs::OpeningRow::opening_from))]
+fn make_opening(
+    alloc: Global,
+    version: &Text,
+    sender_type: &Text,
+    sender_value: &Text,
+    to_type: &Text,
+    to_value: &Text,
+    number: &Text,
+    repeat: &Text,
+    sent: &Text,
+    price_type: &Text,
+    currency: &Text,
+) -> Result<Opening, RowFault>
+    ensures { Gives result (opening_from version.now sender_type.now sender_value.now to_type.now to_value.now number.now repeat.now sent.now price_type.now currency.now) }
+{
+    let form = read_form(version)?;
+    let sender = read_party(alloc, sender_type, sender_value)?;
+    let addressee = read_optional_party(alloc, to_type, to_value)?;
+    let number = read_optional_number(number)?;
+    let repeat = read_optional_digits(repeat)?;
+    let default_type = read_optional_code(price_type)?;
+    let default_currency = read_optional_currency(currency)?;
+    let sent = sent.copy(alloc)?;
+    Ok(Opening {
+        form,
+        header: Header {
+            sender,
+            addressee,
+            number,
+            repeat,
+            sent,
+            default_type,
+            default_currency,
+        },
+    })
+}
+
+// What the fields after the name say.
+#[tactic(auto, unfolding(crate::specs::OpeningRow::opening_fields))]
+pub(crate) fn read_opening_fields(alloc: Global, fields: &[Text]) -> Result<Opening, RowFault>
+    ensures { Gives result (opening_fields fields.now) }
+{
+    let [
+        version,
+        sender_type,
+        sender_value,
+        to_type,
+        to_value,
+        number,
+        repeat,
+        sent,
+        price_type,
+        currency,
+    ] = fields
+    else {
+        return Err(RowFault::Wrong);
+    };
+    make_opening(
+        alloc,
+        version,
+        sender_type,
+        sender_value,
+        to_type,
+        to_value,
+        number,
+        repeat,
+        sent,
+        price_type,
+        currency,
+    )
+}
+
+// What a message says that begins with this record.
+#[tactic(auto, unfolding(crate::specs::OpeningRow::opening_of))]
+pub(crate) fn read_opening(alloc: Global, fields: &Record) -> Result<Opening, RowFault>
+    ensures { Gives result (opening_of fields.now) }
+{
+    let Some((name, rest)) = fields.as_slice().split_first() else {
+        return Err(RowFault::Wrong);
+    };
+    if !are_clean(fields.as_slice()) || name.as_str() != "Message" {
+        return Err(RowFault::Wrong);
+    }
+    read_opening_fields(alloc, rest)
+}

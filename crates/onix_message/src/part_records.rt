@@ -1,0 +1,164 @@
+// The records of parts of contents.
+
+ghost use Rattle.std.specs.Prelude.{◌≡◌, ◌++◌, ◌∷◌, [], IfOk, OnOk};
+ghost use Rattle.std.specs.List.{flat_map};
+ghost use Rattle.std.specs.String.{string_bytes};
+ghost use Rattle.onix_message.specs.RowRecords.{detail_record, detail_records, identifier_fields, optional_text, party_fields, spaced, supplies_records, supply_record, supply_records, territory_fields};
+
+use crate::parts::{ProductIdentifier, ProductSupply, SupplyDetail};
+use crate::records::Record;
+use onix_terms::code::{Code2, Country};
+use onix_terms::items::Items;
+use onix_terms::party::Party;
+use onix_terms::territory::Territory;
+use onix_terms::text::Text;
+use std::alloc::{AllocError, Global};
+
+fn push_text(alloc: Global, fields: &mut Record, text: &str) -> Result<(), AllocError>
+    ensures { OnOk result (fields.new ≡ fields.old ++ text.now ∷ []) }
+{
+    fields.push(Text::from_str(alloc, text)?)
+}
+
+// Codes, each after a space.
+fn push_codes(text: &mut String, codes: &[Country]) -> Result<(), AllocError>
+    ensures { OnOk result (string_bytes text.new ≡ string_bytes text.old ++ flat_map (λ d. 32 ∷ d) codes.now) }
+{
+    for code in codes {
+        text.push_str(" ")?;
+        text.push_str(code.as_str())?;
+    }
+    Ok(())
+}
+
+// Codes with one space between them.
+fn spaced_text(alloc: Global, codes: &[Country]) -> Result<Text, AllocError>
+    ensures { IfOk result (λ text. text ≡ spaced codes.now) }
+{
+    let mut text = String::new(alloc);
+    if let Some((first, rest)) = codes.split_first() {
+        text.push_str(first.as_str())?;
+        push_codes(&mut text, rest)?;
+    }
+    Ok(Text::from_string(text))
+}
+
+fn push_territory(
+    alloc: Global,
+    fields: &mut Record,
+    territory: &Territory,
+) -> Result<(), AllocError>
+    ensures { OnOk result (fields.new ≡ fields.old ++ territory_fields territory.now) }
+{
+    fields.push(spaced_text(alloc, territory.included.as_slice())?)?;
+    push_text(alloc, fields, if territory.world { "WORLD" } else { "" })?;
+    fields.push(spaced_text(alloc, territory.excluded.as_slice())?)
+}
+
+fn push_party(alloc: Global, fields: &mut Record, party: &Option<Party>) -> Result<(), AllocError>
+    ensures { OnOk result (fields.new ≡ fields.old ++ party_fields party.now) }
+{
+    match party {
+        Some(party) => {
+            push_text(alloc, fields, party.id_type.as_str())?;
+            push_text(alloc, fields, party.id_value.as_str())
+        }
+        None => {
+            push_text(alloc, fields, "")?;
+            push_text(alloc, fields, "")
+        }
+    }
+}
+
+fn push_optional_code(
+    alloc: Global,
+    fields: &mut Record,
+    code: &Option<Code2>,
+) -> Result<(), AllocError>
+    ensures { OnOk result (fields.new ≡ fields.old ++ optional_text code.now ∷ []) }
+{
+    match code {
+        Some(code) => push_text(alloc, fields, code.as_str()),
+        None => push_text(alloc, fields, ""),
+    }
+}
+
+/// Appends the types and values of identifiers to a record, pair after pair. After want of
+/// memory the record may have some of them.
+pub fn append_identifiers(
+    alloc: Global,
+    fields: &mut Record,
+    ids: &[ProductIdentifier],
+) -> Result<(), AllocError>
+    ensures { OnOk result (fields.new ≡ fields.old ++ flat_map identifier_fields ids.now) }
+{
+    for id in ids {
+        push_text(alloc, fields, id.id_type.as_str())?;
+        push_text(alloc, fields, id.id_value.as_str())?;
+    }
+    Ok(())
+}
+
+fn record_of_supply(alloc: Global, supply: &ProductSupply) -> Result<Record, AllocError>
+    ensures { IfOk result (λ fields. fields ≡ supply_record supply.now) }
+{
+    let mut fields = Items::new(alloc);
+    push_text(alloc, &mut fields, "ProductSupply")?;
+    push_territory(alloc, &mut fields, &supply.market)?;
+    Ok(fields)
+}
+
+fn record_of_detail(alloc: Global, detail: &SupplyDetail) -> Result<Record, AllocError>
+    ensures { IfOk result (λ fields. fields ≡ detail_record detail.now) }
+{
+    let mut fields = Items::new(alloc);
+    push_text(alloc, &mut fields, "SupplyDetail")?;
+    push_text(alloc, &mut fields, detail.supplier.role.as_str())?;
+    push_party(alloc, &mut fields, &detail.supplier.party)?;
+    push_text(alloc, &mut fields, detail.supplier.name.as_str())?;
+    push_text(alloc, &mut fields, detail.availability.as_str())?;
+    push_optional_code(alloc, &mut fields, &detail.unpriced)?;
+    Ok(fields)
+}
+
+#[tactic(auto, unfolding(crate::specs::RowRecords::detail_records))]
+fn append_detail(
+    alloc: Global,
+    records: &mut Items<Record>,
+    detail: &SupplyDetail,
+) -> Result<(), AllocError>
+    ensures { OnOk result (records.new ≡ records.old ++ detail_records detail.now) }
+{
+    records.push(record_of_detail(alloc, detail)?)
+}
+
+#[tactic(auto, unfolding(crate::specs::RowRecords::supply_records))]
+fn append_supply(
+    alloc: Global,
+    records: &mut Items<Record>,
+    supply: &ProductSupply,
+) -> Result<(), AllocError>
+    ensures { OnOk result (records.new ≡ records.old ++ supply_records supply.now) }
+{
+    records.push(record_of_supply(alloc, supply)?)?;
+    for detail in supply.details.as_slice() {
+        append_detail(alloc, records, detail)?;
+    }
+    Ok(())
+}
+
+/// Appends the records of a product's supplies: those of each supply and its details. After
+/// want of memory some of them may stand.
+#[tactic(auto, unfolding(crate::specs::RowRecords::supplies_records))]
+pub fn append_supplies(
+    alloc: Global,
+    records: &mut Items<Record>,
+    supplies: &[ProductSupply],
+) -> Result<(), AllocError>
+    ensures { OnOk result (records.new ≡ records.old ++ supplies_records supplies.now) }
+{
+    for supply in supplies {
+        append_supply(alloc, records, supply)?;
+    }
+    Ok(())
+}

@@ -1,0 +1,110 @@
+// The parts of a message.
+
+use onix_terms::code::{Code2, Currency};
+use onix_terms::items::Items;
+use onix_terms::number::Number;
+use onix_terms::party::Party;
+use onix_terms::territory::Territory;
+use onix_terms::text::Text;
+use std::marker::Model;
+
+/// The header of a message.
+#[derive(Debug, Drop)]
+pub struct Header {
+    pub sender: Party,
+    pub addressee: Option<Party>,
+    pub number: Option<Number>,
+    pub repeat: Option<u32>,
+    pub sent: Text,
+    pub default_type: Option<Code2>,
+    pub default_currency: Option<Currency>,
+}
+
+/// An identifier of a product, by its type of code list 5.
+#[derive(Debug, Drop, PartialEq, Eq)]
+pub struct ProductIdentifier {
+    pub id_type: Code2,
+    pub id_value: Text,
+}
+
+/// Who supplies a product, by an identifier, a name or both.
+#[derive(Debug, Drop, PartialEq, Eq)]
+pub struct Supplier {
+    pub role: Code2,
+    pub party: Option<Party>,
+    pub name: Text,
+}
+
+/// One supplier's availability of a product.
+#[derive(Debug, Drop, PartialEq, Eq)]
+pub struct SupplyDetail {
+    pub supplier: Supplier,
+    pub availability: Code2,
+    pub unpriced: Option<Code2>,
+}
+
+/// The supply of a product to a market.
+#[derive(Debug, Drop, PartialEq, Eq)]
+pub struct ProductSupply {
+    pub market: Territory,
+    pub details: Items<SupplyDetail>,
+}
+
+/// One product of a message.
+#[derive(Debug, Drop, PartialEq, Eq)]
+pub struct Product {
+    pub reference: Text,
+    pub notification: Code2,
+    pub ids: Items<ProductIdentifier>,
+    pub supplies: Items<ProductSupply>,
+}
+
+/// The products of a message, with the defaults of its header filled in. Contracts see them as
+/// a list.
+#[derive(Debug, Drop)]
+pub struct Contents {
+    products: Items<Product>,
+}
+
+impl Model for Contents {
+    ghost use Rattle.std.specs.Prelude.{List, ◌≤◌, length};
+    ghost use Rattle.onix_message.specs.Nest.{content_rows};
+    ghost use Rattle.onix_message.specs.declared.parts.Product.{Product};
+
+    ghost Value = { List Product };
+
+    ghost view = { λ c. c.products };
+
+    ghost invariant = { λ c. length (content_rows c.products) ≤ 19998 };
+}
+
+impl Contents {
+    ghost use Rattle.std.specs.Prelude.{◌≡◌, ◌≤◌, length};
+    ghost use Rattle.onix_message.specs.Nest.{content_rows};
+    ghost use Rattle.onix_message.specs.SameContents.{same_contents};
+
+    // The contents of a message that was read.
+    pub(crate) fn from_products(products: Items<Product>) -> Contents
+        requires { length (content_rows products) ≤ 19998 }
+        ensures { result ≡ products }
+    {
+        Contents { products }
+    }
+
+    /// The products in their order.
+    pub fn products(&self) -> &[Product]
+        ensures products { result.now ≡ self.now }
+        ensures few { length self.now ≤ 19998 }
+        ensures few_rows { length (content_rows self.now) ≤ 19998 }
+    {
+        self.products.as_slice()
+    }
+
+    /// Whether two contents are equal in all parts.
+    #[tactic(auto, unfolding(crate::specs::SameContents::same_contents))]
+    pub fn is_same(&self, other: &Contents) -> bool
+        ensures { result ≡ same_contents self.now other.now }
+    {
+        self.products == other.products
+    }
+}

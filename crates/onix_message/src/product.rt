@@ -1,0 +1,68 @@
+// The row of a product.
+
+ghost use Rattle.std.specs.Prelude.{◌≡◌, [], IfOk};
+ghost use Rattle.onix_message.specs.Gives.{Gives};
+ghost use Rattle.onix_message.specs.ProductRow.{identifier_of, pairs_of, product_of};
+
+use crate::fields::read_filled;
+use crate::parts::{Product, ProductIdentifier};
+use crate::row::RowFault;
+use onix_terms::code::Code2;
+use onix_terms::items::Items;
+use onix_terms::text::Text;
+use std::alloc::Global;
+
+fn read_identifier(
+    alloc: Global,
+    id_type: &Text,
+    id_value: &Text,
+) -> Result<ProductIdentifier, RowFault>
+    ensures { Gives result (identifier_of id_type.now id_value.now) }
+{
+    let Some(id_type) = Code2::read(id_type.as_str()) else {
+        return Err(RowFault::Wrong);
+    };
+    let id_value = read_filled(alloc, id_value)?;
+    Ok(ProductIdentifier { id_type, id_value })
+}
+
+// Pairs of a type and a value.
+#[tactic(auto, unfolding(crate::specs::ProductRow::pairs_of))]
+fn read_pairs(alloc: Global, fields: &[Text]) -> Result<Items<ProductIdentifier>, RowFault>
+    ensures { Gives result (pairs_of fields.now) }
+{
+    let mut ids = Items::new(alloc);
+    let mut rest = fields;
+    while let [id_type, id_value, more @ ..] = rest {
+        ids.push(read_identifier(alloc, id_type, id_value)?)?;
+        rest = more;
+    }
+    if !rest.is_empty() {
+        return Err(RowFault::Wrong);
+    }
+    Ok(ids)
+}
+
+#[tactic(auto, unfolding(crate::specs::ProductRow::product_of))]
+pub(crate) fn read_product(alloc: Global, fields: &[Text]) -> Result<Product, RowFault>
+    ensures gives { Gives result (product_of fields.now) }
+    ensures bare { IfOk result (λ p. p.supplies ≡ []) }
+{
+    let [reference, notification, pairs @ ..] = fields else {
+        return Err(RowFault::Wrong);
+    };
+    if pairs.is_empty() {
+        return Err(RowFault::Wrong);
+    }
+    let reference = read_filled(alloc, reference)?;
+    let Some(notification) = Code2::read(notification.as_str()) else {
+        return Err(RowFault::Wrong);
+    };
+    let ids = read_pairs(alloc, pairs)?;
+    Ok(Product {
+        reference,
+        notification,
+        ids,
+        supplies: Items::new(alloc),
+    })
+}

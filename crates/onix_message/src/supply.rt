@@ -1,0 +1,71 @@
+// The rows of a supply and of its details.
+
+ghost use Rattle.std.specs.Prelude.{◌≡◌, [], IfOk};
+ghost use Rattle.onix_message.specs.Gives.{Gives};
+ghost use Rattle.onix_message.specs.SupplyRow.{detail_from, detail_of, supplier_name, supply_of};
+
+use crate::fields::{
+    read_code, read_filled, read_optional_code, read_optional_party, read_territory,
+};
+use crate::parts::{ProductSupply, Supplier, SupplyDetail};
+use crate::row::RowFault;
+use onix_terms::items::Items;
+use onix_terms::party::Party;
+use onix_terms::text::Text;
+use std::alloc::Global;
+
+pub(crate) fn read_supply(alloc: Global, fields: &[Text]) -> Result<ProductSupply, RowFault>
+    ensures gives { Gives result (supply_of fields.now) }
+    ensures bare { IfOk result (λ s. s.details ≡ []) }
+{
+    let [included, regions, excluded] = fields else {
+        return Err(RowFault::Wrong);
+    };
+    let market = read_territory(alloc, included, regions, excluded)?;
+    Ok(ProductSupply {
+        market,
+        details: Items::new(alloc),
+    })
+}
+
+fn read_supplier_name(alloc: Global, party: &Option<Party>, name: &Text) -> Result<Text, RowFault>
+    ensures { Gives result (supplier_name party.now name.now) }
+{
+    match party {
+        Some(_) => Ok(name.copy(alloc)?),
+        None => read_filled(alloc, name),
+    }
+}
+
+fn make_detail(
+    alloc: Global,
+    role: &Text,
+    id_type: &Text,
+    id_value: &Text,
+    name: &Text,
+    availability: &Text,
+    unpriced: &Text,
+) -> Result<SupplyDetail, RowFault>
+    ensures { Gives result (detail_from role.now id_type.now id_value.now name.now availability.now unpriced.now) }
+{
+    let role = read_code(role)?;
+    let party = read_optional_party(alloc, id_type, id_value)?;
+    let name = read_supplier_name(alloc, &party, name)?;
+    let availability = read_code(availability)?;
+    let unpriced = read_optional_code(unpriced)?;
+    Ok(SupplyDetail {
+        supplier: Supplier { role, party, name },
+        availability,
+        unpriced,
+    })
+}
+
+#[tactic(auto, unfolding(crate::specs::SupplyRow::detail_of))]
+pub(crate) fn read_detail(alloc: Global, fields: &[Text]) -> Result<SupplyDetail, RowFault>
+    ensures { Gives result (detail_of fields.now) }
+{
+    let [role, id_type, id_value, name, availability, unpriced] = fields else {
+        return Err(RowFault::Wrong);
+    };
+    make_detail(alloc, role, id_type, id_value, name, availability, unpriced)
+}

@@ -1,0 +1,5 @@
+pub mod Lookups
+pub mod Changes
+pub mod Plans
+pub mod Effects
+pub mod Order

@@ -1,0 +1,14 @@
+use Rattle.std.proofs.Common.{◌≡◌, ℕ, List, ap, subst, ◌∙◌}
+use Rattle.std.specs.FinMap as map
+use Rattle.std.specs.List.{Contains}
+use Rattle.catalogue_rules.specs.Effects.{after}
+use Rattle.catalogue_rules.proofs.Changes.{carried_out}
+use Rattle.catalogue_rules.proofs.catalogue.Catalogue.apply.Goals as goal
+
+pub returns-clause-ok : goal.returns-clause-ok
+returns-clause-ok c =
+    let base = c.args.self.now in
+    let plan = c.in_ok-draft.field-0 in
+    let others = subst (λ (fresh : List (List ℕ)). (q : List ℕ) → (Contains fresh q → ⊥) → map.get c.make_room.new.self q ≡ map.get base q) c.as_slice.ensures c.in_ok-make_room.ensures.others in
+    carried_out base plan.draft plan.fresh (after base c.products.result.now) c.make_room.new.self c.settle.new.self c.in_ok-draft.ensures.plan others c.settle.ensures
+    ∙ ap (after base) c.products.ensures.products

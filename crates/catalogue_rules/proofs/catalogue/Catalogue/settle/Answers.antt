@@ -1,0 +1,40 @@
+use Rattle.std.proofs.Common.{◌≡◌, ℕ, List, Some, None, refl, sym, ap, subst, ◌∙◌}
+use Rattle.std.specs.FinMap as map
+use Rattle.std.specs.FinMap.{get-insert, get-remove}
+use Rattle.std.specs.String.{string_bytes}
+use Rattle.std.proofs.lemmas.Cmp.{nat_list_cmp_total}
+use Rattle.catalogue_rules.specs.Plans.{IsReady}
+use Rattle.catalogue_rules.proofs.Changes.{settled_more, ready_more, all_settled}
+use Rattle.catalogue_rules.proofs.catalogue.Catalogue.settle.Goals as goal
+
+pub loop-reference-init : goal.loop-reference-init
+loop-reference-init c = (c.requires, λ q. refl)
+
+pub replace-requires : goal.replace-requires
+replace-requires c =
+    let key = string_bytes c.in-Some.reference in
+    let found : map.get c.loop-reference.rest key ≡ Some (Some c.in-Some-change.entry) = c.in-Some.ensures.some ∙ ap (λ o. Some o) c.in-Some-change.is in
+    let ready : IsReady (map.get c.loop-reference.self key) (Some (Some c.in-Some-change.entry)) = subst (IsReady (map.get c.loop-reference.self key)) found (c.loop-reference.invariant.0 key) in
+    ready refl
+
+pub loop-reference-preserved-in-Some-change : goal.loop-reference-preserved-in-Some-change
+loop-reference-preserved-in-Some-change c =
+    let key = string_bytes c.in-Some.reference in
+    let now = λ (q : List ℕ). ap (λ m. map.get m q) c.replace.ensures ∙ get-insert nat_list_cmp_total c.loop-reference.self key c.in-Some-change.entry q in
+    let found : map.get c.loop-reference.rest key ≡ Some (Some c.in-Some-change.entry) = c.in-Some.ensures.some ∙ ap (λ o. Some o) c.in-Some-change.is in (
+      ready_more c.loop-reference.self c.replace.new.self c.loop-reference.rest c.pop.new.self key (Some c.in-Some-change.entry) now c.in-Some.ensures.rest c.loop-reference.invariant.0,
+      λ q. settled_more c.loop-reference.self c.replace.new.self c.loop-reference.rest c.pop.new.self key (Some c.in-Some-change.entry) now found c.in-Some.ensures.rest q ∙ c.loop-reference.invariant.1 q,
+    )
+
+pub loop-reference-preserved : goal.loop-reference-preserved
+loop-reference-preserved c =
+    let key = string_bytes c.in-Some.reference in
+    let gone = c.remove.ensures ∙ ap (map.remove c.loop-reference.self) c.as_str.ensures.value in
+    let now = λ (q : List ℕ). ap (λ m. map.get m q) gone ∙ get-remove nat_list_cmp_total c.loop-reference.self key q in
+    let found : map.get c.loop-reference.rest key ≡ Some None = c.in-Some.ensures.some ∙ ap (λ o. Some o) c.in-None.is in (
+      ready_more c.loop-reference.self c.remove.new.self c.loop-reference.rest c.pop.new.self key None now c.in-Some.ensures.rest c.loop-reference.invariant.0,
+      λ q. settled_more c.loop-reference.self c.remove.new.self c.loop-reference.rest c.pop.new.self key None now found c.in-Some.ensures.rest q ∙ c.loop-reference.invariant.1 q,
+    )
+
+pub returns : goal.returns
+returns c = λ q. sym (all_settled (map.get c.loop-reference.self q) (map.get c.loop-reference.rest q) (c.in_default.ensures.none q)) ∙ c.loop-reference.invariant.1 q

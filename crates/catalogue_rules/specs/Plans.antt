@@ -1,0 +1,32 @@
+-- A plan: what a message is to change of a catalogue, made before anything is changed.
+use Rattle.std.specs.Prelude.{ℕ, ◌≡◌, ◌↔◌, ◌+◌, List, Option, Some, None, IsSome, Contains}
+use Rattle.std.specs.FinMap as map
+use Rattle.std.specs.FinMap.{FinMap}
+use Rattle.std.specs.Ordering.{nat_cmp}
+use Rattle.std.specs.Cmp.Lexicographic.{slice_cmp}
+use Rattle.catalogue_rules.specs.Records.{ByReference}
+use Rattle.catalogue_rules.specs.declared.effect.Effect.{Effect}
+use Rattle.catalogue_rules.specs.declared.entry.Entry.{Entry}
+
+-- what is to become of some references: the entry that each then has, or none
+abbrev pub Changes : Type 0
+Changes = FinMap (slice_cmp nat_cmp) (Option Entry)
+
+-- what a reference has after the changes, by what it had
+abbrev pub looked : Option Entry → Option (Option Entry) → Option Entry
+looked was None = was
+looked was (Some now) = now
+
+-- a reference that is to have an entry has one already, so that the new one takes no memory
+abbrev pub IsReady : Option Entry → Option (Option Entry) → Type 0
+IsReady was None = Unit {0}
+IsReady was (Some now) = IsSome now → IsSome was
+
+-- the changes make m of the catalogue base, which lacks exactly the fresh ones of their references
+pub record IsPlan (base : ByReference) (draft : Changes) (fresh : List (List ℕ)) (m : ByReference) : Type 0 where
+  pub gives : (q : List ℕ) → looked (map.get base q) (map.get draft q) ≡ map.get m q
+  pub lacks : (q : List ℕ) → Contains fresh q ↔ (IsSome (map.get draft q) × (map.get base q ≡ None))
+
+-- how many products were counted
+abbrev pub total : Effect → ℕ
+total n = n.replaced + n.updated + n.deleted + n.unknown + n.ignored

@@ -1,0 +1,24 @@
+-- A catalogue: the records of a series by the bytes of their references.
+use Rattle.std.specs.Prelude.{ℕ, List, map, String}
+use Rattle.std.specs.Global.{Global}
+use Rattle.std.specs.FinMap.{FinMap, entries, from_entries}
+use Rattle.std.specs.Ordering.{nat_cmp}
+use Rattle.std.specs.Cmp.Lexicographic.{slice_cmp}
+use Rattle.std.specs.String.{string_bytes}
+use Rattle.catalogue_rules.specs.declared.entry.Entry.{Entry}
+
+-- a finite map from references to what is kept of each record
+abbrev pub ByReference : Type 0
+ByReference = FinMap (slice_cmp nat_cmp) Entry
+
+-- the keys by their bytes
+abbrev pub by_bytes : {X : Type 0} → List (String Global × X) → List (List ℕ × X)
+by_bytes entries = map (λ e. (string_bytes e.0, e.1)) entries
+
+-- the map that entries with texts as keys make
+abbrev pub map_of : {X : Type 0} → List (String Global × X) → FinMap (slice_cmp nat_cmp) X
+map_of entries = from_entries (by_bytes entries)
+
+-- the records in order of reference
+abbrev pub records_of : ByReference → List (List ℕ × Entry)
+records_of m = entries m

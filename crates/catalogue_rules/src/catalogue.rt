@@ -1,0 +1,183 @@
+ghost use Rattle.std.specs.Prelude.{◌≡◌, ◌↔◌, IfOk, IsTrue, OnOk, OnErr, IsSome, None, ℕ, List, All, Contains};
+ghost use Rattle.std.specs.Option.{option_copied};
+ghost use Rattle.std.specs.String.{string_bytes};
+ghost use Rattle.std.specs.FinMap as map;
+ghost use Rattle.catalogue_rules.specs.Records.{by_bytes, records_of};
+ghost use Rattle.catalogue_rules.specs.Effects.{after, effect_of};
+ghost use Rattle.catalogue_rules.specs.Plans.{IsReady, looked};
+
+use crate::draft::Draft;
+use crate::effect::Effect;
+use crate::entry::Entry;
+use crate::plan::Plan;
+use onix_message::parts::Contents;
+use onix_terms::items::Items;
+use onix_terms::text::Text;
+use std::alloc::{AllocError, Global};
+use std::collections::{BTreeMap, btree_map};
+use std::marker::Model;
+
+/// The records of a series by their references, which contracts see as a finite map.
+#[derive(Drop)]
+pub struct Catalogue {
+    alloc: Global,
+    records: BTreeMap<String, Entry>,
+}
+
+impl Model for Catalogue {
+    ghost use Rattle.std.specs.Prelude.{ℕ};
+    ghost use Rattle.std.specs.FinMap as map;
+    ghost use Rattle.std.specs.Coded.{coded_ℕ, coded_list};
+    ghost use Rattle.catalogue_rules.specs.contracts.entry.Entry as e;
+    ghost use Rattle.catalogue_rules.specs.Records.{ByReference, map_of};
+
+    ghost Value = { ByReference };
+
+    ghost coded = { map.code (coded_list coded_ℕ) e.the_row.coded };
+
+    ghost view = { λ c. map_of c.records.entries };
+}
+
+impl Catalogue {
+    /// A catalogue without records. It takes no memory.
+    pub fn new(alloc: Global) -> Catalogue
+        ensures { result ≡ map.empty }
+    {
+        Catalogue {
+            alloc,
+            records: BTreeMap::new(alloc),
+        }
+    }
+
+    /// What the catalogue keeps of a reference.
+    pub fn get(&self, reference: &str) -> Option<&Entry>
+        ensures { option_copied result ≡ map.get self.now reference.now }
+    {
+        self.records.get(reference)
+    }
+
+    // Puts the entry in the place of what the reference had.
+    fn put(&mut self, reference: String, entry: Entry) -> Result<(), AllocError>
+        ensures ok { OnOk result (self.new ≡ map.insert self.old (string_bytes reference) entry) }
+        ensures err { OnErr result (self.new ≡ self.old) }
+    {
+        self.records.insert(reference, entry)?;
+        Ok(())
+    }
+
+    // Puts the entry in the place of the one that the reference has, which takes no memory.
+    fn replace(&mut self, reference: String, entry: Entry)
+        requires { IsSome (map.get self.old (string_bytes reference)) }
+        ensures { self.new ≡ map.insert self.old (string_bytes reference) entry }
+    {
+        match self.records.insert(reference, entry) {
+            Ok(_) => {}
+            Err(_) => unreachable!(),
+        }
+    }
+
+    // Takes out what the reference had.
+    fn remove(&mut self, reference: &str)
+        ensures { self.new ≡ map.remove self.old reference.now }
+    {
+        self.records.remove(reference);
+    }
+
+    // Puts an empty entry at each of these references, as far as memory goes.
+    fn put_all(&mut self, alloc: Global, fresh: &[Text]) -> Result<(), AllocError>
+        ensures others { (q : List ℕ) → (Contains fresh.now q → ⊥) → map.get self.new q ≡ map.get self.old q }
+        ensures there { OnOk result (All (λ k. IsSome (map.get self.new k)) fresh.now) }
+    {
+        for reference in fresh {
+            let key = String::from_str(alloc, reference.as_str())?;
+            self.put(
+                key,
+                Entry {
+                    ids: Items::new(alloc),
+                    supplies: Items::new(alloc),
+                },
+            )?;
+        }
+        Ok(())
+    }
+
+    // Takes out what these references had.
+    fn remove_all(&mut self, fresh: &[Text])
+        ensures others { (q : List ℕ) → (Contains fresh.now q → ⊥) → map.get self.new q ≡ map.get self.old q }
+        ensures gone { All (λ k. map.get self.new k ≡ None) fresh.now }
+    {
+        for reference in fresh {
+            self.remove(reference.as_str());
+        }
+    }
+
+    // Makes a place for each of these new references, or leaves the catalogue as it was.
+    fn make_room(&mut self, alloc: Global, fresh: &[Text]) -> Result<(), AllocError>
+        requires { All (λ k. map.get self.old k ≡ None) fresh.now }
+        ensures err { OnErr result (self.new ≡ self.old) }
+        ensures others { OnOk result ((q : List ℕ) → (Contains fresh.now q → ⊥) → map.get self.new q ≡ map.get self.old q) }
+        ensures there { OnOk result (All (λ k. IsSome (map.get self.new k)) fresh.now) }
+    {
+        if let Err(refused) = self.put_all(alloc, fresh) {
+            self.remove_all(fresh);
+            return Err(refused);
+        }
+        Ok(())
+    }
+
+    // Carries out the changes, which takes no memory where each new reference has its place.
+    fn settle(&mut self, draft: Draft)
+        requires { (q : List ℕ) → IsReady (map.get self.old q) (map.get draft q) }
+        ensures { (q : List ℕ) → map.get self.new q ≡ looked (map.get self.old q) (map.get draft q) }
+    {
+        let mut rest = draft;
+        while let Some((reference, change)) = rest.pop() {
+            match change {
+                Some(entry) => self.replace(reference, entry),
+                None => self.remove(reference.as_str()),
+            }
+        }
+    }
+
+    /// Applies a message: its products one after the other, or none of them where memory runs out.
+    /// Gives how many products did what.
+    pub fn apply(&mut self, contents: &Contents) -> Result<Effect, AllocError>
+        ensures ok { OnOk result (self.new ≡ after self.old contents.now) }
+        ensures effect { IfOk result (λ e. e ≡ effect_of self.old contents.now) }
+        ensures err { OnErr result (self.new ≡ self.old) }
+    {
+        let alloc = self.alloc;
+        let Plan {
+            draft,
+            fresh,
+            effect,
+        } = Plan::of(alloc, self, contents.products())?;
+        self.make_room(alloc, fresh.as_slice())?;
+        self.settle(draft);
+        Ok(effect)
+    }
+
+    /// The records in order of reference, each as its reference and its entry.
+    pub fn entries(&self) -> btree_map::Iter<'_, String, Entry>
+        ensures { by_bytes result ≡ records_of self.now }
+    {
+        self.records.iter()
+    }
+
+    /// How many records there are.
+    pub fn len(&self) -> usize
+        ensures { result ≡ map.len self.now }
+    {
+        self.records.len()
+    }
+
+    /// Whether there are none.
+    pub fn is_empty(&self) -> bool
+        ensures { IsTrue result ↔ (map.len self.now ≡ 0) }
+    {
+        self.len() == 0
+    }
+}
+
+#[cfg(test)]
+mod tests;

@@ -1,0 +1,69 @@
+ghost use Rattle.std.specs.Prelude.{◌≡◌, ◌<◌, IfSome, IfNone, OnOk, Some, None, ℕ, List};
+ghost use Rattle.std.specs.Option.{option_copied};
+ghost use Rattle.std.specs.String.{string_bytes};
+ghost use Rattle.std.specs.FinMap as map;
+
+use crate::entry::Entry;
+use std::alloc::{AllocError, Global};
+use std::collections::BTreeMap;
+use std::marker::Model;
+
+/// What is to become of some references: the entry that each then has, or none.
+#[derive(Drop)]
+pub struct Draft {
+    changes: BTreeMap<String, Option<Entry>>,
+}
+
+impl Model for Draft {
+    ghost use Rattle.std.specs.Prelude.{ℕ};
+    ghost use Rattle.std.specs.FinMap as map;
+    ghost use Rattle.std.specs.Coded.{coded_ℕ, coded_list, coded_option};
+    ghost use Rattle.catalogue_rules.specs.contracts.entry.Entry as e;
+    ghost use Rattle.catalogue_rules.specs.Records.{map_of};
+    ghost use Rattle.catalogue_rules.specs.Plans.{Changes};
+
+    ghost Value = { Changes };
+
+    ghost coded = { map.code (coded_list coded_ℕ) (coded_option e.the_row.coded) };
+
+    ghost view = { λ d. map_of d.changes.entries };
+}
+
+impl Draft {
+    /// No change. It takes no memory.
+    pub fn new(alloc: Global) -> Draft
+        ensures { result ≡ map.empty }
+    {
+        Draft {
+            changes: BTreeMap::new(alloc),
+        }
+    }
+
+    /// What is to become of a reference, or `None` where it stays as it is.
+    pub fn get(&self, reference: &str) -> Option<&Option<Entry>>
+        ensures { option_copied result ≡ map.get self.now reference.now }
+    {
+        self.changes.get(reference)
+    }
+
+    /// Puts down what is to become of a reference, in the place of what was put down before.
+    pub fn set(&mut self, reference: String, change: Option<Entry>) -> Result<(), AllocError>
+        ensures { OnOk result (self.new ≡ map.insert self.old (string_bytes reference) change) }
+    {
+        self.changes.insert(reference, change)?;
+        Ok(())
+    }
+
+    /// Takes one change out.
+    pub fn pop(&mut self) -> Option<(String, Option<Entry>)>
+        ensures none { IfNone result ((q : List ℕ) → map.get self.old q ≡ None) }
+        ensures some { IfSome result (λ p. map.get self.old (string_bytes p.0) ≡ Some p.1) }
+        ensures rest { IfSome result (λ p. self.new ≡ map.remove self.old (string_bytes p.0)) }
+        ensures fewer { IfSome result (λ p. map.len self.new < map.len self.old) }
+    {
+        let Some((reference, change)) = self.changes.pop_first() else {
+            return None
+        };
+        Some((reference, change))
+    }
+}

@@ -1,0 +1,142 @@
+ghost use Rattle.std.specs.Prelude.{◌≡◌, ◌↔◌, ◌+◌, ◌<◌, ◌^◌, [], IfOk, OnOk, IsTrue, IsSome, Some, None, Option, length};
+ghost use Rattle.std.specs.Option.{option_copied};
+ghost use Rattle.std.specs.FinMap as map;
+ghost use Rattle.catalogue_rules.specs.Records.{ByReference};
+ghost use Rattle.catalogue_rules.specs.Effects.{after, after_product, change_of, counted, effect_of, entry_after, no_effect, with_entry};
+ghost use Rattle.catalogue_rules.specs.Plans.{IsPlan, looked, total};
+
+use crate::catalogue::Catalogue;
+use crate::draft::Draft;
+use crate::effect::{Change, Effect};
+use crate::entry::Entry;
+use onix_message::parts::Product;
+use onix_terms::items::Items;
+use onix_terms::text::Text;
+use std::alloc::{AllocError, Global};
+
+/// What products are to change of a catalogue, which stays as it is while the plan is made.
+#[derive(Drop)]
+pub struct Plan {
+    /// The changes.
+    pub draft: Draft,
+    /// Those of their references that the catalogue lacks, each once.
+    pub fresh: Items<Text>,
+    /// What the products did.
+    pub effect: Effect,
+}
+
+// What a product makes of the entry of its reference, or `None` where it leaves that alone.
+fn changed(
+    change: Change,
+    product: &Product,
+    was: Option<&Entry>,
+) -> Result<Option<Option<Entry>>, AllocError>
+    ensures { IfOk result (λ now. looked (option_copied was.entry) now ≡ entry_after change product.now (option_copied was.entry)) }
+{
+    match change {
+        Change::Replace => Ok(Some(Some(Entry::copy_of(&product.ids, &product.supplies)?))),
+        Change::Update => match was {
+            Some(entry) if !product.supplies.as_slice().is_empty() => {
+                Ok(Some(Some(Entry::copy_of(&entry.ids, &product.supplies)?)))
+            }
+            _ => Ok(None),
+        },
+        Change::Delete => match was {
+            Some(_) => Ok(Some(None)),
+            None => Ok(None),
+        },
+        Change::Ignore => Ok(None),
+    }
+}
+
+impl Plan {
+    /// A plan that changes nothing.
+    fn new(alloc: Global) -> Plan
+        ensures plan { (base : ByReference) → IsPlan base result.draft result.fresh base }
+        ensures effect { result.effect ≡ no_effect }
+    {
+        Plan {
+            draft: Draft::new(alloc),
+            fresh: Items::new(alloc),
+            effect: Effect::none(),
+        }
+    }
+
+    /// The entry that a reference has after the changes.
+    fn entry_of<'a>(&'a self, catalogue: &'a Catalogue, reference: &str) -> Option<&'a Entry>
+        ensures { option_copied result ≡ looked (map.get catalogue.now reference.now) (map.get self.now.draft reference.now) }
+    {
+        match self.draft.get(reference) {
+            Some(Some(entry)) => Some(entry),
+            Some(None) => None,
+            None => catalogue.get(reference),
+        }
+    }
+
+    /// Whether neither the catalogue nor the changes have a reference.
+    fn is_new(&self, catalogue: &Catalogue, reference: &str) -> bool
+        ensures { IsTrue result ↔ ((map.get catalogue.now reference.now ≡ None) × (map.get self.now.draft reference.now ≡ None)) }
+    {
+        catalogue.get(reference).is_none() && self.draft.get(reference).is_none()
+    }
+
+    /// Puts down what is to become of a reference.
+    fn put(
+        &mut self,
+        alloc: Global,
+        catalogue: &Catalogue,
+        reference: &str,
+        change: Option<Entry>,
+    ) -> Result<(), AllocError>
+        ensures plan { OnOk result ((m : ByReference) → IsPlan catalogue.now self.old.draft self.old.fresh m
+            → IsPlan catalogue.now self.new.draft self.new.fresh (with_entry m reference.now change)) }
+        ensures effect { OnOk result (self.new.effect ≡ self.old.effect) }
+    {
+        if self.is_new(catalogue, reference) {
+            self.fresh.push(Text::from_str(alloc, reference)?)?;
+        }
+        self.draft.set(String::from_str(alloc, reference)?, change)?;
+        Ok(())
+    }
+
+    /// Adds what one product changes.
+    fn add(
+        &mut self,
+        alloc: Global,
+        catalogue: &Catalogue,
+        product: &Product,
+    ) -> Result<(), AllocError>
+        requires { total self.old.effect + 1 < 2 ^ 32 }
+        ensures plan { OnOk result ((m : ByReference) → IsPlan catalogue.now self.old.draft self.old.fresh m
+            → IsPlan catalogue.now self.new.draft self.new.fresh (after_product m product.now)) }
+        ensures effect { OnOk result ((m : ByReference) → IsPlan catalogue.now self.old.draft self.old.fresh m
+            → self.new.effect ≡ counted (change_of product.now.notification) (map.get m product.now.reference) self.old.effect) }
+    {
+        let reference = product.reference.as_str();
+        let change = Change::of(product.notification);
+        let was = self.entry_of(catalogue, reference);
+        let is_known = was.is_some();
+        if let Some(now) = changed(change, product, was)? {
+            self.put(alloc, catalogue, reference, now)?;
+        }
+        self.effect.count(change, is_known);
+        Ok(())
+    }
+
+    /// The plan of products, one after the other.
+    pub fn of(
+        alloc: Global,
+        catalogue: &Catalogue,
+        products: &[Product],
+    ) -> Result<Plan, AllocError>
+        requires { length products.now < 2 ^ 32 }
+        ensures plan { IfOk result (λ p. IsPlan catalogue.now p.draft p.fresh (after catalogue.now products.now)) }
+        ensures effect { IfOk result (λ p. p.effect ≡ effect_of catalogue.now products.now) }
+    {
+        let mut plan = Plan::new(alloc);
+        for product in products {
+            plan.add(alloc, catalogue, product)?;
+        }
+        Ok(plan)
+    }
+}

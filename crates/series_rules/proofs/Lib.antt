@@ -1,0 +1,14 @@
+pub mod PieceLists
+pub mod Slots
+pub mod Questions
+pub mod Apart
+pub mod Fronts
+pub mod LawProofs
+pub mod Runs
+pub mod Bytes
+pub mod Walks
+pub mod Numbers
+pub mod Kept
+pub mod Standing
+pub mod Places
+pub mod RunLemmas

@@ -1,0 +1,27 @@
+-- What stands at the numbers of a series, with one more.
+use Rattle.std.proofs.Common.{◌≡◌, ℕ, Bool, true, false, List, Option, Some, None, refl, sym, ap, ◌∙◌, arith, cond, nat_eq}
+use Rattle.std.specs.Ordering.{nat_cmp}
+use Rattle.std.specs.BTreeMap.{is_at}
+use Rattle.std.proofs.lemmas.Bool.Decides.{nat_tests}
+use Rattle.onix_message.specs.SameContents.{same_contents}
+use Rattle.onix_message.specs.declared.parts.Product.{Product}
+use Rattle.series_rules.specs.Answers.{answer_against, placed_answer}
+use Rattle.series_rules.specs.Plain.{with_had}
+use Rattle.series_rules.specs.declared.requests.Had.{Had}
+use Rattle.series_rules.specs.declared.requests.Had.TheVariants.{Message}
+
+-- what was put where nothing stood and then taken out again leaves what stood
+pub taken_back : (f g h : ℕ → Option Had) (n : ℕ) (x : Had) → f n ≡ None → ((k : ℕ) → g k ≡ cond (is_at (nat_cmp n) k) (Some x) (f k)) → ((k : ℕ) → h k ≡ cond (is_at (nat_cmp n) k) None (g k)) → (k : ℕ) → h k ≡ f k
+taken_back f g h n x none put taken k = go (is_at (nat_cmp n) k) refl
+  where
+    go : (b : Bool) → is_at (nat_cmp n) k ≡ b → h k ≡ f k
+    go true e = let same : n ≡ k = grind (arith, nat_tests) in taken k ∙ ap (λ b. cond b None (g k)) e ∙ sym none ∙ ap f same
+    go false e = taken k ∙ ap (λ b. cond b None (g k)) e ∙ put k ∙ ap (λ b. cond b (Some x) (f k)) e
+
+-- it stands where nothing stood
+pub stands_there : (f : ℕ → Option Had) (n : ℕ) (x : Had) → f n ≡ None → with_had f n x n ≡ Some x
+stands_there f n x none = let same : nat_eq n n ≡ true = grind (arith, nat_tests) in rw (none, same) refl
+
+-- a delivery is against itself where nothing stood
+pub against_itself : (hs : List Had) (s : List ℕ) (from n : ℕ) (c : List Product) (o : Option Had) → same_contents c c ≡ true → o ≡ Some (Message c) → answer_against hs s from n c o ≡ placed_answer hs s from n
+against_itself hs s from n c o same e = ap (answer_against hs s from n c) e ∙ rw same refl

@@ -1,0 +1,38 @@
+use Rattle.std.proofs.Common.{refl, None, arith}
+use Rattle.series_rules.specs.Agreements.{has_parties}
+use Rattle.series_rules.proofs.Kept.{first_in, none_in, between_kept, own_place, set_same, on_fault}
+use Rattle.series_rules.proofs.Standing.{delivered_unknown, delivered_before, delivered_at, stands_again}
+use Rattle.series_rules.proofs.plain.delivered.Goals as goal
+
+pub returns-in_default-place_between-clause-ok : goal.returns-in_default-place_between-clause-ok
+returns-in_default-place_between-clause-ok c = λ L stands.
+    let m = c.in-Ok.message in
+    delivered_unknown c.args.kept.now.items L c.args.records.now m c.in-Some.number stands c.in-Ok.ensures.message c.in-Some.is
+    (between_kept c.args.kept.now.items m.0.sender m.0.addressee None
+    (none_in (λ s. has_parties m.0.sender m.0.addressee s.agreement) c.args.kept.now.items c.deref.result.now c.deref.ensures.value c.in_default-place_between.ensures))
+
+pub returns-then-value-clause-ok : goal.returns-then-value-clause-ok
+returns-then-value-clause-ok c = λ L stands.
+    let m = c.in-Ok.message in
+    let kept = c.args.kept.now.items in
+    let first = first_in (λ s. has_parties m.0.sender m.0.addressee s.agreement) kept c.deref.result.now c.in-Some-place_between.at c.index_mut-series.result.now c.deref.ensures.value c.in-Some-place_between.ensures c.index_mut-series.ensures.value in
+    rw (set_same (λ s. has_parties m.0.sender m.0.addressee s.agreement) kept c.in-Some-place_between.at c.index_mut-series.result.now first)
+    (delivered_before kept L c.args.records.now m c.in-Some.number c.in-Some-place_between.at c.index_mut-series.result.now stands c.in-Ok.ensures.message c.in-Some.is first (omega arith))
+
+pub returns-clause-ok : goal.returns-clause-ok
+returns-clause-ok c = λ L stands.
+    let m = c.in-Ok.message in
+    let kept = c.args.kept.now.items in
+    let first = first_in (λ s. has_parties m.0.sender m.0.addressee s.agreement) kept c.deref.result.now c.in-Some-place_between.at c.index_mut-series.result.now c.deref.ensures.value c.in-Some-place_between.ensures c.index_mut-series.ensures.value in
+    delivered_at kept L c.args.records.now m c.in-Some.number c.in-Some-place_between.at c.index_mut-series.result.now
+    (record { agreement = c.index_mut-series.result.now.agreement; numbers = c.deliver_at.new.numbers }) c.in_ok-deliver_at.field-0
+    stands c.in-Ok.ensures.message c.in-Some.is first (omega arith) refl c.in_ok-deliver_at.ensures.ok c.in_ok-deliver_at.ensures.answer
+
+pub returns-in_err-deliver_at-clause-err : goal.returns-in_err-deliver_at-clause-err
+returns-in_err-deliver_at-clause-err c = λ L stands.
+    let m = c.in-Ok.message in
+    let kept = c.args.kept.now.items in
+    let place = first_in (λ s. has_parties m.0.sender m.0.addressee s.agreement) kept c.deref.result.now c.in-Some-place_between.at c.index_mut-series.result.now c.deref.ensures.value c.in-Some-place_between.ensures c.index_mut-series.ensures.value in
+    on_fault c.from_residual.result _
+    (stands_again kept L c.in-Some-place_between.at c.index_mut-series.result.now (record { agreement = c.index_mut-series.result.now.agreement; numbers = c.deliver_at.new.numbers }) stands
+    (own_place kept stands.apart m.0.sender m.0.addressee c.in-Some-place_between.at c.index_mut-series.result.now place) refl c.in_err-deliver_at.ensures.err)

@@ -1,0 +1,19 @@
+use Rattle.std.proofs.Common.{◌≡◌, ◌+◌, ◌++◌, ◌∷◌, [], take, sym, ap, ◌∙◌}
+use Rattle.std.proofs.lemmas.List.{take_more}
+use Rattle.series_rules.specs.Runs.{effective}
+use Rattle.series_rules.proofs.RunLemmas.{answered_more}
+use Rattle.series_rules.proofs.whole.ask_all.Goals as goal
+
+pub loop-request-preserved : goal.loop-request-preserved
+loop-request-preserved g c = record {
+  premise = λ sound. c.loop-request.invariant.premise (c.answer-outcome.ensures.premise sound);
+  so_far = λ L stands sound.
+      let i = c.loop-request.request-index in
+      let rs = c.args.requests.now in
+      let before = c.loop-request.invariant.so_far L stands (c.answer-outcome.ensures.premise sound) in
+      let more : take (i + 1) rs ≡ take i rs ++ c.request-item.result ∷ [] = take_more rs i c.request-item.result c.loop-request-test.true ∙ ap (λ x. take i rs ++ x ∷ []) (sym c.request-item.is) in
+      rw (more, c.in_ok-push.ensures.ok)
+      (answered_more L (take i rs) c.loop-request.outcomes c.request-item.result c.answer-outcome.result (g.D.Desk.stands_for c.answer-outcome.new.desk) before.0
+      (λ a e. rw e at (c.answer-outcome.ensures.ok (effective L (take i rs) c.loop-request.outcomes) before.1 sound))
+      (λ f e. rw e at (c.answer-outcome.ensures.err (effective L (take i rs) c.loop-request.outcomes) before.1 sound)));
+}

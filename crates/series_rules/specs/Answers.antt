@@ -1,0 +1,111 @@
+-- The answer to each request, after a list of requests.
+use Rattle.std.specs.Prelude.{◌+◌, ◌-◌, ◌&&◌, Bool, List, [], ◌∷◌, Option, Some, None, bytes_eq, nat_eq, nat_lt, if◌then◌else◌, ℕ, length, option_map}
+use Rattle.catalogue_rules.specs.Records.{ByReference}
+use Rattle.onix_message.specs.Message.{message_of, bad_row}
+use Rattle.onix_message.specs.SameContents.{same_contents}
+use Rattle.onix_message.specs.declared.agreement.Agreement.{Agreement}
+use Rattle.onix_message.specs.declared.parts.Header.{Header}
+use Rattle.onix_message.specs.declared.parts.Product.{Product}
+use Rattle.series_rules.specs.Agreements.{agreements_of, named, between, same_party, same_addressee}
+use Rattle.series_rules.specs.Firsts.{first_at}
+use Rattle.series_rules.specs.Series.{front_of, kept_of, catalogue_of}
+use Rattle.series_rules.specs.declared.requests.Request.{Request}
+use Rattle.series_rules.specs.declared.requests.Request.TheVariants.{Agree, Deliver, Waive, AskCatalogue, Malformed}
+use Rattle.series_rules.specs.declared.requests.Had.{Had}
+use Rattle.series_rules.specs.declared.requests.Had.TheVariants as had
+use Rattle.series_rules.specs.declared.answers.AgreeAnswer.{AgreeAnswer}
+use Rattle.series_rules.specs.declared.answers.AgreeAnswer.TheVariants.{Agreed, NameTaken, SeriesTaken}
+use Rattle.series_rules.specs.declared.answers.DeliveryAnswer.{DeliveryAnswer}
+use Rattle.series_rules.specs.declared.answers.DeliveryAnswer.TheVariants as delivery
+use Rattle.series_rules.specs.declared.answers.WaiveAnswer.{WaiveAnswer}
+use Rattle.series_rules.specs.declared.answers.WaiveAnswer.TheVariants as waiver
+use Rattle.series_rules.specs.declared.answers.Answer.{Answer}
+use Rattle.series_rules.specs.declared.answers.Answer.TheVariants as answer
+
+-- two agreements that are equal in all parts
+abbrev pub same_agreement : Agreement → Agreement → Bool
+same_agreement a b = bytes_eq a.name b.name && same_party a.sender b.sender && same_addressee a.addressee b.addressee && nat_eq a.first b.first
+
+-- what an agreement is answered, by the one that has its name and the one that has its parties
+abbrev pub agree_answer_by : Agreement → Option Agreement → Option Agreement → AgreeAnswer
+agree_answer_by a (Some b) other = if same_agreement b a then Agreed else NameTaken
+agree_answer_by a None (Some b) = SeriesTaken b.name
+agree_answer_by a None None = Agreed
+
+-- what an agreement is answered after L
+abbrev pub agree_answer : List Request → Agreement → AgreeAnswer
+agree_answer L a = agree_answer_by a (named (agreements_of L) a.name) (between (agreements_of L) a.sender a.addressee)
+
+-- what a delivery is answered whose contents stand at number n, where hs stands from the first number on without a gap
+abbrev pub placed_answer : List Had → List ℕ → ℕ → ℕ → DeliveryAnswer
+placed_answer hs series from n =
+    if nat_lt n (from + length hs) then delivery.Applied series n (kept_of hs (n - from)) else delivery.Held series n (from + length hs)
+
+-- the same, by what stands at the number
+abbrev pub answer_against : List Had → List ℕ → ℕ → ℕ → List Product → Option Had → DeliveryAnswer
+answer_against hs series from n c None = placed_answer hs series from n
+answer_against hs series from n c (Some had.Waived) = delivery.Waived series n
+answer_against hs series from n c (Some (had.Message other)) =
+    if same_contents other c then placed_answer hs series from n else delivery.OtherContents series n
+
+-- what a delivery with a number is answered, by the agreement of its parties. L is the list with the delivery
+abbrev pub delivery_answer_at : List Request → ℕ → List Product → Option Agreement → DeliveryAnswer
+delivery_answer_at L n c None = delivery.UnknownSeries
+delivery_answer_at L n c (Some a) =
+    if nat_lt n a.first then delivery.BeforeFirst a.name n a.first else answer_against (front_of L a) a.name a.first n c (first_at L a.name n)
+
+-- what a message is answered, by its number
+abbrev pub message_answer_by : List Request → List Agreement → Header → List Product → Option ℕ → DeliveryAnswer
+message_answer_by L agreements h c None = delivery.Unnumbered
+message_answer_by L agreements h c (Some n) = delivery_answer_at L n c (between agreements h.sender h.addressee)
+
+-- what a delivery is answered, by the message that its records are
+abbrev pub delivery_answer_by : List Request → List Agreement → ℕ → Option (Header × List Product) → DeliveryAnswer
+delivery_answer_by L agreements row None = delivery.Malformed row
+delivery_answer_by L agreements row (Some m) = message_answer_by L agreements m.0 m.1 m.0.number
+
+-- what a delivery is answered after L. What stands is counted with the delivery itself
+abbrev pub delivery_answer : List Request → List (List (List ℕ)) → DeliveryAnswer
+delivery_answer L records = delivery_answer_by (Deliver records ∷ L) (agreements_of L) (bad_row records) (message_of records)
+
+-- what a waiver is answered, by what stands at its number
+abbrev pub waived_by : Option Had → WaiveAnswer
+waived_by None = waiver.Waived
+waived_by (Some had.Waived) = waiver.Waived
+waived_by (Some (had.Message c)) = waiver.Had
+
+-- the same, by the agreement of its name. L is the list with the waiver
+abbrev pub waive_answer_at : List Request → ℕ → Option Agreement → WaiveAnswer
+waive_answer_at L n None = waiver.UnknownSeries
+waive_answer_at L n (Some a) = if nat_lt n a.first then waiver.BeforeFirst a.first else waived_by (first_at L a.name n)
+
+-- what a waiver is answered after L
+abbrev pub waive_answer : List Request → List ℕ → ℕ → WaiveAnswer
+waive_answer L series n = waive_answer_at (Waive series n ∷ L) n (named (agreements_of L) series)
+
+-- the catalogue of that series, or none where it is not agreed
+abbrev pub catalogue_answer : List Request → List ℕ → Option ByReference
+catalogue_answer L series = option_map (catalogue_of L) (named (agreements_of L) series)
+
+-- the answer to a question about a catalogue
+abbrev pub catalogue_or_unknown : List ℕ → Option ByReference → Answer
+catalogue_or_unknown series None = answer.UnknownSeries
+catalogue_or_unknown series (Some m) = answer.Catalogue series m
+
+-- the answer to a request after L
+abbrev pub answer_to : List Request → Request → Answer
+answer_to L (Agree a) = answer.Agreement a.name a.first (agree_answer L a)
+answer_to L (Deliver records) = answer.Delivery (delivery_answer L records)
+answer_to L (Waive series n) = answer.Waiver series n (waive_answer L series n)
+answer_to L (AskCatalogue series) = catalogue_or_unknown series (catalogue_answer L series)
+answer_to L (Malformed row) = answer.Malformed row
+
+-- the answers to requests, each asked after L and those before it
+abbrev pub answers : List Request → List Request → List Answer
+answers L [] = []
+answers L (r ∷ rs) = answer_to L r ∷ answers (r ∷ L) rs
+
+-- L and then these requests, in order
+abbrev pub followed_by : List Request → List Request → List Request
+followed_by L [] = L
+followed_by L (r ∷ rs) = followed_by (r ∷ L) rs

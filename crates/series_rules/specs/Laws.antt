@@ -1,0 +1,26 @@
+-- Laws of the definitions.
+use Rattle.std.specs.Prelude.{◌≡◌, ◌<◌, ◌≤◌, ◌++◌, ℕ, List, ◌∷◌, Some}
+use Rattle.onix_message.specs.declared.agreement.Agreement.{Agreement}
+use Rattle.series_rules.specs.Agreements.{agreements_of, named}
+use Rattle.series_rules.specs.Firsts.{first_at}
+use Rattle.series_rules.specs.Series.{front_of, next_of, kept_at, IsNext}
+use Rattle.series_rules.specs.Content.{SameContent}
+use Rattle.series_rules.specs.Answers.{answer_to}
+use Rattle.series_rules.specs.declared.requests.Request.{Request}
+use Rattle.series_rules.specs.declared.requests.Had.{Had}
+
+-- the next number of a series is the least, from the agreed first on, that nothing stands at
+abbrev pub NextIsLeast : Type 0
+NextIsLeast = (L : List Request) (a : Agreement) → IsNext (first_at L a.name) a.first (next_of L a)
+
+-- lists that come to the same are answered the same, and come to the same after one more request
+abbrev pub ByContentAlone : Type 0
+ByContentAlone = (L M : List Request) (r : Request) → SameContent L M → (answer_to L r ≡ answer_to M r) × SameContent (r ∷ L) (r ∷ M)
+
+-- an agreed series stays agreed, what stands below its first gap stays, and what a message did there never changes
+abbrev pub FrontOnlyGrows : Type 0
+FrontOnlyGrows =
+    (L : List Request) (r : Request) (series : List ℕ) (a : Agreement) → named (agreements_of L) series ≡ Some a →
+    (named (agreements_of (r ∷ L)) series ≡ Some a) ×
+    ((more : List Had) × (front_of (r ∷ L) a ≡ front_of L a ++ more)) ×
+    ((n : ℕ) → a.first ≤ n → n < next_of L a → kept_at (r ∷ L) a n ≡ kept_at L a n)

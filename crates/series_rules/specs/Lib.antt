@@ -1,0 +1,15 @@
+pub mod Pieces
+pub mod Closed
+pub mod RequestRows
+pub mod Agreements
+pub mod Firsts
+pub mod Series
+pub mod Answers
+pub mod Content
+pub mod CatalogueText
+pub mod AnswerText
+pub mod Laws
+pub mod Batch
+pub mod BatchSteps
+pub mod Plain
+pub mod Runs

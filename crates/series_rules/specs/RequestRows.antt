@@ -1,0 +1,93 @@
+-- The request that a piece of a batch is.
+use Rattle.std.specs.Prelude.{ℕ, Bool, false, List, [], ◌∷◌, Option, Some, None, ◌&&◌, ◌||◌, ◌==◌, not, nat_le, nat_lt, length, if◌then◌else◌, option_map, codes}
+use Rattle.std.specs.List.{list_all}
+use Rattle.std.specs.Str.{bytes_eq}
+use Rattle.onix_terms.specs.Code.{code2_of}
+use Rattle.onix_terms.specs.Number.{number_of}
+use Rattle.onix_terms.specs.SeriesName.{series_name_of}
+use Rattle.onix_terms.specs.Territory.{◌>>=◌}
+use Rattle.onix_terms.specs.declared.party.Party.{Party}
+use Rattle.onix_message.specs.declared.agreement.Agreement.{Agreement}
+use Rattle.series_rules.specs.declared.requests.Request.{Request}
+use Rattle.series_rules.specs.declared.requests.Request.TheVariants as request
+
+-- a byte below the space, or the delete: in UTF-8 each stands for the character of its number, and for nothing else
+abbrev pub is_control : ℕ → Bool
+is_control b = nat_lt b 32 || (b == 127)
+
+-- a field of at most 1,024 bytes without control characters
+abbrev pub is_clean : List ℕ → Bool
+is_clean field = nat_le (length field) 1024 && list_all (λ b. not (is_control b)) field
+
+-- a text that is not empty
+abbrev pub filled : List ℕ → Option (List ℕ)
+filled [] = None
+filled (b ∷ bs) = Some (b ∷ bs)
+
+-- a party by the type and the value of its identifier
+abbrev pub party_of : List ℕ → List ℕ → Option Party
+party_of id_type id_value = do
+  t ← code2_of id_type
+  v ← filled id_value
+  Some (record { id_type = t; id_value = v })
+
+-- a party, or two empty fields
+abbrev pub optional_party : List ℕ → List ℕ → Option (Option Party)
+optional_party [] [] = Some None
+optional_party id_type id_value = option_map Some (party_of id_type id_value)
+
+-- the agreement of a name, a sender, perhaps an addressee, and a first number
+abbrev pub agreement_from : List ℕ → List ℕ → List ℕ → List ℕ → List ℕ → List ℕ → Option Agreement
+agreement_from name sender_type sender_value to_type to_value first = do
+  n ← series_name_of name
+  f ← number_of first
+  sender ← party_of sender_type sender_value
+  addressee ← optional_party to_type to_value
+  Some (record { name = n; sender = sender; addressee = addressee; first = f })
+
+-- the agreement that the fields after `Agree` make
+unfoldable pub agreement_of : List (List ℕ) → Option Agreement
+agreement_of (name ∷ sender_type ∷ sender_value ∷ to_type ∷ to_value ∷ first ∷ []) = agreement_from name sender_type sender_value to_type to_value first
+agreement_of _ = None
+
+-- the waiver that the fields after `Waive` make
+abbrev pub waiver_of : List (List ℕ) → Option Request
+waiver_of (series ∷ number ∷ []) = do
+  s ← series_name_of series
+  n ← number_of number
+  Some (request.Waive s n)
+waiver_of _ = None
+
+-- the series that the one field after a name of a question names
+abbrev pub series_of : List (List ℕ) → Option (List ℕ)
+series_of (series ∷ []) = series_name_of series
+series_of _ = None
+
+-- the request that the fields after a name make
+abbrev pub named_request : List ℕ → List (List ℕ) → Option Request
+named_request name fields =
+    if bytes_eq name (codes "Agree") then option_map request.Agree (agreement_of fields)
+    else if bytes_eq name (codes "Waive") then waiver_of fields
+    else if bytes_eq name (codes "AskCatalogue") then option_map request.AskCatalogue (series_of fields)
+    else None
+
+-- the request that a record is, unless one of its fields is wrong
+abbrev pub row_request : List (List ℕ) → Option Request
+row_request [] = None
+row_request (name ∷ fields) = if list_all is_clean (name ∷ fields) then named_request name fields else None
+
+-- a record begins a message
+abbrev pub begins_message : List (List ℕ) → Bool
+begins_message [] = false
+begins_message (name ∷ fields) = bytes_eq name (codes "Message")
+
+-- a request of one record, with no more records behind it
+abbrev pub alone : Option Request → List (List (List ℕ)) → Request
+alone None more = request.Malformed 1
+alone (Some r) [] = r
+alone (Some r) (next ∷ more) = request.Malformed 2
+
+-- the request that a piece is: a delivery, or one record
+abbrev pub request_of : List (List (List ℕ)) → Request
+request_of [] = request.Malformed 1
+request_of (row ∷ more) = if begins_message row then request.Deliver (row ∷ more) else alone (row_request row) more

@@ -1,0 +1,97 @@
+// The answers of a desk.
+
+use catalogue_rules::catalogue::Catalogue;
+use catalogue_rules::effect::Effect;
+use onix_terms::number::Number;
+use onix_terms::series_name::SeriesName;
+
+/// The answer to an agreement.
+#[derive(Debug, Drop)]
+pub enum AgreeAnswer {
+    /// It stands.
+    Agreed,
+    /// Another agreement has the name.
+    NameTaken,
+    /// The agreement of this name has the sender and the addressee.
+    SeriesTaken { name: SeriesName },
+}
+
+/// The answer to a delivery.
+#[derive(Debug, Drop)]
+pub enum DeliveryAnswer {
+    /// The records are no message: they stop being one at this row, counted from 1.
+    Malformed {
+        row: u32,
+    },
+    /// The message has no MessageNumber.
+    Unnumbered,
+    /// No agreement has its sender and addressee.
+    UnknownSeries,
+    /// Its number is below the agreed first.
+    BeforeFirst {
+        series: SeriesName,
+        number: Number,
+        first: Number,
+    },
+    /// Its number was waived.
+    Waived {
+        series: SeriesName,
+        number: Number,
+    },
+    /// An earlier message of its number has other contents.
+    OtherContents {
+        series: SeriesName,
+        number: Number,
+    },
+    /// It is applied, with the effect that it had at its place in the order of numbers.
+    Applied {
+        series: SeriesName,
+        number: Number,
+        effect: Effect,
+    },
+    /// It waits for the message of this number.
+    Held {
+        series: SeriesName,
+        number: Number,
+        waiting_for: u32,
+    },
+}
+
+/// The answer to a waiver.
+#[derive(Debug, Drop)]
+pub enum WaiveAnswer {
+    /// No agreement has the name.
+    UnknownSeries,
+    /// The number is below the agreed first.
+    BeforeFirst { first: Number },
+    /// A message has the number.
+    Had,
+    /// The number is waived.
+    Waived,
+}
+
+/// The answer to a request, with the values that its lines print.
+#[derive(Drop)]
+pub enum Answer {
+    Agreement {
+        name: SeriesName,
+        first: Number,
+        answer: AgreeAnswer,
+    },
+    Delivery(DeliveryAnswer),
+    Waiver {
+        series: SeriesName,
+        number: Number,
+        answer: WaiveAnswer,
+    },
+    Catalogue {
+        series: SeriesName,
+        catalogue: Catalogue,
+    },
+    /// The answer to a question about a series that is not agreed.
+    UnknownSeries,
+    /// The piece was no request: it stops being one at this row, counted from 1.
+    Malformed {
+        row: u32,
+    },
+}

@@ -1,0 +1,59 @@
+// What every desk promises.
+
+ghost use Rattle.std.specs.Prelude.{◌≡◌, ℕ, List, ◌∷◌, IfOk, OnErr, Option};
+ghost use Rattle.series_rules.specs.Answers.{agree_answer, delivery_answer, waive_answer, catalogue_answer};
+ghost use Rattle.series_rules.specs.Content.{SameContent};
+
+use crate::answers::{AgreeAnswer, DeliveryAnswer, WaiveAnswer};
+use catalogue_rules::catalogue::Catalogue;
+use onix_message::agreement::{Agreement, StoreFault};
+use onix_message::records::Record;
+use onix_terms::number::Number;
+use onix_terms::series_name::SeriesName;
+
+/// A desk, by the lists of requests that it stands for. A list has its latest request first.
+///
+/// With `Ok` each call answers as the definitions say after each list that the desk stands for.
+/// Agreements, deliveries and waivers then belong to the list. A question leaves what the desk
+/// stands for, and so does a fault. All this rests on a premise on the desk's store, which holds
+/// when a call began where it holds when the call ends.
+pub trait Desk {
+    ghost use Rattle.std.specs.Prelude.{List, ◌≡◌};
+    ghost use Rattle.series_rules.specs.declared.requests.Request.{Request};
+
+    /// The premise on its store.
+    ghost is_sound: { Self → Type 0 };
+
+    /// What it keeps is what those requests come to.
+    ghost stands_for: { Self → List Request → Type 0 };
+
+    /// Takes an agreement.
+    fn agree(&mut self, agreement: &Agreement) -> Result<AgreeAnswer, StoreFault>
+        ensures premise { is_sound self.new → is_sound self.old }
+        ensures ok { (L : List Request) → stands_for self.old L → is_sound self.new → IfOk result (λ a.
+            (a ≡ agree_answer L agreement.now) × stands_for self.new (Request.Agree agreement.now ∷ L)) }
+        ensures err { (L : List Request) → stands_for self.old L → is_sound self.new → OnErr result (stands_for self.new L) };
+
+    /// Takes the records of a message.
+    fn deliver(&mut self, records: &[Record]) -> Result<DeliveryAnswer, StoreFault>
+        ensures premise { is_sound self.new → is_sound self.old }
+        ensures ok { (L : List Request) → stands_for self.old L → is_sound self.new → IfOk result (λ a.
+            (a ≡ delivery_answer L records.now) × stands_for self.new (Request.Deliver records.now ∷ L)) }
+        ensures err { (L : List Request) → stands_for self.old L → is_sound self.new → OnErr result (stands_for self.new L) };
+
+    /// Takes the word of a wholesaler that a number will never come.
+    fn waive(&mut self, series: &SeriesName, number: Number) -> Result<WaiveAnswer, StoreFault>
+        ensures premise { is_sound self.new → is_sound self.old }
+        ensures ok { (L : List Request) → stands_for self.old L → is_sound self.new → IfOk result (λ a.
+            (a ≡ waive_answer L series.now number) × stands_for self.new (Request.Waive series.now number ∷ L)) }
+        ensures err { (L : List Request) → stands_for self.old L → is_sound self.new → OnErr result (stands_for self.new L) };
+
+    /// The catalogue of a series, or `None` where no agreement has the name.
+    fn catalogue(&mut self, series: &SeriesName) -> Result<Option<Catalogue>, StoreFault>
+        ensures premise { is_sound self.new → is_sound self.old }
+        ensures ok { (L : List Request) → stands_for self.old L → is_sound self.new → IfOk result (λ a. a ≡ catalogue_answer L series.now) }
+        ensures left { (L : List Request) → stands_for self.old L → is_sound self.new → stands_for self.new L };
+
+    /// Lists that come to the same are stood for alike.
+    ghost by_content: { (d : Self) (L M : List Request) → SameContent L M → stands_for d L → stands_for d M };
+}

@@ -1,0 +1,22 @@
+//! The desk: series of numbered messages, the answer to each request after all those before it,
+//! and batches of requests. A list of requests has its latest request first.
+//!
+//! The definitions are in `specs/`: `Agreements` (which agreements stand), `Firsts` (what stands
+//! at each number), `Series` (a series up to its first gap), `Answers` (the answer to each
+//! request) and `Content` (what two lists of requests have in common). Code meets them through
+//! the trait `desk::Desk`.
+#![tactic(auto)]
+
+pub mod answer_text;
+pub mod answers;
+pub mod asking;
+pub mod batch;
+pub mod catalogue_text;
+pub mod desk;
+pub mod laws;
+pub mod pieces;
+pub mod plain;
+pub mod request_rows;
+pub mod requests;
+mod series;
+pub mod whole;

@@ -1,0 +1,38 @@
+// Requests, and what they put at the numbers of a series.
+
+use onix_message::agreement::Agreement;
+use onix_message::parts::Contents;
+use onix_message::records::Record;
+use onix_terms::items::Items;
+use onix_terms::number::Number;
+use onix_terms::series_name::SeriesName;
+
+/// One request of a batch.
+#[derive(Debug, Drop)]
+pub enum Request {
+    /// An agreement with a wholesaler.
+    Agree(Agreement),
+    /// The records of a message.
+    Deliver(Items<Record>),
+    /// The wholesaler says that a number will never come.
+    Waive { series: SeriesName, number: Number },
+    /// Which records a series has.
+    AskCatalogue(SeriesName),
+    /// No request: it stops being one at this row of its piece, counted from 1.
+    Malformed { row: u32 },
+}
+
+/// What stands at a number of a series.
+#[derive(Debug, Drop)]
+pub enum Had {
+    Message(Contents),
+    Waived,
+}
+
+/// What a request puts at a number of a series.
+#[derive(Debug, Drop)]
+pub struct First {
+    pub series: SeriesName,
+    pub number: Number,
+    pub had: Had,
+}

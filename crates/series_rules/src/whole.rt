@@ -1,0 +1,34 @@
+// A run of requests.
+
+ghost use Rattle.std.specs.Prelude.{◌≡◌, ◌∷◌, List, IfOk};
+ghost use Rattle.series_rules.specs.Runs.{AreAnswered, effective};
+ghost use Rattle.series_rules.specs.declared.requests.Request.{Request};
+
+use crate::answers::Answer;
+use crate::asking::answer;
+use crate::desk::Desk;
+use crate::requests::Request;
+use onix_message::agreement::StoreFault;
+use onix_terms::items::Items;
+use std::alloc::{AllocError, Global};
+
+/// Asks a desk requests one after the other, and goes on after a storage fault. Leaving out the
+/// requests that were answered with a storage fault, each answer is the definition's, and the
+/// desk then stands for the list with the other requests. Only want of memory for the outcomes
+/// refuses it.
+pub fn ask_all<D: Desk>(
+    alloc: Global,
+    desk: &mut D,
+    requests: &[Request],
+) -> Result<Items<Result<Answer, StoreFault>>, AllocError>
+    ensures premise { D.is_sound desk.new → D.is_sound desk.old }
+    ensures answers { (L : List Request) → D.stands_for desk.old L → D.is_sound desk.new → IfOk result (λ outcomes.
+        AreAnswered L requests.now outcomes × D.stands_for desk.new (effective L requests.now outcomes)) }
+{
+    let mut outcomes = Items::new(alloc);
+    for request in requests {
+        let outcome = answer(desk, request);
+        outcomes.push(outcome)?;
+    }
+    Ok(outcomes)
+}

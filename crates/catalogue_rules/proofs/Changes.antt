@@ -8,25 +8,25 @@ use Rattle.std.specs.List.{All, Contains}
 use Rattle.std.proofs.lemmas.Cmp.{nat_list_cmp_total}
 use Rattle.std.proofs.lemmas.List.Elements.{All-contains}
 use Rattle.catalogue_rules.specs.Records.{ByReference}
-use Rattle.catalogue_rules.specs.Plans.{Changes, IsPlan, IsReady, looked}
+use Rattle.catalogue_rules.specs.Plans.{Changes, IsPlan, IsReady, entry_now}
 use Rattle.catalogue_rules.specs.declared.entry.Entry.{Entry}
 use Rattle.catalogue_rules.proofs.Lookups.{ChangesAt, equal_maps, in_or_not, same_key}
 
 not_some : IsSome {T = Option Entry} None → ⊥
 not_some h = cc
 
-at_test : (was : Option Entry) (before : Option (Option Entry)) (w : Option Entry) (b : Bool) → (b ≡ true → before ≡ Some w) → looked (cond b w was) (cond b None before) ≡ looked was before
-at_test was before w true f = ap (looked was) (sym (f refl))
+at_test : (was : Option Entry) (before : Option (Option Entry)) (w : Option Entry) (b : Bool) → (b ≡ true → before ≡ Some w) → entry_now (cond b w was) (cond b None before) ≡ entry_now was before
+at_test was before w true f = ap (entry_now was) (sym (f refl))
 at_test was before w false f = refl
 
 -- after a change at k the changes that are left lead to the same
 pub settled_more : (was now : ByReference) (before rest : Changes) (k : List ℕ) (w : Option Entry)
     → ChangesAt was now k w → fin.get before k ≡ Some w → rest ≡ fin.remove before k
-    → (q : List ℕ) → looked (fin.get now q) (fin.get rest q) ≡ looked (fin.get was q) (fin.get before q)
+    → (q : List ℕ) → entry_now (fin.get now q) (fin.get rest q) ≡ entry_now (fin.get was q) (fin.get before q)
 settled_more was now before rest k w u e r q =
-    ap (λ n. looked (fin.get now q) (fin.get n q)) r
-    ∙ ap (λ o. looked (fin.get now q) o) (get-remove nat_list_cmp_total before k q)
-    ∙ ap (λ o. looked o (cond (eq_by_cmp (slice_cmp nat_cmp) q k) None (fin.get before q))) (u q)
+    ap (λ n. entry_now (fin.get now q) (fin.get n q)) r
+    ∙ ap (λ o. entry_now (fin.get now q) o) (get-remove nat_list_cmp_total before k q)
+    ∙ ap (λ o. entry_now o (cond (eq_by_cmp (slice_cmp nat_cmp) q k) None (fin.get before q))) (u q)
     ∙ at_test (fin.get was q) (fin.get before q) w (eq_by_cmp (slice_cmp nat_cmp) q k) (λ t. ap (fin.get before) (same_key q k t) ∙ e)
 
 ready_at : (was : Option Entry) (before : Option (Option Entry)) (w : Option Entry) (b : Bool) → IsReady was before → IsReady (cond b w was) (cond b None before)
@@ -42,8 +42,8 @@ ready_more was now before rest k w u r h q =
     subst (λ o. IsReady o (fin.get rest q)) (sym (u q)) (subst (λ o. IsReady (cond (eq_by_cmp (slice_cmp nat_cmp) q k) w (fin.get was q)) o) (sym e) (ready_at (fin.get was q) (fin.get before q) w (eq_by_cmp (slice_cmp nat_cmp) q k) (h q)))
 
 -- with no change left all is done
-pub all_settled : (was : Option Entry) (o : Option (Option Entry)) → o ≡ None → looked was o ≡ was
-all_settled was o e = ap (looked was) e
+pub all_settled : (was : Option Entry) (o : Option (Option Entry)) → o ≡ None → entry_now was o ≡ was
+all_settled was o e = ap (entry_now was) e
 
 -- a catalogue that lacks the new references again is the old one
 pub undone : (old mid new : ByReference) (fresh : List (List ℕ))
@@ -58,19 +58,19 @@ undone old mid new fresh absent first second gone =
     (λ f. second q f ∙ first q f)
     (in_or_not fresh q))
 
-looked_named : (was other : Option Entry) (o : Option (Option Entry)) → IsSome o → looked was o ≡ looked other o
-looked_named was other None h = absurd (not_some h)
-looked_named was other (Some now) h = refl
+entry_now-named : (was other : Option Entry) (o : Option (Option Entry)) → IsSome o → entry_now was o ≡ entry_now other o
+entry_now-named was other None h = absurd (not_some h)
+entry_now-named was other (Some now) h = refl
 
 -- where the new references have places, the changes give what the plan says
 pub carried_out : (base : ByReference) (draft : Changes) (fresh : List (List ℕ)) (m room new : ByReference) → IsPlan base draft fresh m
     → ((q : List ℕ) → (Contains fresh q → ⊥) → fin.get room q ≡ fin.get base q)
-    → ((q : List ℕ) → fin.get new q ≡ looked (fin.get room q) (fin.get draft q)) → new ≡ m
+    → ((q : List ℕ) → fin.get new q ≡ entry_now (fin.get room q) (fin.get draft q)) → new ≡ m
 carried_out base draft fresh m room new plan others settled =
     equal_maps new m
     (λ q. settled q
     ∙ ⊎_elim
-    (λ h. looked_named (fin.get room q) (fin.get base q) (fin.get draft q) ((plan.lacks q).0 h).0)
-    (λ f. ap (λ was. looked was (fin.get draft q)) (others q f))
+    (λ h. entry_now-named (fin.get room q) (fin.get base q) (fin.get draft q) ((plan.lacks q).0 h).0)
+    (λ f. ap (λ was. entry_now was (fin.get draft q)) (others q f))
     (in_or_not fresh q)
     ∙ plan.gives q)

@@ -9,7 +9,7 @@ use Rattle.std.proofs.lemmas.Cmp.{nat_list_cmp_total}
 use Rattle.std.proofs.lemmas.List.Elements.{Contains-append_left, Contains-push, Contains-push_cases}
 use Rattle.catalogue_rules.specs.Records.{ByReference}
 use Rattle.catalogue_rules.specs.Effects.{with_entry}
-use Rattle.catalogue_rules.specs.Plans.{Changes, IsPlan, looked}
+use Rattle.catalogue_rules.specs.Plans.{Changes, IsPlan, entry_now}
 use Rattle.catalogue_rules.specs.declared.entry.Entry.{Entry}
 use Rattle.catalogue_rules.proofs.Lookups.{ChangesAt, changed_here, changed_there, same_key, same_or_not, still_some}
 
@@ -22,7 +22,7 @@ not_some h = cc
 -- no change is a plan for what is there
 pub no_change : (base : ByReference) → IsPlan base fin.empty [] base
 no_change base = record {
-  gives = λ q. ap (looked (fin.get base q)) (get-empty (slice_cmp nat_cmp) q);
+  gives = λ q. ap (entry_now (fin.get base q)) (get-empty (slice_cmp nat_cmp) q);
   lacks = λ q. (λ n. absurd (nothing_in q n), λ h. absurd (not_some (subst IsSome (get-empty (slice_cmp nat_cmp) q) h.0)));
 }
 
@@ -31,9 +31,9 @@ pub changes_at-with_entry : (m : ByReference) (k : List ℕ) (w : Option Entry) 
 changes_at-with_entry m k None q = get-remove nat_list_cmp_total m k q
 changes_at-with_entry m k (Some e) q = get-insert nat_list_cmp_total m k e q
 
-looked-put : (was : Option Entry) (b : Bool) (now : Option Entry) (o : Option (Option Entry)) → looked was (cond b (Some now) o) ≡ cond b now (looked was o)
-looked-put was true now o = refl
-looked-put was false now o = refl
+entry_now-put : (was : Option Entry) (b : Bool) (now : Option Entry) (o : Option (Option Entry)) → entry_now was (cond b (Some now) o) ≡ cond b now (entry_now was o)
+entry_now-put was true now o = refl
+entry_now-put was false now o = refl
 
 kept : (b : Bool) (was : Option Entry) (w : Option Entry) → (b ≡ true → was ≡ w) → cond b w was ≡ was
 kept true was w f = sym (f refl)
@@ -41,7 +41,7 @@ kept false was w f = refl
 
 module _ (base m : ByReference) (draft : Changes) (fresh : List (List ℕ)) (plan : IsPlan base draft fresh m) (k : List ℕ) where
   -- what a reference has after the changes
-  pub had : (w : Option Entry) → looked (fin.get base k) (fin.get draft k) ≡ w → fin.get m k ≡ w
+  pub had : (w : Option Entry) → entry_now (fin.get base k) (fin.get draft k) ≡ w → fin.get m k ≡ w
   had w e = sym (plan.gives k) ∙ e
 
   -- a product that leaves the entry of its reference alone changes nothing
@@ -55,10 +55,10 @@ module _ (base m : ByReference) (draft : Changes) (fresh : List (List ℕ)) (pla
     in_draft : ChangesAt draft (fin.insert draft k now) k (Some now)
     in_draft q = get-insert nat_list_cmp_total draft k now q
 
-    gives_more : (q : List ℕ) → looked (fin.get base q) (fin.get (fin.insert draft k now) q) ≡ fin.get (with_entry m k now) q
+    gives_more : (q : List ℕ) → entry_now (fin.get base q) (fin.get (fin.insert draft k now) q) ≡ fin.get (with_entry m k now) q
     gives_more q =
-        ap (looked (fin.get base q)) (in_draft q)
-        ∙ looked-put (fin.get base q) (eq_by_cmp (slice_cmp nat_cmp) q k) now (fin.get draft q)
+        ap (entry_now (fin.get base q)) (in_draft q)
+        ∙ entry_now-put (fin.get base q) (eq_by_cmp (slice_cmp nat_cmp) q k) now (fin.get draft q)
         ∙ ap (λ o. cond (eq_by_cmp (slice_cmp nat_cmp) q k) now o) (plan.gives q)
         ∙ sym (changes_at-with_entry m k now q)
 

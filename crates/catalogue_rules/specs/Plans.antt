@@ -13,9 +13,9 @@ abbrev pub Changes : Type 0
 Changes = FinMap (slice_cmp nat_cmp) (Option Entry)
 
 -- what a reference has after the changes, by what it had
-abbrev pub looked : Option Entry → Option (Option Entry) → Option Entry
-looked was None = was
-looked was (Some now) = now
+abbrev pub entry_now : Option Entry → Option (Option Entry) → Option Entry
+entry_now was None = was
+entry_now was (Some now) = now
 
 -- a reference that is to have an entry has one already, so that the new one takes no memory
 abbrev pub IsReady : Option Entry → Option (Option Entry) → Type 0
@@ -24,7 +24,7 @@ IsReady was (Some now) = IsSome now → IsSome was
 
 -- the changes make m of the catalogue base, which lacks exactly the fresh ones of their references
 pub record IsPlan (base : ByReference) (draft : Changes) (fresh : List (List ℕ)) (m : ByReference) : Type 0 where
-  pub gives : (q : List ℕ) → looked (map.get base q) (map.get draft q) ≡ map.get m q
+  pub gives : (q : List ℕ) → entry_now (map.get base q) (map.get draft q) ≡ map.get m q
   pub lacks : (q : List ℕ) → Contains fresh q ↔ (IsSome (map.get draft q) × (map.get base q ≡ None))
 
 -- how many products were counted

@@ -4,7 +4,7 @@ ghost use Rattle.std.specs.String.{string_bytes};
 ghost use Rattle.std.specs.FinMap as map;
 ghost use Rattle.catalogue_rules.specs.Records.{by_bytes, records_of};
 ghost use Rattle.catalogue_rules.specs.Effects.{after, effect_of};
-ghost use Rattle.catalogue_rules.specs.Plans.{IsReady, looked};
+ghost use Rattle.catalogue_rules.specs.Plans.{IsReady, entry_now};
 
 use crate::draft::Draft;
 use crate::effect::Effect;
@@ -128,7 +128,7 @@ impl Catalogue {
     // Carries out the changes, which takes no memory where each new reference has its place.
     fn settle(&mut self, draft: Draft)
         requires { (q : List ℕ) → IsReady (map.get self.old q) (map.get draft q) }
-        ensures { (q : List ℕ) → map.get self.new q ≡ looked (map.get self.old q) (map.get draft q) }
+        ensures { (q : List ℕ) → map.get self.new q ≡ entry_now (map.get self.old q) (map.get draft q) }
     {
         let mut rest = draft;
         while let Some((reference, change)) = rest.pop() {

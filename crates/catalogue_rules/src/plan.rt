@@ -3,7 +3,7 @@ ghost use Rattle.std.specs.Option.{option_copied};
 ghost use Rattle.std.specs.FinMap as map;
 ghost use Rattle.catalogue_rules.specs.Records.{ByReference};
 ghost use Rattle.catalogue_rules.specs.Effects.{after, after_product, change_of, counted, effect_of, entry_after, no_effect, with_entry};
-ghost use Rattle.catalogue_rules.specs.Plans.{IsPlan, looked, total};
+ghost use Rattle.catalogue_rules.specs.Plans.{IsPlan, entry_now, total};
 
 use crate::catalogue::Catalogue;
 use crate::draft::Draft;
@@ -26,17 +26,17 @@ pub struct Plan {
 }
 
 // What a product makes of the entry of its reference, or `None` where it leaves that alone.
-fn changed(
+fn change_by(
     change: Change,
     product: &Product,
     was: Option<&Entry>,
 ) -> Result<Option<Option<Entry>>, AllocError>
-    ensures { IfOk result (λ now. looked (option_copied was.entry) now ≡ entry_after change product.now (option_copied was.entry)) }
+    ensures { IfOk result (λ now. entry_now (option_copied was.entry) now ≡ entry_after change product.now (option_copied was.entry)) }
 {
     match change {
         Change::Replace => Ok(Some(Some(Entry::copy_of(&product.ids, &product.supplies)?))),
         Change::Update => match was {
-            Some(entry) if !product.supplies.as_slice().is_empty() => {
+            Some(entry) if !product.supplies.is_empty() => {
                 Ok(Some(Some(Entry::copy_of(&entry.ids, &product.supplies)?)))
             }
             _ => Ok(None),
@@ -64,7 +64,7 @@ impl Plan {
 
     /// The entry that a reference has after the changes.
     fn entry_of<'a>(&'a self, catalogue: &'a Catalogue, reference: &str) -> Option<&'a Entry>
-        ensures { option_copied result ≡ looked (map.get catalogue.now reference.now) (map.get self.now.draft reference.now) }
+        ensures { option_copied result ≡ entry_now (map.get catalogue.now reference.now) (map.get self.now.draft reference.now) }
     {
         match self.draft.get(reference) {
             Some(Some(entry)) => Some(entry),
@@ -116,7 +116,7 @@ impl Plan {
         let change = Change::of(product.notification);
         let was = self.entry_of(catalogue, reference);
         let is_known = was.is_some();
-        if let Some(now) = changed(change, product, was)? {
+        if let Some(now) = change_by(change, product, was)? {
             self.put(alloc, catalogue, reference, now)?;
         }
         self.effect.count(change, is_known);

@@ -78,7 +78,7 @@ unfolding with_code
 rises-with code [] all = (tt, tt)
 rises-with code (x ∷ xs) all =
     rises-placed (bytes_eq code x) (comes_before code x) code x xs (with_code xs code) (λ e. e) all.0 all.1
-        (λ other after. before-with x code (total code x other after) xs all.0) (rises-with code xs all.1)
+    (λ other after. before-with x code (total code x other after) xs all.0) (rises-with code xs all.1)
 
 rises-fold : (more codes : List (List ℕ)) → Rises codes → Rises (fold with_code codes more)
 rises-fold [] codes all = all

@@ -147,13 +147,13 @@ unfolding last_below
 last_below-only passes n zero small there only = absurd (omega arith)
 last_below-only passes n (suc bound) small there only =
     either-is (passes bound) bound (last_below passes bound) n (only bound)
-        (λ none. last_below-only passes n bound (below-next passes n bound small there none) there only)
+    (λ none. last_below-only passes n bound (below-next passes n bound small there none) there only)
 
 pub date_of-is : (day : ℤ) (date : ℕ) → date < 100_000_000 → day_at date ≡ Some day → date_of day ≡ date
 date_of-is day date small e =
     let decides = option-decides Decides-int_eq in
     last_below-only (λ k. option_eq int_eq (day_at k) (Some day)) date 100_000_000 small ((decides (day_at date) (Some day)).1 e)
-        (λ k h. one-date date k day e ((decides (day_at k) (Some day)).0 h))
+    (λ k h. one-date date k day e ((decides (day_at k) (Some day)).0 h))
 
 -- a day from the first on has a year from 1 on
 pub begun-year : (d : Date) (day : ℤ) → days_from_civil d.year d.month d.day ≡ day → neg_ℤ (pos 719_162) ≤ℤ day → pos 1 ≤ℤ d.year

@@ -28,7 +28,9 @@ first-date =
     let counted = days_from_civil-day_count (pos 1) 1 1 in
     let first = first_day in
     record {
-      year = 1; month = 1; of_month = 1;
+      year = 1;
+      month = 1;
+      of_month = 1;
       dated = record { civil = ((omega (arith, ints), omega (arith, ints)), (lit≤ tt, lit≤ tt), (lit≤ tt, lit≤ tt)); begun = lit< tt };
       number = omega (arith, ints);
     }
@@ -38,7 +40,9 @@ in-month : (day next : ℤ) (h : HasDate day) → next ≡ day +ℤ pos 1 → h.
 in-month day next h is more =
     let later = days_from_civil-day (pos h.year) h.month h.of_month (h.of_month + 1) h.dated.civil.2.0 (omega arith) in
     record {
-      year = h.year; month = h.month; of_month = h.of_month + 1;
+      year = h.year;
+      month = h.month;
+      of_month = h.of_month + 1;
       dated = record { civil = (h.dated.civil.0, h.dated.civil.1, (omega arith, omega arith)); begun = h.dated.begun };
       number = omega (arith, ints, later, h.number);
     }
@@ -49,7 +53,9 @@ in-year day next h is last more =
     let later = days_from_civil-next_month (pos h.year) h.month h.of_month h.dated.civil.1.0 last in
     let some = days_in_month_bounds (pos h.year) (h.month + 1) in
     record {
-      year = h.year; month = h.month + 1; of_month = 1;
+      year = h.year;
+      month = h.month + 1;
+      of_month = 1;
       dated = record { civil = (h.dated.civil.0, (omega arith, omega arith), (lit≤ tt, omega (arith, some.1))); begun = h.dated.begun };
       number = omega (arith, ints, later, h.number);
     }
@@ -65,7 +71,9 @@ next-year : (day next : ℤ) (h : HasDate day) → next ≡ day +ℤ pos 1 → d
 next-year day next h is end more =
     let later = days_from_civil-next_year (pos h.year) (pos (h.year + 1)) (omega (arith, ints)) (omega (arith, ints)) in
     record {
-      year = h.year + 1; month = 1; of_month = 1;
+      year = h.year + 1;
+      month = 1;
+      of_month = 1;
       dated = record { civil = ((omega (arith, ints), omega (arith, ints)), (lit≤ tt, lit≤ tt), (lit≤ tt, lit≤ tt)); begun = omega arith };
       number = omega (arith, ints, later, end);
     }
@@ -76,19 +84,19 @@ next-date day next h before is =
     elim (cases_lt h.of_month (days_in_month (pos h.year) h.month)) [
       | inl more ↦ in-month day next h is more
       | inr over ↦
-        let last : h.of_month ≡ days_in_month (pos h.year) h.month = omega (arith, h.dated.civil.2.1) in
-        elim (cases_lt h.month 12) [
-          | inl more ↦ in-year day next h is last more
-          | inr december ↦
-            let end = year-end day h last (omega (arith, h.dated.civil.1.1)) in
-            elim (cases_lt h.year 9999) [
-              | inl more ↦ next-year day next h is end more
-              | inr final ↦
-                let year : h.year ≡ 9999 = omega (arith, ints, h.dated.civil.0.1) in
-                let latest : day ≡ pos 2_932_896 = sym end ∙ ap (λ y. days_from_civil (pos y) 12 31) year ∙ days_from_civil-max in
-                absurd (omega (arith, ints, latest, before))
-            ]
-        ]
+          let last : h.of_month ≡ days_in_month (pos h.year) h.month = omega (arith, h.dated.civil.2.1) in
+          elim (cases_lt h.month 12) [
+            | inl more ↦ in-year day next h is last more
+            | inr december ↦
+                let end = year-end day h last (omega (arith, h.dated.civil.1.1)) in
+                elim (cases_lt h.year 9999) [
+                  | inl more ↦ next-year day next h is end more
+                  | inr final ↦
+                      let year : h.year ≡ 9999 = omega (arith, ints, h.dated.civil.0.1) in
+                      let latest : day ≡ pos 2_932_896 = sym end ∙ ap (λ y. days_from_civil (pos y) 12 31) year ∙ days_from_civil-max in
+                      absurd (omega (arith, ints, latest, before))
+                ]
+          ]
     ]
 
 -- each day number from the first on
@@ -110,10 +118,10 @@ eight-some n small =
     let d = n % 100 in
     let low : a < 100 = omega arith in
     let all : list_all is_ascii_digit (eight_digits n) ≡ true =
-        two-digits a (two_digits b ++ (two_digits c ++ two_digits d)) low ∙ two-digits b (two_digits c ++ two_digits d) (omega arith) ∙ two-digits c (two_digits d) (omega arith) ∙ two-digits d [] (omega arith) in
+    two-digits a (two_digits b ++ (two_digits c ++ two_digits d)) low ∙ two-digits b (two_digits c ++ two_digits d) (omega arith) ∙ two-digits c (two_digits d) (omega arith) ∙ two-digits d [] (omega arith) in
     let value : digits_value 10 (eight_digits n) ≡ (((0 * 100 + a) * 100 + b) * 100 + c) * 100 + d =
-        two-after 0 a (two_digits b ++ (two_digits c ++ two_digits d)) low ∙ two-after (0 * 100 + a) b (two_digits c ++ two_digits d) (omega arith)
-        ∙ two-after ((0 * 100 + a) * 100 + b) c (two_digits d) (omega arith) ∙ two-after (((0 * 100 + a) * 100 + b) * 100 + c) d [] (omega arith) in
+    two-after 0 a (two_digits b ++ (two_digits c ++ two_digits d)) low ∙ two-after (0 * 100 + a) b (two_digits c ++ two_digits d) (omega arith)
+    ∙ two-after ((0 * 100 + a) * 100 + b) c (two_digits d) (omega arith) ∙ two-after (((0 * 100 + a) * 100 + b) * 100 + c) d [] (omega arith) in
     let whole : digits_value 10 (eight_digits n) ≡ n = omega (arith, value) in
     digits-some (eight_digits n) (lit< tt) (lit≤ tt) all ∙ ap (λ v. Some v) whole
 

@@ -41,7 +41,8 @@ digits-bound text n e =
     let few : length text ≤ 9 = leb-true (length text) 9 sizes.1 in
     let all : list_all is_ascii_digit text ≡ true = tests.1 in
     record {
-      some = some; few = few;
+      some = some;
+      few = few;
       places = subst (λ (v : ℕ). v < 10 ^ length text) through.same (digits_value_short own text (length text) all (omega arith));
       below = subst (λ (v : ℕ). v < 10 ^ 9) through.same (digits_value_short own text 9 all few);
     }

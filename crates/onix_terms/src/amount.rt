@@ -36,11 +36,15 @@ impl Amount {
             Some((whole, part)) => {
                 let whole = read_digits(whole)?;
                 let part = read_part(part)?;
-                Some(Amount { thousandths: u64::from(whole) * 1000 + part })
+                Some(Amount {
+                    thousandths: u64::from(whole) * 1000 + part,
+                })
             }
             None => {
                 let whole = read_digits(text)?;
-                Some(Amount { thousandths: u64::from(whole) * 1000 })
+                Some(Amount {
+                    thousandths: u64::from(whole) * 1000,
+                })
             }
         }
     }

@@ -62,7 +62,11 @@ fn next_code(text: &[u8]) -> Next<'_>
 {
     match text {
         [] => Next::Nothing,
-        [a] => if *a == b' ' { Next::Space(&text[1..]) } else { Next::Wrong },
+        [a] => if *a == b' ' {
+            Next::Space(&text[1..])
+        } else {
+            Next::Wrong
+        },
         [a, b, more @ ..] => {
             if *a == b' ' {
                 return Next::Space(&text[1..]);

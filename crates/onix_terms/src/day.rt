@@ -82,7 +82,9 @@ impl Day {
         requires { IsDayNumber (self +ℤ pos days) }
         ensures { result ≡ self +ℤ pos days }
     {
-        Day { number: self.number + days as i32 }
+        Day {
+            number: self.number + days as i32,
+        }
     }
 
     /// How many days lie from this day to one that is not before it.
@@ -101,7 +103,9 @@ impl Day {
         ensures { result +ℤ pos 1 ≡ self }
     {
         let _ = earlier.number;
-        Day { number: self.number - 1 }
+        Day {
+            number: self.number - 1,
+        }
     }
 
     /// Whether this day comes after the other.
@@ -122,7 +126,9 @@ fn day_at(date: u32) -> Option<Day>
         return None;
     }
     match Date::new(year, (date / 100 % 100) as i8, (date % 100) as i8) {
-        Ok(date) => Some(Day { number: date.to_plain().to_unix_epoch_day() }),
+        Ok(date) => Some(Day {
+            number: date.to_plain().to_unix_epoch_day(),
+        }),
         Err(_) => None,
     }
 }

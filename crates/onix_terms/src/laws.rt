@@ -16,27 +16,23 @@ pub fn number_reads_back()
     ensures digits { (n : ℕ) → n < 1_000_000_000 → digits_of (decimal n) ≡ Some n }
     ensures number { (n : ℕ) → 0 < n → n < 1_000_000_000 → number_of (decimal n) ≡ Some n }
     ensures quantity { (n : ℕ) → 0 < n → n < 1_000_000 → quantity_of (decimal n) ≡ Some n }
-{
-}
+{}
 
 /// Texts that are values are read as themselves.
 pub fn texts_are_themselves()
     ensures fixed { (allowed : ℕ → Bool) (size : ℕ) (text code : List ℕ) → fixed_text allowed size text ≡ Some code → text ≡ code }
     ensures name { (text name : List ℕ) → series_name_of text ≡ Some name → text ≡ name }
-{
-}
+{}
 
 /// The text of an amount is read as that amount.
 pub fn amount_reads_back()
     ensures { (n : ℕ) → n < 1_000_000_000_000 → amount_of (amount_text n) ≡ Some n }
-{
-}
+{}
 
 /// The text of a day is read as that day.
 pub fn day_reads_back()
     ensures { (day : ℤ) → IsDayNumber day → day_of (day_text day) ≡ Some day }
-{
-}
+{}
 
 /// The numbers that texts write are in their ranges.
 pub fn terms_are_in_range()
@@ -44,12 +40,10 @@ pub fn terms_are_in_range()
     ensures quantity { (text : List ℕ) (n : ℕ) → quantity_of text ≡ Some n → (0 < n) × (n < 1_000_000) }
     ensures amount { (text : List ℕ) (n : ℕ) → amount_of text ≡ Some n → n < 1_000_000_000_000 }
     ensures day { (text : List ℕ) (day : ℤ) → day_of text ≡ Some day → IsDayNumber day }
-{
-}
+{}
 
 /// The countries of a territory that was read are in order, each once.
 pub fn territory_is_in_order()
     ensures included { (included regions excluded : List ℕ) (t : Territory) → territory_of included regions excluded ≡ Some t → IsInOrder t.included }
     ensures excluded { (included regions excluded : List ℕ) (t : Territory) → territory_of included regions excluded ≡ Some t → IsInOrder t.excluded }
-{
-}
+{}

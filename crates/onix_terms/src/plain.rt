@@ -139,10 +139,8 @@ impl Plain for SeriesName {
 
     ghost clone_is_same = { λ x y e. e };
 
-    ghost eq_decides = {
-        λ x y. decides-same (padded-same x y) (λ e. (ap padded e, ap length e))
-            (decides-both (bytes_decides (padded x) (padded y)) (Decides-eqb (length x) (length y)))
-    };
+    ghost eq_decides = { λ x y. decides-same (padded-same x y) (λ e. (ap padded e, ap length e))
+        (decides-both (bytes_decides (padded x) (padded y)) (Decides-eqb (length x) (length y))) };
 }
 
 impl<T: Plain> Plain for Option<T> {
@@ -177,12 +175,10 @@ impl Plain for Party {
 
     ghost clone_is_same = { λ x y e. λ i. record { id_type = e.0 i; id_value = e.1 i } };
 
-    ghost eq_decides = {
-        λ x y. decides-same
-            (λ e. λ i. record { id_type = e.0 i; id_value = e.1 i })
-            (λ e. (ap (λ p. p.id_type) e, ap (λ p. p.id_value) e))
-            (decides-both (bytes_decides x.id_type y.id_type) (bytes_decides x.id_value y.id_value))
-    };
+    ghost eq_decides = { λ x y. decides-same
+        (λ e. λ i. record { id_type = e.0 i; id_value = e.1 i })
+        (λ e. (ap (λ p. p.id_type) e, ap (λ p. p.id_value) e))
+        (decides-both (bytes_decides x.id_type y.id_type) (bytes_decides x.id_value y.id_value)) };
 }
 
 impl Plain for Territory {
@@ -191,19 +187,15 @@ impl Plain for Territory {
     ghost use Rattle.std.specs.Cmp.Lexicographic.{bytes_decides, pointwise_decides};
     ghost use Rattle.onix_terms.specs.Plain.{clones-same, decides-both, decides-same};
 
-    ghost clone_is_same = {
-        λ x y e. λ i. record {
-            included = clones-same (λ a b h. h) x.included y.included e.0 i;
-            world = e.1.0 i;
-            excluded = clones-same (λ a b h. h) x.excluded y.excluded e.1.1 i
-        }
-    };
+    ghost clone_is_same = { λ x y e. λ i. record {
+      included = clones-same (λ a b h. h) x.included y.included e.0 i;
+      world = e.1.0 i;
+      excluded = clones-same (λ a b h. h) x.excluded y.excluded e.1.1 i;
+    } };
 
-    ghost eq_decides = {
-        λ x y. decides-same
-            (λ e. λ i. record { included = e.0 i; world = e.1.0 i; excluded = e.1.1 i })
-            (λ e. (ap (λ t. t.included) e, (ap (λ t. t.world) e, ap (λ t. t.excluded) e)))
-            (decides-both (pointwise_decides bytes_decides x.included y.included)
-                (decides-both (booleans_Decides x.world y.world) (pointwise_decides bytes_decides x.excluded y.excluded)))
-    };
+    ghost eq_decides = { λ x y. decides-same
+        (λ e. λ i. record { included = e.0 i; world = e.1.0 i; excluded = e.1.1 i })
+        (λ e. (ap (λ t. t.included) e, (ap (λ t. t.world) e, ap (λ t. t.excluded) e)))
+        (decides-both (pointwise_decides bytes_decides x.included y.included)
+        (decides-both (booleans_Decides x.world y.world) (pointwise_decides bytes_decides x.excluded y.excluded))) };
 }

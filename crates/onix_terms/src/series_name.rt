@@ -44,7 +44,10 @@ impl SeriesName {
         }
         let mut bytes = [0; 32];
         bytes[..given.len()].copy_from_slice(given);
-        Some(SeriesName { bytes, len: given.len() })
+        Some(SeriesName {
+            bytes,
+            len: given.len(),
+        })
     }
 
     /// The name.

@@ -43,14 +43,23 @@ impl Territory {
     ghost use Rattle.onix_terms.specs.Territory.{Gives, IsIn, territory_of};
 
     /// The territory of the three fields. `NotATerm` exactly where they write none.
-    pub fn read(alloc: Global, included: &str, regions: &str, excluded: &str) -> Result<Territory, TermFault>
+    pub fn read(
+        alloc: Global,
+        included: &str,
+        regions: &str,
+        excluded: &str,
+    ) -> Result<Territory, TermFault>
         ensures { Gives result (territory_of included.now regions.now excluded.now) }
     {
         let includes_none = included.is_empty() && regions.is_empty();
         let included = read_countries(alloc, included)?;
         let world = read_world(regions)?;
         let excluded = read_countries(alloc, excluded)?;
-        Ok(Territory { included, world: world || includes_none, excluded })
+        Ok(Territory {
+            included,
+            world: world || includes_none,
+            excluded,
+        })
     }
 
     /// Whether a country lies in the territory.

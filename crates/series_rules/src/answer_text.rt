@@ -5,8 +5,8 @@ ghost use Rattle.std.specs.Fmt.{decimal};
 ghost use Rattle.std.specs.String.{string_bytes};
 ghost use Rattle.series_rules.specs.AnswerText.{agree_fields, answer_records, before_first_fields, delivery_fields, effect_fields, is_refused, malformed_fields, text_of, unknown_fields, waiver_fields};
 
-use crate::catalogue_text::catalogue_rows;
 use crate::answers::{AgreeAnswer, Answer, DeliveryAnswer, WaiveAnswer};
+use crate::catalogue_text::catalogue_rows;
 use catalogue_rules::effect::Effect;
 use onix_message::records::{Record, write_records};
 use onix_terms::items::Items;
@@ -40,15 +40,34 @@ fn malformed_row(alloc: Global, place: u32) -> Result<Record, AllocError>
     row(alloc, &["refused", "malformed", place.as_str()])
 }
 
-fn before_first_row(alloc: Global, series: &SeriesName, number: Number, first: Number) -> Result<Record, AllocError>
+fn before_first_row(
+    alloc: Global,
+    series: &SeriesName,
+    number: Number,
+    first: Number,
+) -> Result<Record, AllocError>
     ensures { IfOk result (λ r. r ≡ before_first_fields series.now number first) }
 {
     let number = digits(alloc, number.value())?;
     let first = digits(alloc, first.value())?;
-    row(alloc, &["refused", "before-first", series.as_str(), number.as_str(), first.as_str()])
+    row(
+        alloc,
+        &[
+            "refused",
+            "before-first",
+            series.as_str(),
+            number.as_str(),
+            first.as_str(),
+        ],
+    )
 }
 
-fn agree_row(alloc: Global, name: &SeriesName, first: Number, answer: &AgreeAnswer) -> Result<Record, AllocError>
+fn agree_row(
+    alloc: Global,
+    name: &SeriesName,
+    first: Number,
+    answer: &AgreeAnswer,
+) -> Result<Record, AllocError>
     ensures { IfOk result (λ r. r ≡ agree_fields name.now first answer.now) }
 {
     match answer {
@@ -57,43 +76,73 @@ fn agree_row(alloc: Global, name: &SeriesName, first: Number, answer: &AgreeAnsw
             row(alloc, &["agreed", name.as_str(), first.as_str()])
         }
         AgreeAnswer::NameTaken => row(alloc, &["refused", "name-taken", name.as_str()]),
-        AgreeAnswer::SeriesTaken { name: holder } => row(alloc, &["refused", "series-taken", holder.as_str()]),
+        AgreeAnswer::SeriesTaken { name: holder } => row(
+            alloc,
+            &["refused", "series-taken", holder.as_str()],
+        ),
     }
 }
 
 // The answer to an applied message: the five counts of its effect, each behind its name.
-fn applied_row(alloc: Global, series: &SeriesName, number: Number, effect: &Effect) -> Result<Record, AllocError>
+fn applied_row(
+    alloc: Global,
+    series: &SeriesName,
+    number: Number,
+    effect: &Effect,
+) -> Result<Record, AllocError>
     ensures { IfOk result (λ r. r ≡ codes "applied" ∷ series.now ∷ decimal number ∷ effect_fields effect.now) }
 {
-    let Effect { replaced, updated, deleted, unknown, ignored } = *effect;
+    let Effect {
+        replaced,
+        updated,
+        deleted,
+        unknown,
+        ignored,
+    } = *effect;
     let number = digits(alloc, number.value())?;
     let replaced = format!(in alloc; "replaced={replaced}")?;
     let updated = format!(in alloc; "updated={updated}")?;
     let deleted = format!(in alloc; "deleted={deleted}")?;
     let unknown = format!(in alloc; "unknown={unknown}")?;
     let ignored = format!(in alloc; "ignored={ignored}")?;
-    row(alloc, &[
-        "applied",
-        series.as_str(),
-        number.as_str(),
-        replaced.as_str(),
-        updated.as_str(),
-        deleted.as_str(),
-        unknown.as_str(),
-        ignored.as_str(),
-    ])
+    row(
+        alloc,
+        &[
+            "applied",
+            series.as_str(),
+            number.as_str(),
+            replaced.as_str(),
+            updated.as_str(),
+            deleted.as_str(),
+            unknown.as_str(),
+            ignored.as_str(),
+        ],
+    )
 }
 
-fn held_row(alloc: Global, series: &SeriesName, number: Number, next: u32) -> Result<Record, AllocError>
+fn held_row(
+    alloc: Global,
+    series: &SeriesName,
+    number: Number,
+    next: u32,
+) -> Result<Record, AllocError>
     ensures { IfOk result (λ r. r ≡ codes "held" ∷ series.now ∷ decimal number ∷ (codes "waiting-for=" ++ decimal next) ∷ []) }
 {
     let number = digits(alloc, number.value())?;
     let next = format!(in alloc; "waiting-for={next}")?;
-    row(alloc, &["held", series.as_str(), number.as_str(), next.as_str()])
+    row(
+        alloc,
+        &["held", series.as_str(), number.as_str(), next.as_str()],
+    )
 }
 
 // An answer of a word, or of a refusal and its reason, about a number of a series.
-fn numbered_row(alloc: Global, words: &[&str], series: &SeriesName, number: Number) -> Result<Record, AllocError>
+fn numbered_row(
+    alloc: Global,
+    words: &[&str],
+    series: &SeriesName,
+    number: Number,
+) -> Result<Record, AllocError>
     ensures { IfOk result (λ r. r ≡ map (λ w. w.now) words.now ++ (series.now ∷ decimal number ∷ [])) }
 {
     let mut out = row(alloc, words)?;
@@ -109,15 +158,42 @@ fn delivery_row(alloc: Global, answer: &DeliveryAnswer) -> Result<Record, AllocE
         DeliveryAnswer::Malformed { row } => malformed_row(alloc, *row),
         DeliveryAnswer::Unnumbered => row(alloc, &["refused", "unnumbered"]),
         DeliveryAnswer::UnknownSeries => row(alloc, &["refused", "unknown-series"]),
-        DeliveryAnswer::BeforeFirst { series, number, first } => before_first_row(alloc, series, *number, *first),
-        DeliveryAnswer::Waived { series, number } => numbered_row(alloc, &["refused", "waived"], series, *number),
-        DeliveryAnswer::OtherContents { series, number } => numbered_row(alloc, &["refused", "other-contents"], series, *number),
-        DeliveryAnswer::Applied { series, number, effect } => applied_row(alloc, series, *number, effect),
-        DeliveryAnswer::Held { series, number, waiting_for } => held_row(alloc, series, *number, *waiting_for),
+        DeliveryAnswer::BeforeFirst {
+            series,
+            number,
+            first,
+        } => before_first_row(alloc, series, *number, *first),
+        DeliveryAnswer::Waived { series, number } => numbered_row(
+            alloc,
+            &["refused", "waived"],
+            series,
+            *number,
+        ),
+        DeliveryAnswer::OtherContents { series, number } => numbered_row(
+            alloc,
+            &["refused", "other-contents"],
+            series,
+            *number,
+        ),
+        DeliveryAnswer::Applied {
+            series,
+            number,
+            effect,
+        } => applied_row(alloc, series, *number, effect),
+        DeliveryAnswer::Held {
+            series,
+            number,
+            waiting_for,
+        } => held_row(alloc, series, *number, *waiting_for),
     }
 }
 
-fn waiver_row(alloc: Global, series: &SeriesName, number: Number, answer: &WaiveAnswer) -> Result<Record, AllocError>
+fn waiver_row(
+    alloc: Global,
+    series: &SeriesName,
+    number: Number,
+    answer: &WaiveAnswer,
+) -> Result<Record, AllocError>
     ensures { IfOk result (λ r. r ≡ waiver_fields series.now number answer.now) }
 {
     match answer {
@@ -142,9 +218,17 @@ fn answer_rows(alloc: Global, answer: &Answer) -> Result<Items<Record>, AllocErr
     ensures { IfOk result (λ rows. rows ≡ answer_records answer.now) }
 {
     match answer {
-        Answer::Agreement { name, first, answer } => one_row(alloc, agree_row(alloc, name, *first, answer)?),
+        Answer::Agreement {
+            name,
+            first,
+            answer,
+        } => one_row(alloc, agree_row(alloc, name, *first, answer)?),
         Answer::Delivery(answer) => one_row(alloc, delivery_row(alloc, answer)?),
-        Answer::Waiver { series, number, answer } => one_row(alloc, waiver_row(alloc, series, *number, answer)?),
+        Answer::Waiver {
+            series,
+            number,
+            answer,
+        } => one_row(alloc, waiver_row(alloc, series, *number, answer)?),
         Answer::Catalogue { series, catalogue } => catalogue_rows(alloc, series, catalogue),
         Answer::UnknownSeries => one_row(alloc, row(alloc, &["refused", "unknown-series"])?),
         Answer::Malformed { row } => one_row(alloc, malformed_row(alloc, *row)?),
@@ -168,7 +252,10 @@ pub fn is_refusal(answer: &Answer) -> bool
 {
     match answer {
         Answer::Agreement { answer, .. } => !matches!(answer, AgreeAnswer::Agreed),
-        Answer::Delivery(answer) => !matches!(answer, DeliveryAnswer::Applied { .. } | DeliveryAnswer::Held { .. }),
+        Answer::Delivery(answer) => !matches!(
+            answer,
+            DeliveryAnswer::Applied { .. } | DeliveryAnswer::Held { .. }
+        ),
         Answer::Waiver { answer, .. } => !matches!(answer, WaiveAnswer::Waived),
         Answer::Catalogue { .. } => false,
         Answer::UnknownSeries | Answer::Malformed { .. } => true,

@@ -17,7 +17,11 @@ use onix_terms::text::Text;
 use std::alloc::{AllocError, Global};
 
 // A reference with the identifiers of its record.
-fn entry_row(alloc: Global, reference: &str, ids: &[ProductIdentifier]) -> Result<Record, AllocError>
+fn entry_row(
+    alloc: Global,
+    reference: &str,
+    ids: &[ProductIdentifier],
+) -> Result<Record, AllocError>
     ensures { IfOk result (λ r. r ≡ codes "record" ∷ reference.now ∷ flat_map identifier_fields ids.now) }
 {
     let mut out = Items::new(alloc);
@@ -28,7 +32,12 @@ fn entry_row(alloc: Global, reference: &str, ids: &[ProductIdentifier]) -> Resul
 }
 
 // Adds the records of what a catalogue keeps under a reference.
-fn push_entry(alloc: Global, rows: &mut Items<Record>, reference: &str, entry: &Entry) -> Result<(), AllocError>
+fn push_entry(
+    alloc: Global,
+    rows: &mut Items<Record>,
+    reference: &str,
+    entry: &Entry,
+) -> Result<(), AllocError>
     ensures { OnOk result (rows.new ≡ rows.old ++ entry_records (reference.now, entry.now)) }
 {
     rows.push(entry_row(alloc, reference, entry.ids.as_slice())?)?;
@@ -48,7 +57,11 @@ fn head_row(alloc: Global, series: &SeriesName, count: usize) -> Result<Record, 
 
 /// The records of a catalogue, in order of reference.
 #[tactic(auto, unfolding(crate::specs::CatalogueText::catalogue_records))]
-pub fn catalogue_rows(alloc: Global, series: &SeriesName, catalogue: &Catalogue) -> Result<Items<Record>, AllocError>
+pub fn catalogue_rows(
+    alloc: Global,
+    series: &SeriesName,
+    catalogue: &Catalogue,
+) -> Result<Items<Record>, AllocError>
     ensures { IfOk result (λ rows. rows ≡ catalogue_records series.now catalogue.now) }
 {
     let mut rows = Items::new(alloc);

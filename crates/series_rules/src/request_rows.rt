@@ -40,7 +40,9 @@ fn is_clean_field(field: &[u8]) -> bool
 fn are_clean(fields: &[Text]) -> bool
     ensures { result ≡ list_all is_clean fields.now }
 {
-    fields.iter().all(|field| is_clean_field(field.as_str().as_bytes()))
+    fields
+        .iter()
+        .all(|field| is_clean_field(field.as_str().as_bytes()))
 }
 
 // A party by the type and the value of its identifier.
@@ -58,7 +60,11 @@ fn read_party(alloc: Global, id_type: &Text, id_value: &Text) -> Result<Option<P
 }
 
 // A party, or none where both fields are empty.
-fn read_optional_party(alloc: Global, id_type: &Text, id_value: &Text) -> Result<Option<Option<Party>>, AllocError>
+fn read_optional_party(
+    alloc: Global,
+    id_type: &Text,
+    id_value: &Text,
+) -> Result<Option<Option<Party>>, AllocError>
     ensures { IfOk result (λ p. p ≡ optional_party id_type.now id_value.now) }
 {
     if id_type.is_empty() && id_value.is_empty() {
@@ -93,7 +99,12 @@ fn make_agreement(
     let Some(addressee) = read_optional_party(alloc, to_type, to_value)? else {
         return Ok(None);
     };
-    Ok(Some(Agreement { name, sender, addressee, first }))
+    Ok(Some(Agreement {
+        name,
+        sender,
+        addressee,
+        first,
+    }))
 }
 
 // The agreement that the fields after its name make.
@@ -104,7 +115,15 @@ fn read_agreement(alloc: Global, fields: &[Text]) -> Result<Option<Agreement>, A
     let [name, sender_type, sender_value, to_type, to_value, first] = fields else {
         return Ok(None);
     };
-    make_agreement(alloc, name, sender_type, sender_value, to_type, to_value, first)
+    make_agreement(
+        alloc,
+        name,
+        sender_type,
+        sender_value,
+        to_type,
+        to_value,
+        first,
+    )
 }
 
 // The waiver that the fields after its name make.

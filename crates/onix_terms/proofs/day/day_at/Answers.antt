@@ -19,4 +19,4 @@ returns-in-Ok c =
     let ymd = c.in-Ok.ensures.value in
     let same : to_z w32 (of_z w32 c.to_unix_epoch_day.result) ≡ c.to_unix_epoch_day.result = omega (arith, ints) in
     day_from-date date (c.args.date / 10_000) (c.args.date / 100 % 100) (c.args.date % 100) _
-        (omega (arith, ints, ymd.0)) (omega (arith, ints, ymd.1)) (omega (arith, ints, ymd.2)) (omega (arith, ints)) (same ∙ is)
+    (omega (arith, ints, ymd.0)) (omega (arith, ints, ymd.1)) (omega (arith, ints, ymd.2)) (omega (arith, ints)) (same ∙ is)

@@ -1,12 +1,12 @@
 use Rattle.std.proofs.Common.{◌≡◌, ℕ, List}
 use Rattle.std.specs.FinMap as map
-use Rattle.catalogue_rules.specs.Plans.{IsReady, looked}
+use Rattle.catalogue_rules.specs.Plans.{IsReady, entry_now}
 use Rattle.catalogue_rules.proofs.catalogue.Catalogue.settle.Given as goal
 
 abbrev pub invariant-loop-reference : goal.invariant-loop-reference
 invariant-loop-reference l =
     ((q : List ℕ) → IsReady (map.get l.self q) (map.get l.rest q))
-    × ((q : List ℕ) → looked (map.get l.self q) (map.get l.rest q) ≡ looked (map.get l.fn.self q) (map.get l.fn.draft q))
+    × ((q : List ℕ) → entry_now (map.get l.self q) (map.get l.rest q) ≡ entry_now (map.get l.fn.self q) (map.get l.fn.draft q))
 
 abbrev pub decreases-loop-reference : goal.decreases-loop-reference
 decreases-loop-reference l = map.len l.rest

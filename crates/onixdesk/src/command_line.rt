@@ -1,0 +1,90 @@
+// The words of the command line, read by clap.
+
+ghost use Rattle.std.specs.Prelude.{◌≤◌, ◌≡◌};
+
+use crate::fault::{Fault, report};
+use clap::error::ErrorKind;
+use clap::{Command, Error};
+use std::alloc::{AllocError, Global};
+use std::io::Write;
+
+/// What the program is asked to do.
+#[derive(Clone, Copy, Debug)]
+pub enum Invocation {
+    /// `batch`: requests from standard input, answers to standard output.
+    Batch,
+}
+
+/// How the words of the command line read.
+#[derive(Drop)]
+pub enum Reading {
+    Run(Invocation),
+    /// Asked-for help.
+    Help(String),
+    /// A fault of the command line, as clap words it.
+    Wrong(String),
+    /// Memory ran out.
+    Memory,
+}
+
+fn command<'a>(alloc: Global) -> Result<Command<'a>, AllocError> {
+    let batch = Command::new(alloc, "batch")
+        .about("Read requests from standard input, write their answers to standard output")
+        .long_about(
+            "Reads agreements, messages, waivers and questions as CSV records from standard input, up to 4,194,304 bytes of UTF-8, and writes the answer to each, in order, to standard output. The desk is kept in memory and ends with the batch.",
+        );
+    Command::new(alloc, "onixdesk")
+        .about(
+            "The intake of a bookshop's buying desk: numbered ONIX messages in, proved answers out",
+        )
+        .after_help(
+            "Exit status: 0; 1 where an answer was a refusal; 2 for a bad command line; 3 for a fault of storage, input or output.",
+        )
+        .subcommand_required(true)
+        .disable_help_subcommand(true)
+        .subcommand(batch)
+}
+
+// What clap could not read as an invocation.
+fn refused(alloc: Global, error: &Error) -> Reading {
+    if error.kind() == ErrorKind::OutOfMemory {
+        return Reading::Memory;
+    }
+    let Ok(text) = error.to_string(alloc) else {
+        return Reading::Memory;
+    };
+    if error.use_stderr() {
+        Reading::Wrong(text)
+    } else {
+        Reading::Help(text)
+    }
+}
+
+/// Reads the words, of which the first is the program's name.
+pub fn read(alloc: Global, words: &[&str]) -> Reading {
+    let Ok(command) = command(alloc) else {
+        return Reading::Memory;
+    };
+    match command.try_get_matches_from(words) {
+        Ok(_) => Reading::Run(Invocation::Batch),
+        Err(error) => refused(alloc, &error),
+    }
+}
+
+/// Writes help that was asked for, and gives the status.
+pub fn print_help<W: Write, E: Write>(text: &str, output: &mut W, errors: &mut E) -> u8
+    ensures { result ≤ 3 }
+{
+    match output.write_all(text.as_bytes()) {
+        Ok(()) => 0,
+        Err(_) => report(&Fault::Output, errors),
+    }
+}
+
+/// Writes a fault of the command line, and gives the status.
+pub fn print_wrong<E: Write>(text: &str, errors: &mut E) -> u8
+    ensures { result ≡ 2 }
+{
+    let _ = errors.write_all(text.as_bytes());
+    2
+}

@@ -1,0 +1,52 @@
+//! The program `onixdesk`: the intake of a bookshop's buying desk on the command line.
+//! `command_line` reads its words, `batch` runs a batch over a desk in memory, `fault` has the
+//! texts of what can go wrong. What each request is answered is proved in `series_rules`.
+#![tactic(auto)]
+
+ghost use Rattle.std.specs.Prelude.{◌≤◌};
+
+mod batch;
+mod command_line;
+mod fault;
+#[cfg(test)]
+mod tests;
+
+use crate::command_line::{Invocation, Reading};
+use crate::fault::report;
+use std::io::{Read, Write};
+use std::process::ExitCode;
+
+/// Runs the program on these words, of which the first is its name, and gives its exit status:
+/// 0, or 1 where an answer was a refusal, 2 for a bad command line, 3 for a fault of storage,
+/// input or output.
+pub fn run<R: Read, W: Write, E: Write>(
+    rt: &HostRuntime,
+    words: &[&str],
+    input: &mut R,
+    output: &mut W,
+    errors: &mut E,
+) -> u8
+    ensures { result ≤ 3 }
+{
+    let alloc = rt.alloc();
+    match command_line::read(alloc, words) {
+        Reading::Run(Invocation::Batch) => batch::run(alloc, input, output, errors),
+        Reading::Help(text) => command_line::print_help(text.as_str(), output, errors),
+        Reading::Wrong(text) => command_line::print_wrong(text.as_str(), errors),
+        Reading::Memory => report(&fault::Fault::Memory, errors),
+    }
+}
+
+fn main(rt: HostRuntime) -> std::io::Result<ExitCode> {
+    let alloc = rt.alloc();
+    let owned: Vec<String> = std::env::args(&rt)?.collect(alloc)?;
+    let words: Vec<&str> = owned.iter().map(|word| word.as_str()).collect(alloc)?;
+    let status = run(
+        &rt,
+        words.as_slice(),
+        &mut rt.stdin(),
+        &mut rt.stdout(),
+        &mut rt.stderr(),
+    );
+    Ok(ExitCode::from(status))
+}

@@ -1,0 +1,130 @@
+// The program run on tables of cases. What a case writes is taken from the desk's written rules.
+
+mod cases;
+mod inputs;
+
+use self::cases::CASES;
+use self::inputs::{COMMAND_LINES, INPUTS};
+use crate::run;
+use std::alloc::{AllocError, Global};
+use std::io::{self, ErrorKind, Read, Write};
+use std::test::Fail;
+
+// What a run wrote, and its status.
+#[derive(Drop)]
+struct Ran {
+    output: Vec<u8>,
+    errors: Vec<u8>,
+    status: u8,
+}
+
+fn run_on(rt: &HostRuntime, words: &[&str], input: &[u8]) -> Ran {
+    let alloc = rt.alloc();
+    let mut input = input;
+    let mut output = Vec::new(alloc);
+    let mut errors = Vec::new(alloc);
+    let status = run(rt, words, &mut input, &mut output, &mut errors);
+    Ran {
+        output,
+        errors,
+        status,
+    }
+}
+
+fn joined(alloc: Global, texts: &[&str]) -> Result<Vec<u8>, AllocError> {
+    let mut all = Vec::new(alloc);
+    for text in texts {
+        all.extend_from_slice(text.as_bytes())?;
+    }
+    Ok(all)
+}
+
+#[test]
+fn batches(rt: HostRuntime) -> Result<(), Fail> {
+    let words = ["onixdesk", "batch"];
+    for case in CASES.as_slice() {
+        let name = case.name;
+        let input = joined(rt.alloc(), case.requests)?;
+        let wanted = joined(rt.alloc(), case.answers)?;
+        let ran = run_on(&rt, words.as_slice(), input.as_slice());
+        assert_eq!(rt;
+            ran.output.as_slice(),
+            wanted.as_slice(),
+            "output of: {name}"
+        );
+        assert_eq!(rt; ran.errors.len(), 0, "errors of: {name}");
+        assert_eq!(rt; ran.status, case.status, "status of: {name}");
+    }
+    Ok(())
+}
+
+#[test]
+fn long_and_bad_inputs(rt: HostRuntime) -> Result<(), Fail> {
+    let words = ["onixdesk", "batch"];
+    for case in INPUTS.as_slice() {
+        let name = case.name;
+        let mut input = case.before.to_vec(rt.alloc())?;
+        for _ in 0..case.times {
+            input.extend_from_slice(case.again)?;
+        }
+        input.extend_from_slice(case.after)?;
+        let ran = run_on(&rt, words.as_slice(), input.as_slice());
+        assert_eq!(rt; ran.output.as_slice(), case.output, "output of: {name}");
+        assert_eq!(rt; ran.errors.as_slice(), case.errors, "errors of: {name}");
+        assert_eq!(rt; ran.status, case.status, "status of: {name}");
+    }
+    Ok(())
+}
+
+#[test]
+fn command_lines(rt: HostRuntime) -> Result<(), Fail> {
+    for case in COMMAND_LINES.as_slice() {
+        let name = case.name;
+        let ran = run_on(&rt, case.words, b"".as_slice());
+        assert_eq!(rt; ran.status, case.status, "status of: {name}");
+        assert_eq!(rt; ran.output.is_empty(), !case.prints, "output of: {name}");
+        assert_eq!(rt;
+            ran.errors.is_empty(),
+            case.status == 0,
+            "errors of: {name}"
+        );
+    }
+    Ok(())
+}
+
+// An input that cannot be read, and an output that cannot be written.
+#[derive(Drop)]
+struct Broken;
+
+impl Read for Broken {
+    fn read(&mut self, _buffer: &mut [u8]) -> io::Result<usize> {
+        Err(io::Error::from(ErrorKind::Interrupted))
+    }
+}
+
+impl Write for Broken {
+    fn write(&mut self, _bytes: &[u8]) -> io::Result<usize> {
+        Err(io::Error::from(ErrorKind::BrokenPipe))
+    }
+
+    fn flush(&mut self) -> io::Result<()> {
+        Ok(())
+    }
+}
+
+#[test]
+fn broken_input_and_output(rt: HostRuntime) -> Result<(), Fail> {
+    let words = ["onixdesk", "batch"];
+    let mut output = Vec::new(rt.alloc());
+    let mut errors = Vec::new(rt.alloc());
+    let status = run(&rt, words.as_slice(), &mut Broken, &mut output, &mut errors);
+    assert_eq!(rt; status, 3);
+    assert_eq!(rt; output.len(), 0);
+    assert_eq!(rt; errors.as_slice(), b"onixdesk: input: read\n".as_slice());
+    let mut input = b"Foo,1\n".as_slice();
+    let mut errors = Vec::new(rt.alloc());
+    let status = run(&rt, words.as_slice(), &mut input, &mut Broken, &mut errors);
+    assert_eq!(rt; status, 3);
+    assert_eq!(rt; errors.as_slice(), b"onixdesk: output\n".as_slice());
+    Ok(())
+}

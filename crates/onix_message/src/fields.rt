@@ -34,8 +34,8 @@ fn is_clean_field(field: &[u8]) -> bool
     field.len() <= 1024 && has_no_control(field)
 }
 
-// Whether no field is wrong in itself.
-pub(crate) fn are_clean(fields: &[Text]) -> bool
+/// Whether no field is wrong in itself: each has at most 1,024 bytes and no control character.
+pub fn are_clean(fields: &[Text]) -> bool
     ensures { result ≡ list_all is_clean fields.now }
 {
     fields
@@ -74,7 +74,8 @@ pub(crate) fn read_optional_code(text: &Text) -> Result<Option<Code2>, RowFault>
     Ok(Some(code))
 }
 
-pub(crate) fn read_party(alloc: Global, id_type: &Text, id_value: &Text) -> Result<Party, RowFault>
+/// A party by the type and the value of its identifier.
+pub fn read_party(alloc: Global, id_type: &Text, id_value: &Text) -> Result<Party, RowFault>
     ensures { Gives result (party_of id_type.now id_value.now) }
 {
     let Some(id_type) = Code2::read(id_type.as_str()) else {
@@ -84,7 +85,8 @@ pub(crate) fn read_party(alloc: Global, id_type: &Text, id_value: &Text) -> Resu
     Ok(Party { id_type, id_value })
 }
 
-pub(crate) fn read_optional_party(
+/// A party, or none where both fields are empty.
+pub fn read_optional_party(
     alloc: Global,
     id_type: &Text,
     id_value: &Text,

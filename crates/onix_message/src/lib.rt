@@ -7,7 +7,7 @@
 
 pub mod agreement;
 mod draft;
-mod fields;
+pub mod fields;
 pub mod laws;
 pub mod message;
 mod opening;

@@ -1,40 +1,14 @@
 -- The request that a piece of a batch is.
-use Rattle.std.specs.Prelude.{ℕ, Bool, false, List, [], ◌∷◌, Option, Some, None, ◌&&◌, ◌||◌, ◌==◌, not, nat_le, nat_lt, length, if◌then◌else◌, option_map, codes}
+use Rattle.std.specs.Prelude.{ℕ, Bool, false, List, [], ◌∷◌, Option, Some, None, if◌then◌else◌, option_map, codes}
 use Rattle.std.specs.List.{list_all}
 use Rattle.std.specs.Str.{bytes_eq}
-use Rattle.onix_terms.specs.Code.{code2_of}
 use Rattle.onix_terms.specs.Number.{number_of}
 use Rattle.onix_terms.specs.SeriesName.{series_name_of}
-use Rattle.onix_terms.specs.Territory.{◌>>=◌}
-use Rattle.onix_terms.specs.declared.party.Party.{Party}
+use Rattle.onix_terms.specs.Options.{◌>>=◌}
+use Rattle.onix_message.specs.Fields.{is_clean, optional_party, party_of}
 use Rattle.onix_message.specs.declared.agreement.Agreement.{Agreement}
 use Rattle.series_rules.specs.declared.requests.Request.{Request}
 use Rattle.series_rules.specs.declared.requests.Request.TheVariants as request
-
--- a byte below the space, or the delete: in UTF-8 each stands for the character of its number, and for nothing else
-abbrev pub is_control : ℕ → Bool
-is_control b = nat_lt b 32 || (b == 127)
-
--- a field of at most 1,024 bytes without control characters
-abbrev pub is_clean : List ℕ → Bool
-is_clean field = nat_le (length field) 1024 && list_all (λ b. not (is_control b)) field
-
--- a text that is not empty
-abbrev pub filled : List ℕ → Option (List ℕ)
-filled [] = None
-filled (b ∷ bs) = Some (b ∷ bs)
-
--- a party by the type and the value of its identifier
-abbrev pub party_of : List ℕ → List ℕ → Option Party
-party_of id_type id_value = do
-  t ← code2_of id_type
-  v ← filled id_value
-  Some (record { id_type = t; id_value = v })
-
--- a party, or two empty fields
-abbrev pub optional_party : List ℕ → List ℕ → Option (Option Party)
-optional_party [] [] = Some None
-optional_party id_type id_value = option_map Some (party_of id_type id_value)
 
 -- the agreement of a name, a sender, perhaps an addressee, and a first number
 abbrev pub agreement_from : List ℕ → List ℕ → List ℕ → List ℕ → List ℕ → List ℕ → Option Agreement

@@ -3,8 +3,8 @@
 ghost use Rattle.std.specs.Prelude.{◌≡◌, ◌++◌, ◌∷◌, [], IfOk, OnOk, codes};
 ghost use Rattle.std.specs.Fmt.{decimal};
 ghost use Rattle.std.specs.List.{flat_map};
-ghost use Rattle.onix_message.specs.RowRecords.{identifier_fields};
 ghost use Rattle.series_rules.specs.CatalogueText.{catalogue_records, entry_records};
+ghost use Rattle.onix_message.specs.RowRecords.{identifier_fields};
 
 use catalogue_rules::catalogue::Catalogue;
 use catalogue_rules::entry::Entry;

@@ -1,0 +1,10 @@
+.PHONY: test build
+
+# The gate: every proof from nothing, the edits that the prover must refuse, the tests, and the
+# program as two compilers build it. Its last line is 'N passed, M failed'.
+test:
+	rt ci
+
+# The proved program, crates/onixdesk/out/onixdesk.
+build:
+	bin/onixdesk --help

@@ -3,13 +3,15 @@ use Rattle.std.proofs.Common.{◌≡◌, ◌∷◌, [], ℕ, List, Bool, true, f
 use Rattle.std.specs.Prelude.{⊤, if◌then◌else◌, option_map, codes}
 use Rattle.std.specs.List.{list_all}
 use Rattle.std.specs.Str.{bytes_eq}
-use Rattle.onix_message.specs.Fields.{filled, is_clean}
+use Rattle.onix_message.specs.Fields.{filled, is_clean, optional, optional_party}
 use Rattle.onix_message.specs.OpeningRow.{opening_fields}
+use Rattle.onix_message.specs.PriceRow.{price_of}
 use Rattle.onix_message.specs.ProductRow.{pairs_of, product_of}
 use Rattle.onix_message.specs.Row.{IsBare, end_of, message_row, named_row, row_of}
-use Rattle.onix_message.specs.SupplyRow.{detail_of, supply_of}
+use Rattle.onix_message.specs.SupplyRow.{detail_of, supplier_name, supply_of}
 use Rattle.onix_message.specs.declared.parts.Product.{Product}
 use Rattle.onix_message.specs.declared.parts.ProductSupply.{ProductSupply}
+use Rattle.onix_message.specs.declared.parts.SupplyDetail.{SupplyDetail}
 use Rattle.onix_message.specs.declared.row.Opening.{Opening}
 use Rattle.onix_message.specs.declared.row.Row.{Row}
 use Rattle.onix_message.specs.declared.row.Row.TheVariants as row
@@ -44,6 +46,24 @@ supply-bare (included ∷ regions ∷ excluded ∷ []) s e =
     cc same
 supply-bare (included ∷ regions ∷ excluded ∷ more ∷ fields) s e = cc e
 
+detail-bare : (fields : List (List ℕ)) (d : SupplyDetail) → detail_of fields ≡ Some d → d.prices ≡ []
+unfolding detail_of
+detail-bare [] d e = cc e
+detail-bare (role ∷ []) d e = cc e
+detail-bare (role ∷ id_type ∷ []) d e = cc e
+detail-bare (role ∷ id_type ∷ id_value ∷ []) d e = cc e
+detail-bare (role ∷ id_type ∷ id_value ∷ name ∷ []) d e = cc e
+detail-bare (role ∷ id_type ∷ id_value ∷ name ∷ availability ∷ []) d e = cc e
+detail-bare (role ∷ id_type ∷ id_value ∷ name ∷ availability ∷ unpriced ∷ []) d e =
+    let (r, _, f) = bind-some (code2_of role) _ d e in
+    let (p, _, g) = bind-some (optional_party id_type id_value) _ d f in
+    let (n, _, h) = bind-some (supplier_name p name) _ d g in
+    let (a, _, j) = bind-some (code2_of availability) _ d h in
+    let (u, _, k) = bind-some (optional code2_of unpriced) _ d j in
+    let same = same-some _ d k in
+    cc same
+detail-bare (role ∷ id_type ∷ id_value ∷ name ∷ availability ∷ unpriced ∷ more ∷ fields) d e = cc e
+
 -- what a named row is made of
 made-bare : {A : Type 0} (make : A → Row) (read : Option A) → ((x : A) → read ≡ Some x → IsBare (make x)) → (r : Row) → option_map make read ≡ Some r → IsBare r
 made-bare make None own r e = cc e
@@ -58,9 +78,10 @@ named-bare o name fields r =
     choose (bytes_eq name (codes "Message")) _ _ r (made-bare message_row (opening_fields fields) (λ x e. tt) r)
     (choose (bytes_eq name (codes "Product")) _ _ r (made-bare row.Product (product_of fields) (product-bare fields) r)
     (choose (bytes_eq name (codes "ProductSupply")) _ _ r (made-bare row.ProductSupply (supply_of fields) (supply-bare fields) r)
-    (choose (bytes_eq name (codes "SupplyDetail")) _ _ r (made-bare row.SupplyDetail (detail_of fields) (λ x e. tt) r)
+    (choose (bytes_eq name (codes "SupplyDetail")) _ _ r (made-bare row.SupplyDetail (detail_of fields) (detail-bare fields) r)
+    (choose (bytes_eq name (codes "Price")) _ _ r (made-bare row.Price (price_of o fields) (λ x e. tt) r)
     (choose (bytes_eq name (codes "EndMessage")) _ _ r (made-bare row.EndMessage (end_of fields) (λ x e. tt) r)
-    (λ e. cc e)))))
+    (λ e. cc e))))))
 
 row-bare : (o : Opening) (fields : List (List ℕ)) (r : Row) → row_of o fields ≡ Some r → IsBare r
 unfolding row_of

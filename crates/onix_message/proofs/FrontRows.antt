@@ -1,16 +1,15 @@
 -- The rows that are computed of records, as far as each may come next, are the longest front.
-use Rattle.std.proofs.Common.{◌≡◌, ◌≢◌, ◌≤◌, ◌<◌, ◌∷◌, ◌∙◌, ◌+◌, inl, inr, [], ℕ, zero, suc, List, Bool, true, false, Option, Some, None, refl, sym, ap, arith, length, take, map}
+use Rattle.std.proofs.Common.{◌≡◌, ◌≤◌, ◌<◌, ◌∷◌, ◌∙◌, ◌+◌, inl, inr, [], ℕ, zero, suc, List, Bool, true, false, Option, Some, None, refl, sym, ap, arith, length, take, map}
 use Rattle.std.specs.Prelude.{⊤, if◌then◌else◌, ◌&&◌, nat_lt}
 use Rattle.std.specs.Option.{option_map_or}
 use Rattle.std.proofs.lemmas.Bool.{and_from, and_parts, lt-ltb, ltb-true}
 use Rattle.std.proofs.lemmas.List.{length-take-le}
-use Rattle.onix_message.specs.Grammar.{BeginsMessage, CountsAfter, IsBadRow, IsFront, KeepsOrder, is_counted, may_follow}
+use Rattle.onix_message.specs.Grammar.{CountsAfter, IsBadRow, IsFront, KeepsOrder, is_counted, may_follow}
 use Rattle.onix_message.specs.Message.{bad_row, front_rows, next_row}
 use Rattle.onix_message.specs.OpeningRow.{opening_of}
 use Rattle.onix_message.specs.Row.{message_row, row_of}
 use Rattle.onix_message.specs.declared.row.Opening.{Opening}
 use Rattle.onix_message.specs.declared.row.Row.{Row}
-use Rattle.onix_message.specs.declared.row.Row.TheVariants as row
 use Rattle.onix_message.proofs.Fronts.{Reads, begun-reads, cons-parts, reads-begun, reads-length, same-some}
 use Rattle.onix_terms.specs.Options.{◌>>=◌}
 

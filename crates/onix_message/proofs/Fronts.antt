@@ -1,10 +1,10 @@
 -- Fronts of a list of records, and the messages among them.
-use Rattle.std.proofs.Common.{◌≡◌, ◌≢◌, ◌≤◌, ◌<◌, ◌++◌, ◌∷◌, ◌∙◌, ◌+◌, ◌-◌, ◌⊎◌, inl, inr, [], ℕ, zero, suc, List, Bool, true, false, Some, None, refl, sym, ap, arith, length, length-append, take, drop, get_or, map, add-one, subst, append_assoc}
-use Rattle.std.proofs.lemmas.List.{append-nil, drop_more, length-take-le, map-append, take-append-drop, take_all, take_more}
+use Rattle.std.proofs.Common.{◌≡◌, ◌≤◌, ◌<◌, ◌++◌, ◌∷◌, ◌∙◌, ◌+◌, ◌-◌, inl, inr, [], ℕ, zero, suc, List, true, false, Some, None, refl, sym, ap, arith, length, length-append, take, drop, get_or, map, subst}
+use Rattle.std.proofs.lemmas.List.{drop_more, length-take-le, map-append, take-append-drop, take_all, take_more}
 use Rattle.std.proofs.Math.Seq.{take-append_seam, take-append-add}
 use Rattle.std.proofs.lemmas.Bool.{cases_lt, eqb-true}
 use Rattle.std.specs.List.{AllByRecursion, flat_map}
-use Rattle.onix_message.specs.Draft.{Adds, DraftHasDetails, Stops, Takes, allows, draft_rows, part_rows}
+use Rattle.onix_message.specs.Draft.{DraftHasDetails, Stops, Takes, allows, draft_rows, part_rows}
 use Rattle.onix_message.specs.Grammar.{BeginsMessage, CountsAfter, IsBadRow, IsFront, IsMessage, KeepsOrder, is_counted, may_follow}
 use Rattle.onix_message.specs.Nest.{SuppliesHaveDetails, content_rows, product_rows, rows_after}
 use Rattle.onix_message.specs.OpeningRow.{opening_of}
@@ -295,6 +295,7 @@ begins o rest products none =
     starts (row.Product p) = refl
     starts (row.ProductSupply s) = refl
     starts (row.SupplyDetail d) = refl
+    starts (row.Price p) = refl
     starts (row.EndMessage n) = refl
 
 pub goes-on : (o : Opening) (rest : List Record) (i : ℕ) (r : Record) (d new : Draft) → r ≡ get_or rest i r → i < length rest
@@ -329,7 +330,7 @@ stops-many records first rest o i r d split header at less s many =
 some-next : (p : Part) → ((n : ℕ) → p ≡ part.Ended n → ⊥) → (y : Row) × (allows p y ≡ true)
 some-next part.Nothing never = (row.EndMessage 0, refl)
 some-next (part.InProduct p) never = (row.EndMessage 0, refl)
-some-next (part.InSupply p s) never = (row.SupplyDetail (record { supplier = record { role = []; party = None; name = [] }; availability = []; unpriced = None }), refl)
+some-next (part.InSupply p s) never = (row.SupplyDetail (record { supplier = record { role = []; party = None; name = [] }; availability = []; unpriced = None; prices = [] }), refl)
 some-next (part.InDetail p s d) never = (row.EndMessage 0, refl)
 some-next (part.Ended n) never = absurd (never n refl)
 
@@ -346,6 +347,7 @@ stops-end records first rest o k d place split header s e never p =
     ends n (row.Product p) = refl
     ends n (row.ProductSupply s) = refl
     ends n (row.SupplyDetail d) = refl
+    ends n (row.Price p) = refl
     ends n (row.EndMessage m) = refl
 
 pub ends-well : (records : List Record) (first : Record) (rest : List Record) (o : Opening) (k : ℕ) (d : Draft) (n : ℕ) → records ≡ first ∷ rest → opening_of first ≡ Some o

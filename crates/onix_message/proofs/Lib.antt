@@ -10,3 +10,9 @@ pub mod FrontRows
 pub mod Bare
 pub mod Nests
 pub mod Explained
+pub mod OneText
+pub mod TermLaws
+pub mod TerritoryTexts
+pub mod CleanTexts
+pub mod RowTexts
+pub mod ContentsBack

@@ -1,15 +1,16 @@
 -- The parts that rows make, and the rows of these parts.
-use Rattle.std.proofs.Common.{◌≡◌, ◌≢◌, ◌++◌, ◌∷◌, ◌∙◌, ◌+◌, [], ℕ, suc, List, Bool, true, false, Option, Some, None, refl, sym, ap, arith, length, append_assoc, map}
-use Rattle.std.specs.Prelude.{⊤, if◌then◌else◌, ◌&&◌, ◌==◌}
+use Rattle.std.proofs.Common.{◌≡◌, ◌≢◌, ◌++◌, ◌∷◌, ◌∙◌, ◌+◌, [], ℕ, List, Bool, true, false, Option, Some, None, refl, sym, ap, arith, length, append_assoc, map}
+use Rattle.std.specs.Prelude.{if◌then◌else◌, ◌&&◌, ◌==◌}
 use Rattle.std.specs.List.{AllByRecursion, flat_map}
 use Rattle.std.proofs.lemmas.Bool.{and_from, and_parts, eq-eqb, eqb-true}
 use Rattle.std.proofs.lemmas.List.{append-nil}
 use Rattle.onix_message.specs.Grammar.{IsMessage, KeepsOrder, may_follow}
-use Rattle.onix_message.specs.Message.{Gathered, ends, front_rows, message_after, message_of, nest}
+use Rattle.onix_message.specs.Message.{Gathered, ends, front_rows, message_after, message_of, nest, with_detail, with_price, with_product, with_supply}
 use Rattle.onix_message.specs.Nest.{HasDetails, SuppliesHaveDetails, content_rows, detail_rows, product_rows, rows_after, supply_rows}
 use Rattle.onix_message.specs.OpeningRow.{opening_of}
-use Rattle.onix_message.specs.Row.{IsBare, message_row, row_of}
+use Rattle.onix_message.specs.Row.{message_row}
 use Rattle.onix_message.specs.declared.parts.Header.{Header}
+use Rattle.onix_message.specs.declared.parts.Price.{Price}
 use Rattle.onix_message.specs.declared.parts.Product.{Product}
 use Rattle.onix_message.specs.declared.parts.ProductSupply.{ProductSupply}
 use Rattle.onix_message.specs.declared.parts.SupplyDetail.{SupplyDetail}
@@ -17,69 +18,83 @@ use Rattle.onix_message.specs.declared.row.Opening.{Opening}
 use Rattle.onix_message.specs.declared.row.Row.{Row}
 use Rattle.onix_message.specs.declared.row.Row.TheVariants as row
 use Rattle.onix_message.proofs.FrontRows.{bind-some, computed-reads, if-some, reads-computed}
-use Rattle.onix_message.proofs.Fronts.{Reads, is-message, message-reads, reads-length, same-some}
+use Rattle.onix_message.proofs.Fronts.{is-message, message-reads, reads-length}
 use Rattle.onix_message.proofs.Orders.{last-push, last_of}
 use Rattle.onix_message.proofs.Bare.{AllBare, all-bare}
 use Rattle.onix_terms.specs.Options.{◌>>=◌}
 
 -- The rows of parts make these parts.
 
-details-nest : (ds : List SupplyDetail) (rows : List Row)
-    → nest (flat_map detail_rows ds ++ rows) ≡ record { products = (nest rows).products; supplies = (nest rows).supplies; details = ds ++ (nest rows).details }
+-- the same parts, with these prices, details, supplies or products
+
+abbrev set_prices : Gathered → List Price → Gathered
+set_prices g ps = record { products = g.products; supplies = g.supplies; details = g.details; prices = ps }
+
+abbrev set_details : Gathered → List SupplyDetail → Gathered
+set_details g ds = record { products = g.products; supplies = g.supplies; details = ds; prices = [] }
+
+abbrev set_supplies : Gathered → List ProductSupply → Gathered
+set_supplies g ss = record { products = g.products; supplies = ss; details = []; prices = [] }
+
+abbrev set_products : List Product → Gathered
+set_products ps = record { products = ps; supplies = []; details = []; prices = [] }
+
+prices-nest : (ps : List Price) (rows : List Row) → nest (map row.Price ps ++ rows) ≡ set_prices (nest rows) (ps ++ (nest rows).prices)
 unfolding nest
-details-nest [] rows = refl
-details-nest (d ∷ ds) rows = ap (λ (g : Gathered). record { products = g.products; supplies = g.supplies; details = d ∷ g.details }) (details-nest ds rows)
+prices-nest [] rows = refl
+prices-nest (p ∷ ps) rows = ap (with_price p) (prices-nest ps rows)
 
--- a supply over the parts after it
-over : ProductSupply → Gathered → Gathered
-over s g = record { products = g.products; supplies = record s { details = g.details } ∷ g.supplies; details = [] }
+details-nest : (ds : List SupplyDetail) (rows : List Row) → (nest rows).prices ≡ []
+    → nest (flat_map detail_rows ds ++ rows) ≡ set_details (nest rows) (ds ++ (nest rows).details)
+unfolding nest
+details-nest [] rows e = ap (set_prices (nest rows)) e
+details-nest (d ∷ ds) rows e =
+    let rest = flat_map detail_rows ds ++ rows in
+    let a : (map row.Price d.prices ++ flat_map detail_rows ds) ++ rows ≡ map row.Price d.prices ++ rest = append_assoc (map row.Price d.prices) (flat_map detail_rows ds) rows in
+    let own : SupplyDetail = record d { prices = [] } in
+    ap (λ (t : List Row). with_detail own (nest t)) a
+    ∙ ap (with_detail own) (prices-nest d.prices rest)
+    ∙ ap (λ (g : Gathered). with_detail own (set_prices g (d.prices ++ g.prices))) (details-nest ds rows e)
+    ∙ ap (λ (ps : List Price). with_detail own (set_prices (set_details (nest rows) (ds ++ (nest rows).details)) ps)) (append-nil d.prices)
 
-supplies-nest : (ss : List ProductSupply) (rows : List Row) → (nest rows).details ≡ []
-    → nest (flat_map supply_rows ss ++ rows) ≡ record { products = (nest rows).products; supplies = ss ++ (nest rows).supplies; details = [] }
-unfolding nest over
-supplies-nest [] rows e = ap (λ (ds : List SupplyDetail). let g : Gathered = record { products = (nest rows).products; supplies = (nest rows).supplies; details = ds } in g) e
-supplies-nest (s ∷ ss) rows e =
+supplies-nest : (ss : List ProductSupply) (rows : List Row) → (nest rows).prices ≡ [] → (nest rows).details ≡ []
+    → nest (flat_map supply_rows ss ++ rows) ≡ set_supplies (nest rows) (ss ++ (nest rows).supplies)
+unfolding nest
+supplies-nest [] rows e f = ap (set_prices (nest rows)) e ∙ ap (set_details (nest rows)) f
+supplies-nest (s ∷ ss) rows e f =
     let rest = flat_map supply_rows ss ++ rows in
     let a : (flat_map detail_rows s.details ++ flat_map supply_rows ss) ++ rows ≡ flat_map detail_rows s.details ++ rest = append_assoc (flat_map detail_rows s.details) (flat_map supply_rows ss) rows in
-    ap (λ (t : List Row). over (record s { details = [] }) (nest t)) a
-    ∙ ap (over (record s { details = [] })) (details-nest s.details rest)
-    ∙ ap (λ (g : Gathered). over (record s { details = [] }) (record { products = g.products; supplies = g.supplies; details = s.details ++ g.details })) (supplies-nest ss rows e)
-    ∙ ap (λ (ds : List SupplyDetail). over (record s { details = [] }) (record { products = (nest rows).products; supplies = ss ++ (nest rows).supplies; details = ds })) (append-nil s.details)
+    let own : ProductSupply = record s { details = [] } in
+    let h = supplies-nest ss rows e f in
+    ap (λ (t : List Row). with_supply own (nest t)) a
+    ∙ ap (with_supply own) (details-nest s.details rest (ap (λ (g : Gathered). g.prices) h))
+    ∙ ap (λ (g : Gathered). with_supply own (set_details g (s.details ++ g.details))) h
+    ∙ ap (λ (ds : List SupplyDetail). with_supply own (set_details (set_supplies (nest rows) (ss ++ (nest rows).supplies)) ds)) (append-nil s.details)
 
--- a product over the parts after it
-under : Product → Gathered → Gathered
-under p g = record { products = record p { supplies = g.supplies } ∷ g.products; supplies = []; details = [] }
-
-products-nest : (ps : List Product) (rows : List Row) → (nest rows).details ≡ [] → (nest rows).supplies ≡ []
-    → nest (flat_map product_rows ps ++ rows) ≡ record { products = ps ++ (nest rows).products; supplies = []; details = [] }
-unfolding nest under
-products-nest [] rows e f =
-    ap (λ (ds : List SupplyDetail). let g : Gathered = record { products = (nest rows).products; supplies = (nest rows).supplies; details = ds } in g) e
-    ∙ ap (λ (ss : List ProductSupply). let g : Gathered = record { products = (nest rows).products; supplies = ss; details = [] } in g) f
-products-nest (p ∷ ps) rows e f =
+products-nest : (ps : List Product) (rows : List Row) → (nest rows).prices ≡ [] → (nest rows).details ≡ [] → (nest rows).supplies ≡ []
+    → nest (flat_map product_rows ps ++ rows) ≡ set_products (ps ++ (nest rows).products)
+unfolding nest
+products-nest [] rows e f g = ap (set_prices (nest rows)) e ∙ ap (set_details (nest rows)) f ∙ ap (set_supplies (nest rows)) g
+products-nest (p ∷ ps) rows e f g =
     let rest = flat_map product_rows ps ++ rows in
     let a : (flat_map supply_rows p.supplies ++ flat_map product_rows ps) ++ rows ≡ flat_map supply_rows p.supplies ++ rest = append_assoc (flat_map supply_rows p.supplies) (flat_map product_rows ps) rows in
-    let h = products-nest ps rows e f in
-    ap (λ (t : List Row). under (record p { supplies = [] }) (nest t)) a
-    ∙ ap (under (record p { supplies = [] })) (supplies-nest p.supplies rest (ap (λ (g : Gathered). g.details) h))
-    ∙ ap (λ (g : Gathered). under (record p { supplies = [] }) (record { products = g.products; supplies = p.supplies ++ g.supplies; details = [] })) h
-    ∙ ap (λ (ss : List ProductSupply). under (record p { supplies = [] }) (record { products = ps ++ (nest rows).products; supplies = ss; details = [] })) (append-nil p.supplies)
-
-nest-end : (n : ℕ) → nest (row.EndMessage n ∷ []) ≡ record { products = []; supplies = []; details = [] }
-unfolding nest
-nest-end n = refl
+    let own : Product = record p { supplies = [] } in
+    let h = products-nest ps rows e f g in
+    ap (λ (t : List Row). with_product own (nest t)) a
+    ∙ ap (with_product own) (supplies-nest p.supplies rest (ap (λ (k : Gathered). k.prices) h) (ap (λ (k : Gathered). k.details) h))
+    ∙ ap (λ (k : Gathered). with_product own (set_supplies k (p.supplies ++ k.supplies))) h
+    ∙ ap (λ (ss : List ProductSupply). with_product own (set_supplies (set_products (ps ++ (nest rows).products)) ss)) (append-nil p.supplies)
 
 contents-nest : (c : List Product) (n : ℕ) → (nest (content_rows c ++ row.EndMessage n ∷ [])).products ≡ c
-contents-nest c n =
-    let e = nest-end n in
-    ap (λ (g : Gathered). g.products) (products-nest c (row.EndMessage n ∷ []) (ap (λ (g : Gathered). g.details) e) (ap (λ (g : Gathered). g.supplies) e))
-    ∙ ap (λ (g : Gathered). c ++ g.products) e ∙ append-nil c
+unfolding nest
+contents-nest c n = ap (λ (g : Gathered). g.products) (products-nest c (row.EndMessage n ∷ []) refl refl refl) ∙ append-nil c
 
 ends-cons : (x r : Row) (rows : List Row) → ends x (r ∷ rows) ≡ ends r rows
 ends-cons (row.Message h) r rows = refl
 ends-cons (row.Product p) r rows = refl
 ends-cons (row.ProductSupply s) r rows = refl
 ends-cons (row.SupplyDetail d) r rows = refl
+ends-cons (row.Price p) r rows = refl
 ends-cons (row.EndMessage m) r rows = refl
 
 ends-last : (first : Row) (rows : List Row) (n : ℕ) → last_of first rows ≡ row.EndMessage n → ends first rows ≡ true
@@ -91,6 +106,7 @@ last-ends (row.Message h) [] e = cc e
 last-ends (row.Product p) [] e = cc e
 last-ends (row.ProductSupply s) [] e = cc e
 last-ends (row.SupplyDetail d) [] e = cc e
+last-ends (row.Price p) [] e = cc e
 last-ends (row.EndMessage n) [] e = (n, refl)
 last-ends first (r ∷ rows) e = last-ends r rows (sym (ends-cons first r rows) ∙ e)
 
@@ -115,7 +131,7 @@ message-computed records h c m =
 -- Rows that keep the order are those of the parts that they make.
 
 flatten : Gathered → List Row
-flatten g = flat_map detail_rows g.details ++ (flat_map supply_rows g.supplies ++ flat_map product_rows g.products)
+flatten g = map row.Price g.prices ++ (flat_map detail_rows g.details ++ (flat_map supply_rows g.supplies ++ flat_map product_rows g.products))
 
 -- these rows are those of the parts that they make, with an end, and each supply has a detail
 record Rebuilt (rows : List Row) (n : ℕ) : Type 0 where
@@ -128,6 +144,7 @@ no-message (row.Message g) h = refl
 no-message (row.Product p) h = refl
 no-message (row.ProductSupply s) h = refl
 no-message (row.SupplyDetail d) h = refl
+no-message (row.Price p) h = refl
 no-message (row.EndMessage n) h = refl
 
 no-more : (n : ℕ) (y : Row) → may_follow (row.EndMessage n) y ≡ false
@@ -135,58 +152,78 @@ no-more n (row.Message g) = refl
 no-more n (row.Product p) = refl
 no-more n (row.ProductSupply s) = refl
 no-more n (row.SupplyDetail d) = refl
+no-more n (row.Price p) = refl
 no-more n (row.EndMessage m) = refl
 
-with-detail : (d : SupplyDetail) (rows : List Row) (n : ℕ) → Rebuilt rows n → Rebuilt (row.SupplyDetail d ∷ rows) n
+more-price : (p : Price) (rows : List Row) (n : ℕ) → Rebuilt rows n → Rebuilt (row.Price p ∷ rows) n
 unfolding nest flatten
-with-detail d rows n r = record { same = ap (λ (t : List Row). row.SupplyDetail d ∷ t) r.same; supplies = r.supplies; products = r.products }
+more-price p rows n r = record { same = ap (λ (t : List Row). row.Price p ∷ t) r.same; supplies = r.supplies; products = r.products }
 
-with-supply : (s : ProductSupply) (rows : List Row) (n : ℕ) → s.details ≡ [] → (nest rows).details ≢ [] → Rebuilt rows n → Rebuilt (row.ProductSupply s ∷ rows) n
+more-detail : (d : SupplyDetail) (rows : List Row) (n : ℕ) → d.prices ≡ [] → Rebuilt rows n → Rebuilt (row.SupplyDetail d ∷ rows) n
 unfolding nest flatten
-with-supply s rows n bare some r =
+more-detail d rows n bare r =
+    let g = nest rows in
+    let own : row.SupplyDetail d ≡ row.SupplyDetail (record d { prices = [] }) = ap (λ (ps : List Price). row.SupplyDetail (record d { prices = ps })) bare in
+    let above = flat_map supply_rows g.supplies ++ flat_map product_rows g.products in
+    record {
+      same =
+          ap (λ (t : List Row). row.SupplyDetail d ∷ t) r.same
+          ∙ ap (λ (x : Row). x ∷ ((map row.Price g.prices ++ (flat_map detail_rows g.details ++ above)) ++ row.EndMessage n ∷ [])) own
+          ∙ ap (λ (t : List Row). row.SupplyDetail (record d { prices = [] }) ∷ (t ++ row.EndMessage n ∷ [])) (sym (append_assoc (map row.Price g.prices) (flat_map detail_rows g.details) above));
+      supplies = r.supplies;
+      products = r.products;
+    }
+
+more-supply : (s : ProductSupply) (rows : List Row) (n : ℕ) → s.details ≡ [] → (nest rows).prices ≡ [] → (nest rows).details ≢ [] → Rebuilt rows n → Rebuilt (row.ProductSupply s ∷ rows) n
+unfolding nest flatten
+more-supply s rows n bare none some r =
     let g = nest rows in
     let own : row.ProductSupply s ≡ row.ProductSupply (record s { details = [] }) = ap (λ (ds : List SupplyDetail). row.ProductSupply (record s { details = ds })) bare in
+    let rest = flat_map detail_rows g.details ++ (flat_map supply_rows g.supplies ++ flat_map product_rows g.products) in
     record {
       same =
           ap (λ (t : List Row). row.ProductSupply s ∷ t) r.same
-          ∙ ap (λ (x : Row). x ∷ ((flat_map detail_rows g.details ++ (flat_map supply_rows g.supplies ++ flat_map product_rows g.products)) ++ row.EndMessage n ∷ [])) own
+          ∙ ap (λ (ps : List Price). row.ProductSupply s ∷ ((map row.Price ps ++ rest) ++ row.EndMessage n ∷ [])) none
+          ∙ ap (λ (x : Row). x ∷ (rest ++ row.EndMessage n ∷ [])) own
           ∙ ap (λ (t : List Row). row.ProductSupply (record s { details = [] }) ∷ (t ++ row.EndMessage n ∷ [])) (sym (append_assoc (flat_map detail_rows g.details) (flat_map supply_rows g.supplies) (flat_map product_rows g.products)));
       supplies = (some, r.supplies);
       products = r.products;
     }
 
-with-product : (p : Product) (rows : List Row) (n : ℕ) → p.supplies ≡ [] → (nest rows).details ≡ [] → Rebuilt rows n → Rebuilt (row.Product p ∷ rows) n
+more-product : (p : Product) (rows : List Row) (n : ℕ) → p.supplies ≡ [] → (nest rows).prices ≡ [] → (nest rows).details ≡ [] → Rebuilt rows n → Rebuilt (row.Product p ∷ rows) n
 unfolding nest flatten
-with-product p rows n bare none r =
+more-product p rows n bare none nil r =
     let g = nest rows in
     let own : row.Product p ≡ row.Product (record p { supplies = [] }) = ap (λ (ss : List ProductSupply). row.Product (record p { supplies = ss })) bare in
+    let rest = flat_map supply_rows g.supplies ++ flat_map product_rows g.products in
     record {
       same =
           ap (λ (t : List Row). row.Product p ∷ t) r.same
-          ∙ ap (λ (ds : List SupplyDetail). row.Product p ∷ ((flat_map detail_rows ds ++ (flat_map supply_rows g.supplies ++ flat_map product_rows g.products)) ++ row.EndMessage n ∷ [])) none
-          ∙ ap (λ (x : Row). x ∷ ((flat_map supply_rows g.supplies ++ flat_map product_rows g.products) ++ row.EndMessage n ∷ [])) own;
+          ∙ ap (λ (ps : List Price). row.Product p ∷ ((map row.Price ps ++ (flat_map detail_rows g.details ++ rest)) ++ row.EndMessage n ∷ [])) none
+          ∙ ap (λ (ds : List SupplyDetail). row.Product p ∷ ((flat_map detail_rows ds ++ rest) ++ row.EndMessage n ∷ [])) nil
+          ∙ ap (λ (x : Row). x ∷ (rest ++ row.EndMessage n ∷ [])) own;
       supplies = tt;
       products = (r.supplies, r.products);
     }
 
-detail-there : (d : SupplyDetail) (rows : List Row) → (nest (row.SupplyDetail d ∷ rows)).details ≢ []
-unfolding nest
-detail-there d rows e = cc e
-
--- nothing that may come after a product is a detail
-no-detail : (p : Product) (y : Row) (rows : List Row) → may_follow (row.Product p) y ≡ true → (nest (y ∷ rows)).details ≡ []
+-- nothing that may come after a product is a price or a detail
+no-detail : (p : Product) (y : Row) (rows : List Row) → may_follow (row.Product p) y ≡ true → ((nest (y ∷ rows)).prices ≡ []) × ((nest (y ∷ rows)).details ≡ [])
 unfolding nest
 no-detail p (row.Message h) rows m = cc m
-no-detail p (row.Product q) rows m = refl
-no-detail p (row.ProductSupply s) rows m = refl
+no-detail p (row.Product q) rows m = (refl, refl)
+no-detail p (row.ProductSupply s) rows m = (refl, refl)
 no-detail p (row.SupplyDetail d) rows m = cc m
-no-detail p (row.EndMessage n) rows m = refl
+no-detail p (row.Price q) rows m = cc m
+no-detail p (row.EndMessage n) rows m = (refl, refl)
 
-some-detail : (s : ProductSupply) (y : Row) (rows : List Row) → may_follow (row.ProductSupply s) y ≡ true → (nest (y ∷ rows)).details ≢ []
+-- what comes after a supply is a detail
+some-detail : (s : ProductSupply) (y : Row) (rows : List Row) → may_follow (row.ProductSupply s) y ≡ true → ((nest (y ∷ rows)).prices ≡ []) × ((nest (y ∷ rows)).details ≢ [])
+unfolding nest
 some-detail s (row.Message h) rows m = cc m
 some-detail s (row.Product q) rows m = cc m
 some-detail s (row.ProductSupply t) rows m = cc m
-some-detail s (row.SupplyDetail d) rows m = detail-there d rows
+some-detail s (row.SupplyDetail d) rows m = (refl, λ e. cc e)
+some-detail s (row.Price q) rows m = cc m
 some-detail s (row.EndMessage n) rows m = cc m
 
 at-end : (m n : ℕ) → row.EndMessage m ≡ row.EndMessage n → Rebuilt (row.EndMessage m ∷ []) n
@@ -199,22 +236,28 @@ rebuilds a (row.EndMessage k) [] n bare m order last = at-end k n last
 rebuilds a (row.EndMessage k) (y ∷ rows) n bare m order last = cc (order.0, no-more k y)
 rebuilds a (row.Product p) [] n bare m order last = cc last
 rebuilds a (row.Product p) (y ∷ rows) n bare m order last =
-    with-product p (y ∷ rows) n bare.0 (no-detail p y rows order.0) (rebuilds (row.Product p) y rows n bare.1 order.0 order.1 last)
+    let none = no-detail p y rows order.0 in
+    more-product p (y ∷ rows) n bare.0 none.0 none.1 (rebuilds (row.Product p) y rows n bare.1 order.0 order.1 last)
 rebuilds a (row.ProductSupply s) [] n bare m order last = cc last
 rebuilds a (row.ProductSupply s) (y ∷ rows) n bare m order last =
-    with-supply s (y ∷ rows) n bare.0 (some-detail s y rows order.0) (rebuilds (row.ProductSupply s) y rows n bare.1 order.0 order.1 last)
+    let some = some-detail s y rows order.0 in
+    more-supply s (y ∷ rows) n bare.0 some.0 some.1 (rebuilds (row.ProductSupply s) y rows n bare.1 order.0 order.1 last)
 rebuilds a (row.SupplyDetail d) [] n bare m order last = cc last
 rebuilds a (row.SupplyDetail d) (y ∷ rows) n bare m order last =
-    with-detail d (y ∷ rows) n (rebuilds (row.SupplyDetail d) y rows n bare.1 order.0 order.1 last)
+    more-detail d (y ∷ rows) n bare.0 (rebuilds (row.SupplyDetail d) y rows n bare.1 order.0 order.1 last)
+rebuilds a (row.Price p) [] n bare m order last = cc last
+rebuilds a (row.Price p) (y ∷ rows) n bare m order last =
+    more-price p (y ∷ rows) n (rebuilds (row.Price p) y rows n bare.1 order.0 order.1 last)
 
--- the parts that a front's rows make, at its end, stand in no other
-no-parts-left : (h : Header) (x : Row) (rows : List Row) → may_follow (row.Message h) x ≡ true → ((nest (x ∷ rows)).details ≡ []) × ((nest (x ∷ rows)).supplies ≡ [])
+-- the parts that the rows after a header make stand in no other but the products
+no-parts-left : (h : Header) (x : Row) (rows : List Row) → may_follow (row.Message h) x ≡ true → ((nest (x ∷ rows)).prices ≡ []) × ((nest (x ∷ rows)).details ≡ []) × ((nest (x ∷ rows)).supplies ≡ [])
 unfolding nest
 no-parts-left h (row.Message g) rows m = cc m
-no-parts-left h (row.Product p) rows m = (refl, refl)
+no-parts-left h (row.Product p) rows m = (refl, refl, refl)
 no-parts-left h (row.ProductSupply s) rows m = cc m
 no-parts-left h (row.SupplyDetail d) rows m = cc m
-no-parts-left h (row.EndMessage n) rows m = (refl, refl)
+no-parts-left h (row.Price p) rows m = cc m
+no-parts-left h (row.EndMessage n) rows m = (refl, refl, refl)
 
 -- the rows after a header that end in an end
 pub rows-rebuilt : (h : Header) (rows : List Row) (n : ℕ) → AllBare rows → KeepsOrder (row.Message h ∷ rows) → last_of (row.Message h) rows ≡ row.EndMessage n
@@ -226,8 +269,9 @@ rows-rebuilt h (x ∷ rows) n bare order last =
     let p = no-parts-left h x rows order.0 in
     let g = nest (x ∷ rows) in (
       r.same
-          ∙ ap (λ (ds : List SupplyDetail). (flat_map detail_rows ds ++ (flat_map supply_rows g.supplies ++ flat_map product_rows g.products)) ++ row.EndMessage n ∷ []) p.0
-          ∙ ap (λ (ss : List ProductSupply). (flat_map supply_rows ss ++ flat_map product_rows g.products) ++ row.EndMessage n ∷ []) p.1,
+          ∙ ap (λ (ps : List Price). (map row.Price ps ++ (flat_map detail_rows g.details ++ (flat_map supply_rows g.supplies ++ flat_map product_rows g.products))) ++ row.EndMessage n ∷ []) p.0
+          ∙ ap (λ (ds : List SupplyDetail). (flat_map detail_rows ds ++ (flat_map supply_rows g.supplies ++ flat_map product_rows g.products)) ++ row.EndMessage n ∷ []) p.1
+          ∙ ap (λ (ss : List ProductSupply). (flat_map supply_rows ss ++ flat_map product_rows g.products) ++ row.EndMessage n ∷ []) p.2,
       r.products,
     )
 

@@ -1,10 +1,11 @@
 -- Rows in order, and ends that count.
-use Rattle.std.proofs.Common.{◌≡◌, ◌≢◌, ◌++◌, ◌∷◌, ◌∙◌, ◌+◌, [], ℕ, suc, List, Bool, true, false, refl, sym, ap, arith, length, length-append, append_assoc, add-zero, subst}
+use Rattle.std.proofs.Common.{◌≡◌, ◌≢◌, ◌++◌, ◌∷◌, ◌+◌, [], ℕ, suc, List, true, refl, sym, arith, length, length-append, append_assoc, add-zero, subst, map}
 use Rattle.std.specs.List.{AllByRecursion, flat_map}
 use Rattle.std.proofs.lemmas.Bool.{eq-eqb}
 use Rattle.onix_message.specs.Grammar.{CountsAfter, KeepsOrder, is_counted, may_follow}
 use Rattle.onix_message.specs.Nest.{HasDetails, SuppliesHaveDetails, detail_rows, product_rows, supply_rows}
 use Rattle.onix_message.specs.declared.parts.Header.{Header}
+use Rattle.onix_message.specs.declared.parts.Price.{Price}
 use Rattle.onix_message.specs.declared.parts.Product.{Product}
 use Rattle.onix_message.specs.declared.parts.ProductSupply.{ProductSupply}
 use Rattle.onix_message.specs.declared.parts.SupplyDetail.{SupplyDetail}
@@ -52,10 +53,6 @@ TakesSupply a = (s : ProductSupply) → may_follow a (row.ProductSupply s) ≡ t
 GoesOn : List Row → Type 0
 GoesOn rest = (a : Row) → Closes a → KeepsOrder (a ∷ rest)
 
-detail-closes : (d : SupplyDetail) → Closes (row.SupplyDetail d)
-unfolding Closes
-detail-closes d = (λ p. refl, λ n. refl)
-
 product-closes : (p : Product) → Closes (row.Product p)
 unfolding Closes
 product-closes p = (λ q. refl, λ n. refl)
@@ -64,28 +61,55 @@ message-closes : (h : Header) → Closes (row.Message h)
 unfolding Closes
 message-closes h = (λ q. refl, λ n. refl)
 
--- details, and then what may follow one
-details-order : (d : SupplyDetail) (ds : List SupplyDetail) (rest : List Row) → ((e : SupplyDetail) → KeepsOrder (row.SupplyDetail e ∷ rest))
-    → KeepsOrder (row.SupplyDetail d ∷ (flat_map detail_rows ds ++ rest))
-details-order d [] rest k = k d
-details-order d (e ∷ ds) rest k = (refl, details-order e ds rest k)
+-- a price, a detail or a supply may come, or what follows a product
+record AfterDetail (a : Row) : Type 0 where
+  price : (p : Price) → may_follow a (row.Price p) ≡ true
+  detail : (d : SupplyDetail) → may_follow a (row.SupplyDetail d) ≡ true
+  supply : TakesSupply a
+  closes : Closes a
 
-supply-order : (s : ProductSupply) (ds : List SupplyDetail) (ss : List ProductSupply) (rest : List Row) → ds ≢ [] → AllByRecursion HasDetails ss → GoesOn rest
-    → ((d : SupplyDetail) → KeepsOrder (row.SupplyDetail d ∷ (flat_map supply_rows ss ++ rest)))
-    → KeepsOrder (row.ProductSupply s ∷ (flat_map detail_rows ds ++ (flat_map supply_rows ss ++ rest)))
-unfolding GoesOn
-supply-order s [] ss rest some all go more = absurd (some refl)
-supply-order s (d ∷ ds) ss rest some all go more = (refl, details-order d ds (flat_map supply_rows ss ++ rest) more)
+after-detail : (d : SupplyDetail) → AfterDetail (row.SupplyDetail d)
+unfolding Closes TakesSupply
+after-detail d = record { price = λ p. refl; detail = λ e. refl; supply = λ s. refl; closes = (λ p. refl, λ n. refl) }
+
+after-price : (p : Price) → AfterDetail (row.Price p)
+unfolding Closes TakesSupply
+after-price p = record { price = λ q. refl; detail = λ e. refl; supply = λ s. refl; closes = (λ q. refl, λ n. refl) }
+
+-- prices, and then what may follow one
+prices-order : (a : Row) (ps : List Price) (rest : List Row) → AfterDetail a → ((b : Row) → AfterDetail b → KeepsOrder (b ∷ rest))
+    → KeepsOrder (a ∷ (map row.Price ps ++ rest))
+prices-order a [] rest h k = k a h
+prices-order a (p ∷ ps) rest h k = (h.price p, prices-order (row.Price p) ps rest (after-price p) k)
+
+-- details, and then what may follow one
+details-order : (a : Row) (ds : List SupplyDetail) (rest : List Row) → AfterDetail a → ((b : Row) → AfterDetail b → KeepsOrder (b ∷ rest))
+    → KeepsOrder (a ∷ (flat_map detail_rows ds ++ rest))
+details-order a [] rest h k = k a h
+details-order a (d ∷ ds) rest h k =
+    let own = row.SupplyDetail (record d { prices = [] }) in
+    let e : (map row.Price d.prices ++ flat_map detail_rows ds) ++ rest ≡ map row.Price d.prices ++ (flat_map detail_rows ds ++ rest) = append_assoc (map row.Price d.prices) (flat_map detail_rows ds) rest in
+    let order = prices-order own d.prices (flat_map detail_rows ds ++ rest) (after-detail (record d { prices = [] })) (λ b c. details-order b ds rest c k) in
+    (h.detail (record d { prices = [] }), subst (λ (rows : List Row). KeepsOrder (own ∷ rows)) (sym e) order)
+
+supply-order : (s : ProductSupply) (ds : List SupplyDetail) (rest : List Row) → ds ≢ [] → ((b : Row) → AfterDetail b → KeepsOrder (b ∷ rest))
+    → KeepsOrder (row.ProductSupply s ∷ (flat_map detail_rows ds ++ rest))
+supply-order s [] rest some k = absurd (some refl)
+supply-order s (d ∷ ds) rest some k =
+    let own = row.SupplyDetail (record d { prices = [] }) in
+    let e : (map row.Price d.prices ++ flat_map detail_rows ds) ++ rest ≡ map row.Price d.prices ++ (flat_map detail_rows ds ++ rest) = append_assoc (map row.Price d.prices) (flat_map detail_rows ds) rest in
+    let order = prices-order own d.prices (flat_map detail_rows ds ++ rest) (after-detail (record d { prices = [] })) (λ b c. details-order b ds rest c k) in
+    (refl, subst (λ (rows : List Row). KeepsOrder (own ∷ rows)) (sym e) order)
 
 -- supplies, and then what may follow a detail
 supplies-order : (a : Row) (ss : List ProductSupply) (rest : List Row) → Closes a → TakesSupply a → AllByRecursion HasDetails ss → GoesOn rest
     → KeepsOrder (a ∷ (flat_map supply_rows ss ++ rest))
-unfolding GoesOn TakesSupply Closes
+unfolding GoesOn TakesSupply
 supplies-order a [] rest c t all go = go a c
 supplies-order a (s ∷ ss) rest c t all go =
     let e : (flat_map detail_rows s.details ++ flat_map supply_rows ss) ++ rest ≡ flat_map detail_rows s.details ++ (flat_map supply_rows ss ++ rest) = append_assoc (flat_map detail_rows s.details) (flat_map supply_rows ss) rest in
-    let order = supply-order (record s { details = [] }) s.details ss rest all.0 all.1 go
-    (λ d. supplies-order (row.SupplyDetail d) ss rest (detail-closes d) (λ u. refl) all.1 go) in
+    let order = supply-order (record s { details = [] }) s.details (flat_map supply_rows ss ++ rest) all.0
+    (λ b h. supplies-order b ss rest h.closes h.supply all.1 go) in
     (t (record s { details = [] }), subst (λ (rows : List Row). KeepsOrder (row.ProductSupply (record s { details = [] }) ∷ rows)) (sym e) order)
 
 products-order : (a : Row) (ps : List Product) (rest : List Row) → Closes a → AllByRecursion SuppliesHaveDetails ps → GoesOn rest
@@ -105,9 +129,19 @@ message-order h ps n all = products-order (row.Message h) ps (row.EndMessage n �
 
 -- The rows of parts count nothing.
 
+prices-count : (i : ℕ) (ps : List Price) (rest : List Row) → ((j : ℕ) → j ≡ i + length (map row.Price ps) → CountsAfter j rest) → CountsAfter i (map row.Price ps ++ rest)
+prices-count i [] rest k = k i (omega arith)
+prices-count i (p ∷ ps) rest k = (refl, prices-count (suc i) ps rest (λ j e. k j (omega (arith, e))))
+
 details-count : (i : ℕ) (ds : List SupplyDetail) (rest : List Row) → ((j : ℕ) → j ≡ i + length (flat_map detail_rows ds) → CountsAfter j rest) → CountsAfter i (flat_map detail_rows ds ++ rest)
 details-count i [] rest k = k i (omega arith)
-details-count i (d ∷ ds) rest k = (refl, details-count (suc i) ds rest (λ j e. k j (omega (arith, e))))
+details-count i (d ∷ ds) rest k =
+    let e : (map row.Price d.prices ++ flat_map detail_rows ds) ++ rest ≡ map row.Price d.prices ++ (flat_map detail_rows ds ++ rest) = append_assoc (map row.Price d.prices) (flat_map detail_rows ds) rest in
+    let l = length-append (map row.Price d.prices) (flat_map detail_rows ds) in (
+      refl,
+      subst (λ (rows : List Row). CountsAfter (suc i) rows) (sym e)
+          (prices-count (suc i) d.prices (flat_map detail_rows ds ++ rest) (λ j f. details-count j ds rest (λ m g. k m (omega (arith, f, g, l))))),
+    )
 
 supplies-count : (i : ℕ) (ss : List ProductSupply) (rest : List Row) → ((j : ℕ) → j ≡ i + length (flat_map supply_rows ss) → CountsAfter j rest) → CountsAfter i (flat_map supply_rows ss ++ rest)
 supplies-count i [] rest k = k i (omega arith)

@@ -35,6 +35,7 @@ allows (part.InProduct p) (row.Product q) = true
 allows (part.InProduct p) (row.ProductSupply s) = true
 allows (part.InProduct p) (row.EndMessage n) = true
 allows (part.InSupply p s) (row.SupplyDetail d) = true
+allows (part.InDetail p s d) (row.Price q) = true
 allows (part.InDetail p s d) (row.SupplyDetail e) = true
 allows (part.InDetail p s d) (row.ProductSupply t) = true
 allows (part.InDetail p s d) (row.Product q) = true

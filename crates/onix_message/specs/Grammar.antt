@@ -34,10 +34,16 @@ may_follow (row.Product p) (row.Product q) = true
 may_follow (row.Product p) (row.ProductSupply s) = true
 may_follow (row.Product p) (row.EndMessage n) = true
 may_follow (row.ProductSupply s) (row.SupplyDetail d) = true
+may_follow (row.SupplyDetail d) (row.Price p) = true
 may_follow (row.SupplyDetail d) (row.SupplyDetail e) = true
 may_follow (row.SupplyDetail d) (row.ProductSupply s) = true
 may_follow (row.SupplyDetail d) (row.Product p) = true
 may_follow (row.SupplyDetail d) (row.EndMessage n) = true
+may_follow (row.Price p) (row.Price q) = true
+may_follow (row.Price p) (row.SupplyDetail d) = true
+may_follow (row.Price p) (row.ProductSupply s) = true
+may_follow (row.Price p) (row.Product q) = true
+may_follow (row.Price p) (row.EndMessage n) = true
 may_follow _ _ = false
 
 -- each row but the first may follow the one before it

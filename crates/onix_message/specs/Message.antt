@@ -8,6 +8,7 @@ use Rattle.onix_message.specs.Row.{message_row, row_of}
 use Rattle.onix_message.specs.declared.message.MessageFault.{MessageFault}
 use Rattle.onix_message.specs.declared.message.MessageFault.TheVariants as fault
 use Rattle.onix_message.specs.declared.parts.Header.{Header}
+use Rattle.onix_message.specs.declared.parts.Price.{Price}
 use Rattle.onix_message.specs.declared.parts.Product.{Product}
 use Rattle.onix_message.specs.declared.parts.ProductSupply.{ProductSupply}
 use Rattle.onix_message.specs.declared.parts.SupplyDetail.{SupplyDetail}
@@ -31,15 +32,39 @@ pub record Gathered : Type 0 where
   pub products : List Product
   pub supplies : List ProductSupply
   pub details : List SupplyDetail
+  pub prices : List Price
+
+-- no parts
+abbrev pub nothing : Gathered
+nothing = record { products = []; supplies = []; details = []; prices = [] }
+
+-- Each part takes those after it that belong to it.
+
+-- a product takes supplies
+abbrev pub with_product : Product → Gathered → Gathered
+with_product p g = record { products = record p { supplies = g.supplies } ∷ g.products; supplies = []; details = []; prices = [] }
+
+-- a supply takes details
+abbrev pub with_supply : ProductSupply → Gathered → Gathered
+with_supply s g = record { products = g.products; supplies = record s { details = g.details } ∷ g.supplies; details = []; prices = [] }
+
+-- a detail takes prices
+abbrev pub with_detail : SupplyDetail → Gathered → Gathered
+with_detail d g = record { products = g.products; supplies = g.supplies; details = record d { prices = g.prices } ∷ g.details; prices = [] }
+
+-- a price takes nothing
+abbrev pub with_price : Price → Gathered → Gathered
+with_price p g = record { products = g.products; supplies = g.supplies; details = g.details; prices = p ∷ g.prices }
 
 -- rows from the last to the first: each takes the parts after it that belong to it
 unfoldable pub nest : List Row → Gathered
-nest [] = record { products = []; supplies = []; details = [] }
+nest [] = nothing
 nest (row.Message h ∷ rows) = nest rows
-nest (row.Product p ∷ rows) = let g = nest rows in record { products = record p { supplies = g.supplies } ∷ g.products; supplies = []; details = [] }
-nest (row.ProductSupply s ∷ rows) = let g = nest rows in record { products = g.products; supplies = record s { details = g.details } ∷ g.supplies; details = [] }
-nest (row.SupplyDetail d ∷ rows) = let g = nest rows in record { products = g.products; supplies = g.supplies; details = d ∷ g.details }
-nest (row.EndMessage n ∷ rows) = record { products = []; supplies = []; details = [] }
+nest (row.Product p ∷ rows) = with_product p (nest rows)
+nest (row.ProductSupply s ∷ rows) = with_supply s (nest rows)
+nest (row.SupplyDetail d ∷ rows) = with_detail d (nest rows)
+nest (row.Price p ∷ rows) = with_price p (nest rows)
+nest (row.EndMessage n ∷ rows) = nothing
 
 -- whether the last of a row and those after it is an end
 abbrev pub ends : Row → List Row → Bool

@@ -6,6 +6,7 @@ use Rattle.onix_message.specs.Fields.{filled}
 use Rattle.onix_message.specs.declared.parts.Product.{Product}
 use Rattle.onix_message.specs.declared.parts.ProductIdentifier.{ProductIdentifier}
 
+-- a type and a value that is not empty
 abbrev pub identifier_of : List ℕ → List ℕ → Option ProductIdentifier
 identifier_of kind value = do
   k ← code2_of kind

@@ -1,10 +1,11 @@
 -- One record of a message, and the row that it is.
-use Rattle.std.specs.Prelude.{ℕ, List, [], ◌∷◌, ◌≡◌, Option, Some, None, ⊤, if◌then◌else◌, option_map, codes}
+use Rattle.std.specs.Prelude.{ℕ, List, [], ◌∷◌, ◌≡◌, Option, None, ⊤, if◌then◌else◌, option_map, codes}
 use Rattle.std.specs.List.{list_all}
 use Rattle.std.specs.Str.{bytes_eq}
 use Rattle.onix_terms.specs.Digits.{digits_of}
 use Rattle.onix_message.specs.Fields.{is_clean}
 use Rattle.onix_message.specs.OpeningRow.{opening_fields}
+use Rattle.onix_message.specs.PriceRow.{price_of}
 use Rattle.onix_message.specs.ProductRow.{product_of}
 use Rattle.onix_message.specs.SupplyRow.{detail_of, supply_of}
 use Rattle.onix_message.specs.declared.row.Opening.{Opening}
@@ -27,6 +28,7 @@ named_row o name fields =
     else if bytes_eq name (codes "Product") then option_map row.Product (product_of fields)
     else if bytes_eq name (codes "ProductSupply") then option_map row.ProductSupply (supply_of fields)
     else if bytes_eq name (codes "SupplyDetail") then option_map row.SupplyDetail (detail_of fields)
+    else if bytes_eq name (codes "Price") then option_map row.Price (price_of o fields)
     else if bytes_eq name (codes "EndMessage") then option_map row.EndMessage (end_of fields)
     else None
 
@@ -39,4 +41,5 @@ row_of o (name ∷ fields) = if list_all is_clean (name ∷ fields) then named_r
 abbrev pub IsBare : Row → Type 0
 IsBare (row.Product p) = p.supplies ≡ []
 IsBare (row.ProductSupply s) = s.details ≡ []
+IsBare (row.SupplyDetail d) = d.prices ≡ []
 IsBare _ = ⊤

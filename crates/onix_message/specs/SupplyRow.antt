@@ -28,7 +28,7 @@ detail_from role id_type id_value name availability unpriced = do
   n ← supplier_name p name
   a ← code2_of availability
   u ← optional code2_of unpriced
-  Some (record { supplier = record { role = r; party = p; name = n }; availability = a; unpriced = u })
+  Some (record { supplier = record { role = r; party = p; name = n }; availability = a; unpriced = u; prices = [] })
 
 -- a supplier, an availability and, where there is one, an UnpricedItemType
 unfoldable pub detail_of : List (List ℕ) → Option SupplyDetail

@@ -3,6 +3,7 @@
 use onix_terms::number::Number;
 use onix_terms::party::Party;
 use onix_terms::series_name::SeriesName;
+use thiserror::Error;
 
 /// What a shop and a wholesaler agreed: messages between these parties are one series with a
 /// name, numbered from a first number on.
@@ -15,14 +16,18 @@ pub struct Agreement {
 }
 
 /// Why a desk could not answer. Nothing has changed then.
-#[derive(Debug, Drop)]
+#[derive(Debug, Drop, Error)]
 pub enum StoreFault {
     /// Memory ran out.
+    #[error("memory")]
     Memory,
     /// The store has no room left.
+    #[error("size")]
     Size,
     /// The disk failed.
+    #[error("disk")]
     Disk,
     /// The store refused for any other reason.
+    #[error("unusable")]
     Unusable,
 }

@@ -1,13 +1,18 @@
-// Laws: facts about the definitions alone. Each is the contract of a function without a body.
+// Laws: facts about the definitions alone. Each is the contract of a function that does nothing.
 
 ghost use Rattle.std.specs.Prelude.{◌≡◌, ℕ, List, Some, true};
 ghost use Rattle.csv.specs.Reading.{strip_bom};
+ghost use Rattle.onix_message.specs.ContentsText.{IsContents, contents_text};
 ghost use Rattle.onix_message.specs.Grammar.{IsBadRow, IsFront, IsMessage};
 ghost use Rattle.onix_message.specs.Message.{bad_row, message_of};
 ghost use Rattle.onix_message.specs.SameContents.{same_contents};
 ghost use Rattle.onix_message.specs.Records.{AllFilled, records_of, records_text};
 ghost use Rattle.onix_message.specs.declared.parts.Header.{Header};
 ghost use Rattle.onix_message.specs.declared.parts.Product.{Product};
+
+use onix_terms::laws::{
+    amount_reads_back, day_reads_back, number_reads_back, terms_are_in_range, territory_is_in_order,
+};
 
 /// Records that each have a field have one text, which is read as these records.
 pub fn one_text()
@@ -35,3 +40,20 @@ pub fn equal_contents()
     ensures passed { (c d : List Product) → same_contents c d ≡ true → c ≡ d }
     ensures equal { (c d : List Product) → c ≡ d → same_contents c d ≡ true }
 {}
+
+/// Two contents with one text are equal.
+pub fn one_contents_text()
+    ensures { (c d : List Product) → IsContents c → IsContents d → contents_text c ≡ contents_text d → c ≡ d }
+{}
+
+/// The contents of a message are contents, so the text that is written of them is read as
+/// these contents.
+pub fn contents_of_messages()
+    ensures { (records : List (List (List ℕ))) (h : Header) (c : List Product) → message_of records ≡ Some (h, c) → IsContents c }
+{
+    number_reads_back();
+    amount_reads_back();
+    day_reads_back();
+    terms_are_in_range();
+    territory_is_in_order();
+}

@@ -1,11 +1,14 @@
-//! ONIX messages as CSV: the records of a text, the message that records are, and the contents
-//! of a message. Stands on `csv` for records and on `onix_terms` for the values of fields.
+//! ONIX messages as CSV: the records of a text, the message that records are, and the one text
+//! of contents. It stands on `csv` for records and on `onix_terms` for the values of fields.
 //!
-//! `specs/Grammar.antt` says which records are a message, over the rows of `specs/Row.antt` and
-//! their order in `specs/Nest.antt`; `specs/Message.antt` computes the same.
+//! `specs/Grammar.antt` says which records are a message: `specs/Row.antt` and the files of the
+//! rows say what one record is, `specs/Nest.antt` which rows contents have. `specs/Message.antt`
+//! computes the same, and `laws` ties both. `specs/RowRecords.antt` and `specs/ContentsText.antt`
+//! say how contents are written.
 #![tactic(auto)]
 
 pub mod agreement;
+pub mod contents;
 mod draft;
 pub mod fields;
 pub mod laws;
@@ -14,9 +17,10 @@ mod opening;
 pub mod part_records;
 pub mod parts;
 mod plain;
+mod price;
 mod product;
 pub mod records;
-pub mod row;
+mod row;
 mod rows;
 mod steps;
 mod supply;

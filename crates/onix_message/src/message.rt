@@ -14,13 +14,16 @@ use crate::rows::read_row;
 use crate::steps::add_row;
 use onix_terms::items::Items;
 use std::alloc::Global;
+use thiserror::Error;
 
 /// Why a list of records is no message.
-#[derive(Debug, Drop)]
+#[derive(Debug, Drop, Error)]
 pub enum MessageFault {
     /// It stops being one at this row, counted from 1.
+    #[error("no message: row {row} is wrong or may not stand there")]
     Malformed { row: u32 },
     /// Memory ran out.
+    #[error("out of memory")]
     Memory,
 }
 

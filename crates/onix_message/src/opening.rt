@@ -80,7 +80,9 @@ fn make_opening(
     price_type: &Text,
     currency: &Text,
 ) -> Result<Opening, RowFault>
-    ensures { Gives result (opening_from version.now sender_type.now sender_value.now to_type.now to_value.now number.now repeat.now sent.now price_type.now currency.now) }
+    ensures { Gives result
+        (opening_from version.now sender_type.now sender_value.now to_type.now to_value.now
+        number.now repeat.now sent.now price_type.now currency.now) }
 {
     let form = read_form(version)?;
     let sender = read_party(alloc, sender_type, sender_value)?;

@@ -3,18 +3,23 @@
 ghost use Rattle.std.specs.Prelude.{◌≡◌, ◌++◌, ◌∷◌, [], IfOk, OnOk};
 ghost use Rattle.std.specs.List.{flat_map};
 ghost use Rattle.std.specs.String.{string_bytes};
-ghost use Rattle.onix_message.specs.RowRecords.{detail_record, detail_records, identifier_fields, optional_text, party_fields, spaced, supplies_records, supply_record, supply_records, territory_fields};
+ghost use Rattle.onix_terms.specs.Amount.{amount_text};
+ghost use Rattle.onix_message.specs.RowRecords.{day_field, detail_record, detail_records, identifier_fields, minimum_fields, optional_text, party_fields, price_record, spaced, supplies_records, supply_record, supply_records, territory_fields};
 
-use crate::parts::{ProductIdentifier, ProductSupply, SupplyDetail};
+use crate::parts::{Price, ProductIdentifier, ProductSupply, SupplyDetail};
 use crate::records::Record;
+use itoa::Buffer;
+use onix_terms::amount::Amount;
 use onix_terms::code::{Code2, Country};
+use onix_terms::day::Day;
 use onix_terms::items::Items;
 use onix_terms::party::Party;
+use onix_terms::quantity::Quantity;
 use onix_terms::territory::Territory;
 use onix_terms::text::Text;
 use std::alloc::{AllocError, Global};
 
-fn push_text(alloc: Global, fields: &mut Record, text: &str) -> Result<(), AllocError>
+pub(crate) fn push_text(alloc: Global, fields: &mut Record, text: &str) -> Result<(), AllocError>
     ensures { OnOk result (fields.new ≡ fields.old ++ text.now ∷ []) }
 {
     fields.push(Text::from_str(alloc, text)?)
@@ -121,6 +126,51 @@ fn record_of_detail(alloc: Global, detail: &SupplyDetail) -> Result<Record, Allo
     Ok(fields)
 }
 
+fn push_amount(alloc: Global, fields: &mut Record, amount: Amount) -> Result<(), AllocError>
+    ensures { OnOk result (fields.new ≡ fields.old ++ amount_text amount ∷ []) }
+{
+    let mut text = String::new(alloc);
+    amount.write(&mut text)?;
+    fields.push(Text::from_string(text))
+}
+
+fn push_day(alloc: Global, fields: &mut Record, day: Option<Day>) -> Result<(), AllocError>
+    ensures { OnOk result (fields.new ≡ fields.old ++ day_field day ∷ []) }
+{
+    let mut text = String::new(alloc);
+    if let Some(day) = day {
+        day.write(&mut text)?;
+    }
+    fields.push(Text::from_string(text))
+}
+
+// The minimum order quantity, where it is above 1.
+fn push_minimum(alloc: Global, fields: &mut Record, minimum: Quantity) -> Result<(), AllocError>
+    ensures { OnOk result (fields.new ≡ fields.old ++ minimum_fields minimum) }
+{
+    let minimum = minimum.value();
+    if minimum > 1 {
+        let mut buffer = Buffer::new();
+        push_text(alloc, fields, buffer.format(minimum))?;
+    }
+    Ok(())
+}
+
+fn record_of_price(alloc: Global, price: &Price) -> Result<Record, AllocError>
+    ensures { IfOk result (λ fields. fields ≡ price_record price.now) }
+{
+    let mut fields = Items::new(alloc);
+    push_text(alloc, &mut fields, "Price")?;
+    push_text(alloc, &mut fields, price.price_type.as_str())?;
+    push_amount(alloc, &mut fields, price.amount)?;
+    push_text(alloc, &mut fields, price.currency.as_str())?;
+    push_territory(alloc, &mut fields, &price.territory)?;
+    push_day(alloc, &mut fields, price.from)?;
+    push_day(alloc, &mut fields, price.until)?;
+    push_minimum(alloc, &mut fields, price.minimum)?;
+    Ok(fields)
+}
+
 #[tactic(auto, unfolding(crate::specs::RowRecords::detail_records))]
 fn append_detail(
     alloc: Global,
@@ -129,7 +179,11 @@ fn append_detail(
 ) -> Result<(), AllocError>
     ensures { OnOk result (records.new ≡ records.old ++ detail_records detail.now) }
 {
-    records.push(record_of_detail(alloc, detail)?)
+    records.push(record_of_detail(alloc, detail)?)?;
+    for price in detail.prices.as_slice() {
+        records.push(record_of_price(alloc, price)?)?;
+    }
+    Ok(())
 }
 
 #[tactic(auto, unfolding(crate::specs::RowRecords::supply_records))]

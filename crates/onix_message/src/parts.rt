@@ -1,9 +1,12 @@
 // The parts of a message.
 
+use onix_terms::amount::Amount;
 use onix_terms::code::{Code2, Currency};
+use onix_terms::day::Day;
 use onix_terms::items::Items;
 use onix_terms::number::Number;
 use onix_terms::party::Party;
+use onix_terms::quantity::Quantity;
 use onix_terms::territory::Territory;
 use onix_terms::text::Text;
 use std::marker::Model;
@@ -35,12 +38,27 @@ pub struct Supplier {
     pub name: Text,
 }
 
-/// One supplier's availability of a product.
+/// A price of a type and a currency, from a number of copies on, where and when it holds.
+#[derive(Debug, Drop, PartialEq, Eq)]
+pub struct Price {
+    pub price_type: Code2,
+    pub amount: Amount,
+    pub currency: Currency,
+    pub territory: Territory,
+    pub minimum: Quantity,
+    /// The first day on which it holds, where there is one.
+    pub from: Option<Day>,
+    /// The last day on which it holds, where there is one.
+    pub until: Option<Day>,
+}
+
+/// One supplier's availability of a product, and its prices.
 #[derive(Debug, Drop, PartialEq, Eq)]
 pub struct SupplyDetail {
     pub supplier: Supplier,
     pub availability: Code2,
     pub unpriced: Option<Code2>,
+    pub prices: Items<Price>,
 }
 
 /// The supply of a product to a market.

@@ -4,7 +4,7 @@
 ghost use Rattle.std.specs.Prelude.{◌≡◌};
 
 use crate::agreement::Agreement;
-use crate::parts::{Product, ProductIdentifier, ProductSupply, Supplier, SupplyDetail};
+use crate::parts::{Price, Product, ProductIdentifier, ProductSupply, Supplier, SupplyDetail};
 use onix_terms::plain::Plain;
 use std::alloc::AllocError;
 
@@ -47,6 +47,30 @@ impl Plain for Supplier {
     ghost eq_decides = { same_supplier-Decides };
 }
 
+impl Clone for Price {
+    ghost is_clone = { λ x y. y ≡ x };
+
+    fn clone(&self) -> Result<Price, AllocError> {
+        Ok(Price {
+            price_type: self.price_type,
+            amount: self.amount,
+            currency: self.currency,
+            territory: self.territory.duplicate()?,
+            minimum: self.minimum,
+            from: self.from,
+            until: self.until,
+        })
+    }
+}
+
+impl Plain for Price {
+    ghost use Rattle.onix_message.specs.SameContents.{same_price-Decides};
+
+    ghost clone_is_same = { λ x y e. e };
+
+    ghost eq_decides = { same_price-Decides };
+}
+
 impl Clone for SupplyDetail {
     ghost is_clone = { λ x y. y ≡ x };
 
@@ -55,6 +79,7 @@ impl Clone for SupplyDetail {
             supplier: self.supplier.duplicate()?,
             availability: self.availability,
             unpriced: self.unpriced,
+            prices: self.prices.duplicate()?,
         })
     }
 }

@@ -2,8 +2,6 @@
 
 ghost use Rattle.std.specs.Prelude.{◌≡◌, ◌≤◌, ◌<◌, ◌++◌, ◌∷◌, [], IfOk, OnOk, OnErr, IsErrOf, IsUtf8, List, ℕ, length};
 ghost use Rattle.csv.specs.Records.{fields_of};
-ghost use Rattle.csv.specs.Reading.{AreRecords, default_config, strip_bom};
-ghost use Rattle.csv.specs.declared.parser.State.TheVariants as st;
 ghost use Rattle.onix_message.specs.Records.{records_of, records_text};
 ghost use Rattle.std.specs.String.{string_bytes};
 
@@ -11,18 +9,22 @@ use csv::{ByteRecord, ReaderBuilder, StringRecord, WriterBuilder};
 use onix_terms::items::Items;
 use onix_terms::text::Text;
 use std::alloc::{AllocError, Global};
+use thiserror::Error;
 
 /// A row of fields.
 pub type Record = Items<Text>;
 
 /// Why a text has no records.
-#[derive(Debug, Drop)]
+#[derive(Debug, Drop, Error)]
 pub enum RecordFault {
     /// More than 4,194,304 bytes.
+    #[error("more than 4,194,304 bytes")]
     TooLarge,
     /// No valid UTF-8.
+    #[error("not UTF-8")]
     NotUtf8,
     /// Memory ran out.
+    #[error("out of memory")]
     Memory,
 }
 
@@ -39,9 +41,9 @@ fn record_of(alloc: Global, row: &StringRecord) -> Result<Record, AllocError>
     Ok(out)
 }
 
-// Every record of a text that may begin with a byte order mark.
-fn rows_of(alloc: Global, text: &[u8]) -> Result<Items<Record>, AllocError>
-    ensures { IfOk result (λ rows. AreRecords default_config st.StartRecord (strip_bom text.now) rows) }
+// The records of a text that is valid UTF-8.
+pub(crate) fn rows_of(alloc: Global, text: &[u8]) -> Result<Items<Record>, AllocError>
+    ensures { IfOk result (λ rows. rows ≡ records_of text.now) }
 {
     let rdr = ReaderBuilder::new()
         .has_headers(false)

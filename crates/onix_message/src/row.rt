@@ -2,7 +2,7 @@
 
 ghost use Rattle.std.specs.Prelude.{◌≡◌};
 
-use crate::parts::{Header, Product, ProductSupply, SupplyDetail};
+use crate::parts::{Header, Price, Product, ProductSupply, SupplyDetail};
 use std::alloc::AllocError;
 
 /// The form of a message, which its first record names.
@@ -19,13 +19,14 @@ pub struct Opening {
     pub header: Header,
 }
 
-/// One record of a message. A product and a supply stand without what is below them.
+/// One record of a message. A product, a supply and a detail stand without what is below them.
 #[derive(Debug, Drop)]
 pub enum Row {
     Message(Header),
     Product(Product),
     ProductSupply(ProductSupply),
     SupplyDetail(SupplyDetail),
+    Price(Price),
     EndMessage(u32),
 }
 

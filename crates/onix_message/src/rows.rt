@@ -6,6 +6,7 @@ ghost use Rattle.onix_message.specs.Row.{IsBare, end_of, named_row, row_of};
 
 use crate::fields::are_clean;
 use crate::opening::read_opening_fields;
+use crate::price::read_price;
 use crate::product::read_product;
 use crate::records::Record;
 use crate::row::{Opening, Row, RowFault};
@@ -29,11 +30,11 @@ fn read_end(fields: &[Text]) -> Result<u32, RowFault>
 // The row that the fields after a name make, in a message that begins so.
 fn read_named(
     alloc: Global,
-    _opening: &Opening,
+    opening: &Opening,
     name: &str,
     fields: &[Text],
 ) -> Result<Row, RowFault>
-    ensures gives { Gives result (named_row _opening.now name.now fields.now) }
+    ensures gives { Gives result (named_row opening.now name.now fields.now) }
     ensures bare { IfOk result (λ r. IsBare r) }
 {
     if name == "Message" {
@@ -48,6 +49,9 @@ fn read_named(
     }
     if name == "SupplyDetail" {
         return Ok(Row::SupplyDetail(read_detail(alloc, fields)?));
+    }
+    if name == "Price" {
+        return Ok(Row::Price(read_price(alloc, opening, fields)?));
     }
     if name == "EndMessage" {
         return Ok(Row::EndMessage(read_end(fields)?));

@@ -9,7 +9,7 @@ ghost use Rattle.onix_message.specs.declared.parts.ProductSupply.{ProductSupply}
 ghost use Rattle.onix_message.specs.declared.row.Row.TheVariants as row;
 
 use crate::draft::{Draft, Part, StepFault};
-use crate::parts::{Product, ProductSupply, SupplyDetail};
+use crate::parts::{Price, Product, ProductSupply, SupplyDetail};
 use crate::row::Row;
 use onix_terms::items::Items;
 use std::alloc::AllocError;
@@ -144,7 +144,8 @@ fn add_supply(draft: Draft, supply: ProductSupply) -> Result<Draft, StepFault>
 }
 
 fn add_detail(draft: Draft, detail: SupplyDetail) -> Result<Draft, StepFault>
-    requires { DraftHasDetails draft }
+    requires bare { detail.prices ≡ [] }
+    requires details { DraftHasDetails draft }
     ensures added { IfOk result (λ new. Adds draft (row.SupplyDetail detail) new) }
     ensures refused { IfErr result (λ e. Refuses draft (row.SupplyDetail detail) e) }
 {
@@ -156,6 +157,43 @@ fn add_detail(draft: Draft, detail: SupplyDetail) -> Result<Draft, StepFault>
         }),
         Part::InDetail(product, supply, last) => {
             let supply = close_detail(supply, last)?;
+            Ok(Draft {
+                products,
+                part: Part::InDetail(product, supply, detail),
+            })
+        }
+        _ => Err(StepFault::OutOfOrder),
+    }
+}
+
+// The detail that stands open, with one more price.
+fn with_price(detail: SupplyDetail, price: Price) -> Result<SupplyDetail, AllocError>
+    ensures { IfOk result (λ d. detail_rows d ≡ detail_rows detail ++ row.Price price ∷ []) }
+{
+    let SupplyDetail {
+        supplier,
+        availability,
+        unpriced,
+        mut prices,
+    } = detail;
+    prices.push(price)?;
+    Ok(SupplyDetail {
+        supplier,
+        availability,
+        unpriced,
+        prices,
+    })
+}
+
+fn add_price(draft: Draft, price: Price) -> Result<Draft, StepFault>
+    requires { DraftHasDetails draft }
+    ensures added { IfOk result (λ new. Adds draft (row.Price price) new) }
+    ensures refused { IfErr result (λ e. Refuses draft (row.Price price) e) }
+{
+    let Draft { products, part } = draft;
+    match part {
+        Part::InDetail(product, supply, detail) => {
+            let detail = with_price(detail, price)?;
             Ok(Draft {
                 products,
                 part: Part::InDetail(product, supply, detail),
@@ -177,6 +215,7 @@ pub(crate) fn add_row(draft: Draft, next: Row) -> Result<Draft, StepFault>
         Row::Product(product) => add_product(draft, product),
         Row::ProductSupply(supply) => add_supply(draft, supply),
         Row::SupplyDetail(detail) => add_detail(draft, detail),
+        Row::Price(price) => add_price(draft, price),
         Row::EndMessage(count) => add_end(draft, count),
     }
 }

@@ -46,7 +46,9 @@ fn make_detail(
     availability: &Text,
     unpriced: &Text,
 ) -> Result<SupplyDetail, RowFault>
-    ensures { Gives result (detail_from role.now id_type.now id_value.now name.now availability.now unpriced.now) }
+    ensures gives { Gives result
+        (detail_from role.now id_type.now id_value.now name.now availability.now unpriced.now) }
+    ensures bare { IfOk result (λ d. d.prices ≡ []) }
 {
     let role = read_code(role)?;
     let party = read_optional_party(alloc, id_type, id_value)?;
@@ -57,12 +59,14 @@ fn make_detail(
         supplier: Supplier { role, party, name },
         availability,
         unpriced,
+        prices: Items::new(alloc),
     })
 }
 
 #[tactic(auto, unfolding(crate::specs::SupplyRow::detail_of))]
 pub(crate) fn read_detail(alloc: Global, fields: &[Text]) -> Result<SupplyDetail, RowFault>
-    ensures { Gives result (detail_of fields.now) }
+    ensures gives { Gives result (detail_of fields.now) }
+    ensures bare { IfOk result (λ d. d.prices ≡ []) }
 {
     let [role, id_type, id_value, name, availability, unpriced] = fields else {
         return Err(RowFault::Wrong);

@@ -1,6 +1,6 @@
 -- The texts of amounts are read back.
-use Rattle.std.proofs.Common.{◌≡◌, ◌<◌, ◌≤◌, ◌+◌, ◌*◌, ◌/◌, ◌%◌, ◌^◌, ◌∙◌, List, [], ◌∷◌, ◌++◌, ℕ, Bool, true, false, Option, Some, None, arith, ap, sym, refl, length, take, drop}
-use Rattle.std.specs.Prelude.{decimal, ◌&&◌, ◌==◌, nat_lt, option_map, if◌then◌else◌}
+use Rattle.std.proofs.Common.{◌≡◌, ◌<◌, ◌+◌, ◌*◌, ◌/◌, ◌%◌, ◌^◌, ◌∙◌, List, [], ◌∷◌, ◌++◌, ℕ, Bool, true, false, Option, Some, arith, ap, refl, length, take, drop}
+use Rattle.std.specs.Prelude.{decimal, nat_lt, option_map, if◌then◌else◌}
 use Rattle.std.specs.List.{list_all, position_or_len, before_first, after_first}
 use Rattle.std.specs.Char.{is_ascii_digit}
 use Rattle.std.proofs.lemmas.List.{length-append}
@@ -9,7 +9,7 @@ use Rattle.std.proofs.lemmas.Fmt.{digits_decimal}
 use Rattle.std.proofs.Math.Seq.{take-append_seam, drop-append-add}
 use Rattle.onix_terms.specs.Options.{◌>>=◌}
 use Rattle.onix_terms.specs.Digits.{digits_of}
-use Rattle.onix_terms.specs.Amount.{amount_of, amount_text, is_point, three_digits, thousandths_of, last_digit_worth}
+use Rattle.onix_terms.specs.Amount.{amount_of, amount_text, is_point, three_digits, thousandths_of}
 use Rattle.onix_terms.proofs.AsciiTexts.{both-true}
 use Rattle.onix_terms.proofs.DigitTexts.{own, digits-decimal, three-some}
 

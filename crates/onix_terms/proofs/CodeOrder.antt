@@ -1,9 +1,8 @@
 -- Codes put in their places stand in order.
-use Rattle.std.proofs.Common.{◌≡◌, ℕ, ◌<◌, List, [], ◌∷◌, Bool, true, false, Option, Some, None, ◌⊎◌, inl, inr, refl, ap, subst, arith}
-use Rattle.std.specs.Prelude.{◌&&◌, ◌||◌, ◌==◌, nat_lt, IsTrue, fold, length, option_map, if◌then◌else◌}
-use Rattle.std.specs.List.{All, AllPairs, AllByRecursion}
+use Rattle.std.proofs.Common.{◌≡◌, ℕ, List, [], ◌∷◌, Bool, true, false, Option, Some, None, refl, ap, subst, arith}
+use Rattle.std.specs.Prelude.{◌&&◌, ◌||◌, ◌==◌, nat_lt, IsTrue, fold, option_map, if◌then◌else◌}
+use Rattle.std.specs.List.{AllByRecursion}
 use Rattle.std.specs.Str.{bytes_eq}
-use Rattle.std.proofs.lemmas.Bool.{cases_order, cases_Bool}
 use Rattle.std.proofs.lemmas.Bool.Decides.{nat_tests}
 use Rattle.std.proofs.lemmas.List.Elements.{All-from_recursion}
 use Rattle.std.proofs.lemmas.List.Kept.{AllPairs-cons}
@@ -24,13 +23,13 @@ first-trans x y z true true c first second rest = let e : c ≡ true = rest refl
 first-trans x y z true false c first second rest = grind (arith, nat_tests, first, second)
 first-trans x y z false b c first second rest = grind (arith, nat_tests, first, second)
 
-total : (x y : List ℕ) → bytes_eq x y ≡ false → comes_before x y ≡ false → comes_before y x ≡ true
+pub total : (x y : List ℕ) → bytes_eq x y ≡ false → comes_before x y ≡ false → comes_before y x ≡ true
 total [] [] other after = cc
 total [] (y ∷ ys) other after = cc
 total (x ∷ xs) [] other after = refl
 total (x ∷ xs) (y ∷ ys) other after = first-total x y (bytes_eq xs ys) (comes_before xs ys) (comes_before ys xs) other after (total xs ys)
 
-trans : (x y z : List ℕ) → comes_before x y ≡ true → comes_before y z ≡ true → comes_before x z ≡ true
+pub trans : (x y z : List ℕ) → comes_before x y ≡ true → comes_before y z ≡ true → comes_before x z ≡ true
 trans [] [] z first second = second
 trans [] (y ∷ ys) [] first second = cc
 trans [] (y ∷ ys) (z ∷ zs) first second = refl
@@ -39,7 +38,7 @@ trans (x ∷ xs) (y ∷ ys) [] first second = cc
 trans (x ∷ xs) (y ∷ ys) (z ∷ zs) first second = first-trans x y z (comes_before xs ys) (comes_before ys zs) (comes_before xs zs) first second (trans xs ys zs)
 
 -- the code comes before each of these
-abbrev IsBefore : List ℕ → List (List ℕ) → Type 0
+abbrev pub IsBefore : List ℕ → List (List ℕ) → Type 0
 IsBefore x codes = AllByRecursion (λ y. comes_before x y ≡ true) codes
 
 before-more : (x y : List ℕ) → comes_before x y ≡ true → (codes : List (List ℕ)) → IsBefore y codes → IsBefore x codes
@@ -47,25 +46,26 @@ before-more x y first [] all = tt
 before-more x y first (z ∷ codes) all = (trans x y z first all.0, before-more x y first codes all.1)
 
 -- each code comes before all behind it
-abbrev Rises : List (List ℕ) → Type 0
+abbrev pub Rises : List (List ℕ) → Type 0
 Rises [] = Unit {0}
 Rises (x ∷ xs) = IsBefore x xs × Rises xs
 
 -- what with_code makes of a list, by its two tests
-abbrev placed : Bool → Bool → List ℕ → List ℕ → List (List ℕ) → List (List ℕ) → List (List ℕ)
+abbrev pub placed : Bool → Bool → List ℕ → List ℕ → List (List ℕ) → List (List ℕ) → List (List ℕ)
 placed same before code x xs rest = if same then x ∷ xs else if before then code ∷ x ∷ xs else x ∷ rest
 
-before-placed : (y code : List ℕ) → comes_before y code ≡ true → (same before : Bool) (x : List ℕ) (xs rest : List (List ℕ)) → comes_before y x ≡ true → IsBefore y xs → IsBefore y rest →
-    IsBefore y (placed same before code x xs rest)
-before-placed y code first true before x xs rest here all more = (here, all)
-before-placed y code first false true x xs rest here all more = (first, (here, all))
-before-placed y code first false false x xs rest here all more = (here, more)
+all-placed : (P : List ℕ → Type 0) (code : List ℕ) → P code → (same before : Bool) (x : List ℕ) (xs rest : List (List ℕ)) → P x → AllByRecursion P xs → AllByRecursion P rest →
+    AllByRecursion P (placed same before code x xs rest)
+all-placed P code first true before x xs rest here all more = (here, all)
+all-placed P code first false true x xs rest here all more = (first, (here, all))
+all-placed P code first false false x xs rest here all more = (here, more)
 
-before-with : (y code : List ℕ) → comes_before y code ≡ true → (codes : List (List ℕ)) → IsBefore y codes → IsBefore y (with_code codes code)
+-- what holds of the codes and of one more holds of them all
+pub all-with : (P : List ℕ → Type 0) (code : List ℕ) → P code → (codes : List (List ℕ)) → AllByRecursion P codes → AllByRecursion P (with_code codes code)
 unfolding with_code
-before-with y code first [] all = (first, tt)
-before-with y code first (x ∷ xs) all =
-    before-placed y code first (bytes_eq code x) (comes_before code x) x xs (with_code xs code) all.0 all.1 (before-with y code first xs all.1)
+all-with P code first [] all = (first, tt)
+all-with P code first (x ∷ xs) all =
+    all-placed P code first (bytes_eq code x) (comes_before code x) x xs (with_code xs code) all.0 all.1 (all-with P code first xs all.1)
 
 rises-placed : (same before : Bool) (code x : List ℕ) (xs rest : List (List ℕ)) → (before ≡ true → comes_before code x ≡ true) → IsBefore x xs → Rises xs → (same ≡ false → before ≡ false → IsBefore x rest) → Rises rest →
     Rises (placed same before code x xs rest)
@@ -78,7 +78,7 @@ unfolding with_code
 rises-with code [] all = (tt, tt)
 rises-with code (x ∷ xs) all =
     rises-placed (bytes_eq code x) (comes_before code x) code x xs (with_code xs code) (λ e. e) all.0 all.1
-    (λ other after. before-with x code (total code x other after) xs all.0) (rises-with code xs all.1)
+    (λ other after. all-with (λ y. comes_before x y ≡ true) code (total code x other after) xs all.0) (rises-with code xs all.1)
 
 rises-fold : (more codes : List (List ℕ)) → Rises codes → Rises (fold with_code codes more)
 rises-fold [] codes all = all
@@ -88,7 +88,7 @@ rises-all : (codes : List (List ℕ)) → Rises codes → IsInOrder codes
 rises-all [] all = λ i j d less short. absurd (omega arith)
 rises-all (x ∷ xs) all = AllPairs-cons (λ a b. IsTrue (comes_before a b)) x xs (All-from_recursion (λ y. IsTrue (comes_before x y)) xs all.0) (rises-all xs all.1)
 
-kept : (codes others : List (List ℕ)) → nonempty codes ≡ Some others → codes ≡ others
+pub kept : (codes others : List (List ℕ)) → nonempty codes ≡ Some others → codes ≡ others
 kept [] others e = cc
 kept (x ∷ xs) others e = cc
 
@@ -96,9 +96,9 @@ in_order-rises : (o : Option (List (List ℕ))) (codes : List (List ℕ)) → (o
 in_order-rises None codes e = cc
 in_order-rises (Some found) codes e = subst (λ (cs : List (List ℕ)). Rises cs) (kept (in_order found) codes e) (rises-fold found [] tt)
 
-countries-rise : (text : List ℕ) (codes : List (List ℕ)) → countries_of text ≡ Some codes → IsInOrder codes
-countries-rise [] codes e = let same : [] ≡ codes = cc in subst (λ (cs : List (List ℕ)). IsInOrder cs) same (rises-all [] tt)
-countries-rise (b ∷ bs) codes e = rises-all codes (in_order-rises (codes_in (b ∷ bs)) codes e)
+pub countries-rise : (text : List ℕ) (codes : List (List ℕ)) → countries_of text ≡ Some codes → Rises codes
+countries-rise [] codes e = let same : [] ≡ codes = cc in subst (λ (cs : List (List ℕ)). Rises cs) same tt
+countries-rise (b ∷ bs) codes e = in_order-rises (codes_in (b ∷ bs)) codes e
 
 -- the lists of a territory are those of its fields
 lists-of : (i : Option (List (List ℕ))) (w : Option Bool) (e : Option (List (List ℕ))) (none : Bool) (t : Territory) →
@@ -114,4 +114,4 @@ lists-of (Some i) (Some w) (Some e) none t is =
 pub territory-in_order : (included regions excluded : List ℕ) (t : Territory) → territory_of included regions excluded ≡ Some t → IsInOrder t.included × IsInOrder t.excluded
 territory-in_order included regions excluded t is =
     let lists = lists-of (countries_of included) (world_of regions) (countries_of excluded) _ t is in
-    (countries-rise included t.included lists.0, countries-rise excluded t.excluded lists.1)
+    (rises-all t.included (countries-rise included t.included lists.0), rises-all t.excluded (countries-rise excluded t.excluded lists.1))

@@ -1,18 +1,17 @@
 -- Dates of the years 1 to 9999 and the numbers of their days.
-use Rattle.std.proofs.Common.{◌≡◌, ℕ, zero, suc, ℤ, pos, neg_ℤ, ◌≤◌, ◌<◌, ◌+◌, ◌*◌, ◌/◌, ◌%◌, ◌≤ℤ◌, ◌<ℤ◌, ◌+ℤ◌, ◌-ℤ◌, ◌∙◌, Bool, true, false, Option, Some, None, refl, sym, ap, subst, arith, lit<, lit≤, inl, inr}
+use Rattle.std.proofs.Common.{◌≡◌, ℕ, zero, suc, ℤ, pos, neg_ℤ, ◌≤◌, ◌<◌, ◌+◌, ◌*◌, ◌/◌, ◌%◌, ◌≤ℤ◌, ◌<ℤ◌, ◌∙◌, Bool, true, false, Some, None, refl, sym, ap, subst, arith, lit≤, inl, inr}
 use Rattle.std.specs.Prelude.{◌&&◌, nat_lt, nat_le, if◌then◌else◌}
 use Rattle.std.specs.Ordering.{int_eq}
 use Rattle.std.specs.Option.{option_eq}
 use Rattle.std.proofs.lemmas.Int.{ints, by_lt_z}
 use Rattle.std.proofs.lemmas.Bool.{cases_lt}
 use Rattle.std.proofs.lemmas.Bool.Decides.{nat_tests, Decides-int_eq}
-use Rattle.jiff_core.specs.Calendar.{IsCivilDate, day_count, days_of_years, days_of_months, days_from_civil, days_in_month, days_in_year}
+use Rattle.jiff_core.specs.Calendar.{IsCivilDate, day_count, days_of_years, days_of_months, days_from_civil, days_in_month}
 use Rattle.jiff_core.specs.declared.civil.date.Date.{Date}
 use Rattle.jiff_core.proofs.CalendarLemmas.{day_count-lt_year, day_count_bounds, days_from_civil-day_count, days_in_month_bounds}
-use Rattle.jiff_core.proofs.DateLemmas.{epoch_day_injective, days_from_civil-day, days_from_civil-next_month, days_from_civil-next_year, days_from_civil-max}
+use Rattle.jiff_core.proofs.DateLemmas.{epoch_day_injective}
 use Rattle.onix_terms.specs.Day.{IsDayNumber, is_date, day_from, day_at, date_of, last_below}
 use Rattle.onix_terms.specs.Plain.{option-decides}
-use Rattle.onix_terms.proofs.AsciiTexts.{both-true}
 
 -- the calendar has the date, and its year is not before 1
 pub record IsDated (year month day : ℕ) : Type 0 where

@@ -1,17 +1,16 @@
 -- Each day number is that of a date, and the text of a date is read back.
-use Rattle.std.proofs.Common.{rules, ◌≡◌, ℕ, zero, suc, ℤ, pos, neg_ℤ, ◌≤◌, ◌<◌, ◌+◌, ◌-◌, ◌*◌, ◌/◌, ◌%◌, ◌≤ℤ◌, ◌<ℤ◌, ◌+ℤ◌, ◌-ℤ◌, ◌∙◌, List, [], ◌∷◌, ◌++◌, Bool, true, false, Option, Some, None, refl, sym, ap, subst, arith, lit<, lit≤, inl, inr, length, unsigned_abs}
-use Rattle.std.specs.Prelude.{◌&&◌, ◌==◌, if◌then◌else◌}
+use Rattle.std.proofs.Common.{◌≡◌, ℕ, zero, suc, ℤ, pos, neg_ℤ, ◌≤◌, ◌<◌, ◌+◌, ◌*◌, ◌/◌, ◌%◌, ◌<ℤ◌, ◌+ℤ◌, ◌-ℤ◌, ◌∙◌, [], ◌++◌, true, Some, sym, ap, subst, arith, lit<, lit≤, inl, inr, unsigned_abs}
 use Rattle.std.specs.List.{list_all}
 use Rattle.std.specs.Char.{is_ascii_digit}
-use Rattle.std.specs.Str.Parse.{digits_value, digits_value_after}
+use Rattle.std.specs.Str.Parse.{digits_value}
 use Rattle.std.proofs.lemmas.Int.{ints}
 use Rattle.std.proofs.lemmas.Bool.{cases_lt}
-use Rattle.jiff_core.specs.Calendar.{IsCivilDate, day_count, days_of_years, days_of_months, days_from_civil, days_in_month}
+use Rattle.jiff_core.specs.Calendar.{days_from_civil, days_in_month}
 use Rattle.jiff_core.proofs.CalendarLemmas.{days_from_civil-day_count, days_in_month_bounds}
 use Rattle.jiff_core.proofs.DateLemmas.{days_from_civil-day, days_from_civil-next_month, days_from_civil-next_year, days_from_civil-max}
 use Rattle.onix_terms.specs.Options.{◌>>=◌}
 use Rattle.onix_terms.specs.Digits.{digits_of, two_digits}
-use Rattle.onix_terms.specs.Day.{IsDayNumber, is_date, day_from, day_at, day_of, day_text, date_of, eight_digits}
+use Rattle.onix_terms.specs.Day.{IsDayNumber, day_at, day_of, day_text, eight_digits}
 use Rattle.onix_terms.proofs.DigitTexts.{digits-some, two-after, two-digits}
 use Rattle.onix_terms.proofs.DayNumbers.{IsDated, day_from-dated, date_of-is, first_day}
 
@@ -110,7 +109,7 @@ has-date day range =
     let same : pos k -ℤ pos 719_162 ≡ day = omega (arith, ints) in
     subst (λ (z : ℤ). HasDate z) same (dates-from k (omega (arith, ints)))
 
-eight-some : (n : ℕ) → n < 100_000_000 → digits_of (eight_digits n) ≡ Some n
+pub eight-some : (n : ℕ) → n < 100_000_000 → digits_of (eight_digits n) ≡ Some n
 eight-some n small =
     let a = n / 1_000_000 in
     let b = n / 10_000 % 100 in

@@ -1,6 +1,6 @@
 -- Texts of decimal digits and the numbers that they write.
-use Rattle.std.proofs.Common.{rules, ◌≡◌, ◌<◌, ◌≤◌, ◌+◌, ◌-◌, ◌*◌, ◌/◌, ◌%◌, ◌^◌, ◌∙◌, lit<, lit≤, List, [], ◌∷◌, ◌++◌, ℕ, Bool, true, false, Option, Some, arith, ap, sym, refl, length}
-use Rattle.std.specs.Prelude.{◌&&◌, ◌==◌, decimal}
+use Rattle.std.proofs.Common.{rules, ◌≡◌, ◌<◌, ◌≤◌, ◌+◌, ◌*◌, ◌/◌, ◌%◌, ◌^◌, ◌∙◌, lit<, lit≤, List, [], ◌++◌, ℕ, true, Some, arith, ap, length}
+use Rattle.std.specs.Prelude.{◌&&◌, decimal}
 use Rattle.std.specs.List.{list_all}
 use Rattle.std.specs.Char.{is_ascii_digit, digit_value}
 use Rattle.std.specs.Str.Parse.{digits_value, digits_value_after}

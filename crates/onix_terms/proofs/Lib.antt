@@ -1,8 +1,11 @@
-mod AsciiTexts
-mod DigitTexts
-mod AmountTexts
-mod DayNumbers
-mod DayTexts
-mod CodeOrder
-mod Ranges
-mod ReadBack
+pub mod AsciiTexts
+pub mod DigitTexts
+pub mod AmountTexts
+pub mod DayNumbers
+pub mod DayTexts
+pub mod CodeOrder
+pub mod Ranges
+pub mod ReadBack
+pub mod OneText
+pub mod CodeTexts
+pub mod TerritoryTexts

@@ -1,6 +1,6 @@
 -- The ranges of the values that are read.
-use Rattle.std.proofs.Common.{◌≡◌, ℕ, ◌<◌, ◌≤◌, ◌+◌, ◌*◌, ◌^◌, ℤ, List, Bool, true, false, Option, Some, None, refl, sym, ap, subst, arith, length, inl, inr}
-use Rattle.std.specs.Prelude.{◌&&◌, ◌==◌, nat_lt, nat_le, option_map, option_and_then, if◌then◌else◌, decimal}
+use Rattle.std.proofs.Common.{◌≡◌, ℕ, ◌<◌, ◌≤◌, ◌+◌, ◌*◌, ◌^◌, ℤ, List, Bool, true, false, Option, Some, None, refl, sym, subst, arith, length, inl, inr}
+use Rattle.std.specs.Prelude.{◌&&◌, ◌==◌, nat_lt, nat_le, option_map, option_and_then, if◌then◌else◌}
 use Rattle.std.specs.List.{list_all, position_or_len, before_first, after_first}
 use Rattle.std.specs.Char.{is_ascii_digit}
 use Rattle.std.specs.Str.Parse.{digits_value}
@@ -11,7 +11,7 @@ use Rattle.onix_terms.specs.Digits.{digits_of}
 use Rattle.onix_terms.specs.Number.{number_from, number_of}
 use Rattle.onix_terms.specs.Quantity.{quantity_from, quantity_of}
 use Rattle.onix_terms.specs.Amount.{amount_of, thousandths_of, last_digit_worth, is_point}
-use Rattle.onix_terms.specs.Day.{IsDayNumber, day_from, day_at, day_of}
+use Rattle.onix_terms.specs.Day.{IsDayNumber, day_at, day_of}
 use Rattle.onix_terms.proofs.AsciiTexts.{both-true}
 use Rattle.onix_terms.proofs.DigitTexts.{own}
 use Rattle.onix_terms.proofs.DayNumbers.{day_at-in_range}
@@ -26,13 +26,15 @@ lets true value found e = record { holds = refl; same = cc }
 lets false value found e = cc
 
 -- what a number of digits is
-record IsBounded (text : List ℕ) (n : ℕ) : Type 0 where
-  some : 0 < length text
-  few : length text ≤ 9
-  places : n < 10 ^ length text
-  below : n < 1_000_000_000
+pub record IsBounded (text : List ℕ) (n : ℕ) : Type 0 where
+  pub all : list_all is_ascii_digit text ≡ true
+  pub value : digits_value 10 text ≡ n
+  pub some : 0 < length text
+  pub few : length text ≤ 9
+  pub places : n < 10 ^ length text
+  pub below : n < 1_000_000_000
 
-digits-bound : (text : List ℕ) (n : ℕ) → digits_of text ≡ Some n → IsBounded text n
+pub digits-bound : (text : List ℕ) (n : ℕ) → digits_of text ≡ Some n → IsBounded text n
 digits-bound text n e =
     let through = lets (nat_lt 0 (length text) && nat_le (length text) 9 && list_all is_ascii_digit text) (digits_value 10 text) n e in
     let tests = both-true (nat_lt 0 (length text) && nat_le (length text) 9) (list_all is_ascii_digit text) through.holds in
@@ -41,6 +43,8 @@ digits-bound text n e =
     let few : length text ≤ 9 = leb-true (length text) 9 sizes.1 in
     let all : list_all is_ascii_digit text ≡ true = tests.1 in
     record {
+      all = all;
+      value = through.same;
       some = some;
       few = few;
       places = subst (λ (v : ℕ). v < 10 ^ length text) through.same (digits_value_short own text (length text) all (omega arith));
@@ -48,12 +52,12 @@ digits-bound text n e =
     }
 
 -- the value between two steps
-record Between {A B : Type 0} (first : Option A) (second : A → Option B) (found : B) : Type 0 where
-  value : A
-  first_gives : first ≡ Some value
-  second_gives : second value ≡ Some found
+pub record Between {A B : Type 0} (first : Option A) (second : A → Option B) (found : B) : Type 0 where
+  pub value : A
+  pub first_gives : first ≡ Some value
+  pub second_gives : second value ≡ Some found
 
-between : {A B : Type 0} (first : Option A) (second : A → Option B) (found : B) → (first >>= second) ≡ Some found → Between first second found
+pub between : {A B : Type 0} (first : Option A) (second : A → Option B) (found : B) → (first >>= second) ≡ Some found → Between first second found
 between None second found e = cc
 between (Some value) second found e = record { value = value; first_gives = refl; second_gives = e }
 

@@ -1,5 +1,5 @@
 -- Reading a text of country codes.
-use Rattle.std.specs.Prelude.{ℕ, List, [], ◌∷◌, Option, None, ◌≡◌, ◌<◌, length, option_map}
+use Rattle.std.specs.Prelude.{ℕ, List, [], ◌∷◌, None, ◌≡◌, ◌<◌, length, option_map}
 use Rattle.onix_terms.specs.Territory.{codes_in}
 use Rattle.onix_terms.specs.declared.countries.Next.{Next}
 use Rattle.onix_terms.specs.declared.countries.Next.TheVariants as next

@@ -1,9 +1,8 @@
 -- Days by their numbers: 0 is 1 January 1970.
-use Rattle.std.specs.Prelude.{◌≡◌, ℕ, zero, suc, ℤ, pos, neg_ℤ, ◌≤ℤ◌, List, ◌++◌, ◌*◌, ◌/◌, ◌%◌, Bool, Option, Some, None, ◌&&◌, ◌==◌, nat_lt, nat_le, length, if◌then◌else◌}
+use Rattle.std.specs.Prelude.{ℕ, zero, suc, ℤ, pos, neg_ℤ, ◌≤ℤ◌, List, ◌++◌, ◌/◌, ◌%◌, Bool, Option, Some, None, ◌&&◌, ◌==◌, nat_lt, nat_le, length, if◌then◌else◌}
 use Rattle.std.specs.Ordering.{int_eq}
 use Rattle.std.specs.Option.{option_eq}
-use Rattle.jiff.specs.Words.{days_in_month}
-use Rattle.jiff_core.specs.Calendar.{days_from_civil}
+use Rattle.jiff_core.specs.Calendar.{days_in_month, days_from_civil}
 use Rattle.onix_terms.specs.Options.{◌>>=◌}
 use Rattle.onix_terms.specs.Digits.{digits_of, two_digits}
 

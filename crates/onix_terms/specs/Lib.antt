@@ -1,3 +1,4 @@
+pub use Rattle.jiff_core.specs.Calendar
 pub mod Options
 pub mod Digits
 pub mod Number

@@ -1,7 +1,7 @@
 -- Territories: which texts write one, and which countries lie in it.
 use Rattle.std.specs.Prelude.{ℕ, List, [], ◌∷◌, Bool, true, false, Option, Some, None, ◌&&◌, ◌||◌, ◌==◌, nat_lt, fold, if◌then◌else◌, option_map, Result, Ok, Err, ◌≡◌, ◌⊎◌, length, codes, Contains, IsTrue}
 use Rattle.std.specs.Char.{is_ascii_uppercase}
-use Rattle.std.specs.List.{AllPairs}
+use Rattle.std.specs.List.{AllPairs, join_with_byte}
 use Rattle.std.specs.Str.{bytes_eq}
 pub use Rattle.onix_terms.specs.Options.{◌>>=◌}
 use Rattle.onix_terms.specs.declared.territory.Territory.{Territory}
@@ -55,10 +55,18 @@ abbrev pub countries_of : List ℕ → Option (List (List ℕ))
 countries_of [] = Some []
 countries_of (b ∷ bs) = option_map in_order (codes_in (b ∷ bs)) >>= nonempty
 
+-- codes with one space between them
+abbrev pub countries_text : List (List ℕ) → List ℕ
+countries_text codes = join_with_byte 32 codes
+
 -- whether a field of regions names the world
 abbrev pub world_of : List ℕ → Option Bool
 world_of [] = Some false
 world_of (b ∷ bs) = if bytes_eq (b ∷ bs) (codes "WORLD") then Some true else None
+
+-- the field of regions of a territory
+abbrev pub world_text : Bool → List ℕ
+world_text world = if world then codes "WORLD" else []
 
 -- the territory of CountriesIncluded, RegionsIncluded and CountriesExcluded. It is the world too where nothing is included
 abbrev pub territory_of : List ℕ → List ℕ → List ℕ → Option Territory

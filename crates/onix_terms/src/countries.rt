@@ -2,11 +2,12 @@
 
 ghost use Rattle.std.specs.Prelude.{◌≡◌, ℕ, List, IfOk, fold, option_map};
 ghost use Rattle.onix_terms.specs.CodeText.{BeginsWith};
-ghost use Rattle.onix_terms.specs.Territory.{Gives, codes_in, comes_before, countries_of, ends_code, in_order, with_code, world_of};
+ghost use Rattle.onix_terms.specs.Territory.{Gives, codes_in, comes_before, countries_of, countries_text, ends_code, in_order, with_code, world_of};
 
 use crate::code::Country;
 use crate::items::Items;
 use crate::territory::TermFault;
+use crate::text::Text;
 use std::alloc::{AllocError, Global};
 
 // Whether two letters come before two others.
@@ -98,7 +99,8 @@ fn read_codes(alloc: Global, text: &[u8]) -> Result<Items<Country>, TermFault>
     }
 }
 
-/// The countries of a field that is empty or has a code.
+/// The countries of a field that is empty or has a code, in order and without repeats.
+/// `NotATerm` exactly where the field is neither.
 pub fn read_countries(alloc: Global, text: &str) -> Result<Items<Country>, TermFault>
     ensures { Gives result (countries_of text.now) }
 {
@@ -112,7 +114,8 @@ pub fn read_countries(alloc: Global, text: &str) -> Result<Items<Country>, TermF
     Ok(found)
 }
 
-/// Whether a field of regions names the world.
+/// Whether a field of regions names the world. `NotATerm` exactly where it is neither empty nor
+/// `WORLD`.
 pub fn read_world(text: &str) -> Result<bool, TermFault>
     ensures { Gives result (world_of text.now) }
 {
@@ -123,4 +126,18 @@ pub fn read_world(text: &str) -> Result<bool, TermFault>
         return Ok(true);
     }
     Err(TermFault::NotATerm)
+}
+
+/// The codes of countries with one space between them. Only want of memory refuses it.
+pub fn countries_text(alloc: Global, countries: &[Country]) -> Result<Text, AllocError>
+    ensures { IfOk result (λ t. t ≡ countries_text countries.now) }
+{
+    let mut text = String::new(alloc);
+    for (i, country) in countries.iter().enumerate() {
+        if i > 0 {
+            text.push(' ')?;
+        }
+        text.push_str(country.as_str())?;
+    }
+    Ok(Text::from_string(text))
 }

@@ -8,7 +8,7 @@ ghost use Rattle.onix_terms.specs.SeriesName.{series_name_of};
 ghost use Rattle.onix_terms.specs.Day.{IsDayNumber, day_of, day_text};
 ghost use Rattle.onix_terms.specs.Number.{number_of};
 ghost use Rattle.onix_terms.specs.Quantity.{quantity_of};
-ghost use Rattle.onix_terms.specs.Territory.{IsInOrder, territory_of};
+ghost use Rattle.onix_terms.specs.Territory.{IsInOrder, countries_text, territory_of, world_text};
 ghost use Rattle.onix_terms.specs.declared.territory.Territory.{Territory};
 
 /// The decimal digits of a number are read as that number.
@@ -29,9 +29,10 @@ pub fn amount_reads_back()
     ensures { (n : ℕ) → n < 1_000_000_000_000 → amount_of (amount_text n) ≡ Some n }
 {}
 
-/// The text of a day is read as that day.
+/// The text of a day is read as that day, and no other text is.
 pub fn day_reads_back()
-    ensures { (day : ℤ) → IsDayNumber day → day_of (day_text day) ≡ Some day }
+    ensures read { (day : ℤ) → IsDayNumber day → day_of (day_text day) ≡ Some day }
+    ensures only { (text : List ℕ) (day : ℤ) → day_of text ≡ Some day → text ≡ day_text day }
 {}
 
 /// The numbers that texts write are in their ranges.
@@ -46,4 +47,11 @@ pub fn terms_are_in_range()
 pub fn territory_is_in_order()
     ensures included { (included regions excluded : List ℕ) (t : Territory) → territory_of included regions excluded ≡ Some t → IsInOrder t.included }
     ensures excluded { (included regions excluded : List ℕ) (t : Territory) → territory_of included regions excluded ≡ Some t → IsInOrder t.excluded }
+{}
+
+/// A territory that was read is read again from its countries in order with one space between
+/// them, and from `WORLD` or nothing.
+pub fn territory_reads_back()
+    ensures { (included regions excluded : List ℕ) (t : Territory) → territory_of included regions excluded ≡ Some t
+        → territory_of (countries_text t.included) (world_text t.world) (countries_text t.excluded) ≡ Some t }
 {}

@@ -1,5 +1,11 @@
 //! Terms of the desk: texts and lists that contracts see as plain data, and the values that
 //! the fields of a message may hold, each read from its text and from no other.
+//!
+//! Which text writes which value is defined in `specs/`, one file for each kind, as a function
+//! from bytes to an `Option`; `laws` has what these functions come to. Only clones,
+//! `Territory::read`, the two calls `write` and the growing of texts and lists take memory.
+//!
+//! It stands on `jiff` for the calendar and on `itoa` for decimal digits.
 #![tactic(auto)]
 
 use std::alloc::AllocError;

@@ -40,6 +40,7 @@ impl Number {
         Some(Number { value })
     }
 
+    /// The number, 1 to 999,999,999.
     pub fn value(self) -> u32
         ensures value { result ≡ self }
         ensures above { 0 < result }

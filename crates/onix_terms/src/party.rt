@@ -4,6 +4,8 @@ use crate::text::Text;
 /// A sender, an addressee or a supplier, by an identifier of a type.
 #[derive(Clone, Debug, Drop, PartialEq, Eq)]
 pub struct Party {
+    /// The type of the identifier, such as `06` for a GLN.
     pub id_type: Code2,
+    /// The identifier, compared as it stands.
     pub id_value: Text,
 }

@@ -43,7 +43,7 @@ impl Quantity {
         Some(Quantity { value })
     }
 
-    /// How many copies.
+    /// How many copies, 1 to 999,999.
     pub fn value(self) -> u32
         ensures value { result ≡ self }
         ensures above { 0 < result }

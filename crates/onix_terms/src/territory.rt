@@ -5,10 +5,10 @@ use crate::countries::{read_countries, read_world};
 use crate::items::Items;
 use std::alloc::{AllocError, Global};
 
-/// Why fields write no territory.
+/// Why fields gave no territory.
 #[derive(Debug, Drop)]
 pub enum TermFault {
-    /// They are none.
+    /// The fields write none.
     NotATerm,
     /// Memory ran out.
     Memory,
@@ -24,12 +24,15 @@ impl From<AllocError> for TermFault {
     }
 }
 
-/// Where a price or a market holds: countries by CountriesIncluded, RegionsIncluded and
-/// CountriesExcluded. The lists are in order without repeats.
+/// Where a price or a market holds: what the fields CountriesIncluded, RegionsIncluded and
+/// CountriesExcluded say. The lists of a territory that was read are in order, without repeats.
 #[derive(Clone, Debug, Drop, PartialEq, Eq)]
 pub struct Territory {
+    /// The countries that are included by name.
     pub included: Items<Country>,
+    /// Whether all countries are included.
     pub world: bool,
+    /// The countries that are out even so.
     pub excluded: Items<Country>,
 }
 

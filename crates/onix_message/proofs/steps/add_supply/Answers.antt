@@ -1,4 +1,4 @@
-use Rattle.std.proofs.Common.{rules, ◌≡◌, ◌∷◌, [], ◌∙◌, ◌++◌, ap, sym, List, append_assoc}
+use Rattle.std.proofs.Common.{rules, ◌∷◌, [], ◌∙◌, ◌++◌, ap, sym, List, append_assoc}
 use Rattle.std.specs.List.{flat_map}
 use Rattle.onix_message.specs.Nest.{product_rows}
 use Rattle.onix_message.specs.declared.row.Row.{Row}

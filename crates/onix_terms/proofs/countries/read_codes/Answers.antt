@@ -1,6 +1,6 @@
-use Rattle.std.proofs.Common.{rules, ◌≡◌, [], ℕ, List, Option, Some, None, ◌∷◌, refl, ap, ◌∙◌, sym}
+use Rattle.std.proofs.Common.{◌≡◌, [], ℕ, List, Option, Some, None, ◌∷◌, refl, ◌∙◌, sym}
 use Rattle.std.specs.Prelude.{fold, option_map}
-use Rattle.onix_terms.specs.Territory.{codes_in, in_order, with_code}
+use Rattle.onix_terms.specs.Territory.{codes_in, with_code}
 use Rattle.onix_terms.proofs.countries.read_codes.Goals as goal
 
 nothing : codes_in [] ≡ Some []

@@ -1,4 +1,4 @@
-use Rattle.std.proofs.Common.{rules, ◌≡◌, ℕ, ℤ, pos, neg_ℤ, ◌≤ℤ◌, ◌+◌, ◌*◌, arith, ap, ◌∙◌, sym, unsigned_abs, to_z, of_z, w8, w16, refl}
+use Rattle.std.proofs.Common.{rules, ◌≡◌, pos, ◌≤ℤ◌, arith, ap, ◌∙◌, sym, unsigned_abs, to_z, of_z, w8, w16}
 use Rattle.std.proofs.lemmas.Int.{ints}
 use Rattle.jiff.specs.Words.{epoch_day}
 use Rattle.onix_terms.proofs.DayNumbers.{begun-year, date_of-date}

@@ -1,4 +1,4 @@
-use Rattle.std.proofs.Common.{◌≡◌, ℤ, pos, ◌≤ℤ◌, ◌≤◌, ◌<◌, ◌/◌, ◌%◌, arith, ap, ◌∙◌, w32, of_z, to_z}
+use Rattle.std.proofs.Common.{◌≡◌, pos, ◌≤ℤ◌, ◌/◌, ◌%◌, arith, ap, ◌∙◌, w32, of_z, to_z}
 use Rattle.std.proofs.lemmas.Int.{ints}
 use Rattle.jiff.specs.Words.{epoch_day}
 use Rattle.onix_terms.proofs.DayNumbers.{in_range, day_from-date}

@@ -1,0 +1,5 @@
+use Rattle.onix_message.proofs.OneText.{one-contents}
+use Rattle.onix_message.proofs.laws.one_contents_text.Goals as goal
+
+pub returns : goal.returns
+returns c = one-contents

@@ -1,0 +1,48 @@
+-- The row Price.
+use Rattle.std.specs.Prelude.{ℕ, List, [], ◌∷◌, Option, Some, None}
+use Rattle.onix_terms.specs.Amount.{amount_of}
+use Rattle.onix_terms.specs.Code.{code2_of, currency_of}
+use Rattle.onix_terms.specs.Day.{day_of}
+use Rattle.onix_terms.specs.Options.{◌>>=◌}
+use Rattle.onix_terms.specs.Quantity.{quantity_of}
+use Rattle.onix_terms.specs.Territory.{territory_of}
+use Rattle.onix_message.specs.Fields.{optional}
+use Rattle.onix_message.specs.declared.parts.Header.{Header}
+use Rattle.onix_message.specs.declared.parts.Price.{Price}
+use Rattle.onix_message.specs.declared.row.Form.{Form}
+use Rattle.onix_message.specs.declared.row.Form.TheVariants as form
+use Rattle.onix_message.specs.declared.row.Opening.{Opening}
+
+-- a term, or the default of the header, if there is one
+abbrev pub or_default : {A : Type 0} → (List ℕ → Option A) → Option A → List ℕ → Option A
+or_default term default [] = default
+or_default term default (b ∷ bs) = term (b ∷ bs)
+
+-- a quantity; the empty text is 1
+abbrev pub quantity_or_one : List ℕ → Option ℕ
+quantity_or_one [] = Some 1
+quantity_or_one (b ∷ bs) = quantity_of (b ∷ bs)
+
+-- the minimum order quantity that the fields after the until date write: in form 2 there may be one
+abbrev pub minimum_of : Form → List (List ℕ) → Option ℕ
+minimum_of form [] = Some 1
+minimum_of form.Two (minimum ∷ []) = quantity_or_one minimum
+minimum_of _ _ = None
+
+-- what the eight fields that each price has say, under a header with its defaults
+unfoldable pub price_from : Header → ℕ → List ℕ → List ℕ → List ℕ → List ℕ → List ℕ → List ℕ → List ℕ → List ℕ → Option Price
+price_from h minimum price_type amount currency included regions excluded from until = do
+  t ← or_default code2_of h.default_type price_type
+  a ← amount_of amount
+  c ← or_default currency_of h.default_currency currency
+  z ← territory_of included regions excluded
+  f ← optional day_of from
+  u ← optional day_of until
+  Some (record { price_type = t; amount = a; currency = c; territory = z; minimum = minimum; from = f; until = u })
+
+-- a price, in a message that begins so
+unfoldable pub price_of : Opening → List (List ℕ) → Option Price
+price_of o (price_type ∷ amount ∷ currency ∷ included ∷ regions ∷ excluded ∷ from ∷ until ∷ more) = do
+  m ← minimum_of o.form more
+  price_from o.header m price_type amount currency included regions excluded from until
+price_of o _ = None

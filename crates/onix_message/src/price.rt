@@ -1,0 +1,179 @@
+// The row of a price.
+
+ghost use Rattle.std.specs.Prelude.{◌≡◌};
+ghost use Rattle.onix_message.specs.Fields.{optional};
+ghost use Rattle.onix_message.specs.Gives.{Gives};
+ghost use Rattle.onix_message.specs.PriceRow.{minimum_of, or_default, price_from, price_of, quantity_or_one};
+ghost use Rattle.onix_terms.specs.Amount.{amount_of};
+ghost use Rattle.onix_terms.specs.Code.{code2_of, currency_of};
+ghost use Rattle.onix_terms.specs.Day.{day_of};
+ghost use Rattle.onix_terms.specs.Quantity.{quantity_from};
+
+use crate::fields::{read_code, read_territory};
+use crate::parts::{Header, Price};
+use crate::row::{Form, Opening, RowFault};
+use onix_terms::amount::Amount;
+use onix_terms::code::{Code2, Currency};
+use onix_terms::day::Day;
+use onix_terms::quantity::Quantity;
+use onix_terms::text::Text;
+use std::alloc::Global;
+
+fn read_code_or(default: Option<Code2>, text: &Text) -> Result<Code2, RowFault>
+    ensures { Gives result (or_default code2_of default text.now) }
+{
+    if !text.as_str().is_empty() {
+        return read_code(text);
+    }
+    match default {
+        Some(code) => Ok(code),
+        None => Err(RowFault::Wrong),
+    }
+}
+
+fn read_currency_or(default: Option<Currency>, text: &Text) -> Result<Currency, RowFault>
+    ensures { Gives result (or_default currency_of default text.now) }
+{
+    if !text.as_str().is_empty() {
+        let Some(currency) = Currency::read(text.as_str()) else {
+            return Err(RowFault::Wrong);
+        };
+        return Ok(currency);
+    }
+    match default {
+        Some(currency) => Ok(currency),
+        None => Err(RowFault::Wrong),
+    }
+}
+
+fn read_amount(text: &Text) -> Result<Amount, RowFault>
+    ensures { Gives result (amount_of text.now) }
+{
+    let Some(amount) = Amount::read(text.as_str()) else {
+        return Err(RowFault::Wrong);
+    };
+    Ok(amount)
+}
+
+fn read_optional_day(text: &Text) -> Result<Option<Day>, RowFault>
+    ensures { Gives result (optional day_of text.now) }
+{
+    if text.as_str().is_empty() {
+        return Ok(None);
+    }
+    let Some(day) = Day::read(text.as_str()) else {
+        return Err(RowFault::Wrong);
+    };
+    Ok(Some(day))
+}
+
+fn one_copy() -> Result<Quantity, RowFault>
+    ensures { Gives result (quantity_from 1) }
+{
+    let Some(one) = Quantity::from_value(1) else {
+        return Err(RowFault::Wrong);
+    };
+    Ok(one)
+}
+
+fn read_quantity_or_one(text: &Text) -> Result<Quantity, RowFault>
+    ensures { Gives result (quantity_or_one text.now) }
+{
+    if text.as_str().is_empty() {
+        return one_copy();
+    }
+    let Some(quantity) = Quantity::read(text.as_str()) else {
+        return Err(RowFault::Wrong);
+    };
+    Ok(quantity)
+}
+
+fn read_minimum(form: Form, fields: &[Text]) -> Result<Quantity, RowFault>
+    ensures { Gives result (minimum_of form fields.now) }
+{
+    let Some((minimum, more)) = fields.split_first() else {
+        return one_copy();
+    };
+    match form {
+        Form::One => Err(RowFault::Wrong),
+        Form::Two => {
+            if !more.is_empty() {
+                return Err(RowFault::Wrong);
+            }
+            read_quantity_or_one(minimum)
+        }
+    }
+}
+
+#[tactic(auto, unfolding(crate::specs::PriceRow::price_from))]
+fn make_price(
+    alloc: Global,
+    header: &Header,
+    minimum: Quantity,
+    price_type: &Text,
+    amount: &Text,
+    currency: &Text,
+    included: &Text,
+    regions: &Text,
+    excluded: &Text,
+    from: &Text,
+    until: &Text,
+) -> Result<Price, RowFault>
+    ensures { Gives result
+        (price_from header.now minimum price_type.now amount.now currency.now included.now
+        regions.now excluded.now from.now until.now) }
+{
+    let price_type = read_code_or(header.default_type, price_type)?;
+    let amount = read_amount(amount)?;
+    let currency = read_currency_or(header.default_currency, currency)?;
+    let territory = read_territory(alloc, included, regions, excluded)?;
+    let from = read_optional_day(from)?;
+    let until = read_optional_day(until)?;
+    Ok(Price {
+        price_type,
+        amount,
+        currency,
+        territory,
+        minimum,
+        from,
+        until,
+    })
+}
+
+#[tactic(auto, unfolding(crate::specs::PriceRow::price_of))]
+pub(crate) fn read_price(
+    alloc: Global,
+    opening: &Opening,
+    fields: &[Text],
+) -> Result<Price, RowFault>
+    ensures { Gives result (price_of opening.now fields.now) }
+{
+    let [
+        price_type,
+        amount,
+        currency,
+        included,
+        regions,
+        excluded,
+        from,
+        until,
+        more @ ..,
+    ] = fields
+    else {
+        return Err(RowFault::Wrong);
+    };
+    let minimum = read_minimum(opening.form, more)?;
+    make_price(
+        alloc,
+        &opening.header,
+        minimum,
+        price_type,
+        amount,
+        currency,
+        included,
+        regions,
+        excluded,
+        from,
+        until,
+    )
+}

@@ -1,0 +1,12 @@
+pub mod Best
+pub mod CurrentPrice
+pub mod Members
+pub mod Covers
+pub mod CalendarSpans
+pub mod BreakDays
+pub mod Segments
+pub mod Texts
+pub mod Scan
+pub mod Candidates
+pub mod TomlTables
+pub mod BadItems

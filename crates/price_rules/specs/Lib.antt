@@ -1,0 +1,11 @@
+pub mod Order
+pub mod Price
+pub mod Current
+pub mod Calendar
+pub mod Spans
+pub mod Breaks
+pub mod Choice
+pub mod Chosen
+pub mod Steps
+pub mod RulesFile
+pub mod Laws

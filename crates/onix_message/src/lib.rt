@@ -20,7 +20,7 @@ mod plain;
 mod price;
 mod product;
 pub mod records;
-mod row;
+pub mod row;
 mod rows;
 mod steps;
 mod supply;

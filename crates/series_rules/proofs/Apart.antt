@@ -9,7 +9,7 @@ use Rattle.onix_terms.specs.declared.party.Party.{Party}
 use Rattle.onix_message.specs.declared.agreement.Agreement.{Agreement}
 use Rattle.series_rules.specs.Agreements.{same_party, same_addressee, has_name, has_parties, named, between, clashes, with_agreement, agreements_of, AreApart}
 use Rattle.series_rules.specs.declared.requests.Request.{Request}
-use Rattle.series_rules.specs.declared.requests.Request.TheVariants.{Agree, Deliver, Waive, AskCatalogue, Malformed}
+use Rattle.series_rules.specs.declared.requests.Request.TheVariants.{Agree, Deliver, Waive, AskGaps, AskCatalogue, Malformed}
 
 pub same_bytes : (xs : List ℕ) → bytes_eq xs xs ≡ true
 same_bytes xs = (bytes_eq-Decides xs xs).1 refl
@@ -96,6 +96,7 @@ agreements_are_apart [] = record { by_name = λ name a e. absurd cc; by_parties 
 agreements_are_apart (Agree b ∷ L) = apart_with (agreements_of L) b (agreements_are_apart L)
 agreements_are_apart (Deliver x ∷ L) = agreements_are_apart L
 agreements_are_apart (Waive x y ∷ L) = agreements_are_apart L
+agreements_are_apart (AskGaps x ∷ L) = agreements_are_apart L
 agreements_are_apart (AskCatalogue x ∷ L) = agreements_are_apart L
 agreements_are_apart (Malformed x ∷ L) = agreements_are_apart L
 

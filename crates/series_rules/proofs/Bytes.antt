@@ -1,5 +1,5 @@
 -- Bytes that are written and read in pieces.
-use Rattle.std.proofs.Common.{◌≡◌, ◌<◌, refl, length-append, ◌+◌, ◌-◌, ◌≤◌, ℕ, List, [], ◌++◌, Option, length, take, drop, sym, ap, ◌∙◌, arith, subst, length-drop}
+use Rattle.std.proofs.Common.{◌<◌, refl, length-append, ◌+◌, ◌-◌, ◌≤◌, ℕ, List, [], ◌++◌, Option, length, take, drop, sym, ap, ◌∙◌, arith, subst, length-drop}
 use Rattle.std.proofs.Math.Seq.{take-add}
 use Rattle.std.specs.Prelude.{Some, None}
 use Rattle.std.specs.Io.KnownBytes.{Appends, Consumes}

@@ -8,9 +8,11 @@ use Rattle.std.proofs.Math.Nat.{eq-or-lt_of_le}
 use Rattle.std.proofs.lemmas.Bool.Decides.{nat_tests}
 use Rattle.std.proofs.lemmas.List.{take-append-le}
 use Rattle.catalogue_rules.specs.Records.{ByReference}
+use Rattle.onix_message.specs.declared.agreement.Agreement.{Agreement}
+use Rattle.series_rules.specs.Content.{SameContent}
 use Rattle.series_rules.specs.Agreements.{agreements_of}
 use Rattle.series_rules.specs.Firsts.{first_at, had_at, put_at, admitted}
-use Rattle.series_rules.specs.Series.{in_front_of, unbroken, IsFront, after_all, after_had, effect_of_had, kept_of}
+use Rattle.series_rules.specs.Series.{in_front_of, unbroken, front_of, IsFront, after_all, after_had, effect_of_had, kept_of}
 use Rattle.series_rules.specs.declared.requests.Request.{Request}
 use Rattle.series_rules.specs.declared.requests.First.{First}
 use Rattle.series_rules.specs.declared.requests.Had.{Had}
@@ -207,3 +209,9 @@ front_is L s from = record {
     ended (inr le) =
         let most = unbroken_length (length L) (first_at L s) from in
         front_lacks L s from (unbroken (length L) (first_at L s) from) (λ k lt. unbroken_each (length L) (first_at L s) from k lt) (omega arith) (first_at L s (from + length (unbroken (length L) (first_at L s) from))) refl
+
+-- lists that come to the same have the same front
+pub front_same : (L M : List Request) (a : Agreement) → SameContent L M → front_of L a ≡ front_of M a
+front_same L M a same =
+    front_unique (first_at L a.name) a.first (front_of L a) (front_of M a) (front_is L a.name a.first)
+    (is_front_same (first_at L a.name) (first_at M a.name) (same.firsts a.name) a.first (front_of M a) (front_is M a.name a.first))

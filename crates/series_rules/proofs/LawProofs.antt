@@ -12,16 +12,18 @@ use Rattle.onix_message.specs.declared.agreement.Agreement.{Agreement}
 use Rattle.series_rules.specs.Agreements.{agreements_of, named, between, clashes, has_name}
 use Rattle.series_rules.specs.Firsts.{first_at, put_at, admitted, admitted_at, admitted_number, admitted_message}
 use Rattle.series_rules.specs.Series.{in_front_of, unbroken, front_of, kept_of, after_all, catalogue_of}
+use Rattle.series_rules.specs.Gaps.{gaps_of}
 use Rattle.series_rules.specs.Content.{SameContent}
 use Rattle.series_rules.specs.Laws.{NextIsLeast, ByContentAlone, FrontOnlyGrows}
-use Rattle.series_rules.specs.Answers.{answer_to, delivery_answer_at, message_answer_by, delivery_answer_by, waive_answer_at, catalogue_or_unknown, agree_answer_by}
+use Rattle.series_rules.specs.Answers.{answer_to, delivery_answer_at, message_answer_by, delivery_answer_by, waive_answer_at, gaps_or_unknown, catalogue_or_unknown, agree_answer_by}
 use Rattle.series_rules.specs.declared.answers.Answer.TheVariants as answer
 use Rattle.series_rules.specs.declared.requests.Request.{Request}
-use Rattle.series_rules.specs.declared.requests.Request.TheVariants.{Agree, Deliver, Waive, AskCatalogue, Malformed}
+use Rattle.series_rules.specs.declared.requests.Request.TheVariants.{Agree, Deliver, Waive, AskGaps, AskCatalogue, Malformed}
 use Rattle.series_rules.specs.declared.requests.Had.{Had}
 use Rattle.series_rules.specs.declared.requests.Had.TheVariants.{Message, Waived}
 use Rattle.series_rules.proofs.Apart.{agreements_are_apart, between_by_name, named_with}
-use Rattle.series_rules.proofs.Fronts.{front_is, front_unique, is_front_same, kept_front}
+use Rattle.series_rules.proofs.Greatest.{report_same}
+use Rattle.series_rules.proofs.Fronts.{front_is, front_same, kept_front}
 
 -- the next number
 
@@ -43,7 +45,7 @@ next_is_least L a =
 
 -- it only grows
 
-named_stays : (L : List Request) (r : Request) (s : List ℕ) (a : Agreement) → named (agreements_of L) s ≡ Some a → named (agreements_of (r ∷ L)) s ≡ Some a
+pub named_stays : (L : List Request) (r : Request) (s : List ℕ) (a : Agreement) → named (agreements_of L) s ≡ Some a → named (agreements_of (r ∷ L)) s ≡ Some a
 named_stays L (Agree b) s a e =
     elim (clashes (agreements_of L) b) as (λ t. named (cond t (agreements_of L) (agreements_of L ++ b ∷ [])) s ≡ Some a) [
       | true ↦ e
@@ -51,6 +53,7 @@ named_stays L (Agree b) s a e =
     ]
 named_stays L (Deliver x) s a e = e
 named_stays L (Waive x y) s a e = e
+named_stays L (AskGaps x) s a e = e
 named_stays L (AskCatalogue x) s a e = e
 named_stays L (Malformed x) s a e = e
 
@@ -80,11 +83,6 @@ front_only_grows L r s a e =
 parties_same : (L M : List Request) → SameContent L M → (s : Party) (d : Option Party) → between (agreements_of L) s d ≡ between (agreements_of M) s d
 parties_same L M same = between_by_name (agreements_of L) (agreements_of M) (agreements_are_apart L) (agreements_are_apart M) same.agreements
 
-pub front_same : (L M : List Request) (a : Agreement) → SameContent L M → front_of L a ≡ front_of M a
-front_same L M a same =
-    front_unique (first_at L a.name) a.first (front_of L a) (front_of M a) (front_is L a.name a.first)
-    (is_front_same (first_at L a.name) (first_at M a.name) (same.firsts a.name) a.first (front_of M a) (front_is M a.name a.first))
-
 agreements_more : (L M : List Request) (r : Request) → SameContent L M → (name : List ℕ) → named (agreements_of (r ∷ L)) name ≡ named (agreements_of (r ∷ M)) name
 agreements_more L M (Agree b) same =
     named_with (agreements_of L) (agreements_of M) b
@@ -93,6 +91,7 @@ agreements_more L M (Agree b) same =
     same.agreements
 agreements_more L M (Deliver x) same = same.agreements
 agreements_more L M (Waive x y) same = same.agreements
+agreements_more L M (AskGaps x) same = same.agreements
 agreements_more L M (AskCatalogue x) same = same.agreements
 agreements_more L M (Malformed x) same = same.agreements
 
@@ -104,6 +103,7 @@ pub admitted_same : (L M : List Request) → SameContent L M → (r : Request) �
 admitted_same L M same (Agree b) = refl
 admitted_same L M same (Deliver records) = message_admitted L M same (message_of records)
 admitted_same L M same (Waive s n) = ap (λ o. admitted_at o n Waived) (same.agreements s)
+admitted_same L M same (AskGaps x) = refl
 admitted_same L M same (AskCatalogue x) = refl
 admitted_same L M same (Malformed x) = refl
 
@@ -134,6 +134,10 @@ catalogue_same : (L M : List Request) → SameContent L M → (s : List ℕ) (o 
 catalogue_same L M same s None = refl
 catalogue_same L M same s (Some a) = ap (λ hs. answer.Catalogue s (after_all map.empty hs)) (front_same L M a same)
 
+gaps_same : (L M : List Request) → SameContent L M → (o : Option Agreement) → gaps_or_unknown (option_map (gaps_of L) o) ≡ gaps_or_unknown (option_map (gaps_of M) o)
+gaps_same L M same None = refl
+gaps_same L M same (Some a) = ap (λ report. gaps_or_unknown (Some report)) (report_same L M same a)
+
 answer_same : (L M : List Request) (r : Request) → SameContent L M → answer_to L r ≡ answer_to M r
 answer_same L M (Agree b) same =
     ap (λ o. answer.Agreement b.name b.first (agree_answer_by b o (between (agreements_of L) b.sender b.addressee))) (same.agreements b.name)
@@ -143,6 +147,7 @@ answer_same L M (Deliver records) same =
 answer_same L M (Waive s n) same =
     ap (answer.Waiver s n) (waive_same (Waive s n ∷ L) (Waive s n ∷ M) (content_more L M (Waive s n) same) n (named (agreements_of L) s)
     ∙ ap (waive_answer_at (Waive s n ∷ M) n) (same.agreements s))
+answer_same L M (AskGaps s) same = gaps_same L M same (named (agreements_of L) s) ∙ ap (λ o. gaps_or_unknown (option_map (gaps_of M) o)) (same.agreements s)
 answer_same L M (AskCatalogue s) same = catalogue_same L M same s (named (agreements_of L) s) ∙ ap (λ o. catalogue_or_unknown s (option_map (catalogue_of M) o)) (same.agreements s)
 answer_same L M (Malformed row) same = refl
 

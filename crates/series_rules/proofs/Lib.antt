@@ -3,12 +3,17 @@ pub mod Slots
 pub mod Questions
 pub mod Apart
 pub mod Fronts
+pub mod Greatest
 pub mod LawProofs
 pub mod Runs
 pub mod Bytes
 pub mod Walks
+pub mod EqualContents
 pub mod Numbers
 pub mod Kept
 pub mod Standing
 pub mod Places
 pub mod RunLemmas
+pub mod Missing
+pub mod GapLaw
+pub mod Folds

@@ -3,7 +3,7 @@ use Rattle.std.proofs.Common.{◌≡◌, ℕ, Bool, true, false, List, Option, S
 use Rattle.std.specs.Ordering.{nat_cmp}
 use Rattle.std.specs.BTreeMap.{is_at}
 use Rattle.std.proofs.lemmas.Bool.Decides.{nat_tests}
-use Rattle.onix_message.specs.SameContents.{same_contents}
+use Rattle.series_rules.proofs.EqualContents.{same_contents_itself}
 use Rattle.onix_message.specs.declared.parts.Product.{Product}
 use Rattle.series_rules.specs.Answers.{answer_against, placed_answer}
 use Rattle.series_rules.specs.Plain.{with_had}
@@ -23,5 +23,5 @@ pub stands_there : (f : ℕ → Option Had) (n : ℕ) (x : Had) → f n ≡ None
 stands_there f n x none = let same : nat_eq n n ≡ true = grind (arith, nat_tests) in rw (none, same) refl
 
 -- a delivery is against itself where nothing stood
-pub against_itself : (hs : List Had) (s : List ℕ) (from n : ℕ) (c : List Product) (o : Option Had) → same_contents c c ≡ true → o ≡ Some (Message c) → answer_against hs s from n c o ≡ placed_answer hs s from n
-against_itself hs s from n c o same e = ap (answer_against hs s from n c) e ∙ rw same refl
+pub against_itself : (hs : List Had) (s : List ℕ) (from n : ℕ) (c : List Product) (o : Option Had) → o ≡ Some (Message c) → answer_against hs s from n c o ≡ placed_answer hs s from n
+against_itself hs s from n c o e = ap (answer_against hs s from n c) e ∙ rw (same_contents_itself c) refl

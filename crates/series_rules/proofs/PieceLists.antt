@@ -1,5 +1,5 @@
 -- Records that are one piece, in front of others.
-use Rattle.std.proofs.Common.{arith, length, ◌≡◌, Bool, true, false, ℕ, List, [], ◌∷◌, ◌++◌, refl, ap, sym, ◌∙◌, not, append-nil, append_assoc, subst}
+use Rattle.std.proofs.Common.{arith, length, ◌≡◌, Bool, true, false, ℕ, List, [], ◌∷◌, ◌++◌, refl, ap, sym, ◌∙◌, not, append-nil, append_assoc}
 use Rattle.std.specs.List.{list_all}
 use Rattle.std.specs.Prelude.{if◌then◌else◌, ◌&&◌}
 use Rattle.std.proofs.lemmas.List.Folds.{list_all-append}

@@ -1,5 +1,5 @@
 -- Lists of a known length, by what stands at each place.
-use Rattle.std.proofs.Common.{◌≡◌, ◌≤◌, ◌<◌, ◌∷◌, [], ℕ, List, length, get_or, arith}
+use Rattle.std.proofs.Common.{◌≡◌, ◌≤◌, ◌<◌, ◌∷◌, [], List, length, get_or, arith}
 
 -- a list of 6, by what stands at each place
 pub six : {A : Type 0} (xs : List A) (a0 a1 a2 a3 a4 a5 : A) → 6 ≤ length xs → length xs < 7

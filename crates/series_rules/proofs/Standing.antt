@@ -1,5 +1,5 @@
 -- What the desk in memory stands for after a request.
-use Rattle.std.proofs.Common.{◌≡◌, ◌<◌, ◌≤◌, ◌&&◌, ◌||◌, ℕ, Bool, true, false, List, [], ◌∷◌, ◌++◌, Option, Some, None, refl, sym, ap, ◌∙◌, arith, subst, nat_eq, cond}
+use Rattle.std.proofs.Common.{◌+◌, ◌≡◌, ◌<◌, ◌≤◌, ◌&&◌, ◌||◌, ℕ, Bool, true, false, List, [], ◌∷◌, ◌++◌, Option, Some, None, length, refl, sym, ap, ◌∙◌, arith, subst, nat_eq, cond}
 use Rattle.std.specs.Prelude.{bytes_eq, is_some, nat_lt}
 use Rattle.std.specs.FinMap as map
 use Rattle.std.specs.Option.{option_or}
@@ -16,9 +16,12 @@ use Rattle.onix_message.specs.declared.parts.Header.{Header}
 use Rattle.onix_message.specs.declared.agreement.Agreement.{Agreement}
 use Rattle.series_rules.specs.Agreements.{agreements_of, named, between, has_name, has_parties, clashes, with_agreement}
 use Rattle.series_rules.specs.Firsts.{first_at, put_at, admitted, admitted_at}
-use Rattle.series_rules.specs.Series.{front_of, IsFront, after_all}
+use Rattle.series_rules.specs.Series.{front_of, next_of, IsFront, after_all}
+use Rattle.series_rules.specs.Gaps.{IsGreatest, greatest_of, report_by}
+use Rattle.series_rules.specs.declared.answers.GapReport.{GapReport}
+use Rattle.series_rules.proofs.Greatest.{greatest_is, greatest_same, report_by_same}
 use Rattle.series_rules.specs.Plain.{kept_agreements, series_named, standing, with_had, PlainStands}
-use Rattle.series_rules.specs.Answers.{same_agreement, agree_answer, agree_answer_by, answer_against, delivery_answer_at, message_answer_by, delivery_answer_by, delivery_answer, waived_by, waive_answer_at, waive_answer, catalogue_answer}
+use Rattle.series_rules.specs.Answers.{same_agreement, agree_answer, agree_answer_by, answer_against, delivery_answer_at, message_answer_by, delivery_answer_by, delivery_answer, waived_by, waive_answer_at, waive_answer, gaps_answer, catalogue_answer}
 use Rattle.series_rules.specs.declared.series.Series.{Series}
 use Rattle.series_rules.specs.declared.requests.Request.{Request}
 use Rattle.series_rules.specs.declared.requests.Request.TheVariants.{Agree, Deliver, Waive}
@@ -240,3 +243,17 @@ pub catalogue_stands : (kept : List Series) (L : List Request) (name : List ℕ)
 catalogue_stands kept L name i s m stands first folded =
     let found = waiver_found kept L name i s stands first in
     rw found (ap Some (folded (front_of L s.agreement) (kept_front_is kept L i s stands (named_place kept name i s first))))
+
+pub no_gaps : (kept : List Series) (L : List Request) (name : List ℕ) → PlainStands kept L → series_named kept name ≡ None → None ≡ gaps_answer L name
+no_gaps kept L name stands none =
+    let found : named (agreements_of L) name ≡ None = sym (stands.agreed name) ∙ named_kept kept name None none in
+    rw found refl
+
+pub gaps_stand : (kept : List Series) (L : List Request) (name : List ℕ) (i : ℕ) (s : Series) (report : GapReport) → PlainStands kept L → FirstAt (λ x. has_name name x.agreement) kept i s → ((hs : List Had) (greatest : Option ℕ) → IsFront (get nat_cmp s.numbers) s.agreement.first hs → IsGreatest (get nat_cmp s.numbers) greatest → report ≡ report_by s.agreement.name (get nat_cmp s.numbers) s.agreement.first (s.agreement.first + length hs) greatest) → Some report ≡ gaps_answer L name
+gaps_stand kept L name i s report stands first is =
+    let found = waiver_found kept L name i s stands first in
+    let own = named_place kept name i s first in
+    let same = series_stands kept L i s stands own in
+    let greatest = greatest_same (first_at L s.agreement.name) (get nat_cmp s.numbers) same (greatest_of L s.agreement.name) (greatest_is L s.agreement.name) in
+    rw found (ap Some (is (front_of L s.agreement) (greatest_of L s.agreement.name) (kept_front_is kept L i s stands own) greatest
+    ∙ report_by_same s.agreement.name (get nat_cmp s.numbers) (first_at L s.agreement.name) same s.agreement.first (next_of L s.agreement) (greatest_of L s.agreement.name)))

@@ -1,10 +1,11 @@
 -- The records and the text of an answer.
-use Rattle.std.specs.Prelude.{ℕ, Bool, List, [], ◌∷◌, ◌++◌, Option, Some, None, codes, if◌then◌else◌, length, map}
+use Rattle.std.specs.Prelude.{ℕ, Bool, List, [], ◌∷◌, ◌++◌, codes}
 use Rattle.std.specs.Fmt.{decimal}
 use Rattle.std.specs.Str.{bytes_eq}
 use Rattle.onix_message.specs.Records.{records_text}
 use Rattle.catalogue_rules.specs.declared.effect.Effect.{Effect}
 use Rattle.series_rules.specs.CatalogueText.{catalogue_records}
+use Rattle.series_rules.specs.GapText.{gap_records}
 use Rattle.series_rules.specs.declared.answers.AgreeAnswer.{AgreeAnswer}
 use Rattle.series_rules.specs.declared.answers.AgreeAnswer.TheVariants as agree
 use Rattle.series_rules.specs.declared.answers.DeliveryAnswer.{DeliveryAnswer}
@@ -65,6 +66,7 @@ abbrev pub answer_records : Answer → List (List (List ℕ))
 answer_records (answer.Agreement name first a) = agree_fields name first a ∷ []
 answer_records (answer.Delivery a) = delivery_fields a ∷ []
 answer_records (answer.Waiver series n a) = waiver_fields series n a ∷ []
+answer_records (answer.Gaps report) = gap_records report
 answer_records (answer.Catalogue series m) = catalogue_records series m
 answer_records answer.UnknownSeries = unknown_fields ∷ []
 answer_records (answer.Malformed row) = malformed_fields row ∷ []

@@ -10,7 +10,8 @@ use Rattle.series_rules.specs.Agreements.{agreements_of, named, between, same_pa
 use Rattle.series_rules.specs.Firsts.{first_at}
 use Rattle.series_rules.specs.Series.{front_of, kept_of, catalogue_of}
 use Rattle.series_rules.specs.declared.requests.Request.{Request}
-use Rattle.series_rules.specs.declared.requests.Request.TheVariants.{Agree, Deliver, Waive, AskCatalogue, Malformed}
+use Rattle.series_rules.specs.Gaps.{gaps_of}
+use Rattle.series_rules.specs.declared.requests.Request.TheVariants.{Agree, Deliver, Waive, AskGaps, AskCatalogue, Malformed}
 use Rattle.series_rules.specs.declared.requests.Had.{Had}
 use Rattle.series_rules.specs.declared.requests.Had.TheVariants as had
 use Rattle.series_rules.specs.declared.answers.AgreeAnswer.{AgreeAnswer}
@@ -19,6 +20,7 @@ use Rattle.series_rules.specs.declared.answers.DeliveryAnswer.{DeliveryAnswer}
 use Rattle.series_rules.specs.declared.answers.DeliveryAnswer.TheVariants as delivery
 use Rattle.series_rules.specs.declared.answers.WaiveAnswer.{WaiveAnswer}
 use Rattle.series_rules.specs.declared.answers.WaiveAnswer.TheVariants as waiver
+use Rattle.series_rules.specs.declared.answers.GapReport.{GapReport}
 use Rattle.series_rules.specs.declared.answers.Answer.{Answer}
 use Rattle.series_rules.specs.declared.answers.Answer.TheVariants as answer
 
@@ -83,6 +85,15 @@ waive_answer_at L n (Some a) = if nat_lt n a.first then waiver.BeforeFirst a.fir
 abbrev pub waive_answer : List Request → List ℕ → ℕ → WaiveAnswer
 waive_answer L series n = waive_answer_at (Waive series n ∷ L) n (named (agreements_of L) series)
 
+-- the gaps of that series, or none where it is not agreed
+abbrev pub gaps_answer : List Request → List ℕ → Option GapReport
+gaps_answer L series = option_map (gaps_of L) (named (agreements_of L) series)
+
+-- the answer to a question about gaps
+abbrev pub gaps_or_unknown : Option GapReport → Answer
+gaps_or_unknown None = answer.UnknownSeries
+gaps_or_unknown (Some report) = answer.Gaps report
+
 -- the catalogue of that series, or none where it is not agreed
 abbrev pub catalogue_answer : List Request → List ℕ → Option ByReference
 catalogue_answer L series = option_map (catalogue_of L) (named (agreements_of L) series)
@@ -97,6 +108,7 @@ abbrev pub answer_to : List Request → Request → Answer
 answer_to L (Agree a) = answer.Agreement a.name a.first (agree_answer L a)
 answer_to L (Deliver records) = answer.Delivery (delivery_answer L records)
 answer_to L (Waive series n) = answer.Waiver series n (waive_answer L series n)
+answer_to L (AskGaps series) = gaps_or_unknown (gaps_answer L series)
 answer_to L (AskCatalogue series) = catalogue_or_unknown series (catalogue_answer L series)
 answer_to L (Malformed row) = answer.Malformed row
 

@@ -1,10 +1,10 @@
 -- What a batch comes to.
-use Rattle.std.specs.Prelude.{◌≡◌, ◌<◌, ◌≤◌, ◌-◌, ℕ, Bool, List, [], ◌++◌, ◌∷◌, Option, Some, None, Result, Ok, Err, IsUtf8, length, map, take, count_by, ⊤}
+use Rattle.std.specs.Prelude.{◌≡◌, ◌<◌, ◌≤◌, ◌-◌, ℕ, List, [], ◌++◌, Option, Some, None, Result, Ok, Err, IsUtf8, length, map, take, count_by, ⊤}
 use Rattle.std.specs.List.{flat_map}
 use Rattle.onix_message.specs.Records.{records_of}
 use Rattle.onix_message.specs.declared.records.RecordFault.{RecordFault}
 use Rattle.onix_message.specs.declared.records.RecordFault.TheVariants as record_fault
-use Rattle.series_rules.specs.Answers.{answer_to, answers, followed_by}
+use Rattle.series_rules.specs.Answers.{answers, followed_by}
 use Rattle.series_rules.specs.AnswerText.{is_refused, text_of}
 use Rattle.series_rules.specs.Pieces.{pieces}
 use Rattle.series_rules.specs.RequestRows.{request_of}

@@ -4,6 +4,7 @@ use Rattle.onix_message.specs.declared.agreement.Agreement.{Agreement}
 use Rattle.series_rules.specs.Agreements.{agreements_of, named}
 use Rattle.series_rules.specs.Firsts.{first_at}
 use Rattle.series_rules.specs.Series.{front_of, next_of, kept_at, IsNext}
+use Rattle.series_rules.specs.Gaps.{IsGapReport, gaps_of}
 use Rattle.series_rules.specs.Content.{SameContent}
 use Rattle.series_rules.specs.Answers.{answer_to}
 use Rattle.series_rules.specs.declared.requests.Request.{Request}
@@ -24,3 +25,7 @@ FrontOnlyGrows =
     (named (agreements_of (r ∷ L)) series ≡ Some a) ×
     ((more : List Had) × (front_of (r ∷ L) a ≡ front_of L a ++ more)) ×
     ((n : ℕ) → a.first ≤ n → n < next_of L a → kept_at (r ∷ L) a n ≡ kept_at L a n)
+
+-- the report on the gaps of an agreed series is true of what stands in it
+abbrev pub GapsAreTrue : Type 0
+GapsAreTrue = (L : List Request) (a : Agreement) → IsGapReport (first_at L a.name) (gaps_of L a)

@@ -4,8 +4,10 @@ pub mod RequestRows
 pub mod Agreements
 pub mod Firsts
 pub mod Series
+pub mod Gaps
 pub mod Answers
 pub mod Content
+pub mod GapText
 pub mod CatalogueText
 pub mod AnswerText
 pub mod Laws

@@ -42,6 +42,7 @@ abbrev pub named_request : List ℕ → List (List ℕ) → Option Request
 named_request name fields =
     if bytes_eq name (codes "Agree") then option_map request.Agree (agreement_of fields)
     else if bytes_eq name (codes "Waive") then waiver_of fields
+    else if bytes_eq name (codes "AskGaps") then option_map request.AskGaps (series_of fields)
     else if bytes_eq name (codes "AskCatalogue") then option_map request.AskCatalogue (series_of fields)
     else None
 

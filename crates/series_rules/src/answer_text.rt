@@ -3,10 +3,12 @@
 ghost use Rattle.std.specs.Prelude.{◌≡◌, ◌++◌, ◌∷◌, [], IfOk, codes, map};
 ghost use Rattle.std.specs.Fmt.{decimal};
 ghost use Rattle.std.specs.String.{string_bytes};
-ghost use Rattle.series_rules.specs.AnswerText.{agree_fields, answer_records, before_first_fields, delivery_fields, effect_fields, is_refused, malformed_fields, text_of, unknown_fields, waiver_fields};
+ghost use Rattle.series_rules.specs.AnswerText.{agree_fields, answer_records, before_first_fields, delivery_fields, effect_fields, is_refused, malformed_fields, text_of, waiver_fields};
 
 use crate::answers::{AgreeAnswer, Answer, DeliveryAnswer, WaiveAnswer};
 use crate::catalogue_text::catalogue_rows;
+use crate::gap_text::gap_rows;
+use crate::text_rows::{digits, row};
 use catalogue_rules::effect::Effect;
 use onix_message::records::{Record, write_records};
 use onix_terms::items::Items;
@@ -14,24 +16,6 @@ use onix_terms::number::Number;
 use onix_terms::series_name::SeriesName;
 use onix_terms::text::Text;
 use std::alloc::{AllocError, Global};
-
-// A record of these fields.
-fn row(alloc: Global, fields: &[&str]) -> Result<Record, AllocError>
-    ensures { IfOk result (λ r. r ≡ map (λ f. f.now) fields.now) }
-{
-    let mut out = Items::new(alloc);
-    for field in fields {
-        out.push(Text::from_str(alloc, field)?)?;
-    }
-    Ok(out)
-}
-
-// A number in decimal.
-fn digits(alloc: Global, number: u32) -> Result<String, AllocError>
-    ensures { IfOk result (λ t. string_bytes t ≡ decimal number) }
-{
-    number.to_string(alloc)
-}
 
 fn malformed_row(alloc: Global, place: u32) -> Result<Record, AllocError>
     ensures { IfOk result (λ r. r ≡ malformed_fields place) }
@@ -229,6 +213,7 @@ fn answer_rows(alloc: Global, answer: &Answer) -> Result<Items<Record>, AllocErr
             number,
             answer,
         } => one_row(alloc, waiver_row(alloc, series, *number, answer)?),
+        Answer::Gaps(report) => gap_rows(alloc, report),
         Answer::Catalogue { series, catalogue } => catalogue_rows(alloc, series, catalogue),
         Answer::UnknownSeries => one_row(alloc, row(alloc, &["refused", "unknown-series"])?),
         Answer::Malformed { row } => one_row(alloc, malformed_row(alloc, *row)?),
@@ -246,7 +231,7 @@ pub fn write_answer(alloc: Global, answer: &Answer) -> Result<String, AllocError
 }
 
 /// Whether the text of an answer begins with the field `refused`.
-#[tactic(auto, unfolding(crate::specs::AnswerText::is_refused, crate::specs::CatalogueText::catalogue_records))]
+#[tactic(auto, unfolding(crate::specs::AnswerText::is_refused, crate::specs::CatalogueText::catalogue_records, crate::specs::GapText::gap_records))]
 pub fn is_refusal(answer: &Answer) -> bool
     ensures { result ≡ is_refused answer.now }
 {
@@ -257,7 +242,7 @@ pub fn is_refusal(answer: &Answer) -> bool
             DeliveryAnswer::Applied { .. } | DeliveryAnswer::Held { .. }
         ),
         Answer::Waiver { answer, .. } => !matches!(answer, WaiveAnswer::Waived),
-        Answer::Catalogue { .. } => false,
+        Answer::Gaps(_) | Answer::Catalogue { .. } => false,
         Answer::UnknownSeries | Answer::Malformed { .. } => true,
     }
 }

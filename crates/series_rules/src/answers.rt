@@ -2,6 +2,7 @@
 
 use catalogue_rules::catalogue::Catalogue;
 use catalogue_rules::effect::Effect;
+use onix_terms::items::Items;
 use onix_terms::number::Number;
 use onix_terms::series_name::SeriesName;
 
@@ -70,6 +71,23 @@ pub enum WaiveAnswer {
     Waived,
 }
 
+/// Which numbers of a series have something, and which have nothing.
+#[derive(Debug, Drop)]
+pub struct GapReport {
+    pub series: SeriesName,
+    /// The agreed first number.
+    pub first: Number,
+    /// The first number that has nothing.
+    pub next: u32,
+    /// The greatest number that has something.
+    pub greatest: Option<Number>,
+    /// How many numbers from `next` on have something.
+    pub held: u64,
+    /// The numbers from the first to the greatest that have nothing, as ranges in order, each
+    /// by its first and its last number. Between two ranges some number has something.
+    pub missing: Items<(Number, Number)>,
+}
+
 /// The answer to a request, with the values that its lines print.
 #[derive(Drop)]
 pub enum Answer {
@@ -84,6 +102,7 @@ pub enum Answer {
         number: Number,
         answer: WaiveAnswer,
     },
+    Gaps(GapReport),
     Catalogue {
         series: SeriesName,
         catalogue: Catalogue,

@@ -35,6 +35,10 @@ pub fn answer<D: Desk>(desk: &mut D, request: &Request) -> Result<Answer, StoreF
                 answer,
             })
         }
+        Request::AskGaps(series) => match desk.gaps(series)? {
+            None => Ok(Answer::UnknownSeries),
+            Some(report) => Ok(Answer::Gaps(report)),
+        },
         Request::AskCatalogue(series) => match desk.catalogue(series)? {
             None => Ok(Answer::UnknownSeries),
             Some(catalogue) => Ok(Answer::Catalogue {

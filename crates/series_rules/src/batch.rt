@@ -1,6 +1,6 @@
 // Batches: the requests of a text, answered one after the other.
 
-ghost use Rattle.std.specs.Prelude.{◌≡◌, ◌≤◌, ◌++◌, ℕ, List, IfOk, OnOk, OnErr, IfErr, Some, length, if◌then◌else◌};
+ghost use Rattle.std.specs.Prelude.{◌≡◌, ◌≤◌, ◌++◌, ℕ, List, IfOk, OnOk, OnErr, IfErr, length, if◌then◌else◌};
 ghost use Rattle.std.specs.Io.KnownBytes.{Appends};
 ghost use Rattle.series_rules.specs.Batch.{BatchFits, IsTold, RunFits, limit};
 ghost use Rattle.series_rules.specs.BatchSteps.{InputFits, RequestFits, RequestsFit};
@@ -181,7 +181,7 @@ pub fn run_batch<D: Desk, R: Read, W: Write>(
     writer: &mut W,
 ) -> Result<u64, BatchFault>
     ensures premise { D.is_sound desk.new → D.is_sound desk.old }
-    // There is a text, that of the reader where it tells its bytes, after which all came as the definitions say.
+    // There is a text, that of the reader where it tells its bytes, for which the batch ends as the definitions have it.
     ensures run { (text : List ℕ) × IsTold (R.remaining reader.old) text × ((L : List Request) → D.stands_for desk.old L → D.is_sound desk.new →
         BatchFits L text (Appends (W.contents writer.old) (W.contents writer.new)) (D.stands_for desk.new) result) }
 {

@@ -6,6 +6,7 @@ ghost use Rattle.std.specs.List.{flat_map};
 ghost use Rattle.series_rules.specs.CatalogueText.{catalogue_records, entry_records};
 ghost use Rattle.onix_message.specs.RowRecords.{identifier_fields};
 
+use crate::text_rows::row;
 use catalogue_rules::catalogue::Catalogue;
 use catalogue_rules::entry::Entry;
 use onix_message::part_records::{append_identifiers, append_supplies};
@@ -13,7 +14,6 @@ use onix_message::parts::ProductIdentifier;
 use onix_message::records::Record;
 use onix_terms::items::Items;
 use onix_terms::series_name::SeriesName;
-use onix_terms::text::Text;
 use std::alloc::{AllocError, Global};
 
 // A reference with the identifiers of its record.
@@ -24,9 +24,7 @@ fn entry_row(
 ) -> Result<Record, AllocError>
     ensures { IfOk result (λ r. r ≡ codes "record" ∷ reference.now ∷ flat_map identifier_fields ids.now) }
 {
-    let mut out = Items::new(alloc);
-    out.push(Text::from_str(alloc, "record")?)?;
-    out.push(Text::from_str(alloc, reference)?)?;
+    let mut out = row(alloc, &["record", reference])?;
     append_identifiers(alloc, &mut out, ids)?;
     Ok(out)
 }
@@ -48,11 +46,8 @@ fn push_entry(
 fn head_row(alloc: Global, series: &SeriesName, count: usize) -> Result<Record, AllocError>
     ensures { IfOk result (λ r. r ≡ codes "catalogue" ∷ series.now ∷ decimal count ∷ []) }
 {
-    let mut out = Items::new(alloc);
-    out.push(Text::from_str(alloc, "catalogue")?)?;
-    out.push(Text::from_str(alloc, series.as_str())?)?;
-    out.push(Text::from_string(count.to_string(alloc)?))?;
-    Ok(out)
+    let count = count.to_string(alloc)?;
+    row(alloc, &["catalogue", series.as_str(), count.as_str()])
 }
 
 /// The records of a catalogue, in order of reference.

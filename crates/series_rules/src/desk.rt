@@ -1,10 +1,10 @@
 // What every desk promises.
 
 ghost use Rattle.std.specs.Prelude.{◌≡◌, ℕ, List, ◌∷◌, IfOk, OnErr, Option};
-ghost use Rattle.series_rules.specs.Answers.{agree_answer, delivery_answer, waive_answer, catalogue_answer};
+ghost use Rattle.series_rules.specs.Answers.{agree_answer, delivery_answer, waive_answer, gaps_answer, catalogue_answer};
 ghost use Rattle.series_rules.specs.Content.{SameContent};
 
-use crate::answers::{AgreeAnswer, DeliveryAnswer, WaiveAnswer};
+use crate::answers::{AgreeAnswer, DeliveryAnswer, GapReport, WaiveAnswer};
 use catalogue_rules::catalogue::Catalogue;
 use onix_message::agreement::{Agreement, StoreFault};
 use onix_message::records::Record;
@@ -47,6 +47,12 @@ pub trait Desk {
         ensures ok { (L : List Request) → stands_for self.old L → is_sound self.new → IfOk result (λ a.
             (a ≡ waive_answer L series.now number) × stands_for self.new (Request.Waive series.now number ∷ L)) }
         ensures err { (L : List Request) → stands_for self.old L → is_sound self.new → OnErr result (stands_for self.new L) };
+
+    /// Which numbers a series lacks, or `None` where no agreement has the name.
+    fn gaps(&mut self, series: &SeriesName) -> Result<Option<GapReport>, StoreFault>
+        ensures premise { is_sound self.new → is_sound self.old }
+        ensures ok { (L : List Request) → stands_for self.old L → is_sound self.new → IfOk result (λ a. a ≡ gaps_answer L series.now) }
+        ensures left { (L : List Request) → stands_for self.old L → is_sound self.new → stands_for self.new L };
 
     /// The catalogue of a series, or `None` where no agreement has the name.
     fn catalogue(&mut self, series: &SeriesName) -> Result<Option<Catalogue>, StoreFault>

@@ -1,6 +1,6 @@
 // Laws of the definitions.
 
-ghost use Rattle.series_rules.specs.Laws.{NextIsLeast, ByContentAlone, FrontOnlyGrows};
+ghost use Rattle.series_rules.specs.Laws.{NextIsLeast, ByContentAlone, FrontOnlyGrows, GapsAreTrue};
 
 /// The next number of a series is the least, from the agreed first on, that has nothing.
 pub fn next_is_least()
@@ -16,4 +16,10 @@ pub fn by_content_alone()
 /// What stands below the first gap of a series stays, and what a message did there never changes.
 pub fn front_only_grows()
     ensures { FrontOnlyGrows }
+{}
+
+/// The report on the gaps of a series names its first number that has nothing, its greatest that
+/// has something, and in ranges of which no two touch just the numbers up to it that have nothing.
+pub fn gaps_are_true()
+    ensures { GapsAreTrue }
 {}

@@ -5,6 +5,9 @@
 //! at each number), `Series` (a series up to its first gap), `Answers` (the answer to each
 //! request) and `Content` (what two lists of requests have in common). Code meets them through
 //! the trait `desk::Desk`.
+//!
+//! A batch is a text: `Pieces` cuts its records, `RequestRows` says which request each piece is,
+//! `AnswerText` has the text of each answer, and `Batch` says how a batch may end.
 #![tactic(auto)]
 
 pub mod answer_text;
@@ -13,10 +16,13 @@ pub mod asking;
 pub mod batch;
 pub mod catalogue_text;
 pub mod desk;
+pub mod gap_text;
+mod gaps;
 pub mod laws;
 pub mod pieces;
 pub mod plain;
 pub mod request_rows;
 pub mod requests;
 mod series;
+mod text_rows;
 pub mod whole;

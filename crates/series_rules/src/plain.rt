@@ -2,12 +2,13 @@
 
 ghost use Rattle.std.specs.Prelude.{◌≡◌, ◌++◌, ◌∷◌, [], ℕ, List, IfErr, IfOk, OnErr, Option, Some, None, option_copied, position};
 ghost use Rattle.series_rules.specs.Agreements.{named, between, has_name, has_parties, same_party, same_addressee};
-ghost use Rattle.series_rules.specs.Answers.{same_agreement, agree_answer, delivery_answer, waive_answer, catalogue_answer};
+ghost use Rattle.series_rules.specs.Answers.{same_agreement, agree_answer, delivery_answer, waive_answer, gaps_answer, catalogue_answer};
 ghost use Rattle.series_rules.specs.Plain.{PlainStands, kept_agreements};
 ghost use Rattle.series_rules.specs.declared.requests.Request.{Request};
 
-use crate::answers::{AgreeAnswer, DeliveryAnswer, WaiveAnswer};
+use crate::answers::{AgreeAnswer, DeliveryAnswer, GapReport, WaiveAnswer};
 use crate::desk::Desk;
+use crate::gaps::gaps_in;
 use crate::series::{Series, deliver_at, fold_front, into_catalogue, waive_at};
 use catalogue_rules::catalogue::Catalogue;
 use onix_message::agreement::{Agreement, StoreFault};
@@ -191,6 +192,26 @@ fn waived(
     Ok(waive_at(&mut series.numbers, number)?)
 }
 
+fn gaps_of(
+    alloc: Global,
+    kept: &[Series],
+    name: &SeriesName,
+) -> Result<Option<GapReport>, AllocError>
+    ensures { (L : List Request) → PlainStands kept.now L → IfOk result (λ r. r ≡ gaps_answer L name.now) }
+{
+    let Some(at) = place_of(kept, name) else {
+        return Ok(None);
+    };
+    let series = &kept[at];
+    let report = gaps_in(
+        alloc,
+        &series.numbers,
+        series.agreement.name,
+        series.agreement.first,
+    )?;
+    Ok(Some(report))
+}
+
 fn catalogue_of(
     alloc: Global,
     kept: &[Series],
@@ -248,6 +269,17 @@ impl Desk for PlainDesk {
     {
         match waived(&mut self.kept, series, number) {
             Ok(answer) => Ok(answer),
+            Err(_) => Err(StoreFault::Memory),
+        }
+    }
+
+    fn gaps(&mut self, series: &SeriesName) -> Result<Option<GapReport>, StoreFault>
+        ensures ok { (L : List Request) → PlainStands self.old.kept.items L → IfOk result (λ a. a ≡ gaps_answer L series.now) }
+        ensures left { self.new ≡ self.old }
+        ensures fault { IfErr result (λ f. f ≡ StoreFault.Memory) }
+    {
+        match gaps_of(self.alloc, &self.kept, series) {
+            Ok(report) => Ok(report),
             Err(_) => Err(StoreFault::Memory),
         }
     }

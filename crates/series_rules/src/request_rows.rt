@@ -103,6 +103,9 @@ fn read_named(alloc: Global, name: &str, fields: &[Text]) -> Result<Request, Row
     if name == "Waive" {
         return read_waiver(fields);
     }
+    if name == "AskGaps" {
+        return Ok(Request::AskGaps(read_series(fields)?));
+    }
     if name == "AskCatalogue" {
         return Ok(Request::AskCatalogue(read_series(fields)?));
     }

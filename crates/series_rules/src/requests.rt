@@ -16,6 +16,8 @@ pub enum Request {
     Deliver(Items<Record>),
     /// The wholesaler says that a number will never come.
     Waive { series: SeriesName, number: Number },
+    /// Which numbers a series lacks.
+    AskGaps(SeriesName),
     /// Which records a series has.
     AskCatalogue(SeriesName),
     /// No request: it stops being one at this row of its piece, counted from 1.

@@ -15,7 +15,6 @@ use crate::requests::Had;
 use catalogue_rules::catalogue::Catalogue;
 use catalogue_rules::effect::Effect;
 use onix_message::agreement::Agreement;
-use onix_message::laws::equal_contents;
 use onix_message::parts::Contents;
 use onix_terms::number::Number;
 use onix_terms::series_name::SeriesName;
@@ -179,11 +178,7 @@ pub(crate) fn deliver_at(
                 Ok(DeliveryAnswer::OtherContents { series, number })
             }
         }
-        None => {
-            // What stands there from now on is equal to the delivery.
-            equal_contents();
-            Ok(deliver_new(alloc, numbers, series, from, number, contents)?)
-        }
+        None => Ok(deliver_new(alloc, numbers, series, from, number, contents)?),
     }
 }
 

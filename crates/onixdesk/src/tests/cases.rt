@@ -108,7 +108,7 @@ ProductSupply,GB IE,,
 SupplyDetail,04,06,4012345000009,North Books,21,
 ";
 
-pub static CASES: [Case; 25] = [
+pub static CASES: [Case; 39] = [
     Case {
         name: "an empty batch",
         requests: &[],
@@ -414,5 +414,197 @@ pub static CASES: [Case; 25] = [
             "refused,malformed,1\n",
         ],
         status: 1,
+    },
+    Case {
+        name: "gaps before any message, and with two",
+        requests: &[
+            AGREE,
+            "AskGaps,north\n",
+            E1,
+            E2,
+            "Message,1,06,4012345000009,06,5012345678900,5,,,,\nEndMessage,1\n",
+            "Message,1,06,4012345000009,06,5012345678900,9,,,,\nEndMessage,1\n",
+            "AskGaps,north\n",
+            "AskGaps,west\n",
+        ],
+        answers: &[
+            AGREED,
+            "gaps,north,first=1,next=1,greatest=,held=0,missing=0\n",
+            "applied,north,1,replaced=0,updated=0,deleted=0,unknown=0,ignored=0\n",
+            "applied,north,2,replaced=0,updated=0,deleted=0,unknown=0,ignored=0\n",
+            "held,north,5,waiting-for=3\n",
+            "held,north,9,waiting-for=3\n",
+            "gaps,north,first=1,next=3,greatest=9,held=2,missing=2\nmissing,3,4\nmissing,6,8\n",
+            "refused,unknown-series\n",
+        ],
+        status: 1,
+    },
+    Case {
+        name: "no gap is left where the last one is filled",
+        requests: &[AGREE, N2_R2, E1, "AskGaps,north\n"],
+        answers: &[
+            AGREED,
+            "held,north,2,waiting-for=1\n",
+            "applied,north,1,replaced=0,updated=0,deleted=0,unknown=0,ignored=0\n",
+            "gaps,north,first=1,next=3,greatest=2,held=0,missing=0\n",
+        ],
+        status: 0,
+    },
+    Case {
+        name: "the gaps of a series that begins with the largest number",
+        requests: &[
+            "Agree,north,06,4012345000009,06,5012345678900,999999999\n",
+            "Message,1,06,4012345000009,06,5012345678900,999999999,,,,\nEndMessage,1\n",
+            "AskGaps,north\n",
+        ],
+        answers: &[
+            "agreed,north,999999999\n",
+            "applied,north,999999999,replaced=0,updated=0,deleted=0,unknown=0,ignored=0\n",
+            "gaps,north,first=999999999,next=1000000000,greatest=999999999,held=0,missing=0\n",
+        ],
+        status: 0,
+    },
+    Case {
+        name: "a waived number is no gap",
+        requests: &[AGREE, E1, E3, "Waive,north,2\n", "AskGaps,north\n"],
+        answers: &[
+            AGREED,
+            "applied,north,1,replaced=0,updated=0,deleted=0,unknown=0,ignored=0\n",
+            "held,north,3,waiting-for=2\n",
+            "waived,north,2\n",
+            "gaps,north,first=1,next=4,greatest=3,held=0,missing=0\n",
+        ],
+        status: 0,
+    },
+    Case {
+        name: "a waiver ahead of its turn is held like a message",
+        requests: &[
+            AGREE,
+            "Waive,north,2\n",
+            "AskGaps,north\n",
+            E1,
+            "AskGaps,north\n",
+        ],
+        answers: &[
+            AGREED,
+            "waived,north,2\n",
+            "gaps,north,first=1,next=1,greatest=2,held=1,missing=1\nmissing,1,1\n",
+            "applied,north,1,replaced=0,updated=0,deleted=0,unknown=0,ignored=0\n",
+            "gaps,north,first=1,next=3,greatest=2,held=0,missing=0\n",
+        ],
+        status: 0,
+    },
+    Case {
+        name: "held messages with prices keep their first contents",
+        requests: &[
+            AGREE,
+            "Message,1,06,4012345000009,06,5012345678900,3,1,20250301,02,GBP\nProduct,R3,03,15,9781234567897\nProductSupply,GB IE,,\nSupplyDetail,04,06,4012345000009,North Books,21,\nPrice,,5.00,,,,,,\nEndMessage,5\n",
+            "Message,1,06,4012345000009,06,5012345678900,3,1,20250301,02,GBP\nProduct,R3,03,15,9781234567897\nProductSupply,GB IE,,\nSupplyDetail,04,06,4012345000009,North Books,21,\nPrice,,6.00,,,,,,\nEndMessage,5\n",
+            "Message,1,06,4012345000009,06,5012345678900,3,1,20250301,02,GBP\nProduct,R3,03,15,9781234567897\nProductSupply,GB IE,,\nSupplyDetail,04,06,4012345000009,North Books,21,\nPrice,,5,,,,,,\nEndMessage,5\n",
+            "Message,1,06,4012345000009,06,5012345678900,1,1,20250301,02,GBP\nProduct,R1,03,15,9781234567897\nProductSupply,GB IE,,\nSupplyDetail,04,06,4012345000009,North Books,21,\nPrice,,1.00,,,,,,\nEndMessage,5\n",
+            "Message,1,06,4012345000009,06,5012345678900,2,1,20250301,02,GBP\nProduct,R2,03,15,9781234567897\nProductSupply,GB IE,,\nSupplyDetail,04,06,4012345000009,North Books,21,\nPrice,,2.00,,,,,,\nEndMessage,5\n",
+        ],
+        answers: &[
+            AGREED,
+            "held,north,3,waiting-for=1\n",
+            "refused,other-contents,north,3\n",
+            "held,north,3,waiting-for=1\n",
+            "applied,north,1,replaced=1,updated=0,deleted=0,unknown=0,ignored=0\n",
+            "applied,north,2,replaced=1,updated=0,deleted=0,unknown=0,ignored=0\n",
+        ],
+        status: 1,
+    },
+    Case {
+        name: "the same contents with a price in other bytes",
+        requests: &[
+            AGREE,
+            "Message,1,06,4012345000009,06,5012345678900,1,1,20250301,02,GBP\nProduct,R1,03,15,9781234567897\nProductSupply,GB IE,,\nSupplyDetail,04,06,4012345000009,North Books,21,\nPrice,,12.99,,,,,,\nEndMessage,5\n",
+            "\"Message\",\"1\",\"06\",\"4012345000009\",\"06\",\"5012345678900\",\"1\",\"2\",\"20250302\",\"02\",\"GBP\"\r\n\"Product\",\"R1\",\"03\",\"15\",\"9781234567897\"\r\n\"ProductSupply\",\"IE GB\",\"\",\"\"\r\n\"SupplyDetail\",\"04\",\"06\",\"4012345000009\",\"North Books\",\"21\",\"\"\r\n\"Price\",\"02\",\"12.990\",\"GBP\",\"\",\"WORLD\",\"\",\"\",\"\"\r\n\"EndMessage\",\"5\"\r\n",
+            "Message,1,06,4012345000009,06,5012345678900,1,1,20250301,02,GBP\nProduct,R1,03,15,9781234567897\nProductSupply,GB IE,,\nSupplyDetail,04,06,4012345000009,North Books,21,\nPrice,,12.98,,,,,,\nEndMessage,5\n",
+        ],
+        answers: &[
+            AGREED,
+            "applied,north,1,replaced=1,updated=0,deleted=0,unknown=0,ignored=0\n",
+            "applied,north,1,replaced=1,updated=0,deleted=0,unknown=0,ignored=0\n",
+            "refused,other-contents,north,1\n",
+        ],
+        status: 1,
+    },
+    Case {
+        name: "a message with a price without its last line",
+        requests: &[
+            AGREE,
+            "Message,1,06,4012345000009,06,5012345678900,1,1,20250301,02,GBP\nProduct,R1,03,15,9781234567897\nProductSupply,GB IE,,\nSupplyDetail,04,06,4012345000009,North Books,21,\nPrice,,1,,,,,,\n",
+        ],
+        answers: &[AGREED, "refused,malformed,6\n"],
+        status: 1,
+    },
+    Case {
+        name: "a wrong count after a price",
+        requests: &[
+            AGREE,
+            "Message,1,06,4012345000009,06,5012345678900,1,1,20250301,02,GBP\nProduct,R1,03,15,9781234567897\nProductSupply,GB IE,,\nSupplyDetail,04,06,4012345000009,North Books,21,\nPrice,,1,,,,,,\nEndMessage,4\n",
+        ],
+        answers: &[AGREED, "refused,malformed,6\n"],
+        status: 1,
+    },
+    Case {
+        name: "a price after the end",
+        requests: &[
+            AGREE,
+            "Message,1,06,4012345000009,06,5012345678900,1,1,20250301,02,GBP\nProduct,R1,03,15,9781234567897\nProductSupply,GB IE,,\nSupplyDetail,04,06,4012345000009,North Books,21,\nPrice,,1,,,,,,\nEndMessage,5\nPrice,,1,,,,,,\n",
+        ],
+        answers: &[AGREED, "refused,malformed,7\n"],
+        status: 1,
+    },
+    Case {
+        name: "a price under no supply detail",
+        requests: &[
+            AGREE,
+            "Message,1,06,4012345000009,06,5012345678900,1,1,20250301,02,GBP\nProduct,R1,03,15,9781234567897\nProductSupply,GB IE,,\nPrice,,1,,,,,,\nEndMessage,4\n",
+        ],
+        answers: &[AGREED, "refused,malformed,4\n"],
+        status: 1,
+    },
+    Case {
+        name: "a price without a type and a currency anywhere",
+        requests: &[
+            AGREE,
+            "Message,1,06,4012345000009,06,5012345678900,1,1,20250301,,\nProduct,R1,03,15,9781234567897\nProductSupply,GB IE,,\nSupplyDetail,04,06,4012345000009,North Books,21,\nPrice,,1,,,,,,\nEndMessage,5\n",
+        ],
+        answers: &[AGREED, "refused,malformed,5\n"],
+        status: 1,
+    },
+    Case {
+        name: "a minimum order quantity is of form 2 alone",
+        requests: &[
+            AGREE,
+            "Message,1,06,4012345000009,06,5012345678900,1,1,20250301,02,GBP\nProduct,R1,03,15,9781234567897\nProductSupply,GB IE,,\nSupplyDetail,04,06,4012345000009,North Books,21,\nPrice,,12.99,,,,,,\nPrice,,9.99,,,,,,,10\nEndMessage,6\n",
+            "Message,2,06,4012345000009,06,5012345678900,1,1,20250301,02,GBP\nProduct,R1,03,15,9781234567897\nProductSupply,GB IE,,\nSupplyDetail,04,06,4012345000009,North Books,21,\nPrice,,12.99,,,,,,\nPrice,,9.99,,,,,,,10\nEndMessage,6\n",
+            CATALOGUE,
+        ],
+        answers: &[
+            AGREED,
+            "refused,malformed,6\n",
+            "applied,north,1,replaced=1,updated=0,deleted=0,unknown=0,ignored=0\n",
+            "catalogue,north,1\nrecord,R1,15,9781234567897\nProductSupply,GB IE,,\nSupplyDetail,04,06,4012345000009,North Books,21,\nPrice,02,12.990,GBP,,WORLD,,,\nPrice,02,9.990,GBP,,WORLD,,,,10\n",
+        ],
+        status: 1,
+    },
+    Case {
+        name: "an update replaces supplies and prices",
+        requests: &[
+            AGREE,
+            "Message,1,06,4012345000009,06,5012345678900,1,1,20250301,02,GBP\nProduct,R1,03,15,9781234567897\nProductSupply,GB IE,,\nSupplyDetail,04,06,4012345000009,North Books,21,\nPrice,,12.99,,,,,,\nEndMessage,5\n",
+            "Message,1,06,4012345000009,06,5012345678900,2,1,20250301,02,GBP\nProduct,R1,04,15,9781234567897\nProductSupply,,WORLD,\nSupplyDetail,04,06,4012345000009,North Books,20,\nPrice,,8,,,,,,\nEndMessage,5\n",
+            CATALOGUE,
+        ],
+        answers: &[
+            AGREED,
+            "applied,north,1,replaced=1,updated=0,deleted=0,unknown=0,ignored=0\n",
+            "applied,north,2,replaced=0,updated=1,deleted=0,unknown=0,ignored=0\n",
+            "catalogue,north,1\nrecord,R1,15,9781234567897\nProductSupply,,WORLD,\nSupplyDetail,04,06,4012345000009,North Books,20,\nPrice,02,8.000,GBP,,WORLD,,,\n",
+        ],
+        status: 0,
     },
 ];

@@ -1,5 +1,4 @@
-use Rattle.std.proofs.Common.{◌≡◌, ap, map, sym, ◌∙◌}
-use Rattle.onix_message.specs.Records.{records_of}
+use Rattle.std.proofs.Common.{ap, map, ◌∙◌}
 use Rattle.series_rules.specs.Batch.{requests_of}
 use Rattle.series_rules.specs.Pieces.{pieces}
 use Rattle.series_rules.specs.RequestRows.{request_of}

@@ -1,4 +1,4 @@
-use Rattle.std.proofs.Common.{◌≡◌, ◌<◌, length, arith}
+use Rattle.std.proofs.Common.{◌<◌, length, arith}
 use Rattle.series_rules.specs.Batch.{limit}
 use Rattle.series_rules.proofs.Bytes.{long_told, some_told}
 use Rattle.series_rules.proofs.batch.read_input.Goals as goal

@@ -1,8 +1,7 @@
-use Rattle.std.proofs.Common.{◌≡◌, ◌++◌, ◌∷◌, [], ◌+◌, length, ap, sym, ◌∙◌, refl, arith, true, false}
+use Rattle.std.proofs.Common.{◌≡◌, ◌∷◌, length, ap, sym, ◌∙◌, refl, arith, true, false}
 use Rattle.std.specs.Vec.Iter.{into_iter_items, into_iter_len}
-use Rattle.series_rules.specs.Pieces.{begins_request, pieces}
-use Rattle.series_rules.specs.Closed.{closed}
-use Rattle.series_rules.proofs.PieceLists.{is_one_piece, next_begins, next_joins, none_next, one_piece_more}
+use Rattle.series_rules.specs.Pieces.{begins_request}
+use Rattle.series_rules.proofs.PieceLists.{next_begins, next_joins, none_next, one_piece_more}
 use Rattle.series_rules.proofs.pieces.cut_pieces.Goals as goal
 use Rattle.series_rules.proofs.pieces.cut_pieces.Goals.{then-begins_piece+in_ok-close_piece, else-begins_piece}
 

@@ -1,5 +1,5 @@
 use Rattle.std.proofs.Common.{◌≡◌, map, take}
-use Rattle.series_rules.proofs.answer_text.row.Given as goal
+use Rattle.series_rules.proofs.text_rows.row.Given as goal
 
 abbrev pub invariant-loop-field : goal.invariant-loop-field
 invariant-loop-field l = l.out ≡ map (λ f. f.now) (take l.field-index l.fields)

@@ -1,3 +1,4 @@
 pub mod Records
 pub mod Effects
 pub mod Plans
+pub mod Offers

@@ -1,10 +1,11 @@
 -- A catalogue: the records of a series by the bytes of their references.
-use Rattle.std.specs.Prelude.{ℕ, List, map, String}
+use Rattle.std.specs.Prelude.{ℕ, ◌≤◌, IfSome, List, map, String}
 use Rattle.std.specs.Global.{Global}
-use Rattle.std.specs.FinMap.{FinMap, entries, from_entries}
+use Rattle.std.specs.FinMap.{FinMap, entries, from_entries, get}
 use Rattle.std.specs.Ordering.{nat_cmp}
 use Rattle.std.specs.Cmp.Lexicographic.{slice_cmp}
 use Rattle.std.specs.String.{string_bytes}
+use Rattle.onix_message.specs.DetailCount.{detail_count}
 use Rattle.catalogue_rules.specs.declared.entry.Entry.{Entry}
 
 -- a finite map from references to what is kept of each record
@@ -22,3 +23,11 @@ map_of entries = from_entries (by_bytes entries)
 -- the records in order of reference
 abbrev pub records_of : ByReference → List (List ℕ × Entry)
 records_of m = entries m
+
+-- P holds of what each key has
+abbrev pub EachHas : {X : Type 0} → (X → Type 0) → FinMap (slice_cmp nat_cmp) X → Type 0
+EachHas P m = (q : List ℕ) → IfSome (get m q) P
+
+-- a record has at most 20,000 SupplyDetails
+abbrev pub HasFewDetails : Entry → Type 0
+HasFewDetails e = detail_count e.supplies ≤ 20000

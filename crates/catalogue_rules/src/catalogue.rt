@@ -1,23 +1,29 @@
-ghost use Rattle.std.specs.Prelude.{◌≡◌, ◌↔◌, IfOk, IsTrue, OnOk, OnErr, IsSome, None, ℕ, List, All, Contains};
+ghost use Rattle.std.specs.Prelude.{◌≡◌, ◌↔◌, IfOk, IfSome, IsTrue, OnOk, OnErr, IsSome, None, ℕ, List, All, Contains};
 ghost use Rattle.std.specs.Option.{option_copied};
 ghost use Rattle.std.specs.String.{string_bytes};
 ghost use Rattle.std.specs.FinMap as map;
-ghost use Rattle.catalogue_rules.specs.Records.{by_bytes, records_of};
+ghost use Rattle.catalogue_rules.specs.Records.{EachHas, HasFewDetails, by_bytes, records_of};
 ghost use Rattle.catalogue_rules.specs.Effects.{after, effect_of};
+ghost use Rattle.catalogue_rules.specs.Offers.{offers_in};
 ghost use Rattle.catalogue_rules.specs.Plans.{IsReady, entry_now};
 
 use crate::draft::Draft;
 use crate::effect::Effect;
 use crate::entry::Entry;
+use crate::offers::add_record;
 use crate::plan::Plan;
 use onix_message::parts::Contents;
+use onix_terms::isbn13::Isbn13;
 use onix_terms::items::Items;
+use onix_terms::series_name::SeriesName;
 use onix_terms::text::Text;
+use price_rules::offer::Offer;
 use std::alloc::{AllocError, Global};
 use std::collections::{BTreeMap, btree_map};
 use std::marker::Model;
 
-/// The records of a series by their references, which contracts see as a finite map.
+/// The records of a series by their references, which contracts see as a finite map. Each has at
+/// most 20,000 SupplyDetails.
 #[derive(Drop)]
 pub struct Catalogue {
     alloc: Global,
@@ -29,13 +35,15 @@ impl Model for Catalogue {
     ghost use Rattle.std.specs.FinMap as map;
     ghost use Rattle.std.specs.Coded.{coded_ℕ, coded_list};
     ghost use Rattle.catalogue_rules.specs.contracts.entry.Entry as e;
-    ghost use Rattle.catalogue_rules.specs.Records.{ByReference, map_of};
+    ghost use Rattle.catalogue_rules.specs.Records.{ByReference, EachHas, HasFewDetails, map_of};
 
     ghost Value = { ByReference };
 
     ghost coded = { map.code (coded_list coded_ℕ) e.the_row.coded };
 
     ghost view = { λ c. map_of c.records.entries };
+
+    ghost invariant = { λ c. EachHas HasFewDetails (map_of c.records.entries) };
 }
 
 impl Catalogue {
@@ -51,23 +59,28 @@ impl Catalogue {
 
     /// What the catalogue keeps of a reference.
     pub fn get(&self, reference: &str) -> Option<&Entry>
-        ensures { option_copied result ≡ map.get self.now reference.now }
+        ensures entry { option_copied result ≡ map.get self.now reference.now }
+        ensures few { IfSome (option_copied result) HasFewDetails }
     {
         self.records.get(reference)
     }
 
-    // Puts the entry in the place of what the reference had.
-    fn put(&mut self, reference: String, entry: Entry) -> Result<(), AllocError>
-        ensures ok { OnOk result (self.new ≡ map.insert self.old (string_bytes reference) entry) }
+    /// Puts an entry of at most 20,000 SupplyDetails in the place of what the reference had. Where
+    /// memory runs out, the catalogue stays as it was.
+    pub fn put(&mut self, reference: &str, entry: Entry) -> Result<(), AllocError>
+        requires { HasFewDetails entry }
+        ensures ok { OnOk result (self.new ≡ map.insert self.old reference.now entry) }
         ensures err { OnErr result (self.new ≡ self.old) }
     {
-        self.records.insert(reference, entry)?;
+        let key = String::from_str(self.alloc, reference)?;
+        self.records.insert(key, entry)?;
         Ok(())
     }
 
     // Puts the entry in the place of the one that the reference has, which takes no memory.
     fn replace(&mut self, reference: String, entry: Entry)
-        requires { IsSome (map.get self.old (string_bytes reference)) }
+        requires there { IsSome (map.get self.old (string_bytes reference)) }
+        requires few { HasFewDetails entry }
         ensures { self.new ≡ map.insert self.old (string_bytes reference) entry }
     {
         match self.records.insert(reference, entry) {
@@ -89,9 +102,8 @@ impl Catalogue {
         ensures there { OnOk result (All (λ k. IsSome (map.get self.new k)) fresh.now) }
     {
         for reference in fresh {
-            let key = String::from_str(alloc, reference.as_str())?;
             self.put(
-                key,
+                reference.as_str(),
                 Entry {
                     ids: Items::new(alloc),
                     supplies: Items::new(alloc),
@@ -127,7 +139,8 @@ impl Catalogue {
 
     // Carries out the changes, which takes no memory where each new reference has its place.
     fn settle(&mut self, draft: Draft)
-        requires { (q : List ℕ) → IsReady (map.get self.old q) (map.get draft q) }
+        requires ready { (q : List ℕ) → IsReady (map.get self.old q) (map.get draft q) }
+        requires few { EachHas (λ w. IfSome w HasFewDetails) draft }
         ensures { (q : List ℕ) → map.get self.new q ≡ entry_now (map.get self.old q) (map.get draft q) }
     {
         let mut rest = draft;
@@ -159,9 +172,23 @@ impl Catalogue {
 
     /// The records in order of reference, each as its reference and its entry.
     pub fn entries(&self) -> btree_map::Iter<'_, String, Entry>
-        ensures { by_bytes result ≡ records_of self.now }
+        ensures records { by_bytes result ≡ records_of self.now }
+        ensures few { All (λ r. HasFewDetails r.1) (records_of self.now) }
     {
         self.records.iter()
+    }
+
+    /// The article's offers under the name of a series: those of each record that has an
+    /// identifier of type 03 or 15 with this value, in order of reference and place.
+    pub fn offers_of(&self, series: &SeriesName, isbn: &Isbn13) -> Result<Items<Offer>, AllocError>
+        ensures { IfOk result (λ offers. offers ≡ offers_in series.now self.now isbn.now) }
+    {
+        let alloc = self.alloc;
+        let mut offers = Items::new(alloc);
+        for (reference, entry) in self.entries() {
+            add_record(alloc, &mut offers, series, isbn, reference.as_str(), entry)?;
+        }
+        Ok(offers)
     }
 
     /// How many records there are.

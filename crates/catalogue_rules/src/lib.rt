@@ -1,11 +1,14 @@
-//! The catalogue of a series: its records by their references, and what a message does to them.
-//! A message is planned before anything is changed, so that want of memory leaves the catalogue.
+//! The catalogue of a series: its records by their references, what a message does to them, and
+//! the offers that they make of an article. A message is planned before anything is changed, so
+//! that want of memory leaves the catalogue. Each record has at most 20,000 SupplyDetails.
 //! The definitions are in `specs/Records.antt` (a catalogue as a finite map), `specs/Effects.antt`
-//! (the effect of a message) and `specs/Plans.antt` (what a plan promises).
+//! (the effect of a message), `specs/Plans.antt` (what a plan promises) and `specs/Offers.antt`
+//! (the offers of an article).
 #![tactic(auto)]
 
 pub mod catalogue;
 mod draft;
 pub mod effect;
 pub mod entry;
+mod offers;
 mod plan;

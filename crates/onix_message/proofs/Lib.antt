@@ -16,3 +16,4 @@ pub mod TerritoryTexts
 pub mod CleanTexts
 pub mod RowTexts
 pub mod ContentsBack
+pub mod DetailCounts

@@ -97,7 +97,8 @@ impl Model for Contents {
 }
 
 impl Contents {
-    ghost use Rattle.std.specs.Prelude.{◌≡◌, ◌≤◌, length};
+    ghost use Rattle.std.specs.Prelude.{◌≡◌, ◌≤◌, All, length};
+    ghost use Rattle.onix_message.specs.DetailCount.{detail_count};
     ghost use Rattle.onix_message.specs.Nest.{content_rows};
     ghost use Rattle.onix_message.specs.SameContents.{same_contents};
 
@@ -114,6 +115,7 @@ impl Contents {
         ensures products { result.now ≡ self.now }
         ensures few { length self.now ≤ 19998 }
         ensures few_rows { length (content_rows self.now) ≤ 19998 }
+        ensures few_details { All (λ p. detail_count p.supplies ≤ 19998) self.now }
     {
         self.products.as_slice()
     }

@@ -39,8 +39,8 @@ within_is from to day h k = grind (arith, ints)
 within_before : (from to day : ℤ) → day ≤ℤ from → within from to day ≡ []
 within_before from to day h = grind (arith, ints)
 
-within_behind : (from to day : ℤ) → to <ℤ day → within from to day ≡ []
-within_behind from to day h = grind (arith, ints)
+within_after : (from to day : ℤ) → to <ℤ day → within from to day ≡ []
+within_after from to day h = grind (arith, ints)
 
 abbrev IsWithin : ℤ → ℤ → ℤ → Type 0
 IsWithin from to d = (from <ℤ d) × (d ≤ℤ to)
@@ -49,7 +49,7 @@ from_within : (from to day d : ℤ) → Contains (within from to day) d → (day
 from_within from to day d h =
     by_lt_z from day
     (λ a. by_lt_z to day
-    (λ b. absurd (not_in_none d (subst (λ xs. Contains xs d) (within_behind from to day b) h)))
+    (λ b. absurd (not_in_none d (subst (λ xs. Contains xs d) (within_after from to day b) h)))
     (λ b. (in_one day d (subst (λ xs. Contains xs d) (within_is from to day a b) h), (a, b))))
     (λ a. absurd (not_in_none d (subst (λ xs. Contains xs d) (within_before from to day a) h)))
 
@@ -117,7 +117,7 @@ each_of from to ps days same d = (
       (λ k. rest_in from (flat_map (breaks_of from to) ps) d (onto_gathered from to d ps (k.0, k.1) k.2)) h),
 )
 
--- a price holds on both days where none breaks behind the first and up to the second
+-- no price begins, or ended on the day before, after the first day and up to the second
 abbrev NoneBreaks : List Price → ℤ → ℤ → Type 0
 NoneBreaks ps first day = (other : ℤ) → first <ℤ other → other ≤ℤ day → Breaks ps other → ⊥
 

@@ -22,7 +22,7 @@ covers_on C first [] t s e le days h =
 covers_on C first (x ∷ xs) t s e le days h =
     (h.0, h.1, h.2, differs_same x xs t (record t { last = s.last }) refl h.3, covers_on C (x.last +ℤ pos 1) xs t s e le days h.4)
 
--- the next span stands behind the last one
+-- the next span comes after the last one
 covers_more : (C : ℤ → Option ℕ → Type 0) (first : ℤ) (xs : List Span) (t s : Span) → (t.amount ≡ s.amount → ⊥) → s.first ≤ℤ s.last
     → ((day : ℤ) → s.first ≤ℤ day → day ≤ℤ s.last → C day s.amount)
     → Covers C first s.first (xs ++ t ∷ []) → Covers C first (s.last +ℤ pos 1) ((xs ++ t ∷ []) ++ s ∷ [])
@@ -44,7 +44,7 @@ pub covers_up : (C : ℤ → Option ℕ → Type 0) (first end : ℤ) (xs : List
 covers_up C first end [] h = omega (arith, ints)
 covers_up C first end (x ∷ xs) h = let k = covers_up C (x.last +ℤ pos 1) end xs h.4 in omega (arith, ints)
 
--- the first amount does not go on behind its span
+-- the first amount does not go on after its span
 ends_first : (C : ℤ → Option ℕ → Type 0) → ((day : ℤ) (a b : Option ℕ) → C day a → C day b → a ≡ b)
     → (x y : Span) (xs : List Span) (end : ℤ) → x.amount ≡ y.amount → x.first ≡ y.first → x.first ≤ℤ x.last → y.last <ℤ end
     → ((day : ℤ) → y.first ≤ℤ day → day ≤ℤ y.last → C day y.amount)

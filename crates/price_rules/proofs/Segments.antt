@@ -15,8 +15,8 @@ use Rattle.price_rules.specs.declared.offer.PriceQuery.{PriceQuery}
 not_before : (o : Offer) (from to : ℤ) (days : List ℤ) → IsBreakDays o from to days → (day : ℤ) → Contains days day → from ≤ℤ day
 not_before o from to days b day h = ⊎_elim (λ e. omega (arith, ints)) (λ k. omega (arith, ints)) ((b.each day).0 h)
 
-not_behind : (o : Offer) (from to : ℤ) (days : List ℤ) → from ≤ℤ to → IsBreakDays o from to days → (day : ℤ) → Contains days day → day ≤ℤ to
-not_behind o from to days le b day h = ⊎_elim (λ e. omega (arith, ints)) (λ k. k.1) ((b.each day).0 h)
+not_after : (o : Offer) (from to : ℤ) (days : List ℤ) → from ≤ℤ to → IsBreakDays o from to days → (day : ℤ) → Contains days day → day ≤ℤ to
+not_after o from to days le b day h = ⊎_elim (λ e. omega (arith, ints)) (λ k. k.1) ((b.each day).0 h)
 
 pub some_day : (o : Offer) (from to : ℤ) (days : List ℤ) → IsBreakDays o from to days → 0 < length days
 some_day o from to days b = let h = (b.each from).1 (inl refl) in omega (arith, h.1)
@@ -38,10 +38,10 @@ first_day o from to days b d =
     let is = h.2 in
     omega (arith, ints)
 
--- behind the break day at k the next one is at k + 1, or the range has ended
+-- after the break day at k the next one is at k + 1, or the range has ended
 pub edge_up : (o : Offer) (from to : ℤ) (days : List ℤ) → from ≤ℤ to → IsBreakDays o from to days → (k : ℕ) (d : ℤ) → k < length days → get_or days k d <ℤ get_or days (k + 1) (to +ℤ pos 1)
 edge_up o from to days le b k d l =
-    let behind = not_behind o from to days le b (get_or days k d) (Contains-get_or days k d l) in
+    let inside = not_after o from to days le b (get_or days k d) (Contains-get_or days k d l) in
     let e = get_or_default days k d (to +ℤ pos 1) l in
     ⊎_elim
     (λ lt. let h = b.ascending k (k + 1) (to +ℤ pos 1) (omega arith) lt in omega (arith, ints))
@@ -51,7 +51,7 @@ edge_up o from to days le b k d l =
 edge_end : (o : Offer) (from to : ℤ) (days : List ℤ) → from ≤ℤ to → IsBreakDays o from to days → (k : ℕ) → get_or days k (to +ℤ pos 1) ≤ℤ (to +ℤ pos 1)
 edge_end o from to days le b k =
     ⊎_elim
-    (λ lt. let h = not_behind o from to days le b (get_or days k (to +ℤ pos 1)) (Contains-get_or days k (to +ℤ pos 1) lt) in omega (arith, ints))
+    (λ lt. let h = not_after o from to days le b (get_or days k (to +ℤ pos 1)) (Contains-get_or days k (to +ℤ pos 1) lt) in omega (arith, ints))
     (λ ge. let h = get_or_past days k (to +ℤ pos 1) ge in omega (arith, ints))
     (cases_lt k (length days))
 

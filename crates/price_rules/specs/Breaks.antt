@@ -13,7 +13,7 @@ Breaks prices day =
     (p : Price) × Contains prices p
     × ((p.from ≡ Some day) ⊎ ((until : ℤ) × (p.until ≡ Some until) × (day ≡ until +ℤ pos 1)))
 
--- the break days of a range: its first day, and those behind it on which a price begins or the day before ended one, in order without repeats
+-- the break days of a range, in order without repeats: its first day, and each later one on which a price begins or the day before which one ended
 pub record IsBreakDays (offer : Offer) (from to : ℤ) (days : List ℤ) : Type 0 where
   pub ascending : AllPairs (λ a b. a <ℤ b) days
   pub each : (day : ℤ) → Contains days day ↔ ((day ≡ from) ⊎ ((from <ℤ day) × (day ≤ℤ to) × Breaks offer.prices day))
@@ -25,7 +25,7 @@ IsSteady offer to days =
     → ((other : ℤ) → Contains days other → first <ℤ other → day <ℤ other)
     → (q : PriceQuery) → current offer (on_day q day) ≡ current offer (on_day q first)
 
--- the day, if it lies in the range behind its first day
+-- the day, if it lies in the range after its first day
 abbrev pub within : ℤ → ℤ → ℤ → List ℤ
 within from to day = if int_lt from day && not (int_lt to day) then day ∷ [] else []
 

@@ -27,7 +27,7 @@ abbrev pub Differs : Span → List Span → Type 0
 Differs s [] = Unit {0}
 Differs s (t ∷ rest) = s.amount ≡ t.amount → ⊥
 
--- the spans cover in order the days from `first` up to `end`, without it, each with the amount of all its days, and neighbours differ
+-- the spans cover, in order, the days from `first` to the one before `end`: each has the amount of all its days, and neighbours differ
 abbrev pub Covers : (ℤ → Option ℕ → Type 0) → ℤ → ℤ → List Span → Type 0
 Covers HasAmount first end [] = first ≡ end
 Covers HasAmount first end (s ∷ rest) =

@@ -156,8 +156,10 @@ pub fn calendar(
     price_type: Code2,
     quantity: Quantity,
 ) -> Result<Items<Span>, CalendarFault>
-    ensures meaning { IfOk result (λ spans. IsCalendar offer.now (question from country currency price_type quantity) from to spans) }
-    ensures value { IfOk result (λ spans. spans ≡ calendar_spans offer.now (question from country currency price_type quantity) from to) }
+    ensures meaning { IfOk result
+        (λ spans. IsCalendar offer.now (question from country currency price_type quantity) from to spans) }
+    ensures value { IfOk result
+        (λ spans. spans ≡ calendar_spans offer.now (question from country currency price_type quantity) from to) }
     ensures bad_range { (result ≡ Err CalendarFault.BadRange) ↔ IsBadRange from to }
 {
     let days = break_days(alloc, offer, from, to)?;

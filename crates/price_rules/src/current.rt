@@ -73,7 +73,8 @@ fn better<'a>(
     market: &Territory,
     query: &PriceQuery,
 ) -> Option<&'a Price>
-    ensures { IsTurn (Holds market.now query.now) Outranks price.now (option_copied best.entry) (option_copied result) }
+    ensures { IsTurn (Holds market.now query.now) Outranks price.now
+        (option_copied best.entry) (option_copied result) }
 {
     if !holds(price, market, query) {
         return best;

@@ -59,8 +59,10 @@ pub fn calendar_day_by_day(
     price_type: Code2,
     quantity: Quantity,
 ) -> Result<Items<Span>, CalendarFault>
-    ensures meaning { IfOk result (λ spans. IsCalendar offer.now (question from country currency price_type quantity) from to spans) }
-    ensures value { IfOk result (λ spans. spans ≡ calendar_spans offer.now (question from country currency price_type quantity) from to) }
+    ensures meaning { IfOk result
+        (λ spans. IsCalendar offer.now (question from country currency price_type quantity) from to spans) }
+    ensures value { IfOk result
+        (λ spans. spans ≡ calendar_spans offer.now (question from country currency price_type quantity) from to) }
     ensures bad_range { (result ≡ Err CalendarFault.BadRange) ↔ IsBadRange from to }
 {
     if is_bad_range(from, to) {

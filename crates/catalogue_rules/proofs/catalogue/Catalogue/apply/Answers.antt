@@ -1,7 +1,11 @@
-use Rattle.std.proofs.Common.{◌≡◌, ℕ, List, ap, subst, ◌∙◌}
+use Rattle.std.proofs.Common.{◌≡◌, ◌≤◌, ℕ, List, ap, subst, sym, ◌∙◌}
 use Rattle.std.specs.FinMap as map
-use Rattle.std.specs.List.{Contains}
+use Rattle.std.specs.List.{All, Contains}
+use Rattle.onix_message.specs.DetailCount.{detail_count}
+use Rattle.onix_message.specs.declared.parts.Product.{Product}
 use Rattle.catalogue_rules.specs.Effects.{after}
+use Rattle.catalogue_rules.specs.Records.{EachHas, HasFewDetails}
+use Rattle.catalogue_rules.proofs.Bounds.{few-after, few-changes}
 use Rattle.catalogue_rules.proofs.Changes.{carried_out}
 use Rattle.catalogue_rules.proofs.catalogue.Catalogue.apply.Goals as goal
 
@@ -12,3 +16,12 @@ returns-clause-ok c =
     let others = subst (λ (fresh : List (List ℕ)). (q : List ℕ) → (Contains fresh q → ⊥) → map.get c.make_room.new.self q ≡ map.get base q) c.as_slice.ensures c.in_ok-make_room.ensures.others in
     carried_out base plan.draft plan.fresh (after base c.products.result.now) c.make_room.new.self c.settle.new.self c.in_ok-draft.ensures.plan others c.settle.ensures
     ∙ ap (after base) c.products.ensures.products
+
+pub settle-requires-clause-few : goal.settle-requires-clause-few
+settle-requires-clause-few c =
+    let base = c.args.self.now in
+    let plan = c.in_ok-draft.field-0 in
+    let products = c.products.result.now in
+    let few = subst (λ (ps : List Product). All (λ p. detail_count p.supplies ≤ 19998) ps) (sym c.products.ensures.products) c.products.ensures.few_details in
+    few-changes base plan.draft plan.fresh (after base products) c.in_ok-draft.ensures.plan
+    (few-after base products few (subst (EachHas HasFewDetails) c.self.view_is c.self.invariant))

@@ -1,8 +1,7 @@
-use Rattle.std.proofs.Common.{◌≡◌, ℕ, List, Some, IsSome, take, refl, sym, ap, subst, ◌∙◌}
+use Rattle.std.proofs.Common.{ℕ, List, Some, IsSome, take, refl, sym, ap, subst, ◌∙◌}
 use Rattle.std.specs.List.{All, Contains}
 use Rattle.std.specs.FinMap as map
 use Rattle.std.specs.FinMap.{get-insert}
-use Rattle.std.specs.String.{string_bytes}
 use Rattle.std.proofs.lemmas.Cmp.{nat_list_cmp_total}
 use Rattle.std.proofs.lemmas.List.{take_all}
 use Rattle.std.proofs.lemmas.List.Elements.{All-more, All-weaker}
@@ -16,8 +15,7 @@ loop-reference-preserved c =
     let i = c.loop-reference.reference-index in
     let text = c.reference-item.result in
     let empty : Entry = record { ids = c.new.result; supplies = c.new-in-loop-reference.result } in
-    let same : string_bytes c.in_ok-key.key ≡ text = c.in_ok-key.ensures.ok ∙ c.as_str.ensures in
-    let put = c.in_ok-put.ensures.ok ∙ ap (λ k. map.insert c.loop-reference.self k empty) same in
+    let put = c.in_ok-put.ensures.ok ∙ ap (λ k. map.insert c.loop-reference.self k empty) c.as_str.ensures in
     let now = λ (q : List ℕ). ap (λ m. map.get m q) put ∙ get-insert nat_list_cmp_total c.loop-reference.self text empty q in
     let inside : Contains fresh text = (i, c.loop-reference-test.true, sym c.reference-item.is) in (
       λ q f. changed_there c.loop-reference.self c.put.new.self text q (Some empty) now (λ e. f (subst (Contains fresh) (sym e) inside)) ∙ c.loop-reference.invariant.0 q f,

@@ -1,0 +1,65 @@
+// Records and messages of a long text, beside `csv` alone on the same bytes.
+
+use crate::texts::messages;
+use crate::times::{print_ratio, used};
+use csv::{ByteRecord, ReaderBuilder};
+use onix_message::message::read_message;
+use onix_message::records::read_records;
+use series_rules::pieces::cut_pieces;
+use std::alloc::Global;
+use std::fs;
+use std::rt::Files;
+
+// How many records `csv` reads of the bytes, into one record again and again.
+fn records_by_csv(alloc: Global, bytes: &[u8]) -> anyhow::Result<u64> {
+    let mut reader = ReaderBuilder::new()
+        .has_headers(false)
+        .flexible(true)
+        .from_reader(alloc, bytes);
+    let mut record = ByteRecord::new(alloc);
+    let mut count = 0u64;
+    for _ in 0..u64::MAX {
+        match reader.read_byte_record(&mut record) {
+            Ok(true) => count = count.saturating_add(1),
+            Ok(false) => break,
+            Err(_) => anyhow::bail!("csv refused the text"),
+        }
+    }
+    Ok(count)
+}
+
+// How many messages the bytes are.
+fn messages_of(alloc: Global, bytes: &[u8]) -> anyhow::Result<u64> {
+    let Ok(records) = read_records(alloc, bytes) else {
+        anyhow::bail!("the text has no records");
+    };
+    let pieces = cut_pieces(alloc, records)?;
+    let mut count = 0u64;
+    for piece in pieces.as_slice() {
+        match read_message(alloc, piece.as_slice()) {
+            Ok(_) => count = count.saturating_add(1),
+            Err(_) => anyhow::bail!("a piece is no message"),
+        }
+    }
+    Ok(count)
+}
+
+/// Prints the time of reading a text of about 4 MB, as a ratio to `csv` alone.
+pub fn report(rt: &HostRuntime) -> anyhow::Result<()> {
+    let alloc = rt.alloc();
+    let text = messages(alloc, 4_150_000)?;
+    let bytes = text.len();
+    let start = used(rt)?;
+    let records = records_by_csv(alloc, text.as_bytes())?;
+    let between = used(rt)?;
+    let messages = messages_of(alloc, text.as_bytes())?;
+    let end = used(rt)?;
+    println!(rt; "text: {bytes} bytes, {records} records, {messages} messages")?;
+    print_ratio(
+        rt,
+        "records and messages, to csv alone",
+        end.saturating_sub(between),
+        between.saturating_sub(start),
+    )?;
+    Ok(())
+}

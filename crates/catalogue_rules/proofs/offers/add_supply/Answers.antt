@@ -1,0 +1,32 @@
+use Rattle.std.proofs.Common.{◌≡◌, ◌<◌, ◌+◌, ◌++◌, ◌∷◌, [], ℕ, List, subst, append_assoc, ap, arith, length, length-take, map, sym, take, ◌∙◌}
+use Rattle.onix_message.specs.declared.parts.SupplyDetail.{SupplyDetail}
+use Rattle.catalogue_rules.specs.Offers.{offer_of, offers_from}
+use Rattle.price_rules.specs.declared.offer.Offer.{Offer}
+use Rattle.catalogue_rules.proofs.Places.{offers-push, take-next}
+use Rattle.catalogue_rules.proofs.offers.add_supply.Goals as goal
+
+pub loop-detail-preserved : goal.loop-detail-preserved
+loop-detail-preserved c =
+    let series = c.args.series.now in
+    let reference = c.args.reference.now in
+    let first = c.args.before + 1 in
+    let market = c.args.supply.now.market in
+    let details = c.args.supply.now.details in
+    let i = c.loop-detail.detail-index in
+    let d = c.detail-item.result in
+    let old = c.args.offers.now in
+    let past = take i details in
+    let more = take-next details c.as_slice-detail-items.result.now i d c.as_slice-detail-items.ensures c.loop-detail-test.true c.detail-item.is in
+    let is_at = c.loop-detail.invariant.place in
+    let within : i < length details = subst (λ (ds : List SupplyDetail). i < length ds) c.as_slice-detail-items.ensures c.loop-detail-test.true in
+    let place : c.loop-detail.place + 1 ≡ first + length past = omega (arith, is_at, within, length-take i details) in
+    record {
+      place = omega (arith, is_at);
+      offers = c.in_ok-push.ensures.ok
+          ∙ ap (λ (o : Offer). c.loop-detail.offers ++ o ∷ []) c.in_ok-offer.ensures
+          ∙ ap (λ (n : ℕ). c.loop-detail.offers ++ offer_of series reference (n, (market, d)) ∷ []) place
+          ∙ ap (λ (os : List Offer). os ++ offer_of series reference (first + length past, (market, d)) ∷ []) c.loop-detail.invariant.offers
+          ∙ append_assoc old (offers_from series reference first (map (λ x. (market, x)) past)) (offer_of series reference (first + length past, (market, d)) ∷ [])
+          ∙ ap (λ (os : List Offer). old ++ os) (sym (offers-push series reference first market past d))
+          ∙ ap (λ (ds : List SupplyDetail). old ++ offers_from series reference first (map (λ x. (market, x)) ds)) (sym more);
+    }

@@ -1,0 +1,117 @@
+// The offers that the records of a catalogue make of an article.
+
+ghost use Rattle.std.specs.Prelude.{◌≡◌, ◌+◌, ◌<◌, ◌^◌, ◌++◌, IfOk, OnOk, length};
+ghost use Rattle.onix_message.specs.DetailCount.{detail_count};
+ghost use Rattle.catalogue_rules.specs.Records.{HasFewDetails};
+ghost use Rattle.catalogue_rules.specs.Offers.{entry_offers, has_article, is_article, offer_of, offers_from, record_offers, supply_details};
+
+use crate::entry::Entry;
+use onix_message::parts::{ProductIdentifier, ProductSupply, SupplyDetail};
+use onix_terms::isbn13::Isbn13;
+use onix_terms::items::Items;
+use onix_terms::plain::Plain;
+use onix_terms::series_name::SeriesName;
+use onix_terms::territory::Territory;
+use onix_terms::text::Text;
+use price_rules::offer::Offer;
+use std::alloc::{AllocError, Global};
+
+// Whether an identifier is a GTIN-13 or an ISBN-13 with this value.
+fn is_article(id: &ProductIdentifier, isbn: &Isbn13) -> bool
+    ensures { result ≡ is_article isbn.now id.now }
+{
+    let id_type = id.id_type.as_str();
+    (id_type == "03" || id_type == "15") && id.id_value.as_str() == isbn.as_str()
+}
+
+// Whether a record has an identifier of type 03 or 15 with this value.
+fn has_article(entry: &Entry, isbn: &Isbn13) -> bool
+    ensures { result ≡ has_article isbn.now entry.now }
+{
+    for id in entry.ids.as_slice() {
+        if is_article(id, isbn) {
+            return true;
+        }
+    }
+    false
+}
+
+// The offer that a SupplyDetail makes at a place, by copies of its parts.
+fn offer(
+    alloc: Global,
+    series: &SeriesName,
+    reference: &str,
+    place: u32,
+    market: &Territory,
+    detail: &SupplyDetail,
+) -> Result<Offer, AllocError>
+    ensures { IfOk result (λ o. o ≡ offer_of series.now reference.now (place, (market.now, detail.now))) }
+{
+    Ok(Offer {
+        series: *series,
+        reference: Text::from_str(alloc, reference)?,
+        place,
+        supplier: detail.supplier.duplicate()?,
+        availability: detail.availability,
+        market: market.duplicate()?,
+        prices: detail.prices.duplicate()?,
+    })
+}
+
+// Adds the offers of a supply, where so many SupplyDetails of the record come before it. Gives how
+// many come before the next supply.
+fn add_supply(
+    alloc: Global,
+    offers: &mut Items<Offer>,
+    series: &SeriesName,
+    reference: &str,
+    before: u32,
+    supply: &ProductSupply,
+) -> Result<u32, AllocError>
+    requires { before + length supply.now.details < 2 ^ 32 }
+    ensures offers { OnOk result (offers.new ≡ offers.old ++ offers_from series.now reference.now (before + 1) (supply_details supply.now)) }
+    ensures count { IfOk result (λ n. n ≡ before + length supply.now.details) }
+{
+    let mut place = before;
+    for detail in supply.details.as_slice() {
+        place += 1;
+        offers.push(offer(alloc, series, reference, place, &supply.market, detail)?)?;
+    }
+    Ok(place)
+}
+
+// Adds the offers of a record, in order of their places.
+fn add_entry(
+    alloc: Global,
+    offers: &mut Items<Offer>,
+    series: &SeriesName,
+    reference: &str,
+    entry: &Entry,
+) -> Result<(), AllocError>
+    requires { HasFewDetails entry.now }
+    ensures { OnOk result (offers.new ≡ offers.old ++ entry_offers series.now reference.now entry.now) }
+{
+    let mut count = 0;
+    for supply in entry.supplies.as_slice() {
+        count = add_supply(alloc, offers, series, reference, count, supply)?;
+    }
+    Ok(())
+}
+
+/// Adds the offers that a record has of the article.
+pub(crate) fn add_record(
+    alloc: Global,
+    offers: &mut Items<Offer>,
+    series: &SeriesName,
+    isbn: &Isbn13,
+    reference: &str,
+    entry: &Entry,
+) -> Result<(), AllocError>
+    requires { HasFewDetails entry.now }
+    ensures { OnOk result (offers.new ≡ offers.old ++ record_offers series.now isbn.now (reference.now, entry.now)) }
+{
+    if has_article(entry, isbn) {
+        add_entry(alloc, offers, series, reference, entry)?;
+    }
+    Ok(())
+}

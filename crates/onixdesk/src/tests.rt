@@ -6,6 +6,11 @@ mod inputs;
 use self::cases::CASES;
 use self::inputs::{COMMAND_LINES, INPUTS};
 use crate::run;
+use onix_message::records::read_records;
+use series_rules::answer_text::write_answer;
+use series_rules::plain::PlainDesk;
+use series_rules::request_rows::read_requests;
+use series_rules::whole::ask_all;
 use std::alloc::{AllocError, Global};
 use std::io::{self, ErrorKind, Read, Write};
 use std::test::Fail;
@@ -54,6 +59,34 @@ fn batches(rt: HostRuntime) -> Result<(), Fail> {
         );
         assert_eq!(rt; ran.errors.len(), 0, "errors of: {name}");
         assert_eq!(rt; ran.status, case.status, "status of: {name}");
+    }
+    Ok(())
+}
+
+// The texts of the answers to the requests of a text, asked one after the other of a desk that
+// goes on after storage faults. A fault has no text.
+fn answered(alloc: Global, text: &[u8]) -> Result<Vec<u8>, Fail> {
+    let records = read_records(alloc, text)?;
+    let requests = read_requests(alloc, records)?;
+    let mut desk = PlainDesk::new(alloc);
+    let outcomes = ask_all(alloc, &mut desk, requests.as_slice())?;
+    let mut texts = Vec::new(alloc);
+    for outcome in outcomes.as_slice() {
+        if let Ok(answer) = outcome {
+            texts.extend_from_slice(write_answer(alloc, answer)?.as_bytes())?;
+        }
+    }
+    Ok(texts)
+}
+
+#[test]
+fn lists_of_requests(rt: HostRuntime) -> Result<(), Fail> {
+    for case in CASES.as_slice() {
+        let name = case.name;
+        let input = joined(rt.alloc(), case.requests)?;
+        let wanted = joined(rt.alloc(), case.answers)?;
+        let texts = answered(rt.alloc(), input.as_slice())?;
+        assert_eq!(rt; texts.as_slice(), wanted.as_slice(), "answers of: {name}");
     }
     Ok(())
 }

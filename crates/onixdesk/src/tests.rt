@@ -3,7 +3,11 @@
 mod cases;
 mod inputs;
 
-use self::cases::CASES;
+use self::cases::Case;
+use self::cases::malformed::MALFORMED;
+use self::cases::orders::ORDERS;
+use self::cases::priced::PRICED;
+use self::cases::questions::QUESTIONS;
 use self::inputs::{COMMAND_LINES, INPUTS};
 use crate::run;
 use onix_message::records::read_records;
@@ -13,6 +17,7 @@ use series_rules::request_rows::read_requests;
 use series_rules::whole::ask_all;
 use std::alloc::{AllocError, Global};
 use std::io::{self, ErrorKind, Read, Write};
+use std::process::Abort;
 use std::test::Fail;
 
 // What a run wrote, and its status.
@@ -44,21 +49,24 @@ fn joined(alloc: Global, texts: &[&str]) -> Result<Vec<u8>, AllocError> {
     Ok(all)
 }
 
-#[test]
-fn batches(rt: HostRuntime) -> Result<(), Fail> {
+// Runs each case as a batch of the program, and as a list of requests that goes on after storage
+// faults.
+fn run_cases(rt: &HostRuntime, stop: &impl Abort, cases: &[Case]) -> Result<(), Fail> {
     let words = ["onixdesk", "batch"];
-    for case in CASES.as_slice() {
+    for case in cases {
         let name = case.name;
         let input = joined(rt.alloc(), case.requests)?;
         let wanted = joined(rt.alloc(), case.answers)?;
-        let ran = run_on(&rt, words.as_slice(), input.as_slice());
-        assert_eq!(rt;
+        let ran = run_on(rt, words.as_slice(), input.as_slice());
+        assert_eq!(stop;
             ran.output.as_slice(),
             wanted.as_slice(),
             "output of: {name}"
         );
-        assert_eq!(rt; ran.errors.len(), 0, "errors of: {name}");
-        assert_eq!(rt; ran.status, case.status, "status of: {name}");
+        assert_eq!(stop; ran.errors.len(), 0, "errors of: {name}");
+        assert_eq!(stop; ran.status, case.status, "status of: {name}");
+        let texts = answered(rt.alloc(), input.as_slice())?;
+        assert_eq!(stop; texts.as_slice(), wanted.as_slice(), "answers of: {name}");
     }
     Ok(())
 }
@@ -80,15 +88,23 @@ fn answered(alloc: Global, text: &[u8]) -> Result<Vec<u8>, Fail> {
 }
 
 #[test]
-fn lists_of_requests(rt: HostRuntime) -> Result<(), Fail> {
-    for case in CASES.as_slice() {
-        let name = case.name;
-        let input = joined(rt.alloc(), case.requests)?;
-        let wanted = joined(rt.alloc(), case.answers)?;
-        let texts = answered(rt.alloc(), input.as_slice())?;
-        assert_eq!(rt; texts.as_slice(), wanted.as_slice(), "answers of: {name}");
-    }
-    Ok(())
+fn messages_in_any_order(rt: HostRuntime) -> Result<(), Fail> {
+    run_cases(&rt, &rt, ORDERS.as_slice())
+}
+
+#[test]
+fn malformed_pieces(rt: HostRuntime) -> Result<(), Fail> {
+    run_cases(&rt, &rt, MALFORMED.as_slice())
+}
+
+#[test]
+fn effects_waivers_and_gaps(rt: HostRuntime) -> Result<(), Fail> {
+    run_cases(&rt, &rt, QUESTIONS.as_slice())
+}
+
+#[test]
+fn messages_with_prices(rt: HostRuntime) -> Result<(), Fail> {
+    run_cases(&rt, &rt, PRICED.as_slice())
 }
 
 #[test]

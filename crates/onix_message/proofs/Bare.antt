@@ -3,7 +3,8 @@ use Rattle.std.proofs.Common.{◌≡◌, ◌∷◌, [], ℕ, List, Bool, true, f
 use Rattle.std.specs.Prelude.{⊤, if◌then◌else◌, option_map, codes}
 use Rattle.std.specs.List.{list_all}
 use Rattle.std.specs.Str.{bytes_eq}
-use Rattle.onix_message.specs.Fields.{filled, is_clean, optional, optional_party}
+use Rattle.std.proofs.lemmas.Option.{same_Some}
+use Rattle.onix_message.specs.Fields.{is_clean, optional, optional_party}
 use Rattle.onix_message.specs.OpeningRow.{opening_fields}
 use Rattle.onix_message.specs.PriceRow.{price_of}
 use Rattle.onix_message.specs.ProductRow.{pairs_of, product_of}
@@ -16,8 +17,9 @@ use Rattle.onix_message.specs.declared.row.Opening.{Opening}
 use Rattle.onix_message.specs.declared.row.Row.{Row}
 use Rattle.onix_message.specs.declared.row.Row.TheVariants as row
 use Rattle.onix_message.proofs.FrontRows.{bind-some}
-use Rattle.onix_message.proofs.Fronts.{cons-parts, same-some}
+use Rattle.onix_message.proofs.Fronts.{cons-parts}
 use Rattle.onix_terms.specs.Code.{code2_of}
+use Rattle.onix_terms.specs.Options.{nonempty}
 use Rattle.onix_terms.specs.Territory.{territory_of}
 
 abbrev pub AllBare : List Row → Type 0
@@ -30,10 +32,10 @@ product-bare [] p e = cc e
 product-bare (reference ∷ []) p e = cc e
 product-bare (reference ∷ notification ∷ []) p e = cc e
 product-bare (reference ∷ notification ∷ kind ∷ pairs) p e =
-    let (r, _, f) = bind-some (filled reference) _ p e in
+    let (r, _, f) = bind-some (nonempty reference) _ p e in
     let (n, _, g) = bind-some (code2_of notification) _ p f in
     let (ids, _, h) = bind-some (pairs_of (kind ∷ pairs)) _ p g in
-    let same = same-some _ p h in
+    let same = same_Some _ p h in
     cc same
 
 supply-bare : (fields : List (List ℕ)) (s : ProductSupply) → supply_of fields ≡ Some s → s.details ≡ []
@@ -42,7 +44,7 @@ supply-bare (included ∷ []) s e = cc e
 supply-bare (included ∷ regions ∷ []) s e = cc e
 supply-bare (included ∷ regions ∷ excluded ∷ []) s e =
     let (t, _, f) = bind-some (territory_of included regions excluded) _ s e in
-    let same = same-some _ s f in
+    let same = same_Some _ s f in
     cc same
 supply-bare (included ∷ regions ∷ excluded ∷ more ∷ fields) s e = cc e
 
@@ -60,14 +62,14 @@ detail-bare (role ∷ id_type ∷ id_value ∷ name ∷ availability ∷ unprice
     let (n, _, h) = bind-some (supplier_name p name) _ d g in
     let (a, _, j) = bind-some (code2_of availability) _ d h in
     let (u, _, k) = bind-some (optional code2_of unpriced) _ d j in
-    let same = same-some _ d k in
+    let same = same_Some _ d k in
     cc same
 detail-bare (role ∷ id_type ∷ id_value ∷ name ∷ availability ∷ unpriced ∷ more ∷ fields) d e = cc e
 
 -- what a named row is made of
 made-bare : {A : Type 0} (make : A → Row) (read : Option A) → ((x : A) → read ≡ Some x → IsBare (make x)) → (r : Row) → option_map make read ≡ Some r → IsBare r
 made-bare make None own r e = cc e
-made-bare make (Some x) own r e = rw (← same-some (make x) r e) (own x refl)
+made-bare make (Some x) own r e = rw (← same_Some (make x) r e) (own x refl)
 
 choose : (t : Bool) (x y : Option Row) (r : Row) → (x ≡ Some r → IsBare r) → (y ≡ Some r → IsBare r) → (if t then x else y) ≡ Some r → IsBare r
 choose true x y r f g e = f e

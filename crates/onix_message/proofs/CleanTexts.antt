@@ -9,13 +9,15 @@ use Rattle.std.proofs.lemmas.Bool.{and_from, and_parts, eqb-true, le-leb, leb-tr
 use Rattle.std.proofs.lemmas.Bool.Decides.{nat_tests}
 use Rattle.std.proofs.lemmas.Fmt.{digits_decimal, length-decimal-le}
 use Rattle.std.proofs.lemmas.List.Folds.{list_all-append}
+use Rattle.std.proofs.lemmas.Option.{cond_some}
 use Rattle.onix_terms.specs.Amount.{amount_text, three_digits}
 use Rattle.onix_terms.specs.Code.{fixed_text}
 use Rattle.onix_terms.specs.Day.{day_at, day_of, day_text}
 use Rattle.onix_terms.specs.Digits.{digits_of}
 use Rattle.onix_terms.specs.Options.{◌>>=◌}
+use Rattle.onix_terms.specs.Territory.{is_letter_or_space}
 use Rattle.onix_message.specs.Fields.{is_clean, is_control}
-use Rattle.onix_message.proofs.FrontRows.{bind-some, if-some}
+use Rattle.onix_message.proofs.FrontRows.{bind-some}
 
 -- no control character
 abbrev pub plain_byte : ℕ → Bool
@@ -34,10 +36,19 @@ capital-plain b h = grind (arith, nat_tests, h)
 pub clean-of : (text : List ℕ) → length text ≤ 1024 → list_all plain_byte text ≡ true → is_clean text ≡ true
 clean-of text short all = and_from _ _ (le-leb (length text) 1024 short) all
 
+letter-plain : (b : ℕ) → is_letter_or_space b ≡ true → plain_byte b ≡ true
+letter-plain b h = grind (arith, nat_tests, h)
+
+-- letters and spaces in place of a clean field are clean where they are no longer
+pub letters-clean : (field text : List ℕ) → is_clean field ≡ true → length text ≤ length field → list_all is_letter_or_space text ≡ true → is_clean text ≡ true
+letters-clean field text clean small all =
+    let short = leb-true (length field) 1024 (and_parts _ _ clean).0 in
+    clean-of text (omega (arith, short, small)) (all-weaker is_letter_or_space plain_byte letter-plain text all)
+
 -- a text that is read as digits is a few digits
 pub digits-are : (text : List ℕ) (n : ℕ) → digits_of text ≡ Some n → (length text ≤ 9) × (list_all is_ascii_digit text ≡ true)
 digits-are text n e =
-    let t = (if-some (nat_lt 0 (length text) && nat_le (length text) 9 && list_all is_ascii_digit text) (digits_value 10 text) n e).0 in
+    let t = (cond_some (nat_lt 0 (length text) && nat_le (length text) 9 && list_all is_ascii_digit text) (digits_value 10 text) n e).0 in
     let p = and_parts (nat_lt 0 (length text) && nat_le (length text) 9) (list_all is_ascii_digit text) t in
     let q = and_parts (nat_lt 0 (length text)) (nat_le (length text) 9) p.0 in
     (leb-true (length text) 9 q.1, p.1)
@@ -51,7 +62,7 @@ digits-clean text n e =
 -- a code is clean
 fixed-clean : (allowed : ℕ → Bool) → ((b : ℕ) → allowed b ≡ true → plain_byte b ≡ true) → (size : ℕ) → size ≤ 9 → (text code : List ℕ) → fixed_text allowed size text ≡ Some code → is_clean text ≡ true
 fixed-clean allowed f size small text code e =
-    let t = (if-some ((length text == size) && list_all allowed text) text code e).0 in
+    let t = (cond_some ((length text == size) && list_all allowed text) text code e).0 in
     let p = and_parts (length text == size) (list_all allowed text) t in
     let l = eqb-true (length text) size p.0 in
     clean-of text (omega (arith, l, small)) (all-weaker allowed plain_byte f text p.1)

@@ -1,16 +1,17 @@
 -- The rows that are computed of records, as far as each may come next, are the longest front.
-use Rattle.std.proofs.Common.{◌≡◌, ◌≤◌, ◌<◌, ◌∷◌, ◌∙◌, ◌+◌, inl, inr, [], ℕ, zero, suc, List, Bool, true, false, Option, Some, None, refl, sym, ap, arith, length, take, map}
+use Rattle.std.proofs.Common.{◌≡◌, ◌≤◌, ◌<◌, ◌∷◌, ◌∙◌, ◌+◌, inl, inr, [], ℕ, zero, suc, List, Bool, true, Option, Some, None, refl, sym, ap, arith, length, take, map}
 use Rattle.std.specs.Prelude.{⊤, if◌then◌else◌, ◌&&◌, nat_lt}
 use Rattle.std.specs.Option.{option_map_or}
 use Rattle.std.proofs.lemmas.Bool.{and_from, and_parts, lt-ltb, ltb-true}
 use Rattle.std.proofs.lemmas.List.{length-take-le}
+use Rattle.std.proofs.lemmas.Option.{cond_some}
 use Rattle.onix_message.specs.Grammar.{CountsAfter, IsBadRow, IsFront, KeepsOrder, is_counted, may_follow}
 use Rattle.onix_message.specs.Message.{bad_row, front_rows, next_row}
 use Rattle.onix_message.specs.OpeningRow.{opening_of}
 use Rattle.onix_message.specs.Row.{message_row, row_of}
 use Rattle.onix_message.specs.declared.row.Opening.{Opening}
 use Rattle.onix_message.specs.declared.row.Row.{Row}
-use Rattle.onix_message.proofs.Fronts.{Reads, begun-reads, cons-parts, reads-begun, reads-length, same-some}
+use Rattle.onix_message.proofs.Fronts.{Reads, begun-reads, cons-parts, reads-begun, reads-length}
 use Rattle.onix_terms.specs.Options.{◌>>=◌}
 
 abbrev Record : Type 0
@@ -21,15 +22,11 @@ pub bind-some : {A B : Type 0} (o : Option A) (f : A → Option B) (y : B) → (
 bind-some None f y e = cc e
 bind-some (Some x) f y e = (x, refl, e)
 
-pub if-some : {A : Type 0} (t : Bool) (x y : A) → (if t then Some x else None) ≡ Some y → (t ≡ true) × (x ≡ y)
-if-some true x y e = (refl, same-some x y e)
-if-some false x y e = cc e
-
 next-parts : (o : Opening) (last : Row) (before : ℕ) (r : Record) (x : Row) → next_row o last before r ≡ Some x
     → (row_of o r ≡ Some x) × (before < 20000) × (may_follow last x ≡ true) × (is_counted x before ≡ true)
 next-parts o last before r x e =
     let (y, reads, h) = bind-some (row_of o r) _ x e in
-    let (t, same) = if-some (nat_lt before 20000 && (may_follow last y && is_counted y before)) y x h in
+    let (t, same) = cond_some (nat_lt before 20000 && (may_follow last y && is_counted y before)) y x h in
     let p = and_parts _ _ t in
     let q = and_parts _ _ p.1 in
     rw (← same) (reads, ltb-true before 20000 p.0, q.0, q.1)

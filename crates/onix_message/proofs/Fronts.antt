@@ -4,6 +4,7 @@ use Rattle.std.proofs.lemmas.List.{drop_more, length-take-le, map-append, take-a
 use Rattle.std.proofs.Math.Seq.{take-append_seam, take-append-add}
 use Rattle.std.proofs.lemmas.Bool.{cases_lt, eqb-true}
 use Rattle.std.specs.List.{AllByRecursion, flat_map}
+use Rattle.std.proofs.lemmas.Option.{same_Some}
 use Rattle.onix_message.specs.Draft.{DraftHasDetails, Stops, Takes, allows, draft_rows, part_rows}
 use Rattle.onix_message.specs.Grammar.{BeginsMessage, CountsAfter, IsBadRow, IsFront, IsMessage, KeepsOrder, is_counted, may_follow}
 use Rattle.onix_message.specs.Nest.{SuppliesHaveDetails, content_rows, product_rows, rows_after}
@@ -26,14 +27,11 @@ Record = List (List ℕ)
 pub cons-parts : {A : Type 0} (a b : A) (xs ys : List A) → a ∷ xs ≡ b ∷ ys → (a ≡ b) × (xs ≡ ys)
 cons-parts a b xs ys e = (cc e, cc e)
 
-pub same-some : {A : Type 0} (a b : A) → Some a ≡ Some b → a ≡ b
-same-some a b e = cc e
-
 pub same-map : (xs ys : List Row) → map Some xs ≡ map Some ys → xs ≡ ys
 same-map [] [] e = refl
 same-map [] (y ∷ ys) e = cc e
 same-map (x ∷ xs) [] e = cc e
-same-map (x ∷ xs) (y ∷ ys) e = let p = cons-parts _ _ _ _ e in cc (same-some x y p.0, same-map xs ys p.1)
+same-map (x ∷ xs) (y ∷ ys) e = let p = cons-parts _ _ _ _ e in cc (same_Some x y p.0, same-map xs ys p.1)
 
 -- these records, which come after the first, are these rows, which keep the table
 pub record Reads (o : Opening) (done : List Record) (rows : List Row) : Type 0 where
@@ -52,7 +50,7 @@ reads-split o (r ∷ done) tail (x ∷ rows) [] d h = cc h
 reads-split o (r ∷ done) tail (x ∷ rows) (y ∷ all) d h =
     let p = cons-parts _ _ _ _ d in
     let q = cons-parts _ _ _ _ h in
-    let same = same-some x y (sym p.0 ∙ q.0) in
+    let same = same_Some x y (sym p.0 ∙ q.0) in
     let (rest, e, f) = reads-split o done tail rows all p.1 q.1 in
     (rest, cc (same, e), f)
 
@@ -103,7 +101,7 @@ pub begun-reads : (records : List Record) (first : Record) (rest : List Record) 
     → (rows : List Row) × Reads o rest rows
 begun-reads records first rest o e h b =
     let p = cons-parts _ _ _ _ (sym e ∙ b.split) in
-    let same : b.opening ≡ o = same-some _ _ (sym b.header ∙ ap opening_of (sym p.0) ∙ h) in
+    let same : b.opening ≡ o = same_Some _ _ (sym b.header ∙ ap opening_of (sym p.0) ∙ h) in
     let size : length records ≡ length rest + 1 = rw e (omega arith) in
     let within = b.within in (
       b.rows,
@@ -232,7 +230,7 @@ stops-after records first rest o rows place split header f never at =
     let size : length records ≡ length rest + 1 = rw split (omega arith) in (
       (λ g c m.
           let p = cons-parts _ _ _ _ (sym split ∙ m.split) in
-          let same : record { form = m.form; header = g } ≡ o = same-some _ _ (sym m.header ∙ ap opening_of (sym p.0) ∙ header) in
+          let same : record { form = m.form; header = g } ≡ o = same_Some _ _ (sym m.header ∙ ap opening_of (sym p.0) ∙ header) in
           let reads : map (row_of o) rest ≡ map Some (rows_after c) = rw (p.1, ← same) m.reads in
           let e = same-map rows (rows_after c) (sym f.reads ∙ reads) in
           never (1 + length (content_rows c)) (ap (λ (t : List Row). last_of (message_row o) t) e ∙ last-push (message_row o) (content_rows c) (row.EndMessage (1 + length (content_rows c))))),

@@ -12,7 +12,6 @@ pub mod Nests
 pub mod Explained
 pub mod OneText
 pub mod TermLaws
-pub mod TerritoryTexts
 pub mod CleanTexts
 pub mod RowTexts
 pub mod ContentsBack

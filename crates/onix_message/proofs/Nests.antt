@@ -4,6 +4,7 @@ use Rattle.std.specs.Prelude.{if◌then◌else◌, ◌&&◌, ◌==◌}
 use Rattle.std.specs.List.{AllByRecursion, flat_map}
 use Rattle.std.proofs.lemmas.Bool.{and_from, and_parts, eq-eqb, eqb-true}
 use Rattle.std.proofs.lemmas.List.{append-nil}
+use Rattle.std.proofs.lemmas.Option.{cond_some}
 use Rattle.onix_message.specs.Grammar.{IsMessage, KeepsOrder, may_follow}
 use Rattle.onix_message.specs.Message.{Gathered, ends, front_rows, message_after, message_of, nest, with_detail, with_price, with_product, with_supply}
 use Rattle.onix_message.specs.Nest.{HasDetails, SuppliesHaveDetails, content_rows, detail_rows, product_rows, rows_after, supply_rows}
@@ -17,7 +18,7 @@ use Rattle.onix_message.specs.declared.parts.SupplyDetail.{SupplyDetail}
 use Rattle.onix_message.specs.declared.row.Opening.{Opening}
 use Rattle.onix_message.specs.declared.row.Row.{Row}
 use Rattle.onix_message.specs.declared.row.Row.TheVariants as row
-use Rattle.onix_message.proofs.FrontRows.{bind-some, computed-reads, if-some, reads-computed}
+use Rattle.onix_message.proofs.FrontRows.{bind-some, computed-reads, reads-computed}
 use Rattle.onix_message.proofs.Fronts.{is-message, message-reads, reads-length}
 use Rattle.onix_message.proofs.Orders.{last-push, last_of}
 use Rattle.onix_message.proofs.Bare.{AllBare, all-bare}
@@ -282,7 +283,7 @@ after-meant : (first : List (List ℕ)) (rest : List (List (List ℕ))) (o : Ope
 unfolding message_after
 after-meant first rest o h c opens e =
     let rows = front_rows o (message_row o) 1 rest in
-    let (test, same) = if-some ((length rows == length rest) && ends (message_row o) rows) (o.header, (nest rows).products) (h, c) e in
+    let (test, same) = cond_some ((length rows == length rest) && ends (message_row o) rows) (o.header, (nest rows).products) (h, c) e in
     let p = and_parts _ _ test in
     let reads = computed-reads o rest (eqb-true (length rows) (length rest) p.0) in
     let (n, last) = last-ends (message_row o) rows p.1 in

@@ -5,6 +5,7 @@ use Rattle.std.specs.Cmp.Lexicographic.{bytes_decides}
 use Rattle.std.specs.List.{flat_map}
 use Rattle.std.specs.Str.{bytes_eq}
 use Rattle.std.proofs.lemmas.List.{map-append}
+use Rattle.std.proofs.lemmas.Option.{same_Some}
 use Rattle.csv.specs.Reading.{strip_bom}
 use Rattle.onix_message.specs.ContentsText.{IsContents, contents_text, end_record, framed}
 use Rattle.onix_message.specs.Grammar.{IsMessage}
@@ -19,7 +20,6 @@ use Rattle.onix_message.specs.declared.parts.ProductSupply.{ProductSupply}
 use Rattle.onix_message.specs.declared.parts.SupplyDetail.{SupplyDetail}
 use Rattle.onix_message.specs.declared.row.Row.{Row}
 use Rattle.onix_message.specs.declared.row.Row.TheVariants as row
-use Rattle.onix_message.proofs.Fronts.{same-some}
 use Rattle.onix_message.proofs.Nests.{message-computed, message-meant}
 use Rattle.onix_message.proofs.ReadBack.{one-text, records-again}
 
@@ -106,7 +106,7 @@ contents-again c = records-again (content_records c) (filled-contents c) (unmark
 pub one-message : (records : List (List (List ℕ))) (g h : Header) (c d : List Product) → IsMessage records g c → IsMessage records h d → c ≡ d
 one-message records g h c d m n =
     let found : ◌≡◌ {A = Option (Header × List Product)} (Some (g, c)) (Some (h, d)) = sym (message-computed records g c m) ∙ message-computed records h d n in
-    ap (λ (p : Header × List Product). p.1) (same-some {A = Header × List Product} (g, c) (h, d) found)
+    ap (λ (p : Header × List Product). p.1) (same_Some {A = Header × List Product} (g, c) (h, d) found)
 
 -- contents with the same text are the same
 pub one-contents : (c d : List Product) → IsContents c → IsContents d → contents_text c ≡ contents_text d → c ≡ d

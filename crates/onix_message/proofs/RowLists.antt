@@ -1,6 +1,6 @@
 -- Rows of parts, with one part more.
 use Rattle.std.proofs.Common.{◌≡◌, ◌++◌, ◌∷◌, ◌∙◌, ◌≤◌, [], List, refl, sym, ap, append_assoc, arith, length, length-append, map, false}
-use Rattle.std.specs.List.{AllByRecursion, flat_map}
+use Rattle.std.specs.List.{flat_map}
 use Rattle.onix_message.specs.Grammar.{may_follow}
 use Rattle.onix_message.specs.Nest.{detail_rows, product_rows, supply_rows}
 use Rattle.onix_message.specs.Draft.{allows}
@@ -13,11 +13,6 @@ use Rattle.onix_message.specs.declared.parts.ProductSupply.{ProductSupply}
 use Rattle.onix_message.specs.declared.parts.SupplyDetail.{SupplyDetail}
 use Rattle.onix_message.specs.declared.row.Row.{Row}
 use Rattle.onix_message.specs.declared.row.Row.TheVariants as row
-
--- what holds of each of a list and of one more
-pub all-push : {X : Type 0} (P : X → Type 0) (xs : List X) (x : X) → AllByRecursion P xs → P x → AllByRecursion P (xs ++ x ∷ [])
-all-push P [] x h p = (p, tt)
-all-push P (y ∷ ys) x h p = (h.0, all-push P ys x h.1 p)
 
 -- a supply without details is its row alone
 pub bare-supply : (s : ProductSupply) → s.details ≡ [] → supply_rows s ≡ row.ProductSupply s ∷ []

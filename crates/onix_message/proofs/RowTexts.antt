@@ -3,25 +3,27 @@ use Rattle.std.proofs.Common.{◌≡◌, ◌<◌, ◌++◌, ◌∷◌, ◌∙◌
 use Rattle.std.specs.Prelude.{⊤, nat_lt, if◌then◌else◌, option_map, codes, decimal}
 use Rattle.std.specs.Cmp.Lexicographic.{bytes_decides}
 use Rattle.std.specs.List.{flat_map, list_all}
+use Rattle.std.specs.Option.{unwrap_or}
 use Rattle.std.specs.Str.{bytes_eq}
 use Rattle.std.proofs.lemmas.Bool.{and_from, and_parts, cases_Bool, ltb-false}
+use Rattle.std.proofs.lemmas.Option.{cond_some, same_Some}
 use Rattle.onix_terms.specs.Amount.{amount_of, amount_text}
 use Rattle.onix_terms.specs.Code.{code2_of, currency_of}
 use Rattle.onix_terms.specs.Day.{IsDayNumber, day_of, day_text}
 use Rattle.onix_terms.specs.Digits.{digits_of}
 use Rattle.onix_terms.specs.Number.{number_of}
-use Rattle.onix_terms.specs.Options.{◌>>=◌}
+use Rattle.onix_terms.specs.Options.{◌>>=◌, nonempty}
 use Rattle.onix_terms.specs.Quantity.{quantity_of}
-use Rattle.onix_terms.specs.Territory.{territory_of}
+use Rattle.onix_terms.specs.Territory.{countries_text, territory_of, world_text}
 use Rattle.onix_terms.specs.declared.party.Party.{Party}
 use Rattle.onix_terms.specs.declared.territory.Territory.{Territory}
 use Rattle.onix_message.specs.ContentsText.{end_record, plain_opening}
-use Rattle.onix_message.specs.Fields.{filled, is_clean, optional, optional_party, party_of}
+use Rattle.onix_message.specs.Fields.{is_clean, optional, optional_party, party_of}
 use Rattle.onix_message.specs.OpeningRow.{form_of, opening_fields, opening_from, opening_of}
 use Rattle.onix_message.specs.PriceRow.{minimum_of, or_default, price_from, price_of, quantity_or_one}
 use Rattle.onix_message.specs.ProductRow.{identifier_of, pairs_of, product_of}
 use Rattle.onix_message.specs.Row.{end_of, message_row, named_row, row_of}
-use Rattle.onix_message.specs.RowRecords.{day_field, detail_record, identifier_fields, minimum_fields, optional_text, party_fields, price_record, product_record, spaced, supply_record, territory_fields}
+use Rattle.onix_message.specs.RowRecords.{day_field, detail_record, identifier_fields, minimum_fields, party_fields, price_record, product_record, supply_record, territory_fields}
 use Rattle.onix_message.specs.SupplyRow.{detail_of, supplier_name, supply_of}
 use Rattle.onix_message.specs.declared.parts.Header.{Header}
 use Rattle.onix_message.specs.declared.parts.Price.{Price}
@@ -34,12 +36,10 @@ use Rattle.onix_message.specs.declared.row.Form.TheVariants as form
 use Rattle.onix_message.specs.declared.row.Opening.{Opening}
 use Rattle.onix_message.specs.declared.row.Row.{Row}
 use Rattle.onix_message.specs.declared.row.Row.TheVariants as row
-use Rattle.onix_message.proofs.CleanTexts.{amount-clean, code2-clean, currency-clean, day-clean, digits-clean}
-use Rattle.onix_message.proofs.FrontRows.{bind-some, if-some}
-use Rattle.onix_message.proofs.Fronts.{same-some}
+use Rattle.onix_message.proofs.CleanTexts.{amount-clean, code2-clean, currency-clean, day-clean, digits-clean, letters-clean}
+use Rattle.onix_message.proofs.FrontRows.{bind-some}
 use Rattle.onix_message.proofs.OneText.{record_of}
 use Rattle.onix_message.proofs.TermLaws.{TermLaws}
-use Rattle.onix_message.proofs.TerritoryTexts.{Back, region, territory-back}
 
 abbrev Fields : Type 0
 Fields = List (List ℕ)
@@ -58,25 +58,22 @@ plain-opens = refl
 
 -- Codes are themselves.
 
-fixed-itself : (test : Bool) (text code : List ℕ) → (if test then Some text else None) ≡ Some code → text ≡ code
-fixed-itself test text code e = (if-some test text code e).1
-
 code2-same : (text code : List ℕ) → code2_of text ≡ Some code → text ≡ code
-code2-same text code e = fixed-itself _ text code e
+code2-same text code e = (cond_some _ text code e).1
 
 code2-again : (text code : List ℕ) → code2_of text ≡ Some code → code2_of code ≡ Some code
 code2-again text code e = ap code2_of (sym (code2-same text code e)) ∙ e
 
 currency-again : (text code : List ℕ) → currency_of text ≡ Some code → currency_of code ≡ Some code
-currency-again text code e = ap currency_of (sym (fixed-itself _ text code e)) ∙ e
+currency-again text code e = ap currency_of (sym (cond_some _ text code e).1) ∙ e
 
-filled-same : (text found : List ℕ) → filled text ≡ Some found → text ≡ found
-filled-same [] found e = cc e
-filled-same (b ∷ bs) found e = same-some (b ∷ bs) found e
+nonempty-same : (text found : List ℕ) → nonempty text ≡ Some found → text ≡ found
+nonempty-same [] found e = cc e
+nonempty-same (b ∷ bs) found e = same_Some (b ∷ bs) found e
 
 mapped-some : {A B : Type 0} (f : A → B) (o : Option A) (y : B) → option_map f o ≡ Some y → (x : A) × (o ≡ Some x) × (f x ≡ y)
 mapped-some f None y e = cc e
-mapped-some f (Some x) y e = (x, refl, same-some (f x) y e)
+mapped-some f (Some x) y e = (x, refl, same_Some (f x) y e)
 
 -- What the row of a record came from.
 
@@ -90,7 +87,7 @@ IsNamed o name fields (row.EndMessage n) = ⊤
 
 made : {A : Type 0} (o : Opening) (name : List ℕ) (fields : Fields) (make : A → Row) (read : Option A) → ((x : A) → read ≡ Some x → IsNamed o name fields (make x)) → (r : Row) → option_map make read ≡ Some r → IsNamed o name fields r
 made o name fields make None own r e = cc e
-made o name fields make (Some x) own r e = rw (← same-some (make x) r e) (own x refl)
+made o name fields make (Some x) own r e = rw (← same_Some (make x) r e) (own x refl)
 
 choose : (o : Opening) (name word : List ℕ) (fields : Fields) (x y : Option Row) (r : Row) → (name ≡ word → x ≡ Some r → IsNamed o name fields r) → (y ≡ Some r → IsNamed o name fields r)
     → (if bytes_eq name word then x else y) ≡ Some r → IsNamed o name fields r
@@ -128,20 +125,20 @@ row-built name fields r clean named = ap (λ (t : Bool). if t then named_row pla
 identifier-fields : (kind value : List ℕ) (i : ProductIdentifier) → identifier_of kind value ≡ Some i → identifier_fields i ≡ kind ∷ value ∷ []
 identifier-fields kind value i e =
     let (k, reads_k, f) = bind-some (code2_of kind) _ i e in
-    let (v, reads_v, g) = bind-some (filled value) _ i f in
-    let same = same-some _ i g in
+    let (v, reads_v, g) = bind-some (nonempty value) _ i f in
+    let same = same_Some _ i g in
     let a = code2-same kind k reads_k in
-    let b = filled-same value v reads_v in
+    let b = nonempty-same value v reads_v in
     cc (same, a, b)
 
 pairs-fields : (fields : Fields) (ids : List ProductIdentifier) → pairs_of fields ≡ Some ids → flat_map identifier_fields ids ≡ fields
 unfolding pairs_of
-pairs-fields [] ids e = rw (← same-some [] ids e) refl
+pairs-fields [] ids e = rw (← same_Some [] ids e) refl
 pairs-fields (kind ∷ []) ids e = cc e
 pairs-fields (kind ∷ value ∷ rest) ids e =
     let (i, reads_i, f) = bind-some (identifier_of kind value) _ ids e in
     let (more, reads, g) = bind-some (pairs_of rest) _ ids f in
-    rw (← same-some (i ∷ more) ids g) (ap (λ (t : Fields). t ++ flat_map identifier_fields more) (identifier-fields kind value i reads_i) ∙ ap (λ (t : Fields). kind ∷ value ∷ t) (pairs-fields rest more reads))
+    rw (← same_Some (i ∷ more) ids g) (ap (λ (t : Fields). t ++ flat_map identifier_fields more) (identifier-fields kind value i reads_i) ∙ ap (λ (t : Fields). kind ∷ value ∷ t) (pairs-fields rest more reads))
 
 product-fields : (fields : Fields) (p : Product) → product_of fields ≡ Some p → p.reference ∷ p.notification ∷ flat_map identifier_fields p.ids ≡ fields
 unfolding product_of
@@ -149,54 +146,44 @@ product-fields [] p e = cc e
 product-fields (reference ∷ []) p e = cc e
 product-fields (reference ∷ notification ∷ []) p e = cc e
 product-fields (reference ∷ notification ∷ kind ∷ pairs) p e =
-    let (r, reads_r, f) = bind-some (filled reference) _ p e in
+    let (r, reads_r, f) = bind-some (nonempty reference) _ p e in
     let (n, reads_n, g) = bind-some (code2_of notification) _ p f in
     let (ids, reads_ids, h) = bind-some (pairs_of (kind ∷ pairs)) _ p g in
-    let same = same-some _ p h in
-    let a = filled-same reference r reads_r in
+    let same = same_Some _ p h in
+    let a = nonempty-same reference r reads_r in
     let b = code2-same notification n reads_n in
     let c = pairs-fields (kind ∷ pairs) ids reads_ids in
     rw (← same) (cc (a, b, c))
 
 -- Details: each field stands as it was.
 
+party-some : (id_type id_value : List ℕ) (p : Option Party) → option_map Some (party_of id_type id_value) ≡ Some p → party_fields p ≡ id_type ∷ id_value ∷ []
+party-some id_type id_value p e =
+    let (x, reads, same) = mapped-some Some (party_of id_type id_value) p e in
+    let (t, reads_t, f) = bind-some (code2_of id_type) _ x reads in
+    let (v, reads_v, g) = bind-some (nonempty id_value) _ x f in
+    let is = same_Some _ x g in
+    let a = code2-same id_type t reads_t in
+    let b = nonempty-same id_value v reads_v in
+    rw (← same, ← is) (cc (a, b))
+
 party-fields : (id_type id_value : List ℕ) (p : Option Party) → optional_party id_type id_value ≡ Some p → party_fields p ≡ id_type ∷ id_value ∷ []
-party-fields [] [] p e = rw (← same-some None p e) refl
+party-fields [] [] p e = rw (← same_Some None p e) refl
 party-fields [] (b ∷ bs) p e = party-some [] (b ∷ bs) p e
-  where
-    party-some : (id_type id_value : List ℕ) (p : Option Party) → option_map Some (party_of id_type id_value) ≡ Some p → party_fields p ≡ id_type ∷ id_value ∷ []
-    party-some id_type id_value p e =
-        let (x, reads, same) = mapped-some Some (party_of id_type id_value) p e in
-        let (t, reads_t, f) = bind-some (code2_of id_type) _ x reads in
-        let (v, reads_v, g) = bind-some (filled id_value) _ x f in
-        let is = same-some _ x g in
-        let a = code2-same id_type t reads_t in
-        let b = filled-same id_value v reads_v in
-        rw (← same, ← is) (cc (a, b))
 party-fields (a ∷ as_) id_value p e = party-some (a ∷ as_) id_value p e
-  where
-    party-some : (id_type id_value : List ℕ) (p : Option Party) → option_map Some (party_of id_type id_value) ≡ Some p → party_fields p ≡ id_type ∷ id_value ∷ []
-    party-some id_type id_value p e =
-        let (x, reads, same) = mapped-some Some (party_of id_type id_value) p e in
-        let (t, reads_t, f) = bind-some (code2_of id_type) _ x reads in
-        let (v, reads_v, g) = bind-some (filled id_value) _ x f in
-        let is = same-some _ x g in
-        let a = code2-same id_type t reads_t in
-        let b = filled-same id_value v reads_v in
-        rw (← same, ← is) (cc (a, b))
 
 name-same : (p : Option Party) (name found : List ℕ) → supplier_name p name ≡ Some found → name ≡ found
-name-same None name found e = filled-same name found e
-name-same (Some p) name found e = same-some name found e
+name-same None name found e = nonempty-same name found e
+name-same (Some p) name found e = same_Some name found e
 
-optional-same : (text : List ℕ) (found : Option (List ℕ)) → optional code2_of text ≡ Some found → text ≡ optional_text found
-optional-same [] found e = rw (← same-some None found e) refl
+optional-same : (text : List ℕ) (found : Option (List ℕ)) → optional code2_of text ≡ Some found → text ≡ unwrap_or found []
+optional-same [] found e = rw (← same_Some None found e) refl
 optional-same (b ∷ bs) found e =
     let (x, reads, same) = mapped-some Some (code2_of (b ∷ bs)) found e in
     rw (← same) (code2-same (b ∷ bs) x reads)
 
 detail-fields : (fields : Fields) (d : SupplyDetail) → detail_of fields ≡ Some d
-    → d.supplier.role ∷ (party_fields d.supplier.party ++ (d.supplier.name ∷ d.availability ∷ optional_text d.unpriced ∷ [])) ≡ fields
+    → d.supplier.role ∷ (party_fields d.supplier.party ++ (d.supplier.name ∷ d.availability ∷ unwrap_or d.unpriced [] ∷ [])) ≡ fields
 unfolding detail_of
 detail-fields [] d e = cc e
 detail-fields (role ∷ []) d e = cc e
@@ -210,12 +197,12 @@ detail-fields (role ∷ id_type ∷ id_value ∷ name ∷ availability ∷ unpri
     let (n, reads_n, h) = bind-some (supplier_name p name) _ d g in
     let (a, reads_a, j) = bind-some (code2_of availability) _ d h in
     let (u, reads_u, k) = bind-some (optional code2_of unpriced) _ d j in
-    let same = same-some _ d k in
+    let same = same_Some _ d k in
     let i = code2-same role r reads_r in
     let l = name-same p name n reads_n in
     let m = code2-same availability a reads_a in
     let o = optional-same unpriced u reads_u in
-    rw (← same) (ap (λ (t : Fields). r ∷ (t ++ (n ∷ a ∷ optional_text u ∷ []))) (party-fields id_type id_value p reads_p) ∙ cc (i, l, m, o))
+    rw (← same) (ap (λ (t : Fields). r ∷ (t ++ (n ∷ a ∷ unwrap_or u [] ∷ []))) (party-fields id_type id_value p reads_p) ∙ cc (i, l, m, o))
 detail-fields (role ∷ id_type ∷ id_value ∷ name ∷ availability ∷ unpriced ∷ more ∷ fields) d e = cc e
 
 -- Supplies: the territory is written anew.
@@ -223,12 +210,28 @@ detail-fields (role ∷ id_type ∷ id_value ∷ name ∷ availability ∷ unpri
 clean-parts : (field : List ℕ) (fields : Fields) → list_all is_clean (field ∷ fields) ≡ true → (is_clean field ≡ true) × (list_all is_clean fields ≡ true)
 clean-parts field fields e = and_parts (is_clean field) (list_all is_clean fields) e
 
-region-clean : (world : Bool) → is_clean (region world) ≡ true
-region-clean true = refl
-region-clean false = refl
+world-clean : (world : Bool) → is_clean (world_text world) ≡ true
+world-clean true = refl
+world-clean false = refl
+
+-- what is known of the written fields of a territory that was read
+record Back (t : Territory) : Type 0 where
+  reads : territory_of (countries_text t.included) (world_text t.world) (countries_text t.excluded) ≡ Some t
+  included : is_clean (countries_text t.included) ≡ true
+  excluded : is_clean (countries_text t.excluded) ≡ true
+
+territory-back : (w : TermLaws) (included regions excluded : List ℕ) (t : Territory) → territory_of included regions excluded ≡ Some t → is_clean included ≡ true → is_clean excluded ≡ true → Back t
+territory-back w included regions excluded t is clean_i clean_e =
+    let short = w.territory_short included regions excluded t is in
+    let letters = w.territory_letters included regions excluded t is in
+    record {
+      reads = w.territory included regions excluded t is;
+      included = letters-clean included _ clean_i short.0 letters.0;
+      excluded = letters-clean excluded _ clean_e short.1 letters.1;
+    }
 
 territory-clean : (t : Territory) (rest : Fields) → Back t → list_all is_clean rest ≡ true → list_all is_clean (territory_fields t ++ rest) ≡ true
-territory-clean t rest b more = and_from _ _ b.included (and_from _ _ (region-clean t.world) (and_from _ _ b.excluded more))
+territory-clean t rest b more = and_from _ _ b.included (and_from _ _ (world-clean t.world) (and_from _ _ b.excluded more))
 
 supply-built : (t : Territory) → Back t → supply_of (territory_fields t) ≡ Some (record { market = t; details = [] })
 supply-built t b = ap (λ (o : Option Territory). o >>= (λ x. Some (record { market = x; details = [] }))) b.reads
@@ -239,9 +242,9 @@ supply-back w name (included ∷ []) s clean e = cc e
 supply-back w name (included ∷ regions ∷ []) s clean e = cc e
 supply-back w name (included ∷ regions ∷ excluded ∷ []) s clean e =
     let (t, reads, f) = bind-some (territory_of included regions excluded) _ s e in
-    let same = same-some _ s f in
+    let same = same_Some _ s f in
     let c = and_parts _ _ (and_parts _ _ clean).1 in
-    let b = territory-back included regions excluded t reads (w.included included regions excluded t reads) (w.excluded included regions excluded t reads) c.0 (and_parts _ _ (and_parts _ _ c.1).1).0 in
+    let b = territory-back w included regions excluded t reads c.0 (and_parts _ _ (and_parts _ _ c.1).1).0 in
     rw (← same) (row-built (codes "ProductSupply") (territory_fields t) (row.ProductSupply (record { market = t; details = [] })) (territory-clean t [] b refl)
     (ap (option_map row.ProductSupply) (supply-built t b)))
 supply-back w name (included ∷ regions ∷ excluded ∷ more ∷ fields) s clean e = cc e
@@ -271,10 +274,10 @@ day-back w None h = (refl, refl)
 day-back w (Some n) h = let reads = w.day n (h n refl) in (optional-some day_of (day_text n) n refl reads, day-clean n reads)
 
 days-are : (w : TermLaws) (text : List ℕ) (d : Option ℤ) → optional day_of text ≡ Some d → (n : ℤ) → d ≡ Some n → IsDayNumber n
-days-are w [] d e n f = cc (same-some None d e, f)
+days-are w [] d e n f = cc (same_Some None d e, f)
 days-are w (b ∷ bs) d e n f =
     let (x, reads, same) = mapped-some Some (day_of (b ∷ bs)) d e in
-    let is : x ≡ n = same-some x n (same ∙ f) in
+    let is : x ≡ n = same_Some x n (same ∙ f) in
     w.day_range (b ∷ bs) n (reads ∙ ap Some is)
 
 quantity-some : (text : List ℕ) (n : ℕ) → quantity_of text ≡ Some n → quantity_or_one text ≡ Some n
@@ -282,10 +285,10 @@ quantity-some [] n e = cc e
 quantity-some (b ∷ bs) n e = e
 
 minimum-range : (w : TermLaws) (f : Form) (fields : Fields) (m : ℕ) → minimum_of f fields ≡ Some m → (0 < m) × (m < 1_000_000)
-minimum-range w f [] m e = rw (← same-some 1 m e) (omega arith, omega arith)
+minimum-range w f [] m e = rw (← same_Some 1 m e) (omega arith, omega arith)
 minimum-range w form.One (x ∷ []) m e = cc e
 minimum-range w form.One (x ∷ y ∷ fields) m e = cc e
-minimum-range w form.Two ([] ∷ []) m e = rw (← same-some 1 m e) (omega arith, omega arith)
+minimum-range w form.Two ([] ∷ []) m e = rw (← same_Some 1 m e) (omega arith, omega arith)
 minimum-range w form.Two ((b ∷ bs) ∷ []) m e = w.quantity_range (b ∷ bs) m e
 minimum-range w form.Two (x ∷ y ∷ fields) m e = cc e
 
@@ -310,7 +313,7 @@ record Priced (p : Price) : Type 0 where
   small : p.minimum < 1_000_000
 
 price-from-built : (w : TermLaws) (p : Price) → Priced p
-    → price_from plain_header p.minimum p.price_type (amount_text p.amount) p.currency (spaced p.territory.included) (region p.territory.world) (spaced p.territory.excluded) (day_field p.from) (day_field p.until) ≡ Some p
+    → price_from plain_header p.minimum p.price_type (amount_text p.amount) p.currency (countries_text p.territory.included) (world_text p.territory.world) (countries_text p.territory.excluded) (day_field p.from) (day_field p.until) ≡ Some p
 unfolding price_from plain_header
 price-from-built w p k =
     bind-at _ p.price_type _ (or-none code2_of p.price_type p.price_type refl k.type_code)
@@ -343,12 +346,12 @@ price-from-read w h m price_type amount currency included regions excluded from 
     let (z, reads_z, e4) = bind-some (territory_of included regions excluded) _ p e3 in
     let (f, reads_f, e5) = bind-some (optional day_of from) _ p e4 in
     let (u, reads_u, e6) = bind-some (optional day_of until) _ p e5 in
-    let same = same-some _ p e6 in
+    let same = same_Some _ p e6 in
     rw (← same) (record {
       type_code = or-default-again code2_of h.default_type price_type t codes_.type_code code2-again reads_t;
       amount = w.amount_range amount a reads_a;
       currency = or-default-again currency_of h.default_currency currency c codes_.currency_code currency-again reads_c;
-      territory = territory-back included regions excluded z reads_z (w.included included regions excluded z reads_z) (w.excluded included regions excluded z reads_z) clean_i clean_e;
+      territory = territory-back w included regions excluded z reads_z clean_i clean_e;
       from = days-are w from f reads_f;
       until = days-are w until u reads_u;
       some = range.0;
@@ -407,7 +410,7 @@ row-back w o (name ∷ fields) (row.SupplyDetail d) h content e =
     let is = k.1 in
     let same = detail-fields fields d is.1 in
     let clean : list_all is_clean (detail_record d) ≡ true = ap (list_all is_clean) (same-record name (codes "SupplyDetail") fields _ is.0 same) ∙ k.0 in
-    row-built (codes "SupplyDetail") (d.supplier.role ∷ (party_fields d.supplier.party ++ (d.supplier.name ∷ d.availability ∷ optional_text d.unpriced ∷ []))) (row.SupplyDetail d) clean
+    row-built (codes "SupplyDetail") (d.supplier.role ∷ (party_fields d.supplier.party ++ (d.supplier.name ∷ d.availability ∷ unwrap_or d.unpriced [] ∷ []))) (row.SupplyDetail d) clean
     (ap (λ (t : Fields). option_map row.SupplyDetail (detail_of t)) same ∙ ap (option_map row.SupplyDetail) is.1)
 row-back w o (name ∷ fields) (row.Price p) h content e =
     let k = row-parts o name fields (row.Price p) e in
@@ -425,10 +428,10 @@ end-back w n small =
 -- the defaults of a header that was read are codes
 
 optional-code : (term : List ℕ → Option (List ℕ)) (text : List ℕ) (found : Option (List ℕ)) → ((t c : List ℕ) → term t ≡ Some c → term c ≡ Some c) → optional term text ≡ Some found → (t : List ℕ) → found ≡ Some t → term t ≡ Some t
-optional-code term [] found again e t f = cc (same-some None found e, f)
+optional-code term [] found again e t f = cc (same_Some None found e, f)
 optional-code term (b ∷ bs) found again e t f =
     let (x, reads, same) = mapped-some Some (term (b ∷ bs)) found e in
-    again (b ∷ bs) t (reads ∙ ap Some (same-some x t (same ∙ f)))
+    again (b ∷ bs) t (reads ∙ ap Some (same_Some x t (same ∙ f)))
 
 from-codes : (version sender_type sender_value to_type to_value number repeat sent price_type currency : List ℕ) (o : Opening)
     → opening_from version sender_type sender_value to_type to_value number repeat sent price_type currency ≡ Some o → HasCodes o.header
@@ -441,7 +444,7 @@ from-codes version sender_type sender_value to_type to_value number repeat sent 
     let (r, _, e5) = bind-some (optional digits_of repeat) _ o e4 in
     let (t, reads_t, e6) = bind-some (optional code2_of price_type) _ o e5 in
     let (c, reads_c, e7) = bind-some (optional currency_of currency) _ o e6 in
-    let same = same-some _ o e7 in
+    let same = same_Some _ o e7 in
     rw (← same) (record { type_code = optional-code code2_of price_type t code2-again reads_t; currency_code = optional-code currency_of currency c currency-again reads_c })
 
 fields-codes : (fields : Fields) (o : Opening) → opening_fields fields ≡ Some o → HasCodes o.header

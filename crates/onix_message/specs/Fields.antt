@@ -2,7 +2,7 @@
 use Rattle.std.specs.Prelude.{ℕ, List, [], ◌∷◌, Bool, Option, Some, None, ◌&&◌, ◌||◌, ◌==◌, not, nat_le, nat_lt, length, option_map}
 use Rattle.std.specs.List.{list_all}
 use Rattle.onix_terms.specs.Code.{code2_of}
-use Rattle.onix_terms.specs.Options.{◌>>=◌}
+use Rattle.onix_terms.specs.Options.{◌>>=◌, nonempty}
 use Rattle.onix_terms.specs.declared.party.Party.{Party}
 
 -- a byte below the space, or the delete: in UTF-8 each stands for the character of its number, and for nothing else
@@ -13,11 +13,6 @@ is_control b = nat_lt b 32 || (b == 127)
 abbrev pub is_clean : List ℕ → Bool
 is_clean field = nat_le (length field) 1024 && list_all (λ b. not (is_control b)) field
 
--- a text that is not empty
-abbrev pub filled : List ℕ → Option (List ℕ)
-filled [] = None
-filled (b ∷ bs) = Some (b ∷ bs)
-
 -- a term, or nothing
 abbrev pub optional : {A : Type 0} → (List ℕ → Option A) → List ℕ → Option (Option A)
 optional term [] = Some None
@@ -27,7 +22,7 @@ optional term (b ∷ bs) = option_map Some (term (b ∷ bs))
 abbrev pub party_of : List ℕ → List ℕ → Option Party
 party_of id_type id_value = do
   t ← code2_of id_type
-  v ← filled id_value
+  v ← nonempty id_value
   Some (record { id_type = t; id_value = v })
 
 -- a party, or two empty fields

@@ -1,8 +1,7 @@
 -- The row Product.
 use Rattle.std.specs.Prelude.{ℕ, List, [], ◌∷◌, Option, Some, None}
 use Rattle.onix_terms.specs.Code.{code2_of}
-use Rattle.onix_terms.specs.Options.{◌>>=◌}
-use Rattle.onix_message.specs.Fields.{filled}
+use Rattle.onix_terms.specs.Options.{◌>>=◌, nonempty}
 use Rattle.onix_message.specs.declared.parts.Product.{Product}
 use Rattle.onix_message.specs.declared.parts.ProductIdentifier.{ProductIdentifier}
 
@@ -10,7 +9,7 @@ use Rattle.onix_message.specs.declared.parts.ProductIdentifier.{ProductIdentifie
 abbrev pub identifier_of : List ℕ → List ℕ → Option ProductIdentifier
 identifier_of kind value = do
   k ← code2_of kind
-  v ← filled value
+  v ← nonempty value
   Some (record { id_type = k; id_value = v })
 
 -- pairs of a type and a value
@@ -25,7 +24,7 @@ pairs_of (kind ∷ value ∷ rest) = do
 -- a reference, a NotificationType and one or more pairs
 unfoldable pub product_of : List (List ℕ) → Option Product
 product_of (reference ∷ notification ∷ kind ∷ pairs) = do
-  r ← filled reference
+  r ← nonempty reference
   n ← code2_of notification
   ids ← pairs_of (kind ∷ pairs)
   Some (record { reference = r; notification = n; ids = ids; supplies = [] })

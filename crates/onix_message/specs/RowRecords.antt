@@ -1,6 +1,7 @@
 -- The records of rows: how a row is written, and the records of the parts of contents.
 use Rattle.std.specs.Prelude.{ℕ, ℤ, List, [], ◌∷◌, ◌++◌, Option, Some, None, codes, if◌then◌else◌, decimal, map, nat_lt}
 use Rattle.std.specs.List.{flat_map}
+use Rattle.std.specs.Option.{option_map_or, unwrap_or}
 use Rattle.onix_message.specs.declared.parts.Price.{Price}
 use Rattle.onix_message.specs.declared.parts.Product.{Product}
 use Rattle.onix_message.specs.declared.parts.ProductIdentifier.{ProductIdentifier}
@@ -8,17 +9,13 @@ use Rattle.onix_message.specs.declared.parts.ProductSupply.{ProductSupply}
 use Rattle.onix_message.specs.declared.parts.SupplyDetail.{SupplyDetail}
 use Rattle.onix_terms.specs.Amount.{amount_text}
 use Rattle.onix_terms.specs.Day.{day_text}
+use Rattle.onix_terms.specs.Territory.{countries_text, world_text}
 use Rattle.onix_terms.specs.declared.party.Party.{Party}
 use Rattle.onix_terms.specs.declared.territory.Territory.{Territory}
 
--- codes with one space between them
-abbrev pub spaced : List (List ℕ) → List ℕ
-spaced [] = []
-spaced (c ∷ cs) = c ++ flat_map (λ d. 32 ∷ d) cs
-
 -- CountriesIncluded, RegionsIncluded and CountriesExcluded
 abbrev pub territory_fields : Territory → List (List ℕ)
-territory_fields t = spaced t.included ∷ (if t.world then codes "WORLD" else []) ∷ spaced t.excluded ∷ []
+territory_fields t = countries_text t.included ∷ world_text t.world ∷ countries_text t.excluded ∷ []
 
 -- an identifier's type and value
 abbrev pub identifier_fields : ProductIdentifier → List (List ℕ)
@@ -28,11 +25,6 @@ identifier_fields i = i.id_type ∷ i.id_value ∷ []
 abbrev pub party_fields : Option Party → List (List ℕ)
 party_fields None = [] ∷ [] ∷ []
 party_fields (Some p) = p.id_type ∷ p.id_value ∷ []
-
--- a text, or the empty one
-abbrev pub optional_text : Option (List ℕ) → List ℕ
-optional_text None = []
-optional_text (Some text) = text
 
 -- a product's row, as it is written
 abbrev pub product_record : Product → List (List ℕ)
@@ -44,12 +36,11 @@ supply_record s = codes "ProductSupply" ∷ territory_fields s.market
 
 -- a detail's row
 abbrev pub detail_record : SupplyDetail → List (List ℕ)
-detail_record d = codes "SupplyDetail" ∷ d.supplier.role ∷ (party_fields d.supplier.party ++ (d.supplier.name ∷ d.availability ∷ optional_text d.unpriced ∷ []))
+detail_record d = codes "SupplyDetail" ∷ d.supplier.role ∷ (party_fields d.supplier.party ++ (d.supplier.name ∷ d.availability ∷ unwrap_or d.unpriced [] ∷ []))
 
 -- a day, or the empty text
 abbrev pub day_field : Option ℤ → List ℕ
-day_field None = []
-day_field (Some day) = day_text day
+day_field day = option_map_or day_text day []
 
 -- the minimum order quantity, where it is above 1
 abbrev pub minimum_fields : ℕ → List (List ℕ)

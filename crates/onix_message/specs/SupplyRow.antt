@@ -1,9 +1,9 @@
 -- The rows ProductSupply and SupplyDetail.
 use Rattle.std.specs.Prelude.{ℕ, List, [], ◌∷◌, Option, Some, None}
 use Rattle.onix_terms.specs.Code.{code2_of}
-use Rattle.onix_terms.specs.Options.{◌>>=◌}
+use Rattle.onix_terms.specs.Options.{◌>>=◌, nonempty}
 use Rattle.onix_terms.specs.Territory.{territory_of}
-use Rattle.onix_message.specs.Fields.{filled, optional, optional_party}
+use Rattle.onix_message.specs.Fields.{optional, optional_party}
 use Rattle.onix_terms.specs.declared.party.Party.{Party}
 use Rattle.onix_message.specs.declared.parts.ProductSupply.{ProductSupply}
 use Rattle.onix_message.specs.declared.parts.SupplyDetail.{SupplyDetail}
@@ -17,7 +17,7 @@ supply_of _ = None
 
 -- a supplier has a party or a name
 abbrev pub supplier_name : Option Party → List ℕ → Option (List ℕ)
-supplier_name None name = filled name
+supplier_name None name = nonempty name
 supplier_name (Some p) name = Some name
 
 -- what the six fields after the name say

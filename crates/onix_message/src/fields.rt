@@ -2,9 +2,10 @@
 
 ghost use Rattle.std.specs.Prelude.{◌≡◌, not};
 ghost use Rattle.std.specs.List.{list_all};
-ghost use Rattle.onix_message.specs.Fields.{filled, is_clean, is_control, optional, optional_party, party_of};
+ghost use Rattle.onix_message.specs.Fields.{is_clean, is_control, optional, optional_party, party_of};
 ghost use Rattle.onix_message.specs.Gives.{Gives};
 ghost use Rattle.onix_terms.specs.Code.{code2_of};
+ghost use Rattle.onix_terms.specs.Options.{nonempty};
 ghost use Rattle.onix_terms.specs.Territory.{territory_of};
 
 use crate::row::RowFault;
@@ -45,7 +46,7 @@ pub fn are_clean(fields: &[Text]) -> bool
 
 // A text that is not empty.
 pub(crate) fn read_filled(alloc: Global, text: &Text) -> Result<Text, RowFault>
-    ensures { Gives result (filled text.now) }
+    ensures { Gives result (nonempty text.now) }
 {
     if text.as_str().is_empty() {
         return Err(RowFault::Wrong);

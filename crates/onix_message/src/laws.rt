@@ -11,7 +11,7 @@ ghost use Rattle.onix_message.specs.declared.parts.Header.{Header};
 ghost use Rattle.onix_message.specs.declared.parts.Product.{Product};
 
 use onix_terms::laws::{
-    amount_reads_back, day_reads_back, number_reads_back, terms_are_in_range, territory_is_in_order,
+    amount_reads_back, day_reads_back, number_reads_back, terms_are_in_range, territory_reads_back,
 };
 
 /// Records that each have a field have one text, which is read as these records.
@@ -55,5 +55,5 @@ pub fn contents_of_messages()
     amount_reads_back();
     day_reads_back();
     terms_are_in_range();
-    territory_is_in_order();
+    territory_reads_back();
 }

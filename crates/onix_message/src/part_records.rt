@@ -2,15 +2,16 @@
 
 ghost use Rattle.std.specs.Prelude.{◌≡◌, ◌++◌, ◌∷◌, [], IfOk, OnOk};
 ghost use Rattle.std.specs.List.{flat_map};
-ghost use Rattle.std.specs.String.{string_bytes};
+ghost use Rattle.std.specs.Option.{unwrap_or};
 ghost use Rattle.onix_terms.specs.Amount.{amount_text};
-ghost use Rattle.onix_message.specs.RowRecords.{day_field, detail_record, detail_records, identifier_fields, minimum_fields, optional_text, party_fields, price_record, spaced, supplies_records, supply_record, supply_records, territory_fields};
+ghost use Rattle.onix_message.specs.RowRecords.{day_field, detail_record, detail_records, identifier_fields, minimum_fields, party_fields, price_record, supplies_records, supply_record, supply_records, territory_fields};
 
 use crate::parts::{Price, ProductIdentifier, ProductSupply, SupplyDetail};
 use crate::records::Record;
 use itoa::Buffer;
 use onix_terms::amount::Amount;
-use onix_terms::code::{Code2, Country};
+use onix_terms::code::Code2;
+use onix_terms::countries::countries_text;
 use onix_terms::day::Day;
 use onix_terms::items::Items;
 use onix_terms::party::Party;
@@ -25,29 +26,6 @@ pub(crate) fn push_text(alloc: Global, fields: &mut Record, text: &str) -> Resul
     fields.push(Text::from_str(alloc, text)?)
 }
 
-// Codes, each after a space.
-fn push_codes(text: &mut String, codes: &[Country]) -> Result<(), AllocError>
-    ensures { OnOk result (string_bytes text.new ≡ string_bytes text.old ++ flat_map (λ d. 32 ∷ d) codes.now) }
-{
-    for code in codes {
-        text.push_str(" ")?;
-        text.push_str(code.as_str())?;
-    }
-    Ok(())
-}
-
-// Codes with one space between them.
-fn spaced_text(alloc: Global, codes: &[Country]) -> Result<Text, AllocError>
-    ensures { IfOk result (λ text. text ≡ spaced codes.now) }
-{
-    let mut text = String::new(alloc);
-    if let Some((first, rest)) = codes.split_first() {
-        text.push_str(first.as_str())?;
-        push_codes(&mut text, rest)?;
-    }
-    Ok(Text::from_string(text))
-}
-
 fn push_territory(
     alloc: Global,
     fields: &mut Record,
@@ -55,9 +33,9 @@ fn push_territory(
 ) -> Result<(), AllocError>
     ensures { OnOk result (fields.new ≡ fields.old ++ territory_fields territory.now) }
 {
-    fields.push(spaced_text(alloc, territory.included.as_slice())?)?;
+    fields.push(countries_text(alloc, territory.included.as_slice())?)?;
     push_text(alloc, fields, if territory.world { "WORLD" } else { "" })?;
-    fields.push(spaced_text(alloc, territory.excluded.as_slice())?)
+    fields.push(countries_text(alloc, territory.excluded.as_slice())?)
 }
 
 fn push_party(alloc: Global, fields: &mut Record, party: &Option<Party>) -> Result<(), AllocError>
@@ -80,7 +58,7 @@ fn push_optional_code(
     fields: &mut Record,
     code: &Option<Code2>,
 ) -> Result<(), AllocError>
-    ensures { OnOk result (fields.new ≡ fields.old ++ optional_text code.now ∷ []) }
+    ensures { OnOk result (fields.new ≡ fields.old ++ unwrap_or code.now [] ∷ []) }
 {
     match code {
         Some(code) => push_text(alloc, fields, code.as_str()),

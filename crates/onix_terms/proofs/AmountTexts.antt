@@ -4,13 +4,13 @@ use Rattle.std.specs.Prelude.{decimal, nat_lt, option_map, if◌then◌else◌}
 use Rattle.std.specs.List.{list_all, position_or_len, before_first, after_first}
 use Rattle.std.specs.Char.{is_ascii_digit}
 use Rattle.std.proofs.lemmas.List.{length-append}
+use Rattle.std.proofs.lemmas.Bool.{and_parts}
 use Rattle.std.proofs.lemmas.Bool.Decides.{nat_tests}
 use Rattle.std.proofs.lemmas.Fmt.{digits_decimal}
 use Rattle.std.proofs.Math.Seq.{take-append_seam, drop-append-add}
 use Rattle.onix_terms.specs.Options.{◌>>=◌}
 use Rattle.onix_terms.specs.Digits.{digits_of}
 use Rattle.onix_terms.specs.Amount.{amount_of, amount_text, is_point, three_digits, thousandths_of}
-use Rattle.onix_terms.proofs.AsciiTexts.{both-true}
 use Rattle.onix_terms.proofs.DigitTexts.{own, digits-decimal, three-some}
 
 no-point : (b : ℕ) → is_ascii_digit b ≡ true → is_point b ≡ false
@@ -20,7 +20,7 @@ no-point b digit = grind (arith, nat_tests, digit)
 point-after : (ds rest : List ℕ) → list_all is_ascii_digit ds ≡ true → position_or_len is_point (ds ++ 46 ∷ rest) ≡ length ds
 point-after [] rest all = refl
 point-after (d ∷ ds) rest all =
-    let parts = both-true (is_ascii_digit d) (list_all is_ascii_digit ds) all in
+    let parts = and_parts (is_ascii_digit d) (list_all is_ascii_digit ds) all in
     let more = point-after ds rest parts.1 in
     let other : is_point d ≡ false = no-point d parts.0 in
     rw other (omega (arith, more))

@@ -1,41 +1,34 @@
 -- Codes put in their places stand in order.
-use Rattle.std.proofs.Common.{◌≡◌, ℕ, List, [], ◌∷◌, Bool, true, false, Option, Some, None, refl, ap, subst, arith}
-use Rattle.std.specs.Prelude.{◌&&◌, ◌||◌, ◌==◌, nat_lt, IsTrue, fold, option_map, if◌then◌else◌}
+use Rattle.std.proofs.Common.{Ordering, Less, Equal, Greater, ◌≡◌, ◌<◌, ℕ, List, [], ◌∷◌, Bool, true, false, Option, Some, None, refl, ap, ◌∙◌, arith, length}
+use Rattle.std.specs.Prelude.{◌||◌, IsTrue, fold, option_map, if◌then◌else◌}
+use Rattle.std.specs.Cmp.Lexicographic.{slice_cmp}
 use Rattle.std.specs.List.{AllByRecursion}
+use Rattle.std.specs.Ordering.{is_eq, is_lt, nat_cmp, ordering_reverse}
 use Rattle.std.specs.Str.{bytes_eq}
-use Rattle.std.proofs.lemmas.Bool.Decides.{nat_tests}
+use Rattle.std.proofs.lemmas.Cmp.{nat_list_cmp_total}
 use Rattle.std.proofs.lemmas.List.Elements.{All-from_recursion}
 use Rattle.std.proofs.lemmas.List.Kept.{AllPairs-cons}
+use Rattle.std.proofs.lemmas.Map.Text.{is_eq-slice_cmp}
+use Rattle.std.proofs.lemmas.Option.{same_Some}
 use Rattle.onix_terms.specs.Options.{◌>>=◌}
 use Rattle.onix_terms.specs.Territory.{comes_before, with_code, in_order, IsInOrder, nonempty, codes_in, countries_of, world_of, territory_of}
 use Rattle.onix_terms.specs.declared.territory.Territory.{Territory}
 
--- the order of two bytes, and of what follows them
-first-total : (x y : ℕ) (same less more : Bool) → ((x == y) && same) ≡ false → (nat_lt x y || ((x == y) && less)) ≡ false → (same ≡ false → less ≡ false → more ≡ true) →
-    (nat_lt y x || ((y == x) && more)) ≡ true
-first-total x y true less more other after rest = let e : (x == y) ≡ false = grind (arith, nat_tests, other) in grind (arith, nat_tests, e, after)
-first-total x y false true more other after rest = grind (arith, nat_tests, after)
-first-total x y false false more other after rest = let e : more ≡ true = rest refl refl in grind (arith, nat_tests, after, e)
+pub is-less : (o : Ordering) → is_lt o ≡ true → o ≡ Less
+is-less Less e = refl
+is-less Equal e = cc
+is-less Greater e = cc
 
-first-trans : (x y z : ℕ) (a b c : Bool) → (nat_lt x y || ((x == y) && a)) ≡ true → (nat_lt y z || ((y == z) && b)) ≡ true → (a ≡ true → b ≡ true → c ≡ true) →
-    (nat_lt x z || ((x == z) && c)) ≡ true
-first-trans x y z true true c first second rest = let e : c ≡ true = rest refl refl in grind (arith, nat_tests, first, second, e)
-first-trans x y z true false c first second rest = grind (arith, nat_tests, first, second)
-first-trans x y z false b c first second rest = grind (arith, nat_tests, first, second)
+neither : (o back : Ordering) → is_eq o ≡ false → is_lt o ≡ false → back ≡ ordering_reverse o → is_lt back ≡ true
+neither Less back other after e = cc
+neither Equal back other after e = cc
+neither Greater back other after e = ap is_lt e
 
-pub total : (x y : List ℕ) → bytes_eq x y ≡ false → comes_before x y ≡ false → comes_before y x ≡ true
-total [] [] other after = cc
-total [] (y ∷ ys) other after = cc
-total (x ∷ xs) [] other after = refl
-total (x ∷ xs) (y ∷ ys) other after = first-total x y (bytes_eq xs ys) (comes_before xs ys) (comes_before ys xs) other after (total xs ys)
+total : (x y : List ℕ) → bytes_eq x y ≡ false → comes_before x y ≡ false → comes_before y x ≡ true
+total x y other after = neither (slice_cmp nat_cmp x y) (slice_cmp nat_cmp y x) (is_eq-slice_cmp x y ∙ other) after (nat_list_cmp_total.antisymm y x)
 
-pub trans : (x y z : List ℕ) → comes_before x y ≡ true → comes_before y z ≡ true → comes_before x z ≡ true
-trans [] [] z first second = second
-trans [] (y ∷ ys) [] first second = cc
-trans [] (y ∷ ys) (z ∷ zs) first second = refl
-trans (x ∷ xs) [] z first second = cc
-trans (x ∷ xs) (y ∷ ys) [] first second = cc
-trans (x ∷ xs) (y ∷ ys) (z ∷ zs) first second = first-trans x y z (comes_before xs ys) (comes_before ys zs) (comes_before xs zs) first second (trans xs ys zs)
+trans : (x y z : List ℕ) → comes_before x y ≡ true → comes_before y z ≡ true → comes_before x z ≡ true
+trans x y z first second = ap is_lt (nat_list_cmp_total.trans x y z (is-less _ first) (is-less _ second))
 
 -- the code comes before each of these
 abbrev pub IsBefore : List ℕ → List (List ℕ) → Type 0
@@ -88,30 +81,37 @@ rises-all : (codes : List (List ℕ)) → Rises codes → IsInOrder codes
 rises-all [] all = λ i j d less short. absurd (omega arith)
 rises-all (x ∷ xs) all = AllPairs-cons (λ a b. IsTrue (comes_before a b)) x xs (All-from_recursion (λ y. IsTrue (comes_before x y)) xs all.0) (rises-all xs all.1)
 
-pub kept : (codes others : List (List ℕ)) → nonempty codes ≡ Some others → codes ≡ others
+kept : (codes others : List (List ℕ)) → nonempty codes ≡ Some others → (codes ≡ others) × (0 < length others)
 kept [] others e = cc
-kept (x ∷ xs) others e = cc
+kept (x ∷ xs) others e = rw (← same_Some (x ∷ xs) others e) (refl, omega arith)
 
-in_order-rises : (o : Option (List (List ℕ))) (codes : List (List ℕ)) → (option_map in_order o >>= nonempty) ≡ Some codes → Rises codes
-in_order-rises None codes e = cc
-in_order-rises (Some found) codes e = subst (λ (cs : List (List ℕ)). Rises cs) (kept (in_order found) codes e) (rises-fold found [] tt)
+-- the countries of a field that is not empty are its codes in order
+pub from-codes : (o : Option (List (List ℕ))) (found : List (List ℕ)) → (option_map in_order o >>= nonempty) ≡ Some found →
+    (codes : List (List ℕ)) × (o ≡ Some codes) × (in_order codes ≡ found) × (0 < length found)
+from-codes None found e = cc
+from-codes (Some codes) found e = let k = kept (in_order codes) found e in (codes, refl, k.0, k.1)
 
-pub countries-rise : (text : List ℕ) (codes : List (List ℕ)) → countries_of text ≡ Some codes → Rises codes
-countries-rise [] codes e = let same : [] ≡ codes = cc in subst (λ (cs : List (List ℕ)). Rises cs) same tt
-countries-rise (b ∷ bs) codes e = in_order-rises (codes_in (b ∷ bs)) codes e
+pub countries-rise : (text : List ℕ) (found : List (List ℕ)) → countries_of text ≡ Some found → Rises found
+countries-rise [] found e = rw (← same_Some [] found e) tt
+countries-rise (b ∷ bs) found e = let (codes, _, order, _) = from-codes (codes_in (b ∷ bs)) found e in rw (← order) (rises-fold codes [] tt)
 
--- the lists of a territory are those of its fields
-lists-of : (i : Option (List (List ℕ))) (w : Option Bool) (e : Option (List (List ℕ))) (none : Bool) (t : Territory) →
-    (i >>= (λ included. w >>= (λ world. e >>= (λ excluded. Some (record { included = included; world = world || none; excluded = excluded }))))) ≡ Some t →
-    (i ≡ Some t.included) × (e ≡ Some t.excluded)
-lists-of None w e none t is = cc
-lists-of (Some i) None e none t is = cc
-lists-of (Some i) (Some w) None none t is = cc
-lists-of (Some i) (Some w) (Some e) none t is =
-    let same : record { included = i; world = w || none; excluded = e } ≡ t = cc in
-    (ap (λ x. Some x.included) same, ap (λ x. Some x.excluded) same)
+-- what the fields of a territory are
+pub record HasFields (i : Option (List (List ℕ))) (w : Option Bool) (e : Option (List (List ℕ))) (none : Bool) (t : Territory) : Type 0 where
+  pub region : Bool
+  pub included_is : i ≡ Some t.included
+  pub region_is : w ≡ Some region
+  pub excluded_is : e ≡ Some t.excluded
+  pub world_is : t.world ≡ (region || none)
+
+pub has-fields : (i : Option (List (List ℕ))) (w : Option Bool) (e : Option (List (List ℕ))) (none : Bool) (t : Territory) →
+    (i >>= (λ included. w >>= (λ world. e >>= (λ excluded. Some (record { included = included; world = world || none; excluded = excluded }))))) ≡ Some t → HasFields i w e none t
+has-fields None w e none t is = cc
+has-fields (Some i) None e none t is = cc
+has-fields (Some i) (Some w) None none t is = cc
+has-fields (Some i) (Some w) (Some e) none t is =
+    rw (← same_Some _ t is) (record { region = w; included_is = refl; region_is = refl; excluded_is = refl; world_is = refl })
 
 pub territory-in_order : (included regions excluded : List ℕ) (t : Territory) → territory_of included regions excluded ≡ Some t → IsInOrder t.included × IsInOrder t.excluded
 territory-in_order included regions excluded t is =
-    let lists = lists-of (countries_of included) (world_of regions) (countries_of excluded) _ t is in
-    (rises-all t.included (countries-rise included t.included lists.0), rises-all t.excluded (countries-rise excluded t.excluded lists.1))
+    let f = has-fields (countries_of included) (world_of regions) (countries_of excluded) _ t is in
+    (rises-all t.included (countries-rise included t.included f.included_is), rises-all t.excluded (countries-rise excluded t.excluded f.excluded_is))

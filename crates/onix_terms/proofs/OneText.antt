@@ -4,12 +4,11 @@ use Rattle.std.specs.Prelude.{◌==◌, if◌then◌else◌}
 use Rattle.std.specs.List.{list_all}
 use Rattle.std.specs.Char.{is_ascii_digit, digit_value}
 use Rattle.std.specs.Str.Parse.{digits_value_after}
-use Rattle.std.proofs.lemmas.Bool.{eqb-true}
+use Rattle.std.proofs.lemmas.Bool.{and_parts, eqb-true}
 use Rattle.std.proofs.lemmas.Bool.Decides.{nat_tests}
 use Rattle.onix_terms.specs.Options.{◌>>=◌}
 use Rattle.onix_terms.specs.Digits.{digits_of}
 use Rattle.onix_terms.specs.Day.{day_at, day_of, day_text, eight_digits}
-use Rattle.onix_terms.proofs.AsciiTexts.{both-true}
 use Rattle.onix_terms.proofs.Ranges.{between, digits-bound}
 use Rattle.onix_terms.proofs.DayNumbers.{date_of-is}
 use Rattle.onix_terms.proofs.DayTexts.{eight-some}
@@ -25,8 +24,8 @@ same-digits a b [] [] long all others same = (same, refl)
 same-digits a b [] (y ∷ ys) long all others same = absurd (omega (arith, long))
 same-digits a b (x ∷ xs) [] long all others same = absurd (omega (arith, long))
 same-digits a b (x ∷ xs) (y ∷ ys) long all others same =
-    let p = both-true (is_ascii_digit x) (list_all is_ascii_digit xs) all in
-    let q = both-true (is_ascii_digit y) (list_all is_ascii_digit ys) others in
+    let p = and_parts (is_ascii_digit x) (list_all is_ascii_digit xs) all in
+    let q = and_parts (is_ascii_digit y) (list_all is_ascii_digit ys) others in
     let rest = same-digits (a * 10 + digit_value x) (b * 10 + digit_value y) xs ys (omega (arith, long)) p.1 q.1 same in
     let first = digit-known x p.0 in
     let second = digit-known y q.0 in

@@ -4,7 +4,8 @@ use Rattle.std.specs.Prelude.{◌&&◌, ◌==◌, nat_lt, nat_le, option_map, op
 use Rattle.std.specs.List.{list_all, position_or_len, before_first, after_first}
 use Rattle.std.specs.Char.{is_ascii_digit}
 use Rattle.std.specs.Str.Parse.{digits_value}
-use Rattle.std.proofs.lemmas.Bool.{ltb-true, leb-true, cases_lt}
+use Rattle.std.proofs.lemmas.Bool.{and_parts, ltb-true, leb-true, cases_lt}
+use Rattle.std.proofs.lemmas.Option.{cond_some}
 use Rattle.std.proofs.lemmas.Str.Parse.{digits_value_short}
 use Rattle.onix_terms.specs.Options.{◌>>=◌}
 use Rattle.onix_terms.specs.Digits.{digits_of}
@@ -12,18 +13,8 @@ use Rattle.onix_terms.specs.Number.{number_from, number_of}
 use Rattle.onix_terms.specs.Quantity.{quantity_from, quantity_of}
 use Rattle.onix_terms.specs.Amount.{amount_of, thousandths_of, last_digit_worth, is_point}
 use Rattle.onix_terms.specs.Day.{IsDayNumber, day_at, day_of}
-use Rattle.onix_terms.proofs.AsciiTexts.{both-true}
 use Rattle.onix_terms.proofs.DigitTexts.{own}
 use Rattle.onix_terms.proofs.DayNumbers.{day_at-in_range}
-
--- what a test that lets a value through says
-record LetsThrough {A : Type 0} (test : Bool) (value found : A) : Type 0 where
-  holds : test ≡ true
-  same : value ≡ found
-
-lets : {A : Type 0} (test : Bool) (value found : A) → (if test then Some value else None) ≡ Some found → LetsThrough test value found
-lets true value found e = record { holds = refl; same = cc }
-lets false value found e = cc
 
 -- what a number of digits is
 pub record IsBounded (text : List ℕ) (n : ℕ) : Type 0 where
@@ -36,19 +27,19 @@ pub record IsBounded (text : List ℕ) (n : ℕ) : Type 0 where
 
 pub digits-bound : (text : List ℕ) (n : ℕ) → digits_of text ≡ Some n → IsBounded text n
 digits-bound text n e =
-    let through = lets (nat_lt 0 (length text) && nat_le (length text) 9 && list_all is_ascii_digit text) (digits_value 10 text) n e in
-    let tests = both-true (nat_lt 0 (length text) && nat_le (length text) 9) (list_all is_ascii_digit text) through.holds in
-    let sizes = both-true (nat_lt 0 (length text)) (nat_le (length text) 9) tests.0 in
+    let through = cond_some (nat_lt 0 (length text) && nat_le (length text) 9 && list_all is_ascii_digit text) (digits_value 10 text) n e in
+    let tests = and_parts (nat_lt 0 (length text) && nat_le (length text) 9) (list_all is_ascii_digit text) through.0 in
+    let sizes = and_parts (nat_lt 0 (length text)) (nat_le (length text) 9) tests.0 in
     let some : 0 < length text = ltb-true 0 (length text) sizes.0 in
     let few : length text ≤ 9 = leb-true (length text) 9 sizes.1 in
     let all : list_all is_ascii_digit text ≡ true = tests.1 in
     record {
       all = all;
-      value = through.same;
+      value = through.1;
       some = some;
       few = few;
-      places = subst (λ (v : ℕ). v < 10 ^ length text) through.same (digits_value_short own text (length text) all (omega arith));
-      below = subst (λ (v : ℕ). v < 10 ^ 9) through.same (digits_value_short own text 9 all few);
+      places = subst (λ (v : ℕ). v < 10 ^ length text) through.1 (digits_value_short own text (length text) all (omega arith));
+      below = subst (λ (v : ℕ). v < 10 ^ 9) through.1 (digits_value_short own text 9 all few);
     }
 
 -- the value between two steps
@@ -71,9 +62,9 @@ mapped (Some value) f found e = record { value = value; first_gives = refl; seco
 
 bounded : (n limit found : ℕ) → (if nat_lt 0 n && nat_lt n limit then Some n else None) ≡ Some found → (0 < found) × (found < limit)
 bounded n limit found e =
-    let through = lets (nat_lt 0 n && nat_lt n limit) n found e in
-    let tests = both-true (nat_lt 0 n) (nat_lt n limit) through.holds in
-    subst (λ (v : ℕ). (0 < v) × (v < limit)) through.same (ltb-true 0 n tests.0, ltb-true n limit tests.1)
+    let through = cond_some (nat_lt 0 n && nat_lt n limit) n found e in
+    let tests = and_parts (nat_lt 0 n) (nat_lt n limit) through.0 in
+    subst (λ (v : ℕ). (0 < v) × (v < limit)) through.1 (ltb-true 0 n tests.0, ltb-true n limit tests.1)
 
 pub number-range : (text : List ℕ) (n : ℕ) → number_of text ≡ Some n → (0 < n) × (n < 1_000_000_000)
 number-range text n e =

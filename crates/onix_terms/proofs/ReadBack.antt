@@ -1,9 +1,10 @@
 -- Numbers are read back from their digits, and a code or a name is its text.
-use Rattle.std.proofs.Common.{◌≡◌, ℕ, ◌<◌, ◌≤◌, ◌∙◌, List, Bool, true, false, Option, Some, None, ap, arith, length, lit<}
+use Rattle.std.proofs.Common.{◌≡◌, ℕ, ◌<◌, ◌≤◌, ◌∙◌, List, Bool, true, Option, Some, None, ap, arith, length, lit<}
 use Rattle.std.specs.Prelude.{◌&&◌, ◌==◌, nat_lt, nat_le, if◌then◌else◌, decimal, option_and_then}
 use Rattle.std.specs.List.{list_all}
 use Rattle.std.proofs.lemmas.Bool.Decides.{nat_tests}
 use Rattle.std.proofs.lemmas.Fmt.{length-decimal-le}
+use Rattle.std.proofs.lemmas.Option.{cond_some}
 use Rattle.onix_terms.specs.Options.{◌>>=◌}
 use Rattle.onix_terms.specs.Digits.{digits_of}
 use Rattle.onix_terms.specs.Number.{number_from, number_of}
@@ -27,12 +28,8 @@ pub quantity-decimal : (n : ℕ) → 0 < n → n < 1_000_000 → quantity_of (de
 quantity-decimal n some small =
     short-enough (length (decimal n)) n (digits_of (decimal n)) (length-decimal-le 6 n (lit< tt) small (omega arith)) (digits-decimal n (omega arith)) some small
 
-itself : (test : Bool) (text found : List ℕ) → (if test then Some text else None) ≡ Some found → text ≡ found
-itself true text found e = cc
-itself false text found e = cc
-
 pub fixed-itself : (allowed : ℕ → Bool) (size : ℕ) (text code : List ℕ) → fixed_text allowed size text ≡ Some code → text ≡ code
-fixed-itself allowed size text code e = itself ((length text == size) && list_all allowed text) text code e
+fixed-itself allowed size text code e = (cond_some ((length text == size) && list_all allowed text) text code e).1
 
 pub name-itself : (text name : List ℕ) → series_name_of text ≡ Some name → text ≡ name
-name-itself text name e = itself (is_series_name text) text name e
+name-itself text name e = (cond_some (is_series_name text) text name e).1

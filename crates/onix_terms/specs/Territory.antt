@@ -1,9 +1,11 @@
 -- Territories: which texts write one, and which countries lie in it.
-use Rattle.std.specs.Prelude.{ℕ, List, [], ◌∷◌, Bool, true, false, Option, Some, None, ◌&&◌, ◌||◌, ◌==◌, nat_lt, fold, if◌then◌else◌, option_map, Result, Ok, Err, ◌≡◌, ◌⊎◌, length, codes, Contains, IsTrue}
+use Rattle.std.specs.Prelude.{ℕ, List, [], ◌∷◌, Bool, true, false, Option, Some, None, ◌&&◌, ◌||◌, ◌==◌, fold, if◌then◌else◌, option_map, Result, Ok, Err, ◌≡◌, ◌⊎◌, length, codes, Contains, IsTrue}
 use Rattle.std.specs.Char.{is_ascii_uppercase}
+use Rattle.std.specs.Cmp.Lexicographic.{slice_cmp}
 use Rattle.std.specs.List.{AllPairs, join_with_byte}
+use Rattle.std.specs.Ordering.{is_lt, nat_cmp}
 use Rattle.std.specs.Str.{bytes_eq}
-pub use Rattle.onix_terms.specs.Options.{◌>>=◌}
+pub use Rattle.onix_terms.specs.Options.{◌>>=◌, nonempty}
 use Rattle.onix_terms.specs.declared.territory.Territory.{Territory}
 use Rattle.onix_terms.specs.declared.territory.TermFault.{TermFault}
 use Rattle.onix_terms.specs.declared.territory.TermFault.TheVariants as fault
@@ -24,10 +26,7 @@ codes_in (a ∷ b ∷ rest) =
 
 -- x comes before y in the order of bytes
 abbrev pub comes_before : List ℕ → List ℕ → Bool
-comes_before [] [] = false
-comes_before [] (y ∷ ys) = true
-comes_before (x ∷ xs) [] = false
-comes_before (x ∷ xs) (y ∷ ys) = nat_lt x y || ((x == y) && comes_before xs ys)
+comes_before x y = is_lt (slice_cmp nat_cmp x y)
 
 -- a code in its place among codes in order, once
 unfoldable pub with_code : List (List ℕ) → List ℕ → List (List ℕ)
@@ -45,11 +44,6 @@ in_order codes = fold with_code [] codes
 abbrev pub IsInOrder : List (List ℕ) → Type 0
 IsInOrder codes = AllPairs (λ x y. IsTrue (comes_before x y)) codes
 
--- a list that is not empty
-abbrev pub nonempty : {A : Type 0} → List A → Option (List A)
-nonempty [] = None
-nonempty (x ∷ xs) = Some (x ∷ xs)
-
 -- the countries of a field that is empty or has a code
 abbrev pub countries_of : List ℕ → Option (List (List ℕ))
 countries_of [] = Some []
@@ -58,6 +52,10 @@ countries_of (b ∷ bs) = option_map in_order (codes_in (b ∷ bs)) >>= nonempty
 -- codes with one space between them
 abbrev pub countries_text : List (List ℕ) → List ℕ
 countries_text codes = join_with_byte 32 codes
+
+-- a letter A to Z or a space
+abbrev pub is_letter_or_space : ℕ → Bool
+is_letter_or_space b = is_ascii_uppercase b || (b == 32)
 
 -- whether a field of regions names the world
 abbrev pub world_of : List ℕ → Option Bool

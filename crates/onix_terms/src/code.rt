@@ -73,12 +73,6 @@ impl Country {
         Country { bytes }
     }
 
-    pub(crate) fn letters(self) -> [u8; 2]
-        ensures { result ≡ self }
-    {
-        self.bytes
-    }
-
     /// The code of a text, or `None` where the text is not two letters `A` to `Z`.
     pub fn read(text: &str) -> Option<Country>
         ensures { result ≡ country_of text.now }

@@ -2,22 +2,13 @@
 
 ghost use Rattle.std.specs.Prelude.{◌≡◌, ℕ, List, IfOk, fold, option_map};
 ghost use Rattle.onix_terms.specs.CodeText.{BeginsWith};
-ghost use Rattle.onix_terms.specs.Territory.{Gives, codes_in, comes_before, countries_of, countries_text, ends_code, in_order, with_code, world_of};
+ghost use Rattle.onix_terms.specs.Territory.{Gives, codes_in, countries_of, countries_text, ends_code, in_order, with_code, world_of};
 
 use crate::code::Country;
 use crate::items::Items;
 use crate::territory::TermFault;
 use crate::text::Text;
 use std::alloc::{AllocError, Global};
-
-// Whether two letters come before two others.
-fn is_before(code: [u8; 2], other: [u8; 2]) -> bool
-    ensures { result ≡ comes_before code other }
-{
-    let [a, b] = code;
-    let [x, y] = other;
-    a < x || (a == x && b < y)
-}
 
 // The codes with one more, in its place.
 #[tactic(auto, unfolding(crate::specs::Territory::with_code))]
@@ -26,10 +17,10 @@ fn add_code(mut codes: Items<Country>, code: Country) -> Result<Items<Country>, 
 {
     for i in 0..codes.as_slice().len() {
         let other = codes.as_slice()[i];
-        if code.letters() == other.letters() {
+        if code == other {
             return Ok(codes);
         }
-        if is_before(code.letters(), other.letters()) {
+        if code.cmp(&other).is_lt() {
             codes.insert(i, code)?;
             return Ok(codes);
         }

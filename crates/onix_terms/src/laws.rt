@@ -1,6 +1,7 @@
 // What the definitions of the terms come to. Each law is the contract of a function that does nothing.
 
-ghost use Rattle.std.specs.Prelude.{◌≡◌, ◌<◌, Bool, List, ℕ, ℤ, Some, decimal};
+ghost use Rattle.std.specs.Prelude.{◌≡◌, ◌<◌, ◌≤◌, Bool, true, List, length, ℕ, ℤ, Some, decimal};
+ghost use Rattle.std.specs.List.{list_all};
 ghost use Rattle.onix_terms.specs.Amount.{amount_of, amount_text};
 ghost use Rattle.onix_terms.specs.Code.{fixed_text};
 ghost use Rattle.onix_terms.specs.Digits.{digits_of};
@@ -8,7 +9,7 @@ ghost use Rattle.onix_terms.specs.SeriesName.{series_name_of};
 ghost use Rattle.onix_terms.specs.Day.{IsDayNumber, day_of, day_text};
 ghost use Rattle.onix_terms.specs.Number.{number_of};
 ghost use Rattle.onix_terms.specs.Quantity.{quantity_of};
-ghost use Rattle.onix_terms.specs.Territory.{IsInOrder, countries_text, territory_of, world_text};
+ghost use Rattle.onix_terms.specs.Territory.{IsInOrder, countries_text, is_letter_or_space, territory_of, world_text};
 ghost use Rattle.onix_terms.specs.declared.territory.Territory.{Territory};
 
 /// The decimal digits of a number are read as that number.
@@ -50,8 +51,13 @@ pub fn territory_is_in_order()
 {}
 
 /// A territory that was read is read again from its countries in order with one space between
-/// them, and from `WORLD` or nothing.
+/// them, and from `WORLD` or nothing. These texts of countries are no longer than the fields
+/// that were read, and have letters and spaces alone.
 pub fn territory_reads_back()
-    ensures { (included regions excluded : List ℕ) (t : Territory) → territory_of included regions excluded ≡ Some t
+    ensures read { (included regions excluded : List ℕ) (t : Territory) → territory_of included regions excluded ≡ Some t
         → territory_of (countries_text t.included) (world_text t.world) (countries_text t.excluded) ≡ Some t }
+    ensures short { (included regions excluded : List ℕ) (t : Territory) → territory_of included regions excluded ≡ Some t
+        → (length (countries_text t.included) ≤ length included) × (length (countries_text t.excluded) ≤ length excluded) }
+    ensures letters { (included regions excluded : List ℕ) (t : Territory) → territory_of included regions excluded ≡ Some t
+        → (list_all is_letter_or_space (countries_text t.included) ≡ true) × (list_all is_letter_or_space (countries_text t.excluded) ≡ true) }
 {}

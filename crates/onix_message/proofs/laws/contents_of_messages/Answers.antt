@@ -12,7 +12,8 @@ returns c =
       quantity_range = c.terms_are_in_range.ensures.quantity;
       amount_range = c.terms_are_in_range.ensures.amount;
       day_range = c.terms_are_in_range.ensures.day;
-      included = c.territory_is_in_order.ensures.included;
-      excluded = c.territory_is_in_order.ensures.excluded;
+      territory = c.territory_reads_back.ensures.read;
+      territory_short = c.territory_reads_back.ensures.short;
+      territory_letters = c.territory_reads_back.ensures.letters;
     } in
     contents-back laws

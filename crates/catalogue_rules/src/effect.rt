@@ -51,8 +51,8 @@ impl Effect {
     ghost use Rattle.catalogue_rules.specs.Effects.{counted, no_effect};
     ghost use Rattle.catalogue_rules.specs.Plans.{total};
 
-    /// No product.
-    pub(crate) fn none() -> Effect
+    /// The counts of no product.
+    pub fn none() -> Effect
         ensures { result ≡ no_effect }
     {
         Effect {

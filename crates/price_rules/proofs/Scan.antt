@@ -125,9 +125,6 @@ least_all rule number offers q n (Some b) le h =
 abbrev pub IsPast : List Rule → List Offer → PriceQuery → ℕ → Type 0
 IsPast rules offers q k = (c : Pair) → IsCandidate rules offers q c → k < c.0.rule
 
-pub none_past : (rules : List Rule) (offers : List Offer) (q : PriceQuery) → IsPast rules offers q 0
-none_past rules offers q c h = let e = h.3.0 in omega arith
-
 same_rule : (rules : List Rule) (k j : ℕ) (r s : Rule) → slice_get rules k ≡ Some r → slice_get rules j ≡ Some s → j ≡ k → s ≡ r
 same_rule rules k j r s a b e = same_some s r (sym b ∙ ap (slice_get rules) e ∙ a)
 

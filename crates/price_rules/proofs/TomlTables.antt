@@ -63,10 +63,6 @@ pub codes_nonempty : (values : List Value) → 0 < length values → (codes_of (
 codes_nonempty [] l = absurd (omega arith)
 codes_nonempty (value ∷ rest) l = nonempty_first (code_of (view value)) (codes_of (items_view rest))
 
-pub codes_empty : (values : List Value) → length values ≡ 0 → (codes_of (items_view values) >>= nonempty) ≡ None
-codes_empty [] l = refl
-codes_empty (value ∷ rest) l = absurd (omega arith)
-
 -- the rules so far, before those of the rest
 abbrev pub rules_before : List Rule → Result (List Rule) PrecedenceFault → Result (List Rule) PrecedenceFault
 rules_before rules (Ok rest) = Ok (rules ++ rest)

@@ -2,6 +2,7 @@
 
 use crate::texts::small_messages;
 use crate::times::{print_ratio, used};
+use price_rules::precedence::Precedence;
 use series_rules::batch::run_batch;
 use series_rules::plain::PlainDesk;
 
@@ -12,8 +13,9 @@ fn time_of(rt: &HostRuntime, count: u32, is_reversed: bool) -> anyhow::Result<u6
     let mut input = text.as_bytes();
     let mut output = Vec::new(alloc);
     let mut desk = PlainDesk::new(alloc);
+    let precedence = Precedence::none(alloc);
     let start = used(rt)?;
-    match run_batch(alloc, &mut desk, &mut input, &mut output) {
+    match run_batch(alloc, &mut desk, &precedence, &mut input, &mut output) {
         Ok(0) => {}
         _ => anyhow::bail!("the batch was not answered"),
     }

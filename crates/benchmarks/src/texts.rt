@@ -2,6 +2,8 @@
 
 use std::alloc::{AllocError, Global};
 
+const AGREEMENT: &str = "Agree,north,06,4012345000009,06,5012345678900,1\n";
+
 const OPENING: &str = "Message,1,06,4012345000009,06,5012345678900";
 
 // One product with two supplies, each with a detail of two prices.
@@ -47,7 +49,7 @@ fn push_small(text: &mut String, number: u32) -> Result<(), AllocError> {
 
 /// A batch of an agreement and so many small messages, in the order of their numbers or reversed.
 pub fn small_messages(alloc: Global, count: u32, is_reversed: bool) -> Result<String, AllocError> {
-    let mut text = String::from_str(alloc, "Agree,north,06,4012345000009,06,5012345678900,1\n")?;
+    let mut text = String::from_str(alloc, AGREEMENT)?;
     for number in 1..1_000_000u32 {
         if number > count {
             break;
@@ -58,6 +60,38 @@ pub fn small_messages(alloc: Global, count: u32, is_reversed: bool) -> Result<St
             number
         };
         push_small(&mut text, at)?;
+    }
+    Ok(text)
+}
+
+// A product of one supply, which has the ISBN 978 and the ten digits of this number.
+fn push_offer(text: &mut String, number: u32) -> Result<(), AllocError> {
+    write!(text, "Product,R{number},03,15,978{number:010}\n")?;
+    text.push_str("ProductSupply,GB,,\nSupplyDetail,04,06,4012345000009,North Books,21,\n")?;
+    text.push_str("Price,02,12.99,GBP,,WORLD,,20250101,20251231\n")?;
+    Ok(())
+}
+
+/// A batch of an agreement and 5 messages of 1,000 products each, with the ISBNs 9780000000001 to
+/// 9780000005000.
+pub fn large_catalogue(alloc: Global) -> Result<String, AllocError> {
+    let mut text = String::from_str(alloc, AGREEMENT)?;
+    for message in 0..5u32 {
+        let number = message + 1;
+        write!(text, "{OPENING},{number},1,20250301,,\n")?;
+        for product in 0..1_000u32 {
+            push_offer(&mut text, message * 1_000 + product + 1)?;
+        }
+        text.push_str("EndMessage,4001\n")?;
+    }
+    Ok(text)
+}
+
+/// A batch of one request, given so many times.
+pub fn repeated(alloc: Global, request: &str, count: u32) -> Result<String, AllocError> {
+    let mut text = String::new(alloc);
+    for _ in 0..count {
+        text.push_str(request)?;
     }
     Ok(text)
 }

@@ -1,0 +1,2 @@
+pub mod RulesFile
+pub mod Ends

@@ -1,9 +1,14 @@
 // The command `batch`: standard input to standard output.
 
-ghost use Rattle.std.specs.Prelude.{◌≤◌};
+ghost use Rattle.std.specs.Prelude.{◌≤◌, ℕ, List, []};
+ghost use Rattle.std.specs.Io.KnownBytes.{Appends};
+ghost use Rattle.series_rules.specs.Batch.{IsTold};
+ghost use Rattle.onixdesk.specs.Ends.{Ends};
 
 use crate::fault::{Fault, report};
+use price_rules::precedence::Precedence;
 use series_rules::batch::{BatchFault, run_batch};
+use series_rules::desk::Desk;
 use series_rules::plain::PlainDesk;
 use std::alloc::Global;
 use std::io::{Read, Write};
@@ -20,20 +25,43 @@ impl From<BatchFault> for Fault {
     }
 }
 
-/// Runs a batch over a desk in memory. Gives 0, or 1 where an answer was a refusal, or 3 after a
-/// fault, which is reported.
-pub fn run<R: Read, W: Write, E: Write>(
+// Runs a batch over a desk that has seen no request.
+fn run_over<D: Desk, R: Read, W: Write, E: Write>(
     alloc: Global,
+    desk: &mut D,
+    precedence: &Precedence,
     input: &mut R,
     output: &mut W,
     errors: &mut E,
 ) -> u8
-    ensures { result ≤ 3 }
+    ensures status { result ≤ 3 }
+    ensures end { (text : List ℕ) × IsTold (R.remaining input.old) text × (D.stands_for desk.old [] → D.is_sound desk.new →
+        Ends precedence.now text (Appends (W.contents output.old) (W.contents output.new)) result) }
 {
-    let mut desk = PlainDesk::new(alloc);
-    match run_batch(alloc, &mut desk, input, output) {
+    match run_batch(alloc, desk, precedence, input, output) {
         Ok(0) => 0,
         Ok(_) => 1,
         Err(fault) => report(&Fault::from(fault), errors),
     }
+}
+
+/// Runs a batch over a desk in memory, under a precedence table. Gives 0, or 1 where an answer was
+/// a refusal, or 3 after a fault, which is reported.
+pub fn run<R: Read, W: Write, E: Write>(
+    alloc: Global,
+    precedence: &Precedence,
+    input: &mut R,
+    output: &mut W,
+    errors: &mut E,
+) -> u8
+    ensures status { result ≤ 3 }
+    // There is a text, that of the input where it tells its bytes, of which this is the status and
+    // all answers, or a first part of them, are written.
+    ensures end { (text : List ℕ) × IsTold (R.remaining input.old) text
+        × Ends precedence.now text (Appends (W.contents output.old) (W.contents output.new)) result }
+{
+    let mut desk = PlainDesk::new(alloc);
+    let status = run_over(alloc, &mut desk, precedence, input, output, errors);
+    desk.is_always_sound();
+    status
 }

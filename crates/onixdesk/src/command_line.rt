@@ -4,21 +4,22 @@ ghost use Rattle.std.specs.Prelude.{◌≤◌, ◌≡◌};
 
 use crate::fault::{Fault, report};
 use clap::error::ErrorKind;
-use clap::{Command, Error};
+use clap::{Arg, ArgAction, Command, Error};
 use std::alloc::{AllocError, Global};
 use std::io::Write;
 
 /// What the program is asked to do.
 #[derive(Clone, Copy, Debug)]
-pub enum Invocation {
-    /// `batch`: requests from standard input, answers to standard output.
-    Batch,
+pub enum Invocation<'a> {
+    /// `batch`: requests from standard input, answers to standard output, under the precedence
+    /// table of a file or under no rules.
+    Batch { rules: Option<&'a str> },
 }
 
 /// How the words of the command line read.
 #[derive(Drop)]
-pub enum Reading {
-    Run(Invocation),
+pub enum Reading<'a> {
+    Run(Invocation<'a>),
     /// Asked-for help.
     Help(String),
     /// A fault of the command line, as clap words it.
@@ -33,20 +34,28 @@ fn command<'a>(alloc: Global) -> Result<Command<'a>, AllocError> {
         .long_about(
             "Reads agreements, messages, waivers and questions as CSV records from standard input, up to 4,194,304 bytes of UTF-8, and writes the answer to each, in order, to standard output. The desk is kept in memory and ends with the batch.",
         );
+    let rules = Arg::new(alloc, "rules")
+        .long("rules")
+        .value_name("FILE")
+        .action(ArgAction::Set)
+        .help(
+            "Choose among offers by the precedence table of this TOML file; without it there are no rules",
+        );
     Command::new(alloc, "onixdesk")
         .about(
             "The intake of a bookshop's buying desk: numbered ONIX messages in, proved answers out",
         )
         .after_help(
-            "Exit status: 0; 1 where an answer was a refusal; 2 for a bad command line; 3 for a fault of storage, input or output.",
+            "Exit status: 0; 1 where an answer was a refusal; 2 for a bad command line or rules file; 3 for a fault of storage, input or output.",
         )
         .subcommand_required(true)
         .disable_help_subcommand(true)
+        .arg(rules)?
         .subcommand(batch)
 }
 
 // What clap could not read as an invocation.
-fn refused(alloc: Global, error: &Error) -> Reading {
+fn refused<'a>(alloc: Global, error: &Error) -> Reading<'a> {
     if error.kind() == ErrorKind::OutOfMemory {
         return Reading::Memory;
     }
@@ -61,12 +70,14 @@ fn refused(alloc: Global, error: &Error) -> Reading {
 }
 
 /// Reads the words, of which the first is the program's name.
-pub fn read(alloc: Global, words: &[&str]) -> Reading {
+pub fn read<'a>(alloc: Global, words: &'a [&'a str]) -> Reading<'a> {
     let Ok(command) = command(alloc) else {
         return Reading::Memory;
     };
     match command.try_get_matches_from(words) {
-        Ok(_) => Reading::Run(Invocation::Batch),
+        Ok(matches) => Reading::Run(Invocation::Batch {
+            rules: matches.get_str("rules"),
+        }),
         Err(error) => refused(alloc, &error),
     }
 }

@@ -6,10 +6,12 @@ use Rattle.std.proofs.lemmas.Slice.Eq.{bytes_eq-Decides}
 use Rattle.std.proofs.lemmas.List.Folds.{find-append}
 use Rattle.std.proofs.lemmas.Option.{cond_some}
 use Rattle.onix_terms.specs.declared.party.Party.{Party}
+use Rattle.onix_terms.specs.Plain.{option-decides}
+use Rattle.onix_message.specs.SameContents.{same_party, same_party-Decides}
 use Rattle.onix_message.specs.declared.agreement.Agreement.{Agreement}
-use Rattle.series_rules.specs.Agreements.{same_party, same_addressee, has_name, has_parties, named, between, clashes, with_agreement, agreements_of, AreApart}
+use Rattle.series_rules.specs.Agreements.{same_addressee, has_name, has_parties, named, between, clashes, with_agreement, agreements_of, AreApart}
 use Rattle.series_rules.specs.declared.requests.Request.{Request}
-use Rattle.series_rules.specs.declared.requests.Request.TheVariants.{Agree, Deliver, Waive, AskGaps, AskCatalogue, Malformed}
+use Rattle.series_rules.specs.declared.requests.Request.TheVariants.{Agree, Deliver, Waive, AskGaps, AskCatalogue, AskPrice, AskChoice, AskCalendar, Malformed}
 
 pub same_bytes : (xs : List ℕ) → bytes_eq xs xs ≡ true
 same_bytes xs = (bytes_eq-Decides xs xs).1 refl
@@ -19,24 +21,16 @@ both true b e = (refl, e)
 both false b e = absurd cc
 
 party_is : (p q : Party) → same_party p q ≡ true → p ≡ q
-party_is p q e =
-    let parts = both (bytes_eq p.id_type q.id_type) (bytes_eq p.id_value q.id_value) e in
-    let t : p.id_type ≡ q.id_type = (bytes_eq-Decides p.id_type q.id_type).0 parts.0 in
-    let v : p.id_value ≡ q.id_value = (bytes_eq-Decides p.id_value q.id_value).0 parts.1 in
-    λ i. record { id_type = t i; id_value = v i }
+party_is p q e = (same_party-Decides p q).0 e
 
 addressee_is : (p q : Option Party) → same_addressee p q ≡ true → p ≡ q
-addressee_is None None e = refl
-addressee_is None (Some q) e = absurd cc
-addressee_is (Some p) None e = absurd cc
-addressee_is (Some p) (Some q) e = ap Some (party_is p q e)
+addressee_is p q e = (option-decides same_party-Decides p q).0 e
 
 pub same_party_itself : (p : Party) → same_party p p ≡ true
-same_party_itself p = rw (same_bytes p.id_type, same_bytes p.id_value) refl
+same_party_itself p = (same_party-Decides p p).1 refl
 
 pub same_addressee_itself : (p : Option Party) → same_addressee p p ≡ true
-same_addressee_itself None = refl
-same_addressee_itself (Some p) = same_party_itself p
+same_addressee_itself p = (option-decides same_party-Decides p p).1 refl
 
 has_own_parties : (a : Agreement) → has_parties a.sender a.addressee a ≡ true
 has_own_parties a = rw (same_party_itself a.sender, same_addressee_itself a.addressee) refl
@@ -53,10 +47,11 @@ found_passes p (x ∷ xs) a e = go (λ rest. found_passes p xs a rest) (p x) ref
 pub named_has_name : (as' : List Agreement) (name : List ℕ) (a : Agreement) → named as' name ≡ Some a → a.name ≡ name
 named_has_name as' name a e = (bytes_eq-Decides a.name name).0 (found_passes (has_name name) as' a e)
 
+pub parties_are : (s : Party) (d : Option Party) (a : Agreement) → has_parties s d a ≡ true → (a.sender ≡ s) × (a.addressee ≡ d)
+parties_are s d a e = let parts = both (same_party a.sender s) (same_addressee a.addressee d) e in (party_is a.sender s parts.0, addressee_is a.addressee d parts.1)
+
 pub between_has_parties : (as' : List Agreement) (s : Party) (d : Option Party) (a : Agreement) → between as' s d ≡ Some a → (a.sender ≡ s) × (a.addressee ≡ d)
-between_has_parties as' s d a e =
-    let parts = both (same_party a.sender s) (same_addressee a.addressee d) (found_passes (has_parties s d) as' a e) in
-    (party_is a.sender s parts.0, addressee_is a.addressee d parts.1)
+between_has_parties as' s d a e = parties_are s d a (found_passes (has_parties s d) as' a e)
 
 -- one more at the end
 find_more : (p : Agreement → Bool) (xs : List Agreement) (b : Agreement) (o : Option Agreement) → find p xs ≡ o → find p (xs ++ b ∷ []) ≡ option_or o (cond (p b) (Some b) None)
@@ -90,6 +85,13 @@ apart_with as' b apart = go (named as' b.name) refl (between as' b.sender b.addr
     go None e (Some x) e' = rw (e, e') apart
     go None e None e' = rw (e, e') (apart_more as' b apart e e')
 
+-- agreements that are found alike are apart alike
+pub apart_alike : (as' bs : List Agreement) → ((name : List ℕ) → named as' name ≡ named bs name) → ((s : Party) (d : Option Party) → between as' s d ≡ between bs s d) → AreApart bs → AreApart as'
+apart_alike as' bs same parties apart = record {
+  by_name = λ name a e. parties a.sender a.addressee ∙ apart.by_name name a (sym (same name) ∙ e);
+  by_parties = λ s d a e. same a.name ∙ apart.by_parties s d a (sym (parties s d) ∙ e);
+}
+
 -- the agreements that stand are apart
 pub agreements_are_apart : (L : List Request) → AreApart (agreements_of L)
 agreements_are_apart [] = record { by_name = λ name a e. absurd cc; by_parties = λ s d a e. absurd cc }
@@ -98,6 +100,9 @@ agreements_are_apart (Deliver x ∷ L) = agreements_are_apart L
 agreements_are_apart (Waive x y ∷ L) = agreements_are_apart L
 agreements_are_apart (AskGaps x ∷ L) = agreements_are_apart L
 agreements_are_apart (AskCatalogue x ∷ L) = agreements_are_apart L
+agreements_are_apart (AskPrice x y ∷ L) = agreements_are_apart L
+agreements_are_apart (AskChoice x y ∷ L) = agreements_are_apart L
+agreements_are_apart (AskCalendar x1 x2 x3 x4 x5 x6 x7 ∷ L) = agreements_are_apart L
 agreements_are_apart (Malformed x ∷ L) = agreements_are_apart L
 
 -- what one finds by its parties, the other finds too, where both find the same by each name

@@ -1,10 +1,8 @@
 -- What stands from a number on without a gap, and what it comes to.
 use Rattle.std.proofs.Common.{◌≡◌, ◌≢◌, ◌+◌, ◌-◌, ◌<◌, ◌≤◌, ℕ, zero, suc, List, [], ◌∷◌, ◌++◌, Option, Some, None, length, take, refl, sym, ap, ◌∙◌, arith, add-zero, ◌⊎◌, inl, inr, nat_eq, cond, ◌&&◌, true, false}
 use Rattle.std.specs.Prelude.{slice_get, bytes_eq}
-use Rattle.std.specs.FinMap as map
 use Rattle.std.proofs.lemmas.Bool.{cases_lt, cases_eq}
 use Rattle.std.specs.Option.{option_or}
-use Rattle.std.proofs.Math.Nat.{eq-or-lt_of_le}
 use Rattle.std.proofs.lemmas.Bool.Decides.{nat_tests}
 use Rattle.std.proofs.lemmas.List.{take-append-le}
 use Rattle.catalogue_rules.specs.Records.{ByReference}
@@ -12,7 +10,8 @@ use Rattle.onix_message.specs.declared.agreement.Agreement.{Agreement}
 use Rattle.series_rules.specs.Content.{SameContent}
 use Rattle.series_rules.specs.Agreements.{agreements_of}
 use Rattle.series_rules.specs.Firsts.{first_at, had_at, put_at, admitted}
-use Rattle.series_rules.specs.Series.{in_front_of, unbroken, front_of, IsFront, after_all, after_had, effect_of_had, kept_of}
+use Rattle.series_rules.specs.Folded.{BeginsWith}
+use Rattle.series_rules.specs.Series.{in_front_of, unbroken, front_of, IsFront, after_all, after_had, kept_of}
 use Rattle.series_rules.specs.declared.requests.Request.{Request}
 use Rattle.series_rules.specs.declared.requests.First.{First}
 use Rattle.series_rules.specs.declared.requests.Had.{Had}
@@ -48,12 +47,7 @@ pub after_all_append : (m : ByReference) (hs gs : List Had) → after_all m (hs 
 after_all_append m [] gs = refl
 after_all_append m (h ∷ hs) gs = after_all_append (after_had m h) hs gs
 
-after_all_more : (m : ByReference) (hs : List Had) (k : ℕ) (h : Had) → slice_get hs k ≡ Some h → after_all m (take (suc k) hs) ≡ after_had (after_all m (take k hs)) h
-after_all_more m [] k h e = cc
-after_all_more m (x ∷ hs) zero h e = let same : x ≡ h = cc in ap (after_had m) same
-after_all_more m (x ∷ hs) (suc k) h e = after_all_more (after_had m x) hs k h e
-
-slice_get_front : (hs more : List Had) (k : ℕ) → k < length hs → slice_get (hs ++ more) k ≡ slice_get hs k
+pub slice_get_front : {A : Type 0} (hs more : List A) (k : ℕ) → k < length hs → slice_get (hs ++ more) k ≡ slice_get hs k
 slice_get_front [] more k lt = absurd (omega arith)
 slice_get_front (h ∷ hs) more zero lt = refl
 slice_get_front (h ∷ hs) more (suc k) lt = slice_get_front hs more k (omega arith)
@@ -74,55 +68,41 @@ same_list (x ∷ xs) (y ∷ ys) n each =
     let tail = same_list xs ys (omega arith) (λ k lt. each (suc k) (omega arith)) in
     cc
 
-slice_get_none : (hs : List Had) (k : ℕ) → slice_get hs k ≡ None → length hs ≤ k
+pub slice_get_none : (hs : List Had) (k : ℕ) → slice_get hs k ≡ None → length hs ≤ k
 slice_get_none [] k e = omega arith
 slice_get_none (h ∷ hs) zero e = absurd cc
 slice_get_none (h ∷ hs) (suc k) e = let ih = slice_get_none hs k e in omega arith
 
-not_shorter : (f : ℕ → Option Had) (from : ℕ) (hs gs : List Had) → IsFront f from hs → IsFront f from gs → length gs ≤ length hs
+not_shorter : (f : ℕ → Option Had) (from : ℕ) (hs gs : List Had) → IsFront f from hs → BeginsWith f from gs → length gs ≤ length hs
 not_shorter f from hs gs is other = go (cases_lt (length hs) (length gs))
   where
     go : (length hs < length gs) ⊎ (length gs ≤ length hs) → length gs ≤ length hs
-    go (inl lt) = let within = slice_get_none gs (length hs) (sym (other.each (length hs) lt) ∙ is.ends) in absurd (omega arith)
+    go (inl lt) = let within = slice_get_none gs (length hs) (sym (other (length hs) lt) ∙ is.ends) in absurd (omega arith)
     go (inr le) = le
+
+prefix : (gs hs : List Had) → length gs ≤ length hs → ((k : ℕ) → k < length gs → slice_get gs k ≡ slice_get hs k) → (more : List Had) × (hs ≡ gs ++ more)
+prefix [] hs le each = (hs, refl)
+prefix (g ∷ gs) [] le each = absurd (omega arith)
+prefix (g ∷ gs) (h ∷ hs) le each =
+    let at : Some g ≡ Some h = each 0 (omega arith) in
+    let head : h ≡ g = cc in
+    let rest = prefix gs hs (omega arith) (λ k lt. each (suc k) (omega arith)) in
+    (rest.0, ap (λ x. x ∷ hs) head ∙ ap (λ xs. g ∷ xs) rest.1)
+
+-- the front begins with what stands from its first number on
+pub front_goes_on : (f : ℕ → Option Had) (from : ℕ) (hs gs : List Had) → IsFront f from hs → BeginsWith f from gs → (more : List Had) × (hs ≡ gs ++ more)
+front_goes_on f from hs gs is other =
+    let within = not_shorter f from hs gs is other in
+    prefix gs hs within (λ k lt. sym (other k lt) ∙ is.each k (omega arith))
 
 pub front_unique : (f : ℕ → Option Had) (from : ℕ) (hs gs : List Had) → IsFront f from hs → IsFront f from gs → hs ≡ gs
 front_unique f from hs gs is other =
-    let n = not_shorter f from hs gs is other in
-    let m = not_shorter f from gs hs other is in
+    let n = not_shorter f from hs gs is (λ k lt. other.each k lt) in
+    let m = not_shorter f from gs hs other (λ k lt. is.each k lt) in
     same_list hs gs (omega arith) (λ k lt. sym (is.each k lt) ∙ other.each k (omega arith))
 
 pub is_front_same : (f g : ℕ → Option Had) → ((n : ℕ) → f n ≡ g n) → (from : ℕ) (hs : List Had) → IsFront g from hs → IsFront f from hs
 is_front_same f g same from hs is = record { each = λ k lt. same (from + k) ∙ is.each k lt; ends = same (from + length hs) ∙ is.ends }
-
--- the front goes on while something stands
-
-front_within : (f : ℕ → Option Had) (from : ℕ) (hs : List Had) → IsFront f from hs → (k : ℕ) → k ≤ length hs → (h : Had) → f (from + k) ≡ Some h → (k ≡ length hs) ⊎ (k < length hs) → k < length hs
-front_within f from hs is k le h e (inl same) = let ended : f (from + k) ≡ None = ap (λ j. f (from + j)) same ∙ is.ends in absurd cc
-front_within f from hs is k le h e (inr lt) = lt
-
-pub front_at : (f : ℕ → Option Had) (from : ℕ) (hs : List Had) → IsFront f from hs → (k : ℕ) → k ≤ length hs → (h : Had) → f (from + k) ≡ Some h → (k < length hs) × (slice_get hs k ≡ Some h)
-front_at f from hs is k le h e = let lt = front_within f from hs is k le h e (eq-or-lt_of_le le) in (lt, sym (is.each k lt) ∙ e)
-
-front_full_by : (f : ℕ → Option Had) (from : ℕ) (hs : List Had) → IsFront f from hs → (k : ℕ) → k ≤ length hs → f (from + k) ≡ None → (k ≡ length hs) ⊎ (k < length hs) → k ≡ length hs
-front_full_by f from hs is k le e (inl same) = same
-front_full_by f from hs is k le e (inr lt) = let h : slice_get hs k ≡ None = sym (is.each k lt) ∙ e in let within = slice_get_none hs k h in absurd (omega arith)
-
--- and ends where nothing does
-pub front_full : (f : ℕ → Option Had) (from : ℕ) (hs : List Had) → IsFront f from hs → (k : ℕ) → k ≤ length hs → f (from + k) ≡ None → k ≡ length hs
-front_full f from hs is k le e = front_full_by f from hs is k le e (eq-or-lt_of_le le)
-
--- one more number of the fold
-pub fold_step : (f : ℕ → Option Had) (from : ℕ) (hs : List Had) → IsFront f from hs → (n : ℕ) → from ≤ n → n - from ≤ length hs → (h : Had) → f n ≡ Some h → (m : ByReference) → m ≡ after_all map.empty (take (n - from) hs) → (n + 1 - from ≤ length hs) × (after_had m h ≡ after_all map.empty (take (n + 1 - from) hs)) × (effect_of_had m h ≡ kept_of hs (n - from))
-fold_step f from hs is n le below h e m folded =
-    let place : from + (n - from) ≡ n = omega arith in
-    let at = front_at f from hs is (n - from) below h (ap f place ∙ e) in
-    let more : n + 1 - from ≡ suc (n - from) = omega arith in
-    let within : n - from < length hs = at.0 in (
-      omega arith,
-      rw (more, folded) (sym (after_all_more map.empty hs (n - from) h at.1)),
-      rw (at.1, folded) refl,
-    )
 
 -- there are no more numbers that have something than there are requests
 

@@ -1,5 +1,5 @@
 -- The proofs of the laws.
-use Rattle.std.proofs.Common.{◌≡◌, ◌+◌, ◌-◌, ◌<◌, ◌≤◌, ℕ, zero, suc, true, false, List, [], ◌∷◌, ◌++◌, Option, Some, None, length, refl, sym, ap, ◌∙◌, subst, arith, cond, ◌||◌, IsSome, rules}
+use Rattle.std.proofs.Common.{◌≡◌, ◌+◌, ◌-◌, ◌<◌, ◌≤◌, ℕ, zero, suc, true, false, List, [], ◌∷◌, ◌++◌, Option, Some, None, length, refl, sym, ap, ◌∙◌, subst, arith, cond, ◌||◌, IsSome}
 use Rattle.std.specs.Prelude.{slice_get, find, option_map, is_some}
 use Rattle.std.specs.FinMap as map
 use Rattle.std.specs.Option.{option_or}
@@ -14,22 +14,26 @@ use Rattle.series_rules.specs.Firsts.{first_at, put_at, admitted, admitted_at, a
 use Rattle.series_rules.specs.Series.{in_front_of, unbroken, front_of, kept_of, after_all, catalogue_of}
 use Rattle.series_rules.specs.Gaps.{gaps_of}
 use Rattle.series_rules.specs.Content.{SameContent}
+use Rattle.price_rules.specs.Calendar.{question}
+use Rattle.price_rules.specs.declared.precedence.Rule.{Rule}
+use Rattle.series_rules.specs.PriceAnswers.{calendar_answer, chosen_by, prices_of}
 use Rattle.series_rules.specs.Laws.{NextIsLeast, ByContentAlone, FrontOnlyGrows}
 use Rattle.series_rules.specs.Answers.{answer_to, delivery_answer_at, message_answer_by, delivery_answer_by, waive_answer_at, gaps_or_unknown, catalogue_or_unknown, agree_answer_by}
 use Rattle.series_rules.specs.declared.answers.Answer.TheVariants as answer
 use Rattle.series_rules.specs.declared.requests.Request.{Request}
-use Rattle.series_rules.specs.declared.requests.Request.TheVariants.{Agree, Deliver, Waive, AskGaps, AskCatalogue, Malformed}
+use Rattle.series_rules.specs.declared.requests.Request.TheVariants.{Agree, Deliver, Waive, AskPrice, AskChoice, AskCalendar, AskGaps, AskCatalogue, Malformed}
 use Rattle.series_rules.specs.declared.requests.Had.{Had}
 use Rattle.series_rules.specs.declared.requests.Had.TheVariants.{Message, Waived}
 use Rattle.series_rules.proofs.Apart.{agreements_are_apart, between_by_name, named_with}
 use Rattle.series_rules.proofs.Greatest.{report_same}
+use Rattle.series_rules.proofs.OfferLists.{same_offers}
 use Rattle.series_rules.proofs.Fronts.{front_is, front_same, kept_front}
 
 -- the next number
 
 some_within : (hs : List Had) (k : ℕ) (o : Option Had) → k < length hs → o ≡ slice_get hs k → IsSome o
 some_within [] k o lt e = absurd (omega arith)
-some_within (h ∷ hs) zero o lt e = subst IsSome (sym e) (search rules)
+some_within (h ∷ hs) zero o lt e = subst IsSome (sym e) refl
 some_within (h ∷ hs) (suc k) o lt e = some_within hs k o (omega arith) e
 
 pub next_is_least : NextIsLeast
@@ -51,11 +55,7 @@ named_stays L (Agree b) s a e =
       | true ↦ e
       | false ↦ find-append (has_name s) (agreements_of L) (b ∷ []) ∙ ap (λ o. option_or o (find (has_name s) (b ∷ []))) e
     ]
-named_stays L (Deliver x) s a e = e
-named_stays L (Waive x y) s a e = e
-named_stays L (AskGaps x) s a e = e
-named_stays L (AskCatalogue x) s a e = e
-named_stays L (Malformed x) s a e = e
+named_stays L _ s a e = e
 
 first_stays : (L : List Request) (r : Request) (s : List ℕ) (n : ℕ) (h : Had) → first_at L s n ≡ Some h → first_at (r ∷ L) s n ≡ Some h
 first_stays L r s n h e = ap (λ o. option_or o (put_at (admitted (agreements_of L) r) s n)) e
@@ -89,23 +89,16 @@ agreements_more L M (Agree b) same =
     (ap (λ o. is_some o || is_some (between (agreements_of L) b.sender b.addressee)) (same.agreements b.name)
     ∙ ap (λ o. is_some (named (agreements_of M) b.name) || is_some o) (parties_same L M same b.sender b.addressee))
     same.agreements
-agreements_more L M (Deliver x) same = same.agreements
-agreements_more L M (Waive x y) same = same.agreements
-agreements_more L M (AskGaps x) same = same.agreements
-agreements_more L M (AskCatalogue x) same = same.agreements
-agreements_more L M (Malformed x) same = same.agreements
+agreements_more L M _ same = same.agreements
 
 message_admitted : (L M : List Request) → SameContent L M → (m : Option (Header × List Product)) → admitted_message (agreements_of L) m ≡ admitted_message (agreements_of M) m
 message_admitted L M same None = refl
 message_admitted L M same (Some m) = ap (λ o. admitted_number o m.0.number (Message m.1)) (parties_same L M same m.0.sender m.0.addressee)
 
 pub admitted_same : (L M : List Request) → SameContent L M → (r : Request) → admitted (agreements_of L) r ≡ admitted (agreements_of M) r
-admitted_same L M same (Agree b) = refl
 admitted_same L M same (Deliver records) = message_admitted L M same (message_of records)
 admitted_same L M same (Waive s n) = ap (λ o. admitted_at o n Waived) (same.agreements s)
-admitted_same L M same (AskGaps x) = refl
-admitted_same L M same (AskCatalogue x) = refl
-admitted_same L M same (Malformed x) = refl
+admitted_same L M same _ = refl
 
 content_more : (L M : List Request) (r : Request) → SameContent L M → SameContent (r ∷ L) (r ∷ M)
 content_more L M r same = record {
@@ -138,18 +131,22 @@ gaps_same : (L M : List Request) → SameContent L M → (o : Option Agreement) 
 gaps_same L M same None = refl
 gaps_same L M same (Some a) = ap (λ report. gaps_or_unknown (Some report)) (report_same L M same a)
 
-answer_same : (L M : List Request) (r : Request) → SameContent L M → answer_to L r ≡ answer_to M r
-answer_same L M (Agree b) same =
+answer_same : (rules : List Rule) (L M : List Request) (r : Request) → SameContent L M → answer_to rules L r ≡ answer_to rules M r
+answer_same rules L M (Agree b) same =
     ap (λ o. answer.Agreement b.name b.first (agree_answer_by b o (between (agreements_of L) b.sender b.addressee))) (same.agreements b.name)
     ∙ ap (λ o. answer.Agreement b.name b.first (agree_answer_by b (named (agreements_of M) b.name) o)) (parties_same L M same b.sender b.addressee)
-answer_same L M (Deliver records) same =
+answer_same rules L M (Deliver records) same =
     ap answer.Delivery (message_same (Deliver records ∷ L) (Deliver records ∷ M) (content_more L M (Deliver records) same) (agreements_of L) (agreements_of M) (parties_same L M same) (bad_row records) (message_of records))
-answer_same L M (Waive s n) same =
+answer_same rules L M (Waive s n) same =
     ap (answer.Waiver s n) (waive_same (Waive s n ∷ L) (Waive s n ∷ M) (content_more L M (Waive s n) same) n (named (agreements_of L) s)
     ∙ ap (waive_answer_at (Waive s n ∷ M) n) (same.agreements s))
-answer_same L M (AskGaps s) same = gaps_same L M same (named (agreements_of L) s) ∙ ap (λ o. gaps_or_unknown (option_map (gaps_of M) o)) (same.agreements s)
-answer_same L M (AskCatalogue s) same = catalogue_same L M same s (named (agreements_of L) s) ∙ ap (λ o. catalogue_or_unknown s (option_map (catalogue_of M) o)) (same.agreements s)
-answer_same L M (Malformed row) same = refl
+answer_same rules L M (AskPrice isbn q) same = ap (λ offers. answer.Price isbn (prices_of q offers)) (same_offers L M same isbn)
+answer_same rules L M (AskChoice isbn q) same = ap (λ offers. answer.Choice isbn (chosen_by rules q offers)) (same_offers L M same isbn)
+answer_same rules L M (AskCalendar isbn from to country currency price_type quantity) same =
+    ap (calendar_answer isbn (question from country currency price_type quantity) from to) (same_offers L M same isbn)
+answer_same rules L M (AskGaps s) same = gaps_same L M same (named (agreements_of L) s) ∙ ap (λ o. gaps_or_unknown (option_map (gaps_of M) o)) (same.agreements s)
+answer_same rules L M (AskCatalogue s) same = catalogue_same L M same s (named (agreements_of L) s) ∙ ap (λ o. catalogue_or_unknown s (option_map (catalogue_of M) o)) (same.agreements s)
+answer_same rules L M (Malformed row) same = refl
 
 pub by_content_alone : ByContentAlone
-by_content_alone L M r same = (answer_same L M r same, content_more L M r same)
+by_content_alone rules L M r same = (answer_same rules L M r same, content_more L M r same)

@@ -8,7 +8,7 @@ use Rattle.std.proofs.lemmas.List.Elements.{filter-append}
 use Rattle.series_rules.specs.Series.{IsFront}
 use Rattle.series_rules.specs.Gaps.{IsGreatest, numbers_up_to, lacking, having, with_number, ranges_of, range_below}
 use Rattle.series_rules.specs.declared.requests.Had.{Had}
-use Rattle.series_rules.proofs.Walks.{Rest, rest_first, rest_gap, rest_ends}
+use Rattle.series_rules.proofs.Walks.{Rest, rest_first, rest_gap, rest_over}
 
 -- ranges
 
@@ -241,7 +241,7 @@ seen_lacks f seen next le lacks rest = go (cases_lt next seen)
   where
     go : (next < seen) ⊎ (seen ≤ next) → f next ≡ None
     go (inl lt) = lacks lt
-    go (inr ge) = let same : next ≡ seen = omega arith in ap f same ∙ rest_ends f seen rest
+    go (inr ge) = let same : next ≡ seen = omega arith in ap f same ∙ rest_over f seen seen rest (omega arith)
 
 -- nothing stands from `seen` on, so the greatest is the last before it
 up_to_seen : (f : ℕ → Option Had) (from seen : ℕ) (g : Option ℕ) → IsGreatest f g → Rest f seen [] → (seen ≡ from) ⊎ IsSome (f (seen - 1)) → (a : ℕ) → from ≤ a → a ≤ seen → numbers_up_to a g ≡ seen - a

@@ -9,14 +9,15 @@ use Rattle.series_rules.specs.Answers.{answer_against, placed_answer}
 use Rattle.series_rules.specs.Plain.{with_had}
 use Rattle.series_rules.specs.declared.requests.Had.{Had}
 use Rattle.series_rules.specs.declared.requests.Had.TheVariants.{Message}
+use Rattle.series_rules.proofs.Walks.{at_test}
 
 -- what was put where nothing stood and then taken out again leaves what stood
-pub taken_back : (f g h : ℕ → Option Had) (n : ℕ) (x : Had) → f n ≡ None → ((k : ℕ) → g k ≡ cond (is_at (nat_cmp n) k) (Some x) (f k)) → ((k : ℕ) → h k ≡ cond (is_at (nat_cmp n) k) None (g k)) → (k : ℕ) → h k ≡ f k
-taken_back f g h n x none put taken k = go (is_at (nat_cmp n) k) refl
+pub taken_back : (f g h : ℕ → Option Had) (n : ℕ) (x : Had) → f n ≡ None → ((k : ℕ) → g k ≡ cond (is_at (nat_cmp n) k) (Some x) (f k)) → ((k : ℕ) → h k ≡ cond (nat_eq n k) None (g k)) → (k : ℕ) → h k ≡ f k
+taken_back f g h n x none put taken k = go (nat_eq n k) refl
   where
-    go : (b : Bool) → is_at (nat_cmp n) k ≡ b → h k ≡ f k
+    go : (b : Bool) → nat_eq n k ≡ b → h k ≡ f k
     go true e = let same : n ≡ k = grind (arith, nat_tests) in taken k ∙ ap (λ b. cond b None (g k)) e ∙ sym none ∙ ap f same
-    go false e = taken k ∙ ap (λ b. cond b None (g k)) e ∙ put k ∙ ap (λ b. cond b (Some x) (f k)) e
+    go false e = taken k ∙ ap (λ b. cond b None (g k)) e ∙ put k ∙ ap (λ b. cond b (Some x) (f k)) (at_test n k ∙ e)
 
 -- it stands where nothing stood
 pub stands_there : (f : ℕ → Option Had) (n : ℕ) (x : Had) → f n ≡ None → with_had f n x n ≡ Some x

@@ -1,21 +1,32 @@
 -- A question, and a piece that is no request, leave what the requests come to.
-use Rattle.std.proofs.Common.{◌≡◌, ℕ, List, ◌∷◌, Option, Some, None, refl}
+use Rattle.std.proofs.Common.{◌≡◌, List, ◌∷◌, Option, Some, None, Result, Ok, Err, refl, ap, ◌∙◌}
+use Rattle.std.specs.Prelude.{IfOk}
 use Rattle.std.specs.Option.{option_or}
-use Rattle.series_rules.specs.Firsts.{first_at}
+use Rattle.onix_message.specs.declared.agreement.StoreFault.{StoreFault}
+use Rattle.price_rules.specs.declared.precedence.Rule.{Rule}
+use Rattle.series_rules.specs.Agreements.{agreements_of, named}
+use Rattle.series_rules.specs.Answers.{answer_to}
+use Rattle.series_rules.specs.Firsts.{admitted, first_at, put_at}
 use Rattle.series_rules.specs.Content.{SameContent}
+use Rattle.series_rules.specs.declared.answers.Answer.{Answer}
 use Rattle.series_rules.specs.declared.requests.Request.{Request}
-use Rattle.series_rules.specs.declared.requests.Request.TheVariants.{AskGaps, AskCatalogue, Malformed}
 use Rattle.series_rules.specs.declared.requests.Had.{Had}
 
 or_none : (o : Option Had) → o ≡ option_or o None
 or_none None = refl
 or_none (Some h) = refl
 
-pub asked_gaps : (L : List Request) (s : List ℕ) → SameContent L (AskGaps s ∷ L)
-asked_gaps L s = record { agreements = λ name. refl; firsts = λ x n. or_none (first_at L x n) }
+-- so does each request that adds no agreement and puts nothing at a number
+pub content_left : (L : List Request) (r : Request) → agreements_of L ≡ agreements_of (r ∷ L) → None ≡ admitted (agreements_of L) r → SameContent L (r ∷ L)
+content_left L r agreed nothing = record {
+  agreements = λ name. ap (λ agreements. named agreements name) agreed;
+  firsts = λ s n. or_none (first_at L s n) ∙ ap (λ o. option_or (first_at L s n) (put_at o s n)) nothing;
+}
 
-pub asked_catalogue : (L : List Request) (s : List ℕ) → SameContent L (AskCatalogue s ∷ L)
-asked_catalogue L s = record { agreements = λ name. refl; firsts = λ x n. or_none (first_at L x n) }
-
-pub no_request : (L : List Request) (row : ℕ) → SameContent L (Malformed row ∷ L)
-no_request L row = record { agreements = λ name. refl; firsts = λ x n. or_none (first_at L x n) }
+-- an answer to such a request, of a desk that then stands for the list before it, is an answer of a desk that stands for the list with it
+pub asked : (rules : List Rule) (L : List Request) (r : Request) → agreements_of L ≡ agreements_of (r ∷ L) → None ≡ admitted (agreements_of L) r
+    → (stands : List Request → Type 0) → ((M : List Request) → SameContent L M → stands L → stands M)
+    → (outcome : Result Answer StoreFault) → IfOk outcome (λ a. a ≡ answer_to rules L r) → stands L
+    → IfOk outcome (λ a. (a ≡ answer_to rules L r) × stands (r ∷ L))
+asked rules L r agreed nothing stands by_content (Ok a) is stood = (is, by_content (r ∷ L) (content_left L r agreed nothing) stood)
+asked rules L r agreed nothing stands by_content (Err f) is stood = tt

@@ -1,10 +1,8 @@
 -- What the desk in memory stands for after a request.
 use Rattle.std.proofs.Common.{◌+◌, ◌≡◌, ◌<◌, ◌≤◌, ◌&&◌, ◌||◌, ℕ, Bool, true, false, List, [], ◌∷◌, ◌++◌, Option, Some, None, length, refl, sym, ap, ◌∙◌, arith, subst, nat_eq, cond}
-use Rattle.std.specs.Prelude.{bytes_eq, is_some, nat_lt}
+use Rattle.std.specs.Prelude.{bytes_eq, insert, is_some, nat_lt}
 use Rattle.std.specs.FinMap as map
 use Rattle.std.specs.Option.{option_or}
-use Rattle.std.specs.Ordering.{nat_cmp}
-use Rattle.std.specs.BTreeMap.{get}
 use Rattle.std.proofs.Math.ListN.{set}
 use Rattle.std.proofs.lemmas.Slice.Eq.{bytes_eq-Decides}
 use Rattle.std.proofs.lemmas.Bool.Decides.{nat_tests}
@@ -20,8 +18,9 @@ use Rattle.series_rules.specs.Series.{front_of, next_of, IsFront, after_all}
 use Rattle.series_rules.specs.Gaps.{IsGreatest, greatest_of, report_by}
 use Rattle.series_rules.specs.declared.answers.GapReport.{GapReport}
 use Rattle.series_rules.proofs.Greatest.{greatest_is, greatest_same, report_by_same}
-use Rattle.series_rules.specs.Plain.{kept_agreements, series_named, standing, with_had, PlainStands}
+use Rattle.series_rules.specs.Plain.{kept_agreements, place_in_order, series_named, standing, with_had, PlainStands}
 use Rattle.series_rules.specs.Answers.{same_agreement, agree_answer, agree_answer_by, answer_against, delivery_answer_at, message_answer_by, delivery_answer_by, delivery_answer, waived_by, waive_answer_at, waive_answer, gaps_answer, catalogue_answer}
+use Rattle.series_rules.specs.KeptSeries.{stands_at}
 use Rattle.series_rules.specs.declared.series.Series.{Series}
 use Rattle.series_rules.specs.declared.requests.Request.{Request}
 use Rattle.series_rules.specs.declared.requests.Request.TheVariants.{Agree, Deliver, Waive}
@@ -33,13 +32,11 @@ use Rattle.series_rules.specs.declared.answers.DeliveryAnswer.{DeliveryAnswer}
 use Rattle.series_rules.specs.declared.answers.DeliveryAnswer.TheVariants as delivery
 use Rattle.series_rules.specs.declared.answers.WaiveAnswer.{WaiveAnswer}
 use Rattle.series_rules.specs.declared.answers.WaiveAnswer.TheVariants as waiver
-use Rattle.series_rules.proofs.Apart.{agreements_are_apart, apart_with, between_by_name, named_with, named_has_name}
+use Rattle.series_rules.proofs.Apart.{agreements_are_apart, apart_alike, apart_with, between_by_name, named_with, named_has_name}
 use Rattle.series_rules.proofs.Fronts.{front_is, is_front_same}
-use Rattle.series_rules.proofs.Kept.{FirstAt, first_found, own_place, named_kept, between_kept, set_agreements, set_standing, push_agreements, push_standing}
-
-or_none : (o : Option Had) → option_or o None ≡ o
-or_none None = refl
-or_none (Some h) = refl
+use Rattle.series_rules.proofs.Kept.{FirstAt, first_found, own_place, named_kept, between_kept, set_agreements, set_standing}
+use Rattle.series_rules.proofs.OptionsOr.{or_none}
+use Rattle.series_rules.proofs.InOrder.{named_inserted, between_inserted, insert_standing, still_in_order}
 
 -- the agreements found by their parties are the definition's
 pub parties_stand : (kept : List Series) (L : List Request) → PlainStands kept L → (s : Party) (d : Option Party) → between (kept_agreements kept) s d ≡ between (agreements_of L) s d
@@ -50,6 +47,7 @@ pub stands_without : (kept : List Series) (L : List Request) (r : Request) → P
 stands_without kept L r stands same nothing = record {
   agreed = λ name. stands.agreed name ∙ ap (λ as'. named as' name) (sym same);
   apart = stands.apart;
+  in_order = stands.in_order;
   firsts = λ s n. stands.firsts s n ∙ sym (or_none (first_at L s n)) ∙ ap (λ p. option_or (first_at L s n) (put_at p s n)) (sym nothing);
 }
 
@@ -73,68 +71,81 @@ agree_taken kept L a s i stands none first =
       stands_without kept L (Agree a) stands (clashing (agreements_of L) a (ap (λ o. is_some o || is_some (between (agreements_of L) a.sender a.addressee)) no_name ∙ ap is_some found)) refl,
     )
 
-pub agree_new : (kept : List Series) (L : List Request) (a : Agreement) (t : Series) → PlainStands kept L → series_named kept a.name ≡ None → between (kept_agreements kept) a.sender a.addressee ≡ None → t.agreement ≡ a → ((n : ℕ) → get nat_cmp t.numbers n ≡ None) → (Agreed ≡ agree_answer L a) × PlainStands (kept ++ t ∷ []) (Agree a ∷ L)
-agree_new kept L a t stands none no_parties is nothing =
-    let own : named (kept_agreements kept) a.name ≡ None = named_kept kept a.name None none in
+-- a new series in its place
+agree_own : (kept : List Series) (L : List Request) (t : Series) → PlainStands kept L → series_named kept t.agreement.name ≡ None → between (kept_agreements kept) t.agreement.sender t.agreement.addressee ≡ None → ((n : ℕ) → stands_at t.numbers n ≡ None) → (Agreed ≡ agree_answer L t.agreement) × PlainStands (insert kept (place_in_order kept t.agreement.name) t) (Agree t.agreement ∷ L)
+agree_own kept L t stands none no_parties nothing =
+    let a = t.agreement in
+    let as' = kept_agreements kept in
+    let at = place_in_order kept a.name in
+    let own : named as' a.name ≡ None = named_kept kept a.name None none in
     let no_name : named (agreements_of L) a.name ≡ None = sym (stands.agreed a.name) ∙ own in
     let no_between : between (agreements_of L) a.sender a.addressee ≡ None = sym (parties_stand kept L stands a.sender a.addressee) ∙ no_parties in
-    let free : clashes (kept_agreements kept) a ≡ false = ap (λ o. is_some o || is_some (between (kept_agreements kept) a.sender a.addressee)) own ∙ ap is_some no_parties in
+    let free : clashes as' a ≡ false = ap (λ o. is_some o || is_some (between as' a.sender a.addressee)) own ∙ ap is_some no_parties in
     let free' : clashes (agreements_of L) a ≡ false = ap (λ o. is_some o || is_some (between (agreements_of L) a.sender a.addressee)) no_name ∙ ap is_some no_between in
-    let pushed : kept_agreements (kept ++ t ∷ []) ≡ with_agreement (kept_agreements kept) a =
-    push_agreements kept t ∙ ap (λ b. kept_agreements kept ++ b ∷ []) is ∙ sym (ap (λ c. cond c (kept_agreements kept) (kept_agreements kept ++ a ∷ [])) free) in (
+    let more : as' ++ a ∷ [] ≡ with_agreement as' a = sym (ap (λ c. cond c as' (as' ++ a ∷ [])) free) in
+    let names : (name : List ℕ) → named (kept_agreements (insert kept at t)) name ≡ named (with_agreement as' a) name = λ name. named_inserted kept at t own name ∙ ap (λ bs. named bs name) more in
+    let parties : (s : Party) (d : Option Party) → between (kept_agreements (insert kept at t)) s d ≡ between (with_agreement as' a) s d = λ s d. between_inserted kept at t no_parties s d ∙ ap (λ bs. between bs s d) more in (
       ap (agree_answer_by a None) (sym no_between) ∙ ap (λ o. agree_answer_by a o (between (agreements_of L) a.sender a.addressee)) (sym no_name),
       record {
-        agreed = λ name. ap (λ as'. named as' name) pushed ∙ named_with (kept_agreements kept) (agreements_of L) a (free ∙ sym free') stands.agreed name;
-        apart = rw pushed (apart_with (kept_agreements kept) a stands.apart);
-        firsts = λ s n. push_standing kept t nothing s n ∙ stands.firsts s n ∙ sym (or_none (first_at L s n));
+        agreed = λ name. names name ∙ named_with as' (agreements_of L) a (free ∙ sym free') stands.agreed name;
+        apart = apart_alike (kept_agreements (insert kept at t)) (with_agreement as' a) names parties (apart_with as' a stands.apart);
+        in_order = still_in_order kept t stands.in_order own;
+        firsts = λ s n. insert_standing kept at t none nothing s n ∙ stands.firsts s n ∙ sym (or_none (first_at L s n));
       },
     )
+
+pub agree_new : (kept : List Series) (L : List Request) (a : Agreement) (t : Series) → PlainStands kept L → series_named kept a.name ≡ None → between (kept_agreements kept) a.sender a.addressee ≡ None → t.agreement ≡ a → ((n : ℕ) → stands_at t.numbers n ≡ None) → (Agreed ≡ agree_answer L a) × PlainStands (insert kept (place_in_order kept a.name) t) (Agree a ∷ L)
+agree_new kept L a t stands none no_parties is nothing =
+    subst (λ b. (series_named kept b.name ≡ None) → (between (kept_agreements kept) b.sender b.addressee ≡ None) → (Agreed ≡ agree_answer L b) × PlainStands (insert kept (place_in_order kept b.name) t) (Agree b ∷ L)) is
+    (λ no_name no_between. agree_own kept L t stands no_name no_between nothing) none no_parties
 
 -- a series whose numbers changed
 
 -- what stood under its own name
-own_standing : (kept : List Series) (i : ℕ) (s : Series) → FirstAt (λ x. has_name s.agreement.name x.agreement) kept i s → (n : ℕ) → standing kept s.agreement.name n ≡ get nat_cmp s.numbers n
+own_standing : (kept : List Series) (i : ℕ) (s : Series) → FirstAt (λ x. has_name s.agreement.name x.agreement) kept i s → (n : ℕ) → standing kept s.agreement.name n ≡ stands_at s.numbers n
 own_standing kept i s first n = rw (first_found (λ x. has_name s.agreement.name x.agreement) kept i s first) refl
 
 -- its numbers are as before
-pub stands_again : (kept : List Series) (L : List Request) (i : ℕ) (s t : Series) → PlainStands kept L → FirstAt (λ x. has_name s.agreement.name x.agreement) kept i s → t.agreement ≡ s.agreement → ((n : ℕ) → get nat_cmp t.numbers n ≡ get nat_cmp s.numbers n) → PlainStands (set kept i t) L
+pub stands_again : (kept : List Series) (L : List Request) (i : ℕ) (s t : Series) → PlainStands kept L → FirstAt (λ x. has_name s.agreement.name x.agreement) kept i s → t.agreement ≡ s.agreement → ((n : ℕ) → stands_at t.numbers n ≡ stands_at s.numbers n) → PlainStands (set kept i t) L
 stands_again kept L i s t stands first same again = record {
   agreed = λ name. ap (λ as'. named as' name) agreements ∙ stands.agreed name;
   apart = rw agreements stands.apart;
+  in_order = rw agreements stands.in_order;
   firsts = λ name n. set_standing kept i s t first same name n ∙ go name n (bytes_eq s.agreement.name name) refl ∙ stands.firsts name n;
 }
   where
     agreements : kept_agreements (set kept i t) ≡ kept_agreements kept
     agreements = set_agreements (λ x. has_name s.agreement.name x.agreement) kept i s t first same
 
-    go : (name : List ℕ) (n : ℕ) (b : Bool) → bytes_eq s.agreement.name name ≡ b → cond b (get nat_cmp t.numbers n) (standing kept name n) ≡ standing kept name n
+    go : (name : List ℕ) (n : ℕ) (b : Bool) → bytes_eq s.agreement.name name ≡ b → cond b (stands_at t.numbers n) (standing kept name n) ≡ standing kept name n
     go name n true e = again n ∙ sym (own_standing kept i s first n) ∙ ap (λ x. standing kept x n) ((bytes_eq-Decides s.agreement.name name).0 e)
     go name n false e = refl
 
 -- they have one more, which the request may put there
-pub stands_with : (kept : List Series) (L : List Request) (r : Request) (i : ℕ) (s t : Series) (n : ℕ) (h : Had) → PlainStands kept L → FirstAt (λ x. has_name s.agreement.name x.agreement) kept i s → t.agreement ≡ s.agreement → ((k : ℕ) → get nat_cmp t.numbers k ≡ with_had (get nat_cmp s.numbers) n h k) → agreements_of (r ∷ L) ≡ agreements_of L → admitted (agreements_of L) r ≡ Some (record { series = s.agreement.name; number = n; had = h }) → PlainStands (set kept i t) (r ∷ L)
+pub stands_with : (kept : List Series) (L : List Request) (r : Request) (i : ℕ) (s t : Series) (n : ℕ) (h : Had) → PlainStands kept L → FirstAt (λ x. has_name s.agreement.name x.agreement) kept i s → t.agreement ≡ s.agreement → ((k : ℕ) → stands_at t.numbers k ≡ with_had (stands_at s.numbers) n h k) → agreements_of (r ∷ L) ≡ agreements_of L → admitted (agreements_of L) r ≡ Some (record { series = s.agreement.name; number = n; had = h }) → PlainStands (set kept i t) (r ∷ L)
 stands_with kept L r i s t n h stands first same more left adm = record {
   agreed = λ name. ap (λ as'. named as' name) agreements ∙ stands.agreed name ∙ ap (λ as'. named as' name) (sym left);
   apart = rw agreements stands.apart;
+  in_order = rw agreements stands.in_order;
   firsts = λ name k. set_standing kept i s t first same name k ∙ go name k (bytes_eq s.agreement.name name) refl ∙ ap (λ p. option_or (first_at L name k) (put_at p name k)) (sym adm);
 }
   where
     agreements : kept_agreements (set kept i t) ≡ kept_agreements kept
     agreements = set_agreements (λ x. has_name s.agreement.name x.agreement) kept i s t first same
 
-    go : (name : List ℕ) (k : ℕ) (b : Bool) → bytes_eq s.agreement.name name ≡ b → cond b (get nat_cmp t.numbers k) (standing kept name k) ≡ option_or (first_at L name k) (cond (bytes_eq s.agreement.name name && nat_eq n k) (Some h) None)
+    go : (name : List ℕ) (k : ℕ) (b : Bool) → bytes_eq s.agreement.name name ≡ b → cond b (stands_at t.numbers k) (standing kept name k) ≡ option_or (first_at L name k) (cond (bytes_eq s.agreement.name name && nat_eq n k) (Some h) None)
     go name k true e =
-        let there : get nat_cmp s.numbers k ≡ first_at L name k = sym (own_standing kept i s first k) ∙ ap (λ x. standing kept x k) ((bytes_eq-Decides s.agreement.name name).0 e) ∙ stands.firsts name k in
+        let there : stands_at s.numbers k ≡ first_at L name k = sym (own_standing kept i s first k) ∙ ap (λ x. standing kept x k) ((bytes_eq-Decides s.agreement.name name).0 e) ∙ stands.firsts name k in
         more k ∙ ap (λ o. option_or o (cond (nat_eq n k) (Some h) None)) there ∙ ap (λ b. option_or (first_at L name k) (cond (b && nat_eq n k) (Some h) None)) (sym e)
     go name k false e = stands.firsts name k ∙ sym (or_none (first_at L name k)) ∙ ap (λ b. option_or (first_at L name k) (cond (b && nat_eq n k) (Some h) None)) (sym e)
 
 -- what stands at the numbers of a kept series is the definition's
-series_stands : (kept : List Series) (L : List Request) (i : ℕ) (s : Series) → PlainStands kept L → FirstAt (λ x. has_name s.agreement.name x.agreement) kept i s → (n : ℕ) → get nat_cmp s.numbers n ≡ first_at L s.agreement.name n
+series_stands : (kept : List Series) (L : List Request) (i : ℕ) (s : Series) → PlainStands kept L → FirstAt (λ x. has_name s.agreement.name x.agreement) kept i s → (n : ℕ) → stands_at s.numbers n ≡ first_at L s.agreement.name n
 series_stands kept L i s stands first n = sym (own_standing kept i s first n) ∙ stands.firsts s.agreement.name n
 
 -- the front of a kept series is the definition's
-pub kept_front_is : (kept : List Series) (L : List Request) (i : ℕ) (s : Series) → PlainStands kept L → FirstAt (λ x. has_name s.agreement.name x.agreement) kept i s → IsFront (get nat_cmp s.numbers) s.agreement.first (front_of L s.agreement)
-kept_front_is kept L i s stands first = is_front_same (get nat_cmp s.numbers) (first_at L s.agreement.name) (series_stands kept L i s stands first) s.agreement.first _ (front_is L s.agreement.name s.agreement.first)
+pub kept_front_is : (kept : List Series) (L : List Request) (i : ℕ) (s : Series) → PlainStands kept L → FirstAt (λ x. has_name s.agreement.name x.agreement) kept i s → IsFront (stands_at s.numbers) s.agreement.first (front_of L s.agreement)
+kept_front_is kept L i s stands first = is_front_same (stands_at s.numbers) (first_at L s.agreement.name) (series_stands kept L i s stands first) s.agreement.first _ (front_is L s.agreement.name s.agreement.first)
 
 not_below : (n m : ℕ) → m ≤ n → nat_lt n m ≡ false
 not_below n m le = grind (arith, nat_tests)
@@ -143,12 +154,6 @@ is_below : (n m : ℕ) → n < m → nat_lt n m ≡ true
 is_below n m lt = grind (arith, nat_tests)
 
 -- deliveries
-
-pub delivered_nothing : (kept : List Series) (L : List Request) (records : List (List (List ℕ))) → PlainStands kept L → message_of records ≡ None → (delivery.Malformed (bad_row records) ≡ delivery_answer L records) × PlainStands kept (Deliver records ∷ L)
-delivered_nothing kept L records stands none = (rw none refl, stands_without kept L (Deliver records) stands refl (rw none refl))
-
-pub delivered_unnumbered : (kept : List Series) (L : List Request) (records : List (List (List ℕ))) (m : Header × List Product) → PlainStands kept L → message_of records ≡ Some m → m.0.number ≡ None → (delivery.Unnumbered ≡ delivery_answer L records) × PlainStands kept (Deliver records ∷ L)
-delivered_unnumbered kept L records m stands read none = (rw (read, none) refl, stands_without kept L (Deliver records) stands refl (rw (read, none) refl))
 
 pub delivered_unknown : (kept : List Series) (L : List Request) (records : List (List (List ℕ))) (m : Header × List Product) (n : ℕ) → PlainStands kept L → message_of records ≡ Some m → m.0.number ≡ Some n → between (kept_agreements kept) m.0.sender m.0.addressee ≡ None → (delivery.UnknownSeries ≡ delivery_answer L records) × PlainStands kept (Deliver records ∷ L)
 delivered_unknown kept L records m n stands read number none =
@@ -177,22 +182,22 @@ delivered_before kept L records m n i s stands read number first lt =
       stands_without kept L (Deliver records) stands refl (admits L records m n s.agreement read number found ∙ nothing),
     )
 
-pub delivered_at : (kept : List Series) (L : List Request) (records : List (List (List ℕ))) (m : Header × List Product) (n i : ℕ) (s t : Series) (x : DeliveryAnswer) → PlainStands kept L → message_of records ≡ Some m → m.0.number ≡ Some n → FirstAt (λ x. has_parties m.0.sender m.0.addressee x.agreement) kept i s → s.agreement.first ≤ n → t.agreement ≡ s.agreement → ((k : ℕ) → get nat_cmp t.numbers k ≡ with_had (get nat_cmp s.numbers) n (Message m.1) k) → ((hs : List Had) → IsFront (get nat_cmp t.numbers) s.agreement.first hs → x ≡ answer_against hs s.agreement.name s.agreement.first n m.1 (get nat_cmp t.numbers n)) → (x ≡ delivery_answer L records) × PlainStands (set kept i t) (Deliver records ∷ L)
+pub delivered_at : (kept : List Series) (L : List Request) (records : List (List (List ℕ))) (m : Header × List Product) (n i : ℕ) (s t : Series) (x : DeliveryAnswer) → PlainStands kept L → message_of records ≡ Some m → m.0.number ≡ Some n → FirstAt (λ x. has_parties m.0.sender m.0.addressee x.agreement) kept i s → s.agreement.first ≤ n → t.agreement ≡ s.agreement → ((k : ℕ) → stands_at t.numbers k ≡ with_had (stands_at s.numbers) n (Message m.1) k) → ((hs : List Had) → IsFront (stands_at t.numbers) s.agreement.first hs → x ≡ answer_against hs s.agreement.name s.agreement.first n m.1 (stands_at t.numbers n)) → (x ≡ delivery_answer L records) × PlainStands (set kept i t) (Deliver records ∷ L)
 delivered_at kept L records m n i s t x stands read number parties le same more answer =
     let found = delivery_found kept L m i s stands parties in
     let low = not_below n s.agreement.first le in
     let first = own_place kept stands.apart m.0.sender m.0.addressee i s parties in
     let adm : admitted (agreements_of L) (Deliver records) ≡ Some (record { series = s.agreement.name; number = n; had = Message m.1 }) = admits L records m n s.agreement read number found ∙ ap (λ b. cond b None (Some (record { series = s.agreement.name; number = n; had = Message m.1 }))) low in
     let after = stands_with kept L (Deliver records) i s t n (Message m.1) stands first same more refl adm in
-    let now : (k : ℕ) → get nat_cmp t.numbers k ≡ first_at (Deliver records ∷ L) s.agreement.name k = λ k. stands_now kept i s t first same k ∙ after.firsts s.agreement.name k in
-    let said = answer (front_of (Deliver records ∷ L) s.agreement) (is_front_same (get nat_cmp t.numbers) (first_at (Deliver records ∷ L) s.agreement.name) now s.agreement.first _ (front_is (Deliver records ∷ L) s.agreement.name s.agreement.first)) in (
+    let now : (k : ℕ) → stands_at t.numbers k ≡ first_at (Deliver records ∷ L) s.agreement.name k = λ k. stands_now kept i s t first same k ∙ after.firsts s.agreement.name k in
+    let said = answer (front_of (Deliver records ∷ L) s.agreement) (is_front_same (stands_at t.numbers) (first_at (Deliver records ∷ L) s.agreement.name) now s.agreement.first _ (front_is (Deliver records ∷ L) s.agreement.name s.agreement.first)) in (
       said ∙ ap (answer_against (front_of (Deliver records ∷ L) s.agreement) s.agreement.name s.agreement.first n m.1) (now n)
           ∙ sym (delivery_unfolds L records m n s.agreement read number found ∙ ap (λ b. cond b (delivery.BeforeFirst s.agreement.name n s.agreement.first) (answer_against (front_of (Deliver records ∷ L) s.agreement) s.agreement.name s.agreement.first n m.1 (first_at (Deliver records ∷ L) s.agreement.name n))) low),
       after,
     )
   where
-    stands_now : (kept : List Series) (i : ℕ) (s t : Series) → FirstAt (λ x. has_name s.agreement.name x.agreement) kept i s → t.agreement ≡ s.agreement → (k : ℕ) → get nat_cmp t.numbers k ≡ standing (set kept i t) s.agreement.name k
-    stands_now kept i s t first same k = sym (set_standing kept i s t first same s.agreement.name k ∙ ap (λ b. cond b (get nat_cmp t.numbers k) (standing kept s.agreement.name k)) ((bytes_eq-Decides s.agreement.name s.agreement.name).1 refl))
+    stands_now : (kept : List Series) (i : ℕ) (s t : Series) → FirstAt (λ x. has_name s.agreement.name x.agreement) kept i s → t.agreement ≡ s.agreement → (k : ℕ) → stands_at t.numbers k ≡ standing (set kept i t) s.agreement.name k
+    stands_now kept i s t first same k = sym (set_standing kept i s t first same s.agreement.name k ∙ ap (λ b. cond b (stands_at t.numbers k) (standing kept s.agreement.name k)) ((bytes_eq-Decides s.agreement.name s.agreement.name).1 refl))
 
 -- waivers
 
@@ -216,14 +221,14 @@ waived_before kept L name n i s stands first lt =
     let low = is_below n s.agreement.first lt in
     (rw (found, low) refl, stands_without kept L (Waive name n) stands refl (rw (found, low) refl))
 
-pub waived_at : (kept : List Series) (L : List Request) (name : List ℕ) (n i : ℕ) (s t : Series) (x : WaiveAnswer) → PlainStands kept L → FirstAt (λ x. has_name name x.agreement) kept i s → s.agreement.first ≤ n → t.agreement ≡ s.agreement → ((k : ℕ) → get nat_cmp t.numbers k ≡ with_had (get nat_cmp s.numbers) n Waived k) → x ≡ waived_by (get nat_cmp t.numbers n) → (x ≡ waive_answer L name n) × PlainStands (set kept i t) (Waive name n ∷ L)
+pub waived_at : (kept : List Series) (L : List Request) (name : List ℕ) (n i : ℕ) (s t : Series) (x : WaiveAnswer) → PlainStands kept L → FirstAt (λ x. has_name name x.agreement) kept i s → s.agreement.first ≤ n → t.agreement ≡ s.agreement → ((k : ℕ) → stands_at t.numbers k ≡ with_had (stands_at s.numbers) n Waived k) → x ≡ waived_by (stands_at t.numbers n) → (x ≡ waive_answer L name n) × PlainStands (set kept i t) (Waive name n ∷ L)
 waived_at kept L name n i s t x stands place le same more answer =
     let found = waiver_found kept L name i s stands place in
     let low = not_below n s.agreement.first le in
     let first = named_place kept name i s place in
     let adm : admitted (agreements_of L) (Waive name n) ≡ Some (record { series = s.agreement.name; number = n; had = Waived }) = rw (found, low) refl in
     let after = stands_with kept L (Waive name n) i s t n Waived stands first same more refl adm in
-    let there : get nat_cmp t.numbers n ≡ first_at (Waive name n ∷ L) s.agreement.name n =
+    let there : stands_at t.numbers n ≡ first_at (Waive name n ∷ L) s.agreement.name n =
     more n ∙ ap (λ o. option_or o (cond (nat_eq n n) (Some Waived) None)) (series_stands kept L i s stands first n) ∙ own_put (first_at L s.agreement.name n) ∙ ap (λ p. option_or (first_at L s.agreement.name n) (put_at p s.agreement.name n)) (sym adm) in
     let unfolds : waive_answer L name n ≡ waived_by (first_at (Waive name n ∷ L) s.agreement.name n) =
     ap (waive_answer_at (Waive name n ∷ L) n) found ∙ ap (λ b. cond b (waiver.BeforeFirst s.agreement.first) (waived_by (first_at (Waive name n ∷ L) s.agreement.name n))) low in
@@ -239,7 +244,7 @@ no_catalogue kept L name stands none =
     let found : named (agreements_of L) name ≡ None = sym (stands.agreed name) ∙ named_kept kept name None none in
     rw found refl
 
-pub catalogue_stands : (kept : List Series) (L : List Request) (name : List ℕ) (i : ℕ) (s : Series) (m : ByReference) → PlainStands kept L → FirstAt (λ x. has_name name x.agreement) kept i s → ((hs : List Had) → IsFront (get nat_cmp s.numbers) s.agreement.first hs → m ≡ after_all map.empty hs) → Some m ≡ catalogue_answer L name
+pub catalogue_stands : (kept : List Series) (L : List Request) (name : List ℕ) (i : ℕ) (s : Series) (m : ByReference) → PlainStands kept L → FirstAt (λ x. has_name name x.agreement) kept i s → ((hs : List Had) → IsFront (stands_at s.numbers) s.agreement.first hs → m ≡ after_all map.empty hs) → Some m ≡ catalogue_answer L name
 catalogue_stands kept L name i s m stands first folded =
     let found = waiver_found kept L name i s stands first in
     rw found (ap Some (folded (front_of L s.agreement) (kept_front_is kept L i s stands (named_place kept name i s first))))
@@ -249,11 +254,11 @@ no_gaps kept L name stands none =
     let found : named (agreements_of L) name ≡ None = sym (stands.agreed name) ∙ named_kept kept name None none in
     rw found refl
 
-pub gaps_stand : (kept : List Series) (L : List Request) (name : List ℕ) (i : ℕ) (s : Series) (report : GapReport) → PlainStands kept L → FirstAt (λ x. has_name name x.agreement) kept i s → ((hs : List Had) (greatest : Option ℕ) → IsFront (get nat_cmp s.numbers) s.agreement.first hs → IsGreatest (get nat_cmp s.numbers) greatest → report ≡ report_by s.agreement.name (get nat_cmp s.numbers) s.agreement.first (s.agreement.first + length hs) greatest) → Some report ≡ gaps_answer L name
+pub gaps_stand : (kept : List Series) (L : List Request) (name : List ℕ) (i : ℕ) (s : Series) (report : GapReport) → PlainStands kept L → FirstAt (λ x. has_name name x.agreement) kept i s → ((hs : List Had) (greatest : Option ℕ) → IsFront (stands_at s.numbers) s.agreement.first hs → IsGreatest (stands_at s.numbers) greatest → report ≡ report_by s.agreement.name (stands_at s.numbers) s.agreement.first (s.agreement.first + length hs) greatest) → Some report ≡ gaps_answer L name
 gaps_stand kept L name i s report stands first is =
     let found = waiver_found kept L name i s stands first in
     let own = named_place kept name i s first in
     let same = series_stands kept L i s stands own in
-    let greatest = greatest_same (first_at L s.agreement.name) (get nat_cmp s.numbers) same (greatest_of L s.agreement.name) (greatest_is L s.agreement.name) in
+    let greatest = greatest_same (first_at L s.agreement.name) (stands_at s.numbers) same (greatest_of L s.agreement.name) (greatest_is L s.agreement.name) in
     rw found (ap Some (is (front_of L s.agreement) (greatest_of L s.agreement.name) (kept_front_is kept L i s stands own) greatest
-    ∙ report_by_same s.agreement.name (get nat_cmp s.numbers) (first_at L s.agreement.name) same s.agreement.first (next_of L s.agreement) (greatest_of L s.agreement.name)))
+    ∙ report_by_same s.agreement.name (stands_at s.numbers) (first_at L s.agreement.name) same s.agreement.first (next_of L s.agreement) (greatest_of L s.agreement.name)))

@@ -43,14 +43,9 @@ at_below : (es : List (ℕ × Had)) (n k : ℕ) → Ascends n es → k < n → a
 at_below [] n k rises lt = refl
 at_below (e ∷ es) n k rises lt = let le : n ≤ e.0 = rises.0 in elsewhere e es k (λ same. absurd (omega arith)) ∙ at_below es (e.0 + 1) k rises.1 (omega arith)
 
--- nothing is left, or something at a later number
-pub rest_ends : (f : ℕ → Option Had) (n : ℕ) → Rest f n [] → f n ≡ None
-rest_ends f n rest = sym (rest.same n (omega arith))
-
-pub rest_skips : (f : ℕ → Option Had) (n : ℕ) (e : ℕ × Had) (es : List (ℕ × Had)) → Rest f n (e ∷ es) → e.0 ≢ n → f n ≡ None
-rest_skips f n e es rest other =
-    let le : n ≤ e.0 = rest.rises.0 in
-    sym (rest.same n (omega arith)) ∙ elsewhere e es n (λ same. other (sym same)) ∙ at_below es (e.0 + 1) n rest.rises.1 (omega arith)
+-- nothing is left
+pub rest_over : (f : ℕ → Option Had) (n k : ℕ) → Rest f n [] → n ≤ k → f k ≡ None
+rest_over f n k rest le = sym (rest.same k le)
 
 -- the first of them is what f has at its number
 pub rest_first : (f : ℕ → Option Had) (n : ℕ) (e : ℕ × Had) (es : List (ℕ × Had)) → Rest f n (e ∷ es) → f e.0 ≡ Some e.1

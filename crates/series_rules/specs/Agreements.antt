@@ -1,20 +1,15 @@
 -- The agreements that a list of requests comes to. A list of requests has its latest request first, so that `r ∷ L` is L and then r.
-use Rattle.std.specs.Prelude.{◌≡◌, Bool, true, false, ◌||◌, ◌&&◌, List, [], ◌∷◌, ◌++◌, Option, Some, None, bytes_eq, find, is_some, if◌then◌else◌, ℕ}
+use Rattle.std.specs.Prelude.{◌≡◌, Bool, ◌||◌, ◌&&◌, List, [], ◌∷◌, ◌++◌, Option, Some, bytes_eq, find, is_some, if◌then◌else◌, ℕ}
+use Rattle.std.specs.Option.{option_eq}
 use Rattle.onix_terms.specs.declared.party.Party.{Party}
+use Rattle.onix_message.specs.SameContents.{same_party}
 use Rattle.onix_message.specs.declared.agreement.Agreement.{Agreement}
 use Rattle.series_rules.specs.declared.requests.Request.{Request}
 use Rattle.series_rules.specs.declared.requests.Request.TheVariants.{Agree}
 
--- two parties of one type and one value
-abbrev pub same_party : Party → Party → Bool
-same_party p q = bytes_eq p.id_type q.id_type && bytes_eq p.id_value q.id_value
-
 -- two addressees that are the same party, or both none
 abbrev pub same_addressee : Option Party → Option Party → Bool
-same_addressee None None = true
-same_addressee None (Some q) = false
-same_addressee (Some p) None = false
-same_addressee (Some p) (Some q) = same_party p q
+same_addressee p q = option_eq same_party p q
 
 -- the agreement has that name
 abbrev pub has_name : List ℕ → Agreement → Bool

@@ -6,6 +6,7 @@ use Rattle.onix_message.specs.Records.{records_text}
 use Rattle.catalogue_rules.specs.declared.effect.Effect.{Effect}
 use Rattle.series_rules.specs.CatalogueText.{catalogue_records}
 use Rattle.series_rules.specs.GapText.{gap_records}
+use Rattle.series_rules.specs.PriceText.{calendar_records, choice_fields, price_records}
 use Rattle.series_rules.specs.declared.answers.AgreeAnswer.{AgreeAnswer}
 use Rattle.series_rules.specs.declared.answers.AgreeAnswer.TheVariants as agree
 use Rattle.series_rules.specs.declared.answers.DeliveryAnswer.{DeliveryAnswer}
@@ -66,6 +67,10 @@ abbrev pub answer_records : Answer → List (List (List ℕ))
 answer_records (answer.Agreement name first a) = agree_fields name first a ∷ []
 answer_records (answer.Delivery a) = delivery_fields a ∷ []
 answer_records (answer.Waiver series n a) = waiver_fields series n a ∷ []
+answer_records (answer.Price isbn offers) = price_records isbn offers
+answer_records (answer.Choice isbn c) = choice_fields isbn c ∷ []
+answer_records (answer.Calendar isbn offers) = calendar_records isbn offers
+answer_records answer.BadRange = (codes "refused" ∷ codes "bad-range" ∷ []) ∷ []
 answer_records (answer.Gaps report) = gap_records report
 answer_records (answer.Catalogue series m) = catalogue_records series m
 answer_records answer.UnknownSeries = unknown_fields ∷ []

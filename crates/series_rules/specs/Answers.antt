@@ -2,16 +2,20 @@
 use Rattle.std.specs.Prelude.{◌+◌, ◌-◌, ◌&&◌, Bool, List, [], ◌∷◌, Option, Some, None, bytes_eq, nat_eq, nat_lt, if◌then◌else◌, ℕ, length, option_map}
 use Rattle.catalogue_rules.specs.Records.{ByReference}
 use Rattle.onix_message.specs.Message.{message_of, bad_row}
-use Rattle.onix_message.specs.SameContents.{same_contents}
+use Rattle.onix_message.specs.SameContents.{same_contents, same_party}
 use Rattle.onix_message.specs.declared.agreement.Agreement.{Agreement}
 use Rattle.onix_message.specs.declared.parts.Header.{Header}
 use Rattle.onix_message.specs.declared.parts.Product.{Product}
-use Rattle.series_rules.specs.Agreements.{agreements_of, named, between, same_party, same_addressee}
+use Rattle.series_rules.specs.Agreements.{agreements_of, named, between, same_addressee}
 use Rattle.series_rules.specs.Firsts.{first_at}
 use Rattle.series_rules.specs.Series.{front_of, kept_of, catalogue_of}
 use Rattle.series_rules.specs.declared.requests.Request.{Request}
 use Rattle.series_rules.specs.Gaps.{gaps_of}
-use Rattle.series_rules.specs.declared.requests.Request.TheVariants.{Agree, Deliver, Waive, AskGaps, AskCatalogue, Malformed}
+use Rattle.series_rules.specs.Offers.{offers_after}
+use Rattle.series_rules.specs.PriceAnswers.{calendar_answer, chosen_by, prices_of}
+use Rattle.price_rules.specs.Calendar.{question}
+use Rattle.price_rules.specs.declared.precedence.Rule.{Rule}
+use Rattle.series_rules.specs.declared.requests.Request.TheVariants.{Agree, Deliver, Waive, AskPrice, AskChoice, AskCalendar, AskGaps, AskCatalogue, Malformed}
 use Rattle.series_rules.specs.declared.requests.Had.{Had}
 use Rattle.series_rules.specs.declared.requests.Had.TheVariants as had
 use Rattle.series_rules.specs.declared.answers.AgreeAnswer.{AgreeAnswer}
@@ -103,19 +107,23 @@ abbrev pub catalogue_or_unknown : List ℕ → Option ByReference → Answer
 catalogue_or_unknown series None = answer.UnknownSeries
 catalogue_or_unknown series (Some m) = answer.Catalogue series m
 
--- the answer to a request after L
-abbrev pub answer_to : List Request → Request → Answer
-answer_to L (Agree a) = answer.Agreement a.name a.first (agree_answer L a)
-answer_to L (Deliver records) = answer.Delivery (delivery_answer L records)
-answer_to L (Waive series n) = answer.Waiver series n (waive_answer L series n)
-answer_to L (AskGaps series) = gaps_or_unknown (gaps_answer L series)
-answer_to L (AskCatalogue series) = catalogue_or_unknown series (catalogue_answer L series)
-answer_to L (Malformed row) = answer.Malformed row
+-- the answer to a request after L, under the rules of a precedence table
+abbrev pub answer_to : List Rule → List Request → Request → Answer
+answer_to rules L (Agree a) = answer.Agreement a.name a.first (agree_answer L a)
+answer_to rules L (Deliver records) = answer.Delivery (delivery_answer L records)
+answer_to rules L (Waive series n) = answer.Waiver series n (waive_answer L series n)
+answer_to rules L (AskPrice isbn q) = answer.Price isbn (prices_of q (offers_after L isbn))
+answer_to rules L (AskChoice isbn q) = answer.Choice isbn (chosen_by rules q (offers_after L isbn))
+answer_to rules L (AskCalendar isbn from to country currency price_type quantity) =
+    calendar_answer isbn (question from country currency price_type quantity) from to (offers_after L isbn)
+answer_to rules L (AskGaps series) = gaps_or_unknown (gaps_answer L series)
+answer_to rules L (AskCatalogue series) = catalogue_or_unknown series (catalogue_answer L series)
+answer_to rules L (Malformed row) = answer.Malformed row
 
 -- the answers to requests, each asked after L and those before it
-abbrev pub answers : List Request → List Request → List Answer
-answers L [] = []
-answers L (r ∷ rs) = answer_to L r ∷ answers (r ∷ L) rs
+abbrev pub answers : List Rule → List Request → List Request → List Answer
+answers rules L [] = []
+answers rules L (r ∷ rs) = answer_to rules L r ∷ answers rules (r ∷ L) rs
 
 -- L and then these requests, in order
 abbrev pub followed_by : List Request → List Request → List Request

@@ -1,5 +1,6 @@
 -- The steps of a batch: what is read, and one request.
 use Rattle.std.specs.Prelude.{◌≡◌, ◌≤◌, ℕ, Bool, List, [], ◌++◌, ◌∷◌, Result, Ok, Err, IsUtf8, length, ⊤}
+use Rattle.price_rules.specs.declared.precedence.Rule.{Rule}
 use Rattle.series_rules.specs.Answers.{answer_to}
 use Rattle.series_rules.specs.AnswerText.{is_refused, text_of}
 use Rattle.series_rules.specs.Batch.{RecordsFit, limit, requests_of}
@@ -20,8 +21,8 @@ RequestsFit text (Ok rs) = (length text ≤ limit) × IsUtf8 text × (rs ≡ req
 RequestsFit text (Err f) = InputFits text f
 
 -- how one request after L can end. Written: these bytes were written. Stands: the desk stands for that list
-abbrev pub RequestFits : List Request → Request → (List ℕ → Type 0) → (List Request → Type 0) → Result Bool RequestFault → Type 0
-RequestFits L r written stands (Ok b) = (b ≡ is_refused (answer_to L r)) × written (text_of (answer_to L r)) × stands (r ∷ L)
-RequestFits L r written stands (Err (request_fault.Store f)) = written [] × stands L
-RequestFits L r written stands (Err request_fault.Write) = ((part rest : List ℕ) × (part ++ rest ≡ text_of (answer_to L r)) × written part) × stands (r ∷ L)
-RequestFits L r written stands (Err request_fault.Memory) = written [] × stands (r ∷ L)
+abbrev pub RequestFits : List Rule → List Request → Request → (List ℕ → Type 0) → (List Request → Type 0) → Result Bool RequestFault → Type 0
+RequestFits rules L r written stands (Ok b) = (b ≡ is_refused (answer_to rules L r)) × written (text_of (answer_to rules L r)) × stands (r ∷ L)
+RequestFits rules L r written stands (Err (request_fault.Store f)) = written [] × stands L
+RequestFits rules L r written stands (Err request_fault.Write) = ((part rest : List ℕ) × (part ++ rest ≡ text_of (answer_to rules L r)) × written part) × stands (r ∷ L)
+RequestFits rules L r written stands (Err request_fault.Memory) = written [] × stands (r ∷ L)

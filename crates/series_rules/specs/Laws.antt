@@ -7,6 +7,7 @@ use Rattle.series_rules.specs.Series.{front_of, next_of, kept_at, IsNext}
 use Rattle.series_rules.specs.Gaps.{IsGapReport, gaps_of}
 use Rattle.series_rules.specs.Content.{SameContent}
 use Rattle.series_rules.specs.Answers.{answer_to}
+use Rattle.price_rules.specs.declared.precedence.Rule.{Rule}
 use Rattle.series_rules.specs.declared.requests.Request.{Request}
 use Rattle.series_rules.specs.declared.requests.Had.{Had}
 
@@ -16,7 +17,7 @@ NextIsLeast = (L : List Request) (a : Agreement) → IsNext (first_at L a.name) 
 
 -- lists that come to the same are answered the same, and come to the same after one more request
 abbrev pub ByContentAlone : Type 0
-ByContentAlone = (L M : List Request) (r : Request) → SameContent L M → (answer_to L r ≡ answer_to M r) × SameContent (r ∷ L) (r ∷ M)
+ByContentAlone = (rules : List Rule) (L M : List Request) (r : Request) → SameContent L M → (answer_to rules L r ≡ answer_to rules M r) × SameContent (r ∷ L) (r ∷ M)
 
 -- an agreed series stays agreed, what stands below its first gap stays, and what a message did there never changes
 abbrev pub FrontOnlyGrows : Type 0

@@ -1,13 +1,17 @@
 -- What the desk in memory keeps, against a list of requests.
-use Rattle.std.specs.Prelude.{◌≡◌, ℕ, List, Option, Some, None, find, map, nat_eq, if◌then◌else◌}
+use Rattle.std.specs.Prelude.{◌≡◌, ℕ, T, List, Option, Some, None, find, map, nat_eq, if◌then◌else◌}
 use Rattle.std.specs.Option.{option_or}
-use Rattle.std.specs.Ordering.{nat_cmp}
-use Rattle.std.specs.BTreeMap.{get}
+use Rattle.std.specs.Cmp.Lexicographic.{slice_cmp}
+use Rattle.std.specs.FinMap.{is_sorted}
+use Rattle.std.specs.List.{position_or_len}
+use Rattle.std.specs.Ordering.{is_lt, nat_cmp}
 use Rattle.std.proofs.Common.{◌∙◌}
 use Rattle.onix_message.specs.declared.agreement.Agreement.{Agreement}
 use Rattle.series_rules.specs.Agreements.{agreements_of, named, has_name, AreApart}
 use Rattle.series_rules.specs.Firsts.{first_at}
 use Rattle.series_rules.specs.Content.{SameContent}
+use Rattle.series_rules.specs.KeptSeries.{stands_at}
+use Rattle.series_rules.specs.Offers.{with_names}
 use Rattle.series_rules.specs.declared.series.Series.{Series}
 use Rattle.series_rules.specs.declared.requests.Request.{Request}
 use Rattle.series_rules.specs.declared.requests.Had.{Had}
@@ -23,7 +27,7 @@ series_named kept name = find (λ s. has_name name s.agreement) kept
 -- what stands at that number of a series
 abbrev pub number_of_series : Option Series → ℕ → Option Had
 number_of_series None number = None
-number_of_series (Some s) number = get nat_cmp s.numbers number
+number_of_series (Some s) number = stands_at s.numbers number
 
 -- what stands at that number of the series of that name
 abbrev pub standing : List Series → List ℕ → ℕ → Option Had
@@ -33,10 +37,19 @@ standing kept name number = number_of_series (series_named kept name) number
 abbrev pub with_had : (ℕ → Option Had) → ℕ → Had → ℕ → Option Had
 with_had f n h k = option_or (f k) (if nat_eq n k then Some h else None)
 
+-- where a series of that name goes in order of name: before the first of a later name
+abbrev pub place_in_order : List Series → List ℕ → ℕ
+place_in_order kept name = position_or_len (λ s. is_lt (slice_cmp nat_cmp name s.agreement.name)) kept
+
+-- their names rise
+abbrev pub AreInOrder : List Series → Type 0
+AreInOrder kept = T (is_sorted (slice_cmp nat_cmp) (with_names (kept_agreements kept)))
+
 -- the series that are kept are what those requests come to
 pub record PlainStands (kept : List Series) (L : List Request) : Type 0 where
   pub agreed : (name : List ℕ) → named (kept_agreements kept) name ≡ named (agreements_of L) name
   pub apart : AreApart (kept_agreements kept)
+  pub in_order : AreInOrder kept
   pub firsts : (series : List ℕ) (number : ℕ) → standing kept series number ≡ first_at L series number
 
 -- what is kept stands for every list that comes to the same
@@ -44,5 +57,6 @@ pub stands_by_content : (kept : List Series) (L M : List Request) → SameConten
 stands_by_content kept L M same stands = record {
   agreed = λ name. stands.agreed name ∙ same.agreements name;
   apart = stands.apart;
+  in_order = stands.in_order;
   firsts = λ s n. stands.firsts s n ∙ same.firsts s n;
 }

@@ -2,11 +2,15 @@
 use Rattle.std.specs.Prelude.{ℕ, Bool, false, List, [], ◌∷◌, Option, Some, None, if◌then◌else◌, option_map, codes}
 use Rattle.std.specs.List.{list_all}
 use Rattle.std.specs.Str.{bytes_eq}
+use Rattle.onix_terms.specs.Code.{code2_of, country_of, currency_of, isbn13_of}
+use Rattle.onix_terms.specs.Day.{day_of}
 use Rattle.onix_terms.specs.Number.{number_of}
+use Rattle.onix_terms.specs.Quantity.{quantity_of}
 use Rattle.onix_terms.specs.SeriesName.{series_name_of}
 use Rattle.onix_terms.specs.Options.{◌>>=◌}
 use Rattle.onix_message.specs.Fields.{is_clean, optional_party, party_of}
 use Rattle.onix_message.specs.declared.agreement.Agreement.{Agreement}
+use Rattle.price_rules.specs.declared.offer.PriceQuery.{PriceQuery}
 use Rattle.series_rules.specs.declared.requests.Request.{Request}
 use Rattle.series_rules.specs.declared.requests.Request.TheVariants as request
 
@@ -37,11 +41,55 @@ abbrev pub series_of : List (List ℕ) → Option (List ℕ)
 series_of (series ∷ []) = series_name_of series
 series_of _ = None
 
+-- the quantity that the last fields of a question write: 1 where there is no such field
+abbrev pub quantity_asked : List (List ℕ) → Option ℕ
+quantity_asked [] = Some 1
+quantity_asked (quantity ∷ []) = quantity_of quantity
+quantity_asked _ = None
+
+-- which prices are asked for: on a day, in a country and a currency, of a type, and for a quantity
+unfoldable pub query_from : List ℕ → List ℕ → List ℕ → List ℕ → List (List ℕ) → Option PriceQuery
+query_from day country currency price_type quantity = do
+  d ← day_of day
+  c ← country_of country
+  u ← currency_of currency
+  t ← code2_of price_type
+  q ← quantity_asked quantity
+  Some (record { day = d; country = c; currency = u; price_type = t; quantity = q })
+
+-- the article and the prices that the fields after `AskPrice` or `AskChoice` ask for
+unfoldable pub price_question_of : List (List ℕ) → Option (List ℕ × PriceQuery)
+price_question_of (isbn ∷ day ∷ country ∷ currency ∷ price_type ∷ quantity) = do
+  i ← isbn13_of isbn
+  q ← query_from day country currency price_type quantity
+  Some (i, q)
+price_question_of _ = None
+
+-- a calendar of an article: from one day to another, and which prices
+unfoldable pub calendar_from : List ℕ → List ℕ → List ℕ → List ℕ → List ℕ → List ℕ → List (List ℕ) → Option Request
+calendar_from isbn from to country currency price_type quantity = do
+  i ← isbn13_of isbn
+  f ← day_of from
+  l ← day_of to
+  c ← country_of country
+  u ← currency_of currency
+  t ← code2_of price_type
+  q ← quantity_asked quantity
+  Some (request.AskCalendar i f l c u t q)
+
+-- the question that the fields after `AskCalendar` make
+unfoldable pub calendar_question_of : List (List ℕ) → Option Request
+calendar_question_of (isbn ∷ from ∷ to ∷ country ∷ currency ∷ price_type ∷ quantity) = calendar_from isbn from to country currency price_type quantity
+calendar_question_of _ = None
+
 -- the request that the fields after a name make
 abbrev pub named_request : List ℕ → List (List ℕ) → Option Request
 named_request name fields =
     if bytes_eq name (codes "Agree") then option_map request.Agree (agreement_of fields)
     else if bytes_eq name (codes "Waive") then waiver_of fields
+    else if bytes_eq name (codes "AskPrice") then option_map (λ (i, q). request.AskPrice i q) (price_question_of fields)
+    else if bytes_eq name (codes "AskChoice") then option_map (λ (i, q). request.AskChoice i q) (price_question_of fields)
+    else if bytes_eq name (codes "AskCalendar") then calendar_question_of fields
     else if bytes_eq name (codes "AskGaps") then option_map request.AskGaps (series_of fields)
     else if bytes_eq name (codes "AskCatalogue") then option_map request.AskCatalogue (series_of fields)
     else None

@@ -1,17 +1,18 @@
 -- A run of requests, some of which were answered with a storage fault.
 use Rattle.std.specs.Prelude.{◌≡◌, List, [], ◌∷◌, Result, Ok, Err}
 use Rattle.onix_message.specs.declared.agreement.StoreFault.{StoreFault}
+use Rattle.price_rules.specs.declared.precedence.Rule.{Rule}
 use Rattle.series_rules.specs.Answers.{answer_to}
 use Rattle.series_rules.specs.declared.requests.Request.{Request}
 use Rattle.series_rules.specs.declared.answers.Answer.{Answer}
 
 -- each answer is the definition's, after L and those requests before it that were answered without a fault
-abbrev pub AreAnswered : List Request → List Request → List (Result Answer StoreFault) → Type 0
-AreAnswered L [] [] = Unit {0}
-AreAnswered L (r ∷ rs) (Ok a ∷ outcomes) = (a ≡ answer_to L r) × AreAnswered (r ∷ L) rs outcomes
-AreAnswered L (r ∷ rs) (Err f ∷ outcomes) = AreAnswered L rs outcomes
-AreAnswered L [] (o ∷ outcomes) = ⊥
-AreAnswered L (r ∷ rs) [] = ⊥
+abbrev pub AreAnswered : List Rule → List Request → List Request → List (Result Answer StoreFault) → Type 0
+AreAnswered rules L [] [] = Unit {0}
+AreAnswered rules L (r ∷ rs) (Ok a ∷ outcomes) = (a ≡ answer_to rules L r) × AreAnswered rules (r ∷ L) rs outcomes
+AreAnswered rules L (r ∷ rs) (Err f ∷ outcomes) = AreAnswered rules L rs outcomes
+AreAnswered rules L [] (o ∷ outcomes) = ⊥
+AreAnswered rules L (r ∷ rs) [] = ⊥
 
 -- L and then those requests that were answered without a fault
 abbrev pub effective : List Request → List Request → List (Result Answer StoreFault) → List Request

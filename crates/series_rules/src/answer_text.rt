@@ -8,6 +8,7 @@ ghost use Rattle.series_rules.specs.AnswerText.{agree_fields, answer_records, be
 use crate::answers::{AgreeAnswer, Answer, DeliveryAnswer, WaiveAnswer};
 use crate::catalogue_text::catalogue_rows;
 use crate::gap_text::gap_rows;
+use crate::price_text::{calendar_rows, choice_row, price_rows};
 use crate::text_rows::{digits, row};
 use catalogue_rules::effect::Effect;
 use onix_message::records::{Record, write_records};
@@ -213,6 +214,10 @@ fn answer_rows(alloc: Global, answer: &Answer) -> Result<Items<Record>, AllocErr
             number,
             answer,
         } => one_row(alloc, waiver_row(alloc, series, *number, answer)?),
+        Answer::Price { isbn, offers } => price_rows(alloc, isbn, offers.as_slice()),
+        Answer::Choice { isbn, choice } => one_row(alloc, choice_row(alloc, isbn, choice)?),
+        Answer::Calendar { isbn, offers } => calendar_rows(alloc, isbn, offers.as_slice()),
+        Answer::BadRange => one_row(alloc, row(alloc, &["refused", "bad-range"])?),
         Answer::Gaps(report) => gap_rows(alloc, report),
         Answer::Catalogue { series, catalogue } => catalogue_rows(alloc, series, catalogue),
         Answer::UnknownSeries => one_row(alloc, row(alloc, &["refused", "unknown-series"])?),
@@ -231,7 +236,7 @@ pub fn write_answer(alloc: Global, answer: &Answer) -> Result<String, AllocError
 }
 
 /// Whether the text of an answer begins with the field `refused`.
-#[tactic(auto, unfolding(crate::specs::AnswerText::is_refused, crate::specs::CatalogueText::catalogue_records, crate::specs::GapText::gap_records))]
+#[tactic(auto, unfolding(crate::specs::AnswerText::is_refused, crate::specs::CatalogueText::catalogue_records, crate::specs::GapText::gap_records, crate::specs::PriceText::price_records, crate::specs::PriceText::calendar_records))]
 pub fn is_refusal(answer: &Answer) -> bool
     ensures { result ≡ is_refused answer.now }
 {
@@ -242,7 +247,8 @@ pub fn is_refusal(answer: &Answer) -> bool
             DeliveryAnswer::Applied { .. } | DeliveryAnswer::Held { .. }
         ),
         Answer::Waiver { answer, .. } => !matches!(answer, WaiveAnswer::Waived),
+        Answer::Price { .. } | Answer::Choice { .. } | Answer::Calendar { .. } => false,
         Answer::Gaps(_) | Answer::Catalogue { .. } => false,
-        Answer::UnknownSeries | Answer::Malformed { .. } => true,
+        Answer::BadRange | Answer::UnknownSeries | Answer::Malformed { .. } => true,
     }
 }

@@ -2,9 +2,14 @@
 
 use catalogue_rules::catalogue::Catalogue;
 use catalogue_rules::effect::Effect;
+use onix_terms::amount::Amount;
+use onix_terms::code::Code2;
+use onix_terms::isbn13::Isbn13;
 use onix_terms::items::Items;
 use onix_terms::number::Number;
 use onix_terms::series_name::SeriesName;
+use onix_terms::text::Text;
+use price_rules::calendar::Span;
 
 /// The answer to an agreement.
 #[derive(Debug, Drop)]
@@ -88,6 +93,39 @@ pub struct GapReport {
     pub missing: Items<(Number, Number)>,
 }
 
+/// Which offer an answer speaks of: the place, from 1, of a SupplyDetail among all those of its
+/// record, and its ProductAvailability.
+#[derive(Debug, Drop)]
+pub struct ListedOffer {
+    pub series: SeriesName,
+    pub reference: Text,
+    pub place: u32,
+    pub availability: Code2,
+}
+
+/// An offer and its current price, if a price holds.
+#[derive(Debug, Drop)]
+pub struct PricedOffer {
+    pub offer: ListedOffer,
+    pub amount: Option<Amount>,
+}
+
+/// The offer that the shop chooses, the number of the rule that takes it, from 1, and its current
+/// price.
+#[derive(Debug, Drop)]
+pub struct ChosenOffer {
+    pub rule: u32,
+    pub offer: ListedOffer,
+    pub amount: Amount,
+}
+
+/// An offer and its current prices from one day to another, as spans in order.
+#[derive(Debug, Drop)]
+pub struct OfferCalendar {
+    pub offer: ListedOffer,
+    pub spans: Items<Span>,
+}
+
 /// The answer to a request, with the values that its lines print.
 #[derive(Drop)]
 pub enum Answer {
@@ -102,6 +140,23 @@ pub enum Answer {
         number: Number,
         answer: WaiveAnswer,
     },
+    /// The offers of an article, in order of series name, reference and place.
+    Price {
+        isbn: Isbn13,
+        offers: Items<PricedOffer>,
+    },
+    /// The choice, where the precedence table takes an offer of the article.
+    Choice {
+        isbn: Isbn13,
+        choice: Option<ChosenOffer>,
+    },
+    /// The offers of an article, in the same order.
+    Calendar {
+        isbn: Isbn13,
+        offers: Items<OfferCalendar>,
+    },
+    /// The last day of a calendar was before its first, or it had more than 3,660 days.
+    BadRange,
     Gaps(GapReport),
     Catalogue {
         series: SeriesName,

@@ -14,6 +14,7 @@ use crate::requests::Request;
 use onix_message::agreement::StoreFault;
 use onix_message::records::{RecordFault, read_records};
 use onix_terms::items::Items;
+use price_rules::precedence::Precedence;
 use std::alloc::Global;
 use std::io::{Read, Write};
 use thiserror::Error;
@@ -116,14 +117,15 @@ fn write_whole<W: Write>(writer: &mut W, bytes: &[u8]) -> Result<(), ()>
 fn run_request<D: Desk, W: Write>(
     alloc: Global,
     desk: &mut D,
+    precedence: &Precedence,
     request: &Request,
     writer: &mut W,
 ) -> Result<bool, RequestFault>
     ensures premise { D.is_sound desk.new → D.is_sound desk.old }
     ensures run { (L : List Request) → D.stands_for desk.old L → D.is_sound desk.new →
-        RequestFits L request.now (Appends (W.contents writer.old) (W.contents writer.new)) (D.stands_for desk.new) result }
+        RequestFits precedence.now L request.now (Appends (W.contents writer.old) (W.contents writer.new)) (D.stands_for desk.new) result }
 {
-    let answer = match answer(desk, request) {
+    let answer = match answer(alloc, desk, precedence, request) {
         Ok(answer) => answer,
         Err(fault) => return Err(RequestFault::Store(fault)),
     };
@@ -148,17 +150,18 @@ fn one_if(b: bool) -> u64
 fn run_requests<D: Desk, W: Write>(
     alloc: Global,
     desk: &mut D,
+    precedence: &Precedence,
     requests: &[Request],
     writer: &mut W,
 ) -> Result<u64, BatchFault>
     ensures premise { D.is_sound desk.new → D.is_sound desk.old }
     ensures run { (L : List Request) → D.stands_for desk.old L → D.is_sound desk.new →
-        RunFits L requests.now (Appends (W.contents writer.old) (W.contents writer.new)) (D.stands_for desk.new) result }
+        RunFits precedence.now L requests.now (Appends (W.contents writer.old) (W.contents writer.new)) (D.stands_for desk.new) result }
 {
     let mut done = 0u64;
     let mut refused = 0u64;
     for request in requests {
-        match run_request(alloc, desk, request, writer) {
+        match run_request(alloc, desk, precedence, request, writer) {
             Ok(is_refused) => {
                 done += 1;
                 refused += one_if(is_refused);
@@ -171,24 +174,25 @@ fn run_requests<D: Desk, W: Write>(
     Ok(refused)
 }
 
-/// Answers a batch: reads its text to the end, or to one byte past 4,194,304, makes all requests,
-/// then asks them one after the other and writes each answer before the next request. Gives the
-/// number of refusals.
+/// Answers a batch under a precedence table: reads its text to the end, or to one byte past
+/// 4,194,304, makes all requests, then asks them one after the other and writes each answer before
+/// the next request. Gives the number of refusals.
 pub fn run_batch<D: Desk, R: Read, W: Write>(
     alloc: Global,
     desk: &mut D,
+    precedence: &Precedence,
     reader: &mut R,
     writer: &mut W,
 ) -> Result<u64, BatchFault>
     ensures premise { D.is_sound desk.new → D.is_sound desk.old }
     // There is a text, that of the reader where it tells its bytes, for which the batch ends as the definitions have it.
     ensures run { (text : List ℕ) × IsTold (R.remaining reader.old) text × ((L : List Request) → D.stands_for desk.old L → D.is_sound desk.new →
-        BatchFits L text (Appends (W.contents writer.old) (W.contents writer.new)) (D.stands_for desk.new) result) }
+        BatchFits precedence.now L text (Appends (W.contents writer.old) (W.contents writer.new)) (D.stands_for desk.new) result) }
 {
     let requests = match read_batch(alloc, reader) {
         Ok(requests) => requests,
         Err(InputFault::Read) => return Err(BatchFault::Read),
         Err(InputFault::Records(fault)) => return Err(BatchFault::Records(fault)),
     };
-    run_requests(alloc, desk, requests.as_slice(), writer)
+    run_requests(alloc, desk, precedence, requests.as_slice(), writer)
 }

@@ -1,6 +1,7 @@
 // Laws of the definitions.
 
 ghost use Rattle.series_rules.specs.Laws.{NextIsLeast, ByContentAlone, FrontOnlyGrows, GapsAreTrue};
+ghost use Rattle.series_rules.specs.PriceLaws.{CalendarsAreTrue, ChoiceIsTrue, PricesAreTrue};
 
 /// The next number of a series is the least, from the agreed first on, that has nothing.
 pub fn next_is_least()
@@ -8,7 +9,7 @@ pub fn next_is_least()
 {}
 
 /// Two lists of requests with the same agreements and the same at each number are answered the
-/// same, now and after any further request.
+/// same under any precedence table, now and after any further request.
 pub fn by_content_alone()
     ensures { ByContentAlone }
 {}
@@ -22,4 +23,21 @@ pub fn front_only_grows()
 /// has something, and in ranges of which no two touch just the numbers up to it that have nothing.
 pub fn gaps_are_true()
     ensures { GapsAreTrue }
+{}
+
+/// An answer about prices has the offers in their order, each with its current price.
+pub fn prices_are_true()
+    ensures { PricesAreTrue }
+{}
+
+/// An answer about a choice has the offer that the shop chooses, with its rule and its price. It
+/// has none exactly where no rule takes an offer.
+pub fn choice_is_true()
+    ensures { ChoiceIsTrue }
+{}
+
+/// A question about a calendar is refused exactly where its range is bad. Else its answer has the
+/// offers in their order, each with its calendar.
+pub fn calendars_are_true()
+    ensures { CalendarsAreTrue }
 {}

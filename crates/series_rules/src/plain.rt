@@ -1,28 +1,39 @@
 // A desk in memory.
 
-ghost use Rattle.std.specs.Prelude.{◌≡◌, ◌++◌, ◌∷◌, [], ℕ, List, IfErr, IfOk, OnErr, Option, Some, None, option_copied, position};
-ghost use Rattle.series_rules.specs.Agreements.{named, between, has_name, has_parties, same_party, same_addressee};
+ghost use Rattle.std.specs.Prelude.{◌≡◌, ◌++◌, ◌∷◌, [], ℕ, List, IfOk, OnErr, OnOk, Option, Some, None, option_copied, position};
+ghost use Rattle.std.specs.FinMap as map;
+ghost use Rattle.std.specs.Cmp.Lexicographic.{slice_cmp};
+ghost use Rattle.std.specs.Ordering.{is_lt, nat_cmp};
+ghost use Rattle.catalogue_rules.specs.Offers.{offers_in};
+ghost use Rattle.onix_message.specs.SameContents.{same_party};
+ghost use Rattle.series_rules.specs.Agreements.{named, between, has_name, has_parties, same_addressee};
 ghost use Rattle.series_rules.specs.Answers.{same_agreement, agree_answer, delivery_answer, waive_answer, gaps_answer, catalogue_answer};
-ghost use Rattle.series_rules.specs.Plain.{PlainStands, kept_agreements};
+ghost use Rattle.series_rules.specs.KeptSeries.{stands_at};
+ghost use Rattle.series_rules.specs.Offers.{offers_after};
+ghost use Rattle.series_rules.specs.Plain.{PlainStands, kept_agreements, place_in_order};
+ghost use Rattle.series_rules.specs.Series.{IsFront, after_all};
+ghost use Rattle.series_rules.specs.declared.requests.Had.{Had};
 ghost use Rattle.series_rules.specs.declared.requests.Request.{Request};
 
 use crate::answers::{AgreeAnswer, DeliveryAnswer, GapReport, WaiveAnswer};
 use crate::desk::Desk;
-use crate::gaps::gaps_in;
-use crate::series::{Series, deliver_at, fold_front, into_catalogue, waive_at};
+use crate::series::Series;
 use catalogue_rules::catalogue::Catalogue;
 use onix_message::agreement::{Agreement, StoreFault};
 use onix_message::message::{MessageFault, read_message};
 use onix_message::records::Record;
+use onix_terms::isbn13::Isbn13;
+use onix_terms::items::Items;
 use onix_terms::number::Number;
 use onix_terms::party::Party;
 use onix_terms::plain::Plain;
 use onix_terms::series_name::SeriesName;
+use price_rules::offer::Offer;
 use std::alloc::{AllocError, Global};
-use std::collections::BTreeMap;
 
-/// A desk in memory, which keeps what stands at each number of each series, and folds a series
-/// when it is asked. Its only fault is want of memory, after which it is as it was.
+/// A desk in memory, which keeps what stands at each number of each series, and the fold of each
+/// series as far as it was needed. Its only fault is want of memory, after which it stands for
+/// what it did.
 #[derive(Drop)]
 pub struct PlainDesk {
     alloc: Global,
@@ -87,24 +98,11 @@ fn is_same_agreement(a: &Agreement, b: &Agreement) -> bool
         && a.first.value() == b.first.value()
 }
 
-fn copy_agreement(a: &Agreement) -> Result<Agreement, AllocError>
-    ensures { IfOk result (λ copy. copy ≡ a.now) }
-{
-    let sender = a.sender.duplicate()?;
-    let addressee = a.addressee.duplicate()?;
-    Ok(Agreement {
-        name: a.name,
-        sender,
-        addressee,
-        first: a.first,
-    })
-}
-
 // The place of the series of that name.
 fn place_of(kept: &[Series], name: &SeriesName) -> Option<usize>
     ensures { result ≡ position (λ s. has_name name.now s.agreement) kept.now }
 {
-    kept.iter().position(|s| is_named(&s.agreement, name))
+    kept.iter().position(|s| is_named(s.agreement(), name))
 }
 
 // The place of the series of that sender and addressee.
@@ -112,7 +110,22 @@ fn place_between(kept: &[Series], sender: &Party, addressee: &Option<Party>) -> 
     ensures { result ≡ position (λ s. has_parties sender.now addressee.now s.agreement) kept.now }
 {
     kept.iter()
-        .position(|s| is_between(&s.agreement, sender, addressee))
+        .position(|s| is_between(s.agreement(), sender, addressee))
+}
+
+// The place of the first series of a later name.
+fn place_after(kept: &[Series], name: &SeriesName) -> Option<usize>
+    ensures { result ≡ position (λ s. is_lt (slice_cmp nat_cmp name.now s.agreement.name)) kept.now }
+{
+    kept.iter()
+        .position(|s| name.compare(&s.agreement().name).is_lt())
+}
+
+// The place of a new name among series in order of name.
+fn place_for(kept: &[Series], name: &SeriesName) -> usize
+    ensures { result ≡ place_in_order kept.now name.now }
+{
+    place_after(kept, name).unwrap_or(kept.len())
 }
 
 fn agreed(alloc: Global, kept: &mut Vec<Series>, a: &Agreement) -> Result<AgreeAnswer, AllocError>
@@ -121,21 +134,20 @@ fn agreed(alloc: Global, kept: &mut Vec<Series>, a: &Agreement) -> Result<AgreeA
     ensures err { OnErr result (kept.new.items ≡ kept.old.items) }
 {
     if let Some(at) = place_of(kept, &a.name) {
-        if is_same_agreement(&kept[at].agreement, a) {
+        if is_same_agreement(kept[at].agreement(), a) {
             return Ok(AgreeAnswer::Agreed);
         }
         return Ok(AgreeAnswer::NameTaken);
     }
     if let Some(at) = place_between(kept, &a.sender, &a.addressee) {
         return Ok(AgreeAnswer::SeriesTaken {
-            name: kept[at].agreement.name,
+            name: kept[at].agreement().name,
         });
     }
-    let agreement = copy_agreement(a)?;
-    kept.push(Series {
-        agreement,
-        numbers: BTreeMap::new(alloc),
-    })?;
+    let at = place_for(kept, &a.name);
+    let agreement = a.duplicate()?;
+    let series = Series::new(alloc, agreement);
+    kept.insert(at, series)?;
     Ok(AgreeAnswer::Agreed)
 }
 
@@ -160,16 +172,15 @@ fn delivered(
         return Ok(DeliveryAnswer::UnknownSeries);
     };
     let series = &mut kept[at];
-    let name = series.agreement.name;
-    let first = series.agreement.first;
+    let first = series.agreement().first;
     if number.value() < first.value() {
         return Ok(DeliveryAnswer::BeforeFirst {
-            series: name,
+            series: series.agreement().name,
             number,
             first,
         });
     }
-    Ok(deliver_at(alloc, &mut series.numbers, name, first, number, contents)?)
+    Ok(series.deliver(number, contents)?)
 }
 
 fn waived(
@@ -185,11 +196,11 @@ fn waived(
         return Ok(WaiveAnswer::UnknownSeries);
     };
     let series = &mut kept[at];
-    let first = series.agreement.first;
+    let first = series.agreement().first;
     if number.value() < first.value() {
         return Ok(WaiveAnswer::BeforeFirst { first });
     }
-    Ok(waive_at(&mut series.numbers, number)?)
+    Ok(series.waive(number)?)
 }
 
 fn gaps_of(
@@ -202,13 +213,7 @@ fn gaps_of(
     let Some(at) = place_of(kept, name) else {
         return Ok(None);
     };
-    let series = &kept[at];
-    let report = gaps_in(
-        alloc,
-        &series.numbers,
-        series.agreement.name,
-        series.agreement.first,
-    )?;
+    let report = kept[at].gaps(alloc)?;
     Ok(Some(report))
 }
 
@@ -222,73 +227,91 @@ fn catalogue_of(
     let Some(at) = place_of(kept, name) else {
         return Ok(None);
     };
-    let series = &kept[at];
-    let first = series.agreement.first;
-    let front = fold_front(alloc, &series.numbers, first, first)?;
-    Ok(Some(into_catalogue(front)))
+    let catalogue = kept[at].catalogue(alloc)?;
+    Ok(Some(catalogue))
+}
+
+// Adds offers at the end, in order.
+fn append(offers: &mut Items<Offer>, more: Items<Offer>) -> Result<(), AllocError>
+    ensures { OnOk result (offers.new ≡ offers.old ++ more) }
+{
+    for offer in more.into_vec() {
+        offers.push(offer)?;
+    }
+    Ok(())
+}
+
+// Adds the article's offers in the catalogue of a series.
+fn add_offers(
+    alloc: Global,
+    offers: &mut Items<Offer>,
+    series: &Series,
+    isbn: &Isbn13,
+) -> Result<(), AllocError>
+    ensures { (hs : List Had) → IsFront (stands_at series.now.numbers) series.now.agreement.first hs →
+        OnOk result (offers.new ≡ offers.old ++ offers_in series.now.agreement.name (after_all map.empty hs) isbn.now) }
+{
+    append(offers, series.offers_of(alloc, isbn)?)
+}
+
+fn offers_of(alloc: Global, kept: &[Series], isbn: &Isbn13) -> Result<Items<Offer>, AllocError>
+    ensures { (L : List Request) → PlainStands kept.now L → IfOk result (λ o. o ≡ offers_after L isbn.now) }
+{
+    let mut offers = Items::new(alloc);
+    for series in kept {
+        add_offers(alloc, &mut offers, series, isbn)?;
+    }
+    Ok(offers)
 }
 
 impl Desk for PlainDesk {
+    ghost use Rattle.onix_message.specs.declared.agreement.StoreFault.TheVariants.{Memory};
     ghost use Rattle.series_rules.specs.Plain.{PlainStands, stands_by_content};
 
     ghost is_sound = { λ d. Unit {0} };
 
     ghost stands_for = { λ d L. PlainStands d.kept.items L };
 
+    ghost may_give = { λ f. f ≡ Memory };
+
     ghost by_content = { λ d L M same stands. stands_by_content d.kept.items L M same stands };
 
-    fn agree(&mut self, agreement: &Agreement) -> Result<AgreeAnswer, StoreFault>
-        ensures ok { (L : List Request) → PlainStands self.old.kept.items L → IfOk result (λ a.
-            (a ≡ agree_answer L agreement.now) × PlainStands self.new.kept.items (Request.Agree agreement.now ∷ L)) }
-        ensures err { (L : List Request) → PlainStands self.old.kept.items L → OnErr result (PlainStands self.new.kept.items L) }
-        ensures fault { IfErr result (λ f. f ≡ StoreFault.Memory) }
-    {
+    fn agree(&mut self, agreement: &Agreement) -> Result<AgreeAnswer, StoreFault> {
         match agreed(self.alloc, &mut self.kept, agreement) {
             Ok(answer) => Ok(answer),
             Err(_) => Err(StoreFault::Memory),
         }
     }
 
-    fn deliver(&mut self, records: &[Record]) -> Result<DeliveryAnswer, StoreFault>
-        ensures ok { (L : List Request) → PlainStands self.old.kept.items L → IfOk result (λ a.
-            (a ≡ delivery_answer L records.now) × PlainStands self.new.kept.items (Request.Deliver records.now ∷ L)) }
-        ensures err { (L : List Request) → PlainStands self.old.kept.items L → OnErr result (PlainStands self.new.kept.items L) }
-        ensures fault { IfErr result (λ f. f ≡ StoreFault.Memory) }
-    {
+    fn deliver(&mut self, records: &[Record]) -> Result<DeliveryAnswer, StoreFault> {
         match delivered(self.alloc, &mut self.kept, records) {
             Ok(answer) => Ok(answer),
             Err(_) => Err(StoreFault::Memory),
         }
     }
 
-    fn waive(&mut self, series: &SeriesName, number: Number) -> Result<WaiveAnswer, StoreFault>
-        ensures ok { (L : List Request) → PlainStands self.old.kept.items L → IfOk result (λ a.
-            (a ≡ waive_answer L series.now number) × PlainStands self.new.kept.items (Request.Waive series.now number ∷ L)) }
-        ensures err { (L : List Request) → PlainStands self.old.kept.items L → OnErr result (PlainStands self.new.kept.items L) }
-        ensures fault { IfErr result (λ f. f ≡ StoreFault.Memory) }
-    {
+    fn waive(&mut self, series: &SeriesName, number: Number) -> Result<WaiveAnswer, StoreFault> {
         match waived(&mut self.kept, series, number) {
             Ok(answer) => Ok(answer),
             Err(_) => Err(StoreFault::Memory),
         }
     }
 
-    fn gaps(&mut self, series: &SeriesName) -> Result<Option<GapReport>, StoreFault>
-        ensures ok { (L : List Request) → PlainStands self.old.kept.items L → IfOk result (λ a. a ≡ gaps_answer L series.now) }
-        ensures left { self.new ≡ self.old }
-        ensures fault { IfErr result (λ f. f ≡ StoreFault.Memory) }
-    {
+    fn offers_of(&mut self, isbn: &Isbn13) -> Result<Items<Offer>, StoreFault> {
+        match offers_of(self.alloc, &self.kept, isbn) {
+            Ok(offers) => Ok(offers),
+            Err(_) => Err(StoreFault::Memory),
+        }
+    }
+
+    fn gaps(&mut self, series: &SeriesName) -> Result<Option<GapReport>, StoreFault> {
         match gaps_of(self.alloc, &self.kept, series) {
             Ok(report) => Ok(report),
             Err(_) => Err(StoreFault::Memory),
         }
     }
 
-    fn catalogue(&mut self, series: &SeriesName) -> Result<Option<Catalogue>, StoreFault>
-        ensures ok { (L : List Request) → PlainStands self.old.kept.items L → IfOk result (λ a. a ≡ catalogue_answer L series.now) }
-        ensures left { self.new ≡ self.old }
-        ensures fault { IfErr result (λ f. f ≡ StoreFault.Memory) }
-    {
+    fn catalogue(&mut self, series: &SeriesName) -> Result<Option<Catalogue>, StoreFault> {
         match catalogue_of(self.alloc, &self.kept, series) {
             Ok(catalogue) => Ok(catalogue),
             Err(_) => Err(StoreFault::Memory),

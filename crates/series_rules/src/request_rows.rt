@@ -3,7 +3,7 @@
 ghost use Rattle.std.specs.Prelude.{◌≡◌, IfOk, map};
 ghost use Rattle.series_rules.specs.Pieces.{pieces};
 ghost use Rattle.onix_message.specs.Gives.{Gives};
-ghost use Rattle.series_rules.specs.RequestRows.{agreement_from, agreement_of, begins_message, named_request, request_of, row_request, series_of, waiver_of};
+ghost use Rattle.series_rules.specs.RequestRows.{agreement_from, agreement_of, begins_message, calendar_from, calendar_question_of, named_request, price_question_of, quantity_asked, query_from, request_of, row_request, series_of, waiver_of};
 
 use crate::pieces::cut_pieces;
 use crate::requests::Request;
@@ -11,10 +11,15 @@ use onix_message::agreement::Agreement;
 use onix_message::fields::{are_clean, read_optional_party, read_party};
 use onix_message::records::Record;
 use onix_message::row::RowFault;
+use onix_terms::code::{Code2, Country, Currency};
+use onix_terms::day::Day;
+use onix_terms::isbn13::Isbn13;
 use onix_terms::items::Items;
 use onix_terms::number::Number;
+use onix_terms::quantity::Quantity;
 use onix_terms::series_name::SeriesName;
 use onix_terms::text::Text;
+use price_rules::offer::PriceQuery;
 use std::alloc::{AllocError, Global};
 
 // The agreement of a name, a sender, perhaps an addressee, and a first number.
@@ -29,12 +34,8 @@ fn make_agreement(
 ) -> Result<Agreement, RowFault>
     ensures { Gives result (agreement_from name.now sender_type.now sender_value.now to_type.now to_value.now first.now) }
 {
-    let Some(name) = SeriesName::read(name.as_str()) else {
-        return Err(RowFault::Wrong);
-    };
-    let Some(first) = Number::read(first.as_str()) else {
-        return Err(RowFault::Wrong);
-    };
+    let name = SeriesName::read(name.as_str()).ok_or(RowFault::Wrong)?;
+    let first = Number::read(first.as_str()).ok_or(RowFault::Wrong)?;
     let sender = read_party(alloc, sender_type, sender_value)?;
     let addressee = read_optional_party(alloc, to_type, to_value)?;
     Ok(Agreement {
@@ -71,12 +72,8 @@ fn read_waiver(fields: &[Text]) -> Result<Request, RowFault>
     let [series, number] = fields else {
         return Err(RowFault::Wrong);
     };
-    let Some(series) = SeriesName::read(series.as_str()) else {
-        return Err(RowFault::Wrong);
-    };
-    let Some(number) = Number::read(number.as_str()) else {
-        return Err(RowFault::Wrong);
-    };
+    let series = SeriesName::read(series.as_str()).ok_or(RowFault::Wrong)?;
+    let number = Number::read(number.as_str()).ok_or(RowFault::Wrong)?;
     Ok(Request::Waive { series, number })
 }
 
@@ -87,10 +84,98 @@ fn read_series(fields: &[Text]) -> Result<SeriesName, RowFault>
     let [series] = fields else {
         return Err(RowFault::Wrong);
     };
-    let Some(series) = SeriesName::read(series.as_str()) else {
+    SeriesName::read(series.as_str()).ok_or(RowFault::Wrong)
+}
+
+// The quantity that the last fields of a question write: 1 where there is no such field.
+fn read_quantity(fields: &[Text]) -> Result<Quantity, RowFault>
+    ensures { Gives result (quantity_asked fields.now) }
+{
+    let quantity = match fields {
+        [] => Quantity::from_value(1),
+        [quantity] => Quantity::read(quantity.as_str()),
+        _ => None,
+    };
+    quantity.ok_or(RowFault::Wrong)
+}
+
+#[tactic(auto, unfolding(crate::specs::RequestRows::query_from))]
+fn make_query(
+    day: &Text,
+    country: &Text,
+    currency: &Text,
+    price_type: &Text,
+    quantity: &[Text],
+) -> Result<PriceQuery, RowFault>
+    ensures { Gives result (query_from day.now country.now currency.now price_type.now quantity.now) }
+{
+    let day = Day::read(day.as_str()).ok_or(RowFault::Wrong)?;
+    let country = Country::read(country.as_str()).ok_or(RowFault::Wrong)?;
+    let currency = Currency::read(currency.as_str()).ok_or(RowFault::Wrong)?;
+    let price_type = Code2::read(price_type.as_str()).ok_or(RowFault::Wrong)?;
+    let quantity = read_quantity(quantity)?;
+    Ok(PriceQuery {
+        day,
+        country,
+        currency,
+        price_type,
+        quantity,
+    })
+}
+
+// The article and the prices that the fields after `AskPrice` or `AskChoice` ask for.
+#[tactic(auto, unfolding(crate::specs::RequestRows::price_question_of))]
+fn read_price_question(fields: &[Text]) -> Result<(Isbn13, PriceQuery), RowFault>
+    ensures { Gives result (price_question_of fields.now) }
+{
+    let [isbn, day, country, currency, price_type, quantity @ ..] = fields else {
         return Err(RowFault::Wrong);
     };
-    Ok(series)
+    let isbn = Isbn13::read(isbn.as_str()).ok_or(RowFault::Wrong)?;
+    let query = make_query(day, country, currency, price_type, quantity)?;
+    Ok((isbn, query))
+}
+
+#[tactic(auto, unfolding(crate::specs::RequestRows::calendar_from))]
+fn make_calendar_question(
+    isbn: &Text,
+    from: &Text,
+    to: &Text,
+    country: &Text,
+    currency: &Text,
+    price_type: &Text,
+    quantity: &[Text],
+) -> Result<Request, RowFault>
+    ensures { Gives result (calendar_from isbn.now from.now to.now country.now currency.now price_type.now quantity.now) }
+{
+    let isbn = Isbn13::read(isbn.as_str()).ok_or(RowFault::Wrong)?;
+    let from = Day::read(from.as_str()).ok_or(RowFault::Wrong)?;
+    let to = Day::read(to.as_str()).ok_or(RowFault::Wrong)?;
+    let country = Country::read(country.as_str()).ok_or(RowFault::Wrong)?;
+    let currency = Currency::read(currency.as_str()).ok_or(RowFault::Wrong)?;
+    let price_type = Code2::read(price_type.as_str()).ok_or(RowFault::Wrong)?;
+    let quantity = read_quantity(quantity)?;
+    Ok(Request::AskCalendar {
+        isbn,
+        from,
+        to,
+        country,
+        currency,
+        price_type,
+        quantity,
+    })
+}
+
+// The question that the fields after `AskCalendar` make. A range that is reversed or too long is
+// asked for too: the answer refuses it.
+#[tactic(auto, unfolding(crate::specs::RequestRows::calendar_question_of))]
+fn read_calendar_question(fields: &[Text]) -> Result<Request, RowFault>
+    ensures { Gives result (calendar_question_of fields.now) }
+{
+    let [isbn, from, to, country, currency, price_type, quantity @ ..] = fields else {
+        return Err(RowFault::Wrong);
+    };
+    make_calendar_question(isbn, from, to, country, currency, price_type, quantity)
 }
 
 // The request that the fields after a name make.
@@ -102,6 +187,17 @@ fn read_named(alloc: Global, name: &str, fields: &[Text]) -> Result<Request, Row
     }
     if name == "Waive" {
         return read_waiver(fields);
+    }
+    if name == "AskPrice" {
+        let (isbn, query) = read_price_question(fields)?;
+        return Ok(Request::AskPrice { isbn, query });
+    }
+    if name == "AskChoice" {
+        let (isbn, query) = read_price_question(fields)?;
+        return Ok(Request::AskChoice { isbn, query });
+    }
+    if name == "AskCalendar" {
+        return read_calendar_question(fields);
     }
     if name == "AskGaps" {
         return Ok(Request::AskGaps(read_series(fields)?));

@@ -1,138 +1,67 @@
-// One series of the desk in memory, and its fold.
+// One series of the desk in memory.
 
-ghost use Rattle.std.specs.Prelude.{◌≡◌, ◌≤◌, ◌<◌, ◌+◌, ◌-◌, ℕ, List, IfOk, OnOk, OnErr, Option, None, length};
+ghost use Rattle.std.specs.Prelude.{◌≡◌, ◌≤◌, ◌+◌, ℕ, List, IfOk, OnOk, OnErr, Option, None, [], length, nat_eq, if◌then◌else◌};
 ghost use Rattle.std.specs.BTreeMap.{get};
 ghost use Rattle.std.specs.FinMap as map;
 ghost use Rattle.std.specs.Ordering.{nat_cmp};
-ghost use Rattle.catalogue_rules.specs.Effects as effects;
+ghost use Rattle.catalogue_rules.specs.Offers.{offers_in};
 ghost use Rattle.series_rules.specs.Answers.{answer_against, placed_answer, waived_by};
+ghost use Rattle.series_rules.specs.Folded.{IsFolded};
+ghost use Rattle.series_rules.specs.Gaps.{IsGreatest, report_by};
+ghost use Rattle.series_rules.specs.KeptSeries.{stands_at};
 ghost use Rattle.series_rules.specs.Plain.{with_had};
-ghost use Rattle.series_rules.specs.Series.{IsFront, after_all, after_had, effect_of_had, kept_of};
+ghost use Rattle.series_rules.specs.Series.{IsFront, after_all};
 ghost use Rattle.series_rules.specs.declared.requests.Had.{Had};
 
-use crate::answers::{DeliveryAnswer, WaiveAnswer};
+use crate::answers::{DeliveryAnswer, GapReport, WaiveAnswer};
+use crate::fold::Fold;
+use crate::gaps::gaps_in;
 use crate::requests::Had;
 use catalogue_rules::catalogue::Catalogue;
-use catalogue_rules::effect::Effect;
 use onix_message::agreement::Agreement;
 use onix_message::parts::Contents;
+use onix_terms::isbn13::Isbn13;
+use onix_terms::items::Items;
 use onix_terms::number::Number;
 use onix_terms::series_name::SeriesName;
+use price_rules::offer::Offer;
 use std::alloc::{AllocError, Global};
 use std::collections::BTreeMap;
+use std::marker::Model;
 
-/// An agreed series, and what stands at its numbers.
+/// An agreed series and what stands at its numbers, which contracts see, with the fold of its
+/// first numbers, so that each message is applied once.
 #[derive(Drop)]
 pub(crate) struct Series {
-    pub(crate) agreement: Agreement,
-    pub(crate) numbers: BTreeMap<Number, Had>,
+    agreement: Agreement,
+    numbers: BTreeMap<Number, Had>,
+    fold: Fold,
 }
 
-fn no_effect() -> Effect
-    ensures { result ≡ effects.no_effect }
+impl Model for Series {
+    ghost use Rattle.std.specs.BTreeMap.{get};
+    ghost use Rattle.std.specs.Ordering.{nat_cmp};
+    ghost use Rattle.series_rules.specs.Folded.{IsFolded};
+    ghost use Rattle.series_rules.specs.KeptSeries.{KeptSeries};
+
+    ghost Value = { KeptSeries };
+
+    ghost view = { λ s. record { agreement = s.agreement; numbers = s.numbers.entries } };
+
+    ghost invariant = { λ s. IsFolded (get nat_cmp s.numbers) s.agreement.first s.fold };
+}
+
+// Takes out what stands at a number.
+fn take_out(numbers: &mut BTreeMap<Number, Had>, number: Number)
+    ensures { (n : ℕ) → get nat_cmp numbers.new n ≡ (if nat_eq number n then None else get nat_cmp numbers.old n) }
 {
-    Effect {
-        replaced: 0,
-        updated: 0,
-        deleted: 0,
-        unknown: 0,
-        ignored: 0,
-    }
-}
-
-// Applies one of what stands.
-fn apply_had(catalogue: &mut Catalogue, had: &Had) -> Result<Effect, AllocError>
-    ensures ok { OnOk result (catalogue.new ≡ after_had catalogue.old had.now) }
-    ensures effect { IfOk result (λ e. e ≡ effect_of_had catalogue.old had.now) }
-{
-    match had {
-        Had::Message(contents) => catalogue.apply(contents),
-        Had::Waived => Ok(no_effect()),
-    }
-}
-
-/// A series up to its first gap.
-#[derive(Drop)]
-pub(crate) struct Front {
-    pub(crate) catalogue: Catalogue,
-    /// The first number that has nothing.
-    pub(crate) next: u32,
-    /// What the message of the wanted number did.
-    pub(crate) effect: Effect,
-}
-
-pub(crate) fn into_catalogue(front: Front) -> Catalogue
-    ensures { result ≡ front.catalogue }
-{
-    front.catalogue
-}
-
-/// Folds what stands from a number on, up to the first number that has nothing.
-pub(crate) fn fold_front(
-    alloc: Global,
-    numbers: &BTreeMap<Number, Had>,
-    from: Number,
-    wanted: Number,
-) -> Result<Front, AllocError>
-    requires { from ≤ wanted }
-    ensures { (hs : List Had) → IsFront (get nat_cmp numbers.now) from hs → IfOk result (λ f.
-        (f.next ≡ from + length hs) × (f.catalogue ≡ after_all map.empty hs) × (wanted < f.next → f.effect ≡ kept_of hs (wanted - from))) }
-{
-    let mut catalogue = Catalogue::new(alloc);
-    let mut kept = no_effect();
-    let mut next = from.value();
-    for (number, had) in numbers.range(from..) {
-        if number.value() != next {
-            return Ok(Front {
-                catalogue,
-                next,
-                effect: kept,
-            });
-        }
-        let effect = apply_had(&mut catalogue, had)?;
-        if next == wanted.value() {
-            kept = effect;
-        }
-        next += 1;
-    }
-    Ok(Front {
-        catalogue,
-        next,
-        effect: kept,
-    })
-}
-
-// What a delivery is answered whose contents stand at its number.
-fn place(
-    alloc: Global,
-    numbers: &BTreeMap<Number, Had>,
-    series: SeriesName,
-    from: Number,
-    number: Number,
-) -> Result<DeliveryAnswer, AllocError>
-    requires { from ≤ number }
-    ensures { (hs : List Had) → IsFront (get nat_cmp numbers.now) from hs → IfOk result (λ a. a ≡ placed_answer hs series from number) }
-{
-    let front = fold_front(alloc, numbers, from, number)?;
-    if number.value() < front.next {
-        Ok(DeliveryAnswer::Applied {
-            series,
-            number,
-            effect: front.effect,
-        })
-    } else {
-        Ok(DeliveryAnswer::Held {
-            series,
-            number,
-            waiting_for: front.next,
-        })
-    }
+    numbers.remove(&number);
 }
 
 // Puts contents at a number that has nothing.
 fn deliver_new(
-    alloc: Global,
     numbers: &mut BTreeMap<Number, Had>,
+    fold: &mut Fold,
     series: SeriesName,
     from: Number,
     number: Number,
@@ -140,30 +69,34 @@ fn deliver_new(
 ) -> Result<DeliveryAnswer, AllocError>
     requires above { from ≤ number }
     requires absent { get nat_cmp numbers.old number ≡ None }
+    requires folded { IsFolded (get nat_cmp numbers.old) from fold.old }
+    ensures folded { IsFolded (get nat_cmp numbers.new) from fold.new }
     ensures ok { OnOk result ((n : ℕ) → get nat_cmp numbers.new n ≡ with_had (get nat_cmp numbers.old) number (Had.Message contents) n) }
     ensures answer { (hs : List Had) → IsFront (get nat_cmp numbers.new) from hs → IfOk result (λ a. a ≡ placed_answer hs series from number) }
     ensures err { OnErr result ((n : ℕ) → get nat_cmp numbers.new n ≡ get nat_cmp numbers.old n) }
 {
     numbers.insert(number, Had::Message(contents))?;
-    match place(alloc, numbers, series, from, number) {
+    match fold.place(numbers, series, from, number) {
         Ok(answer) => Ok(answer),
         Err(e) => {
-            numbers.remove(&number);
+            take_out(numbers, number);
             Err(e)
         }
     }
 }
 
-/// Puts contents at a number, unless something stands there, and gives the answer to the delivery.
-pub(crate) fn deliver_at(
-    alloc: Global,
+// Puts contents at a number, unless something stands there, and gives the answer to the delivery.
+fn deliver_at(
     numbers: &mut BTreeMap<Number, Had>,
+    fold: &mut Fold,
     series: SeriesName,
     from: Number,
     number: Number,
     contents: Contents,
 ) -> Result<DeliveryAnswer, AllocError>
-    requires { from ≤ number }
+    requires above { from ≤ number }
+    requires folded { IsFolded (get nat_cmp numbers.old) from fold.old }
+    ensures folded { IsFolded (get nat_cmp numbers.new) from fold.new }
     ensures ok { OnOk result ((n : ℕ) → get nat_cmp numbers.new n ≡ with_had (get nat_cmp numbers.old) number (Had.Message contents) n) }
     ensures answer { (hs : List Had) → IsFront (get nat_cmp numbers.new) from hs → IfOk result (λ a.
         a ≡ answer_against hs series from number contents (get nat_cmp numbers.new number)) }
@@ -173,20 +106,18 @@ pub(crate) fn deliver_at(
         Some(Had::Waived) => Ok(DeliveryAnswer::Waived { series, number }),
         Some(Had::Message(other)) => {
             if other.is_same(&contents) {
-                place(alloc, numbers, series, from, number)
+                fold.place(numbers, series, from, number)
             } else {
                 Ok(DeliveryAnswer::OtherContents { series, number })
             }
         }
-        None => Ok(deliver_new(alloc, numbers, series, from, number, contents)?),
+        None => Ok(deliver_new(numbers, fold, series, from, number, contents)?),
     }
 }
 
-/// Waives a number, unless something stands there, and gives the answer to the waiver.
-pub(crate) fn waive_at(
-    numbers: &mut BTreeMap<Number, Had>,
-    number: Number,
-) -> Result<WaiveAnswer, AllocError>
+// Waives a number, unless something stands there, and gives the answer to the waiver.
+fn waive_at(numbers: &mut BTreeMap<Number, Had>, number: Number) -> Result<WaiveAnswer, AllocError>
+    ensures folded { (from : ℕ) (fold : Fold) → IsFolded (get nat_cmp numbers.old) from fold → IsFolded (get nat_cmp numbers.new) from fold }
     ensures ok { OnOk result ((n : ℕ) → get nat_cmp numbers.new n ≡ with_had (get nat_cmp numbers.old) number Had.Waived n) }
     ensures answer { IfOk result (λ a. a ≡ waived_by (get nat_cmp numbers.new number)) }
     ensures err { OnErr result ((n : ℕ) → get nat_cmp numbers.new n ≡ get nat_cmp numbers.old n) }
@@ -198,5 +129,99 @@ pub(crate) fn waive_at(
             numbers.insert(number, Had::Waived)?;
             Ok(WaiveAnswer::Waived)
         }
+    }
+}
+
+impl Series {
+    /// An agreed series at whose numbers nothing stands. It takes no memory.
+    pub(crate) fn new(alloc: Global, agreement: Agreement) -> Series
+        ensures agreement { result.agreement ≡ agreement }
+        ensures nothing { (n : ℕ) → stands_at result.numbers n ≡ None }
+    {
+        let fold = Fold::new(alloc, agreement.first);
+        Series {
+            agreement,
+            numbers: BTreeMap::new(alloc),
+            fold,
+        }
+    }
+
+    pub(crate) fn agreement(&self) -> &Agreement
+        ensures { result.now ≡ self.now.agreement }
+    {
+        &self.agreement
+    }
+
+    /// Puts contents at a number, unless something stands there, and gives the answer to the delivery.
+    pub(crate) fn deliver(
+        &mut self,
+        number: Number,
+        contents: Contents,
+    ) -> Result<DeliveryAnswer, AllocError>
+        requires { self.old.agreement.first ≤ number }
+        ensures agreement { self.new.agreement ≡ self.old.agreement }
+        ensures ok { OnOk result ((n : ℕ) → stands_at self.new.numbers n ≡ with_had (stands_at self.old.numbers) number (Had.Message contents) n) }
+        ensures answer { (hs : List Had) → IsFront (stands_at self.new.numbers) self.old.agreement.first hs → IfOk result (λ a.
+            a ≡ answer_against hs self.old.agreement.name self.old.agreement.first number contents (stands_at self.new.numbers number)) }
+        ensures err { OnErr result ((n : ℕ) → stands_at self.new.numbers n ≡ stands_at self.old.numbers n) }
+    {
+        let name = self.agreement.name;
+        let first = self.agreement.first;
+        deliver_at(
+            &mut self.numbers,
+            &mut self.fold,
+            name,
+            first,
+            number,
+            contents,
+        )
+    }
+
+    /// Waives a number, unless something stands there, and gives the answer to the waiver.
+    pub(crate) fn waive(&mut self, number: Number) -> Result<WaiveAnswer, AllocError>
+        ensures agreement { self.new.agreement ≡ self.old.agreement }
+        ensures ok { OnOk result ((n : ℕ) → stands_at self.new.numbers n ≡ with_had (stands_at self.old.numbers) number Had.Waived n) }
+        ensures answer { IfOk result (λ a. a ≡ waived_by (stands_at self.new.numbers number)) }
+        ensures err { OnErr result ((n : ℕ) → stands_at self.new.numbers n ≡ stands_at self.old.numbers n) }
+    {
+        let answer = waive_at(&mut self.numbers, number)?;
+        // Where memory runs out, a later call goes on.
+        let _ = self.fold.go_on(&self.numbers, self.agreement.first);
+        Ok(answer)
+    }
+
+    /// The report on its numbers.
+    pub(crate) fn gaps(&self, alloc: Global) -> Result<GapReport, AllocError>
+        ensures { (hs : List Had) (greatest : Option ℕ) → IsFront (stands_at self.now.numbers) self.now.agreement.first hs → IsGreatest (stands_at self.now.numbers) greatest →
+            IfOk result (λ r. r ≡ report_by self.now.agreement.name (stands_at self.now.numbers) self.now.agreement.first (self.now.agreement.first + length hs) greatest) }
+    {
+        gaps_in(
+            alloc,
+            &self.numbers,
+            self.agreement.name,
+            self.agreement.first,
+        )
+    }
+
+    /// Its catalogue, folded anew.
+    pub(crate) fn catalogue(&self, alloc: Global) -> Result<Catalogue, AllocError>
+        ensures { (hs : List Had) → IsFront (stands_at self.now.numbers) self.now.agreement.first hs → IfOk result (λ c. c ≡ after_all map.empty hs) }
+    {
+        let first = self.agreement.first;
+        let mut fold = Fold::new(alloc, first);
+        fold.go_on(&self.numbers, first)?;
+        Ok(fold.catalogue)
+    }
+
+    /// The article's offers in its catalogue, in order of reference and place.
+    pub(crate) fn offers_of(&self, alloc: Global, isbn: &Isbn13) -> Result<Items<Offer>, AllocError>
+        ensures { (hs : List Had) → IsFront (stands_at self.now.numbers) self.now.agreement.first hs → IfOk result (λ offers.
+            offers ≡ offers_in self.now.agreement.name (after_all map.empty hs) isbn.now) }
+    {
+        let name = self.agreement.name;
+        if self.fold.is_whole(&self.numbers, self.agreement.first) {
+            return self.fold.catalogue.offers_of(&name, isbn);
+        }
+        self.catalogue(alloc)?.offers_of(&name, isbn)
     }
 }

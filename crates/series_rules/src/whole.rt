@@ -10,6 +10,7 @@ use crate::desk::Desk;
 use crate::requests::Request;
 use onix_message::agreement::StoreFault;
 use onix_terms::items::Items;
+use price_rules::precedence::Precedence;
 use std::alloc::{AllocError, Global};
 
 /// Asks a desk requests one after the other, and goes on after a storage fault. Leaving out the
@@ -19,15 +20,16 @@ use std::alloc::{AllocError, Global};
 pub fn ask_all<D: Desk>(
     alloc: Global,
     desk: &mut D,
+    precedence: &Precedence,
     requests: &[Request],
 ) -> Result<Items<Result<Answer, StoreFault>>, AllocError>
     ensures premise { D.is_sound desk.new → D.is_sound desk.old }
     ensures answers { (L : List Request) → D.stands_for desk.old L → D.is_sound desk.new → IfOk result (λ outcomes.
-        AreAnswered L requests.now outcomes × D.stands_for desk.new (effective L requests.now outcomes)) }
+        AreAnswered precedence.now L requests.now outcomes × D.stands_for desk.new (effective L requests.now outcomes)) }
 {
     let mut outcomes = Items::new(alloc);
     for request in requests {
-        let outcome = answer(desk, request);
+        let outcome = answer(alloc, desk, precedence, request);
         outcomes.push(outcome)?;
     }
     Ok(outcomes)

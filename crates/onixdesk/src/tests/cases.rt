@@ -1,9 +1,13 @@
 // Batches, each request on its own, and what each is to be answered.
 
+pub mod calendars;
+pub mod choices;
 pub mod malformed;
 pub mod orders;
 pub mod priced;
+pub mod prices;
 pub mod questions;
+pub mod rules_files;
 
 /// A batch, and what it is to write.
 pub struct Case {
@@ -15,11 +19,24 @@ pub struct Case {
     pub status: u8,
 }
 
+/// A batch under the precedence table of this text.
+pub struct RuledCase {
+    pub rules: &'static str,
+    pub case: Case,
+}
+
 // The agreement of the series `north`, and its answer.
 pub const AGREE: &str = "Agree,north,06,4012345000009,06,5012345678900,1
 ";
 
 pub const AGREED: &str = "agreed,north,1
+";
+
+// The agreement of the series `south`, and its answer.
+pub const AGREE_SOUTH: &str = "Agree,south,06,5000000000005,06,5012345678900,1
+";
+
+pub const AGREED_SOUTH: &str = "agreed,south,1
 ";
 
 pub const CATALOGUE: &str = "AskCatalogue,north
@@ -111,4 +128,45 @@ SupplyDetail,04,06,4012345000009,North Books,21,
 pub const R3: &str = "record,R3,15,9781234567897
 ProductSupply,GB IE,,
 SupplyDetail,04,06,4012345000009,North Books,21,
+";
+
+// The answer to message 1 of the series with one whole record.
+pub const APPLIED: &str = "applied,north,1,replaced=1,updated=0,deleted=0,unknown=0,ignored=0
+";
+
+// Message 1 of the series with one priced offer, with prices of four periods, and with a price from ten
+// copies on.
+pub const PRICED_R1: &str = "Message,1,06,4012345000009,06,5012345678900,1,1,20250301,02,GBP
+Product,R1,03,15,9781234567897
+ProductSupply,GB IE,,
+SupplyDetail,04,06,4012345000009,North Books,21,
+Price,,12.99,,,,,,
+EndMessage,5
+";
+
+pub const DATED_R1: &str = "Message,1,06,4012345000009,06,5012345678900,1,1,20250301,02,GBP
+Product,R1,03,15,9781234567897
+ProductSupply,GB IE,,
+SupplyDetail,04,06,4012345000009,North Books,21,
+Price,,10,,,,,20250401,20250430
+Price,,11,,,,,20250501,20250531
+Price,,9.5,,,,,20250515,20250520
+Price,,9,,,,,20250515,20250516
+EndMessage,8
+";
+
+pub const QUANTITIES_R1: &str = "Message,2,06,4012345000009,06,5012345678900,1,1,20250301,02,GBP
+Product,R1,03,15,9781234567897
+ProductSupply,GB IE,,
+SupplyDetail,04,06,4012345000009,North Books,21,
+Price,,12.99,,,,,,
+Price,,9.99,,,,,,,10
+EndMessage,6
+";
+
+// The article that it offers, asked for.
+pub const ASK_PRICE: &str = "AskPrice,9781234567897,20250301,GB,GBP,02
+";
+
+pub const ASK_CHOICE: &str = "AskChoice,9781234567897,20250301,GB,GBP,02
 ";

@@ -73,7 +73,7 @@ pub struct CommandLine {
     pub status: u8,
 }
 
-pub static COMMAND_LINES: [CommandLine; 5] = [
+pub static COMMAND_LINES: [CommandLine; 11] = [
     CommandLine {
         name: "no command",
         words: &["onixdesk"],
@@ -101,6 +101,49 @@ pub static COMMAND_LINES: [CommandLine; 5] = [
     CommandLine {
         name: "help on a command",
         words: &["onixdesk", "batch", "--help"],
+        prints: true,
+        status: 0,
+    },
+    CommandLine {
+        name: "a rules file without a command",
+        words: &["onixdesk", "--rules", "absent.toml"],
+        prints: false,
+        status: 2,
+    },
+    CommandLine {
+        name: "rules without a file",
+        words: &["onixdesk", "--rules"],
+        prints: false,
+        status: 2,
+    },
+    CommandLine {
+        name: "a repeated rules file",
+        words: &[
+            "onixdesk",
+            "--rules",
+            "absent.toml",
+            "--rules",
+            "absent.toml",
+            "batch",
+        ],
+        prints: false,
+        status: 2,
+    },
+    CommandLine {
+        name: "a rules file after the command",
+        words: &["onixdesk", "batch", "--rules", "absent.toml"],
+        prints: false,
+        status: 2,
+    },
+    CommandLine {
+        name: "an unknown command after a rules file that is not there",
+        words: &["onixdesk", "--rules", "absent.toml", "frobnicate"],
+        prints: false,
+        status: 2,
+    },
+    CommandLine {
+        name: "help after a rules file that is not there",
+        words: &["onixdesk", "--rules", "absent.toml", "--help"],
         prints: true,
         status: 0,
     },

@@ -2,7 +2,7 @@
 
 use super::{AGREE, AGREED, Case};
 
-pub static MALFORMED: [Case; 14] = [
+pub static MALFORMED: [Case; 15] = [
     Case {
         name: "a message without its last line",
         requests: &[
@@ -118,6 +118,44 @@ pub static MALFORMED: [Case; 14] = [
             "Message,1,06,4012345000009,06,5012345678900,1,1,20250301,,\nProduct,R1,03,15,9781234567897\nProductSupply,GB IE,,\nSupplyDetail,04,06,4012345000009,North Books,21,\nPrice,,1,,,,,,\nEndMessage,5\n",
         ],
         answers: &[AGREED, "refused,malformed,5\n"],
+        status: 1,
+    },
+    Case {
+        name: "questions outside their grammar, and one with a record after it",
+        requests: &[
+            "AskPrice,9781234567897,20250301,GB,GBP\n",
+            "AskPrice,9781234567897,20250301,GB,GBP,02,\n",
+            "AskPrice,9781234567897,20250301,GB,GBP,02,1000000\n",
+            "AskPrice,9781234567897,20250301,GB,GBP,02,1,1\n",
+            "AskPrice,978123456789,20250301,GB,GBP,02\n",
+            "AskPrice,9781234567897,20230229,GB,GBP,02\n",
+            "AskPrice,9781234567897,00000101,GB,GBP,02\n",
+            "AskChoice,9781234567897,20250301,gb,GBP,02\n",
+            "AskChoice,9781234567897,20250301,GB,GB,02\n",
+            "AskCalendar,9781234567897,20250301,20250302,GB,GBP,2\n",
+            "AskCalendar,9781234567897,20250301,GB,GBP,02\n",
+            "AskCalendar,9781234567897,20250301,20250302,GB,GBP,02,\n",
+            "AskGaps,north,1\n",
+            "AskCatalogue,North\n",
+            "AskPrice,9781234567897,20250301,GB,GBP,02\nFoo,1\n",
+        ],
+        answers: &[
+            "refused,malformed,1\n",
+            "refused,malformed,1\n",
+            "refused,malformed,1\n",
+            "refused,malformed,1\n",
+            "refused,malformed,1\n",
+            "refused,malformed,1\n",
+            "refused,malformed,1\n",
+            "refused,malformed,1\n",
+            "refused,malformed,1\n",
+            "refused,malformed,1\n",
+            "refused,malformed,1\n",
+            "refused,malformed,1\n",
+            "refused,malformed,1\n",
+            "refused,malformed,1\n",
+            "refused,malformed,2\n",
+        ],
         status: 1,
     },
 ];

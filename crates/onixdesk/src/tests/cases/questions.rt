@@ -4,7 +4,7 @@ use super::{
     AGREE, AGREED, CATALOGUE, Case, E1, E2, E3, N1_R1, N2_R2, N3_R3, N4_R4, U2_R1, V3, W4,
 };
 
-pub static QUESTIONS: [Case; 11] = [
+pub static QUESTIONS: [Case; 12] = [
     Case {
         name: "one message fills a gap before two",
         requests: &[AGREE, N3_R3, N4_R4, N1_R1, N2_R2, N3_R3],
@@ -172,6 +172,26 @@ pub static QUESTIONS: [Case; 11] = [
             "gaps,north,first=1,next=1,greatest=2,held=1,missing=1\nmissing,1,1\n",
             "applied,north,1,replaced=0,updated=0,deleted=0,unknown=0,ignored=0\n",
             "gaps,north,first=1,next=3,greatest=2,held=0,missing=0\n",
+        ],
+        status: 0,
+    },
+    Case {
+        name: "a filled gap applies what was held up to the next gap",
+        requests: &[
+            AGREE,
+            E1,
+            E3,
+            "Message,1,06,4012345000009,06,5012345678900,5,,,,\nEndMessage,1\n",
+            E2,
+            "AskGaps,north\n",
+        ],
+        answers: &[
+            AGREED,
+            "applied,north,1,replaced=0,updated=0,deleted=0,unknown=0,ignored=0\n",
+            "held,north,3,waiting-for=2\n",
+            "held,north,5,waiting-for=2\n",
+            "applied,north,2,replaced=0,updated=0,deleted=0,unknown=0,ignored=0\n",
+            "gaps,north,first=1,next=4,greatest=5,held=1,missing=1\nmissing,4,4\n",
         ],
         status: 0,
     },

@@ -12,10 +12,10 @@ returns-in-Err-Write-clause-run g c = λ L stands sound.
     let rs = c.args.requests.now in
     let before = c.loop-request.invariant.so_far L stands (c.run_request.ensures.premise sound) in
     let one = rw c.in-Err-Write.field-0-is at (c.in-Err-Write.ensures.run (followed_by L (take i rs)) before.2 sound) in
-    let more = one_more L rs i _ c.loop-request-test.true c.request-item.is in
+    let more = one_more c.args.precedence.now L rs i _ c.loop-request-test.true c.request-item.is in
     rw c.loop-request.invariant.counted (
       omega arith,
-      (output L (take i rs) ++ one.0.0, one.0.1, part_more L rs i _ one.0.0 one.0.1 more one.0.2, Appends-trans _ _ _ _ _ before.1 one.0.3),
+      (output c.args.precedence.now L (take i rs) ++ one.0.0, one.0.1, part_more c.args.precedence.now L rs i _ one.0.0 one.0.1 more one.0.2, Appends-trans _ _ _ _ _ before.1 one.0.3),
       rw more.stood one.1,
     )
 
@@ -25,12 +25,12 @@ returns-in-Err-Memory-clause-run g c = λ L stands sound.
     let rs = c.args.requests.now in
     let before = c.loop-request.invariant.so_far L stands (c.run_request.ensures.premise sound) in
     let one = rw c.in-Err-Memory.field-0-is at (c.in-Err-Memory.ensures.run (followed_by L (take i rs)) before.2 sound) in
-    let more = one_more L rs i _ c.loop-request-test.true c.request-item.is in
+    let more = one_more c.args.precedence.now L rs i _ c.loop-request-test.true c.request-item.is in
     let back : i + 1 - 1 ≡ i = omega arith in
     rw c.loop-request.invariant.counted (
       omega arith,
       omega arith,
-      rw back (subst (Appends _ _) (append-nil (output L (take i rs))) (Appends-trans _ _ _ _ _ before.1 one.0)),
+      rw back (subst (Appends _ _) (append-nil (output c.args.precedence.now L (take i rs))) (Appends-trans _ _ _ _ _ before.1 one.0)),
       rw more.stood one.1,
     )
 
@@ -44,7 +44,7 @@ loop-request-preserved g c = record {
       let rs = c.args.requests.now in
       let before = c.loop-request.invariant.so_far L stands (c.run_request.ensures.premise sound) in
       let one = c.in-Ok.ensures.run (followed_by L (take i rs)) before.2 sound in
-      let more = one_more L rs i _ c.loop-request-test.true c.request-item.is in (
+      let more = one_more c.args.precedence.now L rs i _ c.loop-request-test.true c.request-item.is in (
         rw (before.0, c.one_if-refused.ensures.is, one.0) (sym more.refused),
         rw more.written (Appends-trans _ _ _ _ _ before.1 one.1),
         rw more.stood one.2,

@@ -1,4 +1,4 @@
-use Rattle.std.proofs.Common.{sym, ◌∙◌}
+use Rattle.std.proofs.Common.{sym}
 use Rattle.series_rules.specs.Agreements.{has_name}
 use Rattle.series_rules.proofs.Kept.{first_place, none_found}
 use Rattle.series_rules.proofs.Standing.{no_catalogue, catalogue_stands}
@@ -11,5 +11,4 @@ returns-in_default c = λ L stands.
 pub returns : goal.returns
 returns c = λ L stands.
     let first = first_place (λ s. has_name c.args.name.now s.agreement) c.args.kept.now c.in-Some.at c.index-kept-at.result (sym c.in-Some.ensures) c.index-kept-at.is in
-    catalogue_stands c.args.kept.now L c.args.name.now c.in-Some.at c.index-kept-at.result c.into_catalogue.result stands first
-    (λ hs is. c.into_catalogue.ensures ∙ (c.in_ok-front.ensures hs is).1)
+    catalogue_stands c.args.kept.now L c.args.name.now c.in-Some.at c.index-kept-at.result c.in_ok-catalogue.catalogue stands first c.in_ok-catalogue.ensures

@@ -1,4 +1,5 @@
-use Rattle.std.proofs.Common.{refl, arith}
+use Rattle.std.proofs.Common.{ap, arith}
+use Rattle.onix_message.specs.declared.agreement.Agreement.{Agreement}
 use Rattle.series_rules.specs.Agreements.{has_name}
 use Rattle.series_rules.proofs.Kept.{first_in, none_in, set_same, on_fault}
 use Rattle.series_rules.proofs.Standing.{waived_unknown, waived_before, waived_at, stands_again, named_place}
@@ -11,23 +12,24 @@ returns-in_default-clause-ok c = λ L stands.
 
 pub returns-then-value-clause-ok : goal.returns-then-value-clause-ok
 returns-then-value-clause-ok c = λ L stands.
+    let first_is = ap (λ (a : Agreement). a.first) c.agreement.ensures in
     let kept = c.args.kept.now.items in
     let first = first_in (λ s. has_name c.args.name.now s.agreement) kept c.deref.result.now c.in-Some.at c.index_mut-series.result.now c.deref.ensures.value c.in-Some.ensures c.index_mut-series.ensures.value in
-    rw (set_same (λ s. has_name c.args.name.now s.agreement) kept c.in-Some.at c.index_mut-series.result.now first)
+    rw (set_same (λ s. has_name c.args.name.now s.agreement) kept c.in-Some.at c.index_mut-series.result.now first, c.agreement.ensures)
     (waived_before kept L c.args.name.now c.args.number c.in-Some.at c.index_mut-series.result.now stands first (omega arith))
 
 pub returns-clause-ok : goal.returns-clause-ok
 returns-clause-ok c = λ L stands.
+    let first_is = ap (λ (a : Agreement). a.first) c.agreement.ensures in
     let kept = c.args.kept.now.items in
     let first = first_in (λ s. has_name c.args.name.now s.agreement) kept c.deref.result.now c.in-Some.at c.index_mut-series.result.now c.deref.ensures.value c.in-Some.ensures c.index_mut-series.ensures.value in
-    waived_at kept L c.args.name.now c.args.number c.in-Some.at c.index_mut-series.result.now
-    (record { agreement = c.index_mut-series.result.now.agreement; numbers = c.waive_at.new.numbers }) c.in_ok-waive_at.field-0
-    stands first (omega arith) refl c.in_ok-waive_at.ensures.ok c.in_ok-waive_at.ensures.answer
+    waived_at kept L c.args.name.now c.args.number c.in-Some.at c.index_mut-series.result.now c.waive.new.self c.in_ok-waive.field-0
+    stands first (omega arith) c.waive.ensures.agreement c.in_ok-waive.ensures.ok c.in_ok-waive.ensures.answer
 
-pub returns-in_err-waive_at-clause-err : goal.returns-in_err-waive_at-clause-err
-returns-in_err-waive_at-clause-err c = λ L stands.
+pub returns-in_err-waive-clause-err : goal.returns-in_err-waive-clause-err
+returns-in_err-waive-clause-err c = λ L stands.
     let kept = c.args.kept.now.items in
     let place = first_in (λ s. has_name c.args.name.now s.agreement) kept c.deref.result.now c.in-Some.at c.index_mut-series.result.now c.deref.ensures.value c.in-Some.ensures c.index_mut-series.ensures.value in
     on_fault c.from_residual.result _
-    (stands_again kept L c.in-Some.at c.index_mut-series.result.now (record { agreement = c.index_mut-series.result.now.agreement; numbers = c.waive_at.new.numbers }) stands
-    (named_place kept c.args.name.now c.in-Some.at c.index_mut-series.result.now place) refl c.in_err-waive_at.ensures.err)
+    (stands_again kept L c.in-Some.at c.index_mut-series.result.now c.waive.new.self stands
+    (named_place kept c.args.name.now c.in-Some.at c.index_mut-series.result.now place) c.waive.ensures.agreement c.in_err-waive.ensures.err)

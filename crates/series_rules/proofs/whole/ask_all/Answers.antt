@@ -13,7 +13,7 @@ loop-request-preserved g c = record {
       let before = c.loop-request.invariant.so_far L stands (c.answer-outcome.ensures.premise sound) in
       let more : take (i + 1) rs ≡ take i rs ++ c.request-item.result ∷ [] = take_more rs i c.request-item.result c.loop-request-test.true ∙ ap (λ x. take i rs ++ x ∷ []) (sym c.request-item.is) in
       rw (more, c.in_ok-push.ensures.ok)
-      (answered_more L (take i rs) c.loop-request.outcomes c.request-item.result c.answer-outcome.result (g.D.Desk.stands_for c.answer-outcome.new.desk) before.0
+      (answered_more c.args.precedence.now L (take i rs) c.loop-request.outcomes c.request-item.result c.answer-outcome.result (g.D.Desk.stands_for c.answer-outcome.new.desk) before.0
       (λ a e. rw e at (c.answer-outcome.ensures.ok (effective L (take i rs) c.loop-request.outcomes) before.1 sound))
       (λ f e. rw e at (c.answer-outcome.ensures.err (effective L (take i rs) c.loop-request.outcomes) before.1 sound)));
 }

@@ -7,5 +7,5 @@ abbrev pub invariant-loop-request : goal.invariant-loop-request
 invariant-loop-request g l = record {
   premise : g.D.Desk.is_sound l.desk → g.D.Desk.is_sound l.fn.desk;
   so_far : (L : List Request) → g.D.Desk.stands_for l.fn.desk L → g.D.Desk.is_sound l.desk →
-      AreAnswered L (take l.request-index l.requests) l.outcomes × g.D.Desk.stands_for l.desk (effective L (take l.request-index l.requests) l.outcomes);
+      AreAnswered l.precedence L (take l.request-index l.requests) l.outcomes × g.D.Desk.stands_for l.desk (effective L (take l.request-index l.requests) l.outcomes);
 }

@@ -1,0 +1,59 @@
+// Questions about a catalogue of 5,000 records, and one fold of it from nothing.
+
+use crate::texts::{large_catalogue, repeated};
+use crate::times::{print_ratio, used};
+use onix_terms::series_name::SeriesName;
+use price_rules::precedence::Precedence;
+use series_rules::batch::run_batch;
+use series_rules::desk::Desk;
+use series_rules::plain::PlainDesk;
+
+// The time of a batch, in microseconds.
+fn time_of(rt: &HostRuntime, desk: &mut PlainDesk, text: &str) -> anyhow::Result<u64> {
+    let alloc = rt.alloc();
+    let mut input = text.as_bytes();
+    let mut output = Vec::new(alloc);
+    let precedence = Precedence::none(alloc);
+    let start = used(rt)?;
+    match run_batch(alloc, desk, &precedence, &mut input, &mut output) {
+        Ok(0) => {}
+        _ => anyhow::bail!("the batch was not answered"),
+    }
+    let end = used(rt)?;
+    Ok(end.saturating_sub(start))
+}
+
+// The time of one fold of the series from nothing, in microseconds.
+fn time_of_fold(rt: &HostRuntime, desk: &mut PlainDesk) -> anyhow::Result<u64> {
+    let Some(series) = SeriesName::read("north") else {
+        anyhow::bail!("the series has no name");
+    };
+    let start = used(rt)?;
+    match desk.catalogue(&series) {
+        Ok(Some(_)) => {}
+        _ => anyhow::bail!("the series was not folded"),
+    }
+    let end = used(rt)?;
+    Ok(end.saturating_sub(start))
+}
+
+/// Prints the time of 100 price questions about a catalogue of 5,000 records, as ratios to one
+/// catalogue question and to one fold of the series from nothing.
+pub fn report(rt: &HostRuntime) -> anyhow::Result<()> {
+    let alloc = rt.alloc();
+    let mut desk = PlainDesk::new(alloc);
+    time_of(rt, &mut desk, large_catalogue(alloc)?.as_str())?;
+    let questions = repeated(alloc, "AskPrice,9780000000042,20250301,GB,GBP,02\n", 100)?;
+    let prices = time_of(rt, &mut desk, questions.as_str())?;
+    let catalogue = time_of(rt, &mut desk, "AskCatalogue,north\n")?;
+    let fold = time_of_fold(rt, &mut desk)?;
+    println!(rt; "100 price questions: {prices} microseconds of processor time")?;
+    print_ratio(
+        rt,
+        "100 price questions, to one catalogue question",
+        prices,
+        catalogue,
+    )?;
+    print_ratio(rt, "100 price questions, to one fold", prices, fold)?;
+    Ok(())
+}

@@ -1,0 +1,60 @@
+-- The proofs of the laws of answers about prices.
+use Rattle.std.proofs.Common.{◌≡◌, ◌≤ℤ◌, ◌+ℤ◌, ℤ, pos, Bool, true, false, List, [], ◌∷◌, Option, Some, None, refl, sym, subst, arith, cond, inl}
+use Rattle.std.specs.Prelude.{int_lt, option_map}
+use Rattle.std.specs.Bool.{Decides}
+use Rattle.std.specs.List.{AllZip}
+use Rattle.std.proofs.lemmas.Bool.Decides.{Decides-or}
+use Rattle.std.proofs.lemmas.Int.{ints}
+use Rattle.onix_terms.specs.Options.{◌>>=◌}
+use Rattle.price_rules.proofs.CalendarSpans.{calendar_exact}
+use Rattle.price_rules.proofs.Candidates.{choice_exact}
+use Rattle.price_rules.proofs.CurrentPrice.{current_exact}
+use Rattle.price_rules.specs.Calendar.{IsBadRange, IsCalendar, is_bad_range}
+use Rattle.price_rules.specs.Choice.{IsChoice}
+use Rattle.price_rules.specs.Chosen.{choice}
+use Rattle.price_rules.specs.Current.{current}
+use Rattle.price_rules.specs.Spans.{calendar_spans}
+use Rattle.price_rules.specs.declared.choice.Choice.{Choice}
+use Rattle.price_rules.specs.declared.offer.Offer.{Offer}
+use Rattle.price_rules.specs.declared.offer.PriceQuery.{PriceQuery}
+use Rattle.price_rules.specs.declared.precedence.Rule.{Rule}
+use Rattle.series_rules.specs.PriceAnswers.{calendars_of, chosen_offer, listed}
+use Rattle.series_rules.specs.PriceLaws.{PricesAreTrue, IsChosenOffer, ChoiceIsTrue, IsCalendarAnswer, CalendarsAreTrue}
+use Rattle.series_rules.specs.declared.answers.Answer.TheVariants as answer
+
+pub prices_are_true : PricesAreTrue
+prices_are_true q [] = tt
+prices_are_true q (o ∷ offers) = ((refl, (current_exact o q (current o q)).1 refl), prices_are_true q offers)
+
+chosen_is_true : (rules : List Rule) (q : PriceQuery) (offers : List Offer) (o : Option Choice) → IsChoice rules offers q o → IsChosenOffer rules q offers (o >>= chosen_offer offers)
+chosen_is_true rules q offers None is = is
+chosen_is_true rules q offers (Some c) is =
+    let offer = is.0 in
+    let there = is.1.3.1 in
+    subst (λ found. IsChosenOffer rules q offers (option_map (λ o. record { rule = c.rule; offer = listed o; amount = c.amount }) found)) (sym there) (c, offer, is, there, refl)
+
+pub choice_is_true : ChoiceIsTrue
+choice_is_true rules q offers = chosen_is_true rules q offers (choice rules offers q) ((choice_exact rules offers q (choice rules offers q)).1 refl)
+
+bad_range_decides : (from to : ℤ) → Decides (is_bad_range from to) (IsBadRange from to)
+bad_range_decides from to = Decides-or (int_lt to from) (int_lt (from +ℤ pos 3_659) to) (λ e. grind (arith, ints), λ h. grind (arith, ints)) (λ e. grind (arith, ints), λ h. grind (arith, ints))
+
+in_order : (from to : ℤ) → (IsBadRange from to → ⊥) → from ≤ℤ to
+in_order from to good = by (int_lt to from) refl
+  where
+    by : (b : Bool) → int_lt to from ≡ b → from ≤ℤ to
+    by true e = absurd (good (inl (omega (arith, ints))))
+    by false e = omega (arith, ints)
+
+dated_are_true : (q : PriceQuery) (from to : ℤ) → from ≤ℤ to → (offers : List Offer) → AllZip (λ o d. (d.offer ≡ listed o) × IsCalendar o q from to d.spans) offers (calendars_of q from to offers)
+dated_are_true q from to le [] = tt
+dated_are_true q from to le (o ∷ offers) = ((refl, (calendar_exact o q from to (calendar_spans o q from to) le).1 refl), dated_are_true q from to le offers)
+
+pub calendars_are_true : CalendarsAreTrue
+calendars_are_true isbn q from to offers = by (is_bad_range from to) (bad_range_decides from to)
+  where
+    by : (b : Bool) → Decides b (IsBadRange from to) → IsCalendarAnswer isbn q from to offers (cond b answer.BadRange (answer.Calendar isbn (calendars_of q from to offers)))
+    by true bad = bad.0 refl
+    by false bad =
+        let good : IsBadRange from to → ⊥ = λ is. absurd (let e = bad.1 is in cc) in
+        (good, refl, dated_are_true q from to (in_order from to good) offers)

@@ -1,0 +1,5 @@
+use Rattle.series_rules.proofs.PriceLaws.{choice_is_true}
+use Rattle.series_rules.proofs.laws.choice_is_true.Goals as goal
+
+pub returns : goal.returns
+returns c = choice_is_true

@@ -1,0 +1,118 @@
+// Answers about the offers of an article.
+
+ghost use Rattle.std.specs.Prelude.{◌≡◌, IfOk, false};
+ghost use Rattle.price_rules.specs.Calendar.{is_bad_range};
+ghost use Rattle.series_rules.specs.PriceAnswers.{calendars_of, chosen_by, dated, listed, priced, prices_of};
+
+use crate::answers::{ChosenOffer, ListedOffer, OfferCalendar, PricedOffer};
+use onix_terms::day::Day;
+use onix_terms::items::Items;
+use price_rules::calendar::{CalendarFault, calendar};
+use price_rules::choice::choose;
+use price_rules::current::current_price;
+use price_rules::offer::{Offer, PriceQuery};
+use price_rules::precedence::Precedence;
+use std::alloc::{AllocError, Global};
+
+fn into_listed(offer: Offer) -> ListedOffer
+    ensures { result ≡ listed offer }
+{
+    ListedOffer {
+        series: offer.series,
+        reference: offer.reference,
+        place: offer.place,
+        availability: offer.availability,
+    }
+}
+
+fn price_offer(offer: Offer, query: &PriceQuery) -> PricedOffer
+    ensures { result ≡ priced query.now offer }
+{
+    let amount = current_price(&offer, query);
+    PricedOffer {
+        offer: into_listed(offer),
+        amount,
+    }
+}
+
+/// Each offer with its current price.
+pub(crate) fn price_offers(
+    alloc: Global,
+    offers: Items<Offer>,
+    query: &PriceQuery,
+) -> Result<Items<PricedOffer>, AllocError>
+    ensures { IfOk result (λ priced. priced ≡ prices_of query.now offers) }
+{
+    let mut priced = Items::new(alloc);
+    for offer in offers.into_vec() {
+        priced.push(price_offer(offer, query))?;
+    }
+    Ok(priced)
+}
+
+/// The offer that the precedence table chooses.
+pub(crate) fn choose_offer(
+    precedence: &Precedence,
+    offers: Items<Offer>,
+    query: &PriceQuery,
+) -> Option<ChosenOffer>
+    ensures { result ≡ chosen_by precedence.now query.now offers }
+{
+    let choice = choose(precedence, offers.as_slice(), query)?;
+    let mut offers = offers.into_vec();
+    let offer = offers.swap_remove(choice.offer_index);
+    Some(ChosenOffer {
+        rule: choice.rule,
+        offer: into_listed(offer),
+        amount: choice.amount,
+    })
+}
+
+// The offer with its calendar. The query's own day decides nothing.
+fn date_offer(
+    alloc: Global,
+    offer: Offer,
+    query: &PriceQuery,
+    from: Day,
+    to: Day,
+) -> Result<OfferCalendar, AllocError>
+    requires { is_bad_range from to ≡ false }
+    ensures { IfOk result (λ o. o ≡ dated query.now from to offer) }
+{
+    let spans = calendar(
+        alloc,
+        &offer,
+        from,
+        to,
+        query.country,
+        query.currency,
+        query.price_type,
+        query.quantity,
+    );
+    match spans {
+        Ok(spans) => Ok(OfferCalendar {
+            offer: into_listed(offer),
+            spans,
+        }),
+        Err(CalendarFault::BadRange) => unreachable!(),
+        Err(CalendarFault::Memory) => Err(AllocError),
+    }
+}
+
+/// Each offer with its calendar, in a range that is not bad. The query's own day decides nothing.
+pub(crate) fn date_offers(
+    alloc: Global,
+    offers: Items<Offer>,
+    query: &PriceQuery,
+    from: Day,
+    to: Day,
+) -> Result<Items<OfferCalendar>, AllocError>
+    requires { is_bad_range from to ≡ false }
+    ensures { IfOk result (λ dated. dated ≡ calendars_of query.now from to offers) }
+{
+    let mut dated = Items::new(alloc);
+    for offer in offers.into_vec() {
+        dated.push(date_offer(alloc, offer, query, from, to)?)?;
+    }
+    Ok(dated)
+}

@@ -32,21 +32,21 @@ fn command<'a>(alloc: Global) -> Result<Command<'a>, AllocError> {
     let batch = Command::new(alloc, "batch")
         .about("Read requests from standard input, write their answers to standard output")
         .long_about(
-            "Reads agreements, messages, waivers and questions as CSV records from standard input, up to 4,194,304 bytes of UTF-8, and writes the answer to each, in order, to standard output. The desk is kept in memory and ends with the batch.",
+            "Reads agreements, messages, waivers and questions as CSV records from standard input, up to 4,194,304 bytes of UTF-8, and writes the answer to each, in order, to standard output. The desk is kept in memory and ends with the batch. A precedence table is named before the command: onixdesk --rules FILE batch.",
         );
     let rules = Arg::new(alloc, "rules")
         .long("rules")
         .value_name("FILE")
         .action(ArgAction::Set)
         .help(
-            "Choose among offers by the precedence table of this TOML file; without it there are no rules",
+            "Choose among offers by the precedence table of this TOML file; it stands before the command, and without it there are no rules",
         );
     Command::new(alloc, "onixdesk")
         .about(
             "The intake of a bookshop's buying desk: numbered ONIX messages in, proved answers out",
         )
         .after_help(
-            "Exit status: 0; 1 where an answer was a refusal; 2 for a bad command line or rules file; 3 for a fault of storage, input or output.",
+            "Exit status: 0; 1 where an answer was a refusal; 2 for a bad command line or rules file; 3 for a fault of storage, input or output, or for want of memory.",
         )
         .subcommand_required(true)
         .disable_help_subcommand(true)

@@ -4,7 +4,7 @@
 //! `series_rules`.
 #![tactic(auto)]
 
-ghost use Rattle.std.specs.Prelude.{◌≤◌};
+ghost use Rattle.std.specs.Prelude.{◌≤◌, IfOk};
 
 mod batch;
 mod command_line;
@@ -17,7 +17,8 @@ use crate::command_line::{Invocation, Reading};
 use crate::fault::report;
 use crate::rules::{open_table, report_rules};
 use price_rules::precedence::Precedence;
-use std::io::{Read, Write};
+use std::alloc::AllocError;
+use std::io::{ErrorKind, Read, Write};
 use std::process::ExitCode;
 
 // Runs a batch under the rules of a file, or under none.
@@ -62,16 +63,33 @@ pub fn run<R: Read, W: Write, E: Write>(
     }
 }
 
-fn main(rt: HostRuntime) -> std::io::Result<ExitCode> {
+// Runs the program on the words that it was started with.
+fn run_words(rt: &HostRuntime, words: std::env::Args) -> Result<u8, AllocError>
+    ensures { IfOk result (λ status. status ≤ 3) }
+{
     let alloc = rt.alloc();
-    let owned: Vec<String> = std::env::args(&rt)?.collect(alloc)?;
+    let owned: Vec<String> = words.collect(alloc)?;
     let words: Vec<&str> = owned.iter().map(|word| word.as_str()).collect(alloc)?;
-    let status = run(
-        &rt,
+    Ok(run(
+        rt,
         words.as_slice(),
         &mut rt.stdin(),
         &mut rt.stdout(),
         &mut rt.stderr(),
-    );
+    ))
+}
+
+fn main(rt: HostRuntime) -> std::io::Result<ExitCode> {
+    let mut errors = rt.stderr();
+    let status = match std::env::args(&rt) {
+        Ok(words) => match run_words(&rt, words) {
+            Ok(status) => status,
+            Err(_) => report(&fault::Fault::Memory, &mut errors),
+        },
+        Err(error) => match error.kind() {
+            ErrorKind::OutOfMemory => report(&fault::Fault::Memory, &mut errors),
+            _ => command_line::print_wrong("error: a word is not UTF-8\n", &mut errors),
+        },
+    };
     Ok(ExitCode::from(status))
 }

@@ -2,7 +2,6 @@ pub mod FieldFacts
 pub mod RecordsAre
 pub mod RecordsText
 pub mod ReadBack
-pub mod Slots
 pub mod RowLists
 pub mod Orders
 pub mod Fronts

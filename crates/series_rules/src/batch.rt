@@ -4,6 +4,7 @@ ghost use Rattle.std.specs.Prelude.{◌≡◌, ◌≤◌, ◌++◌, ℕ, List, I
 ghost use Rattle.std.specs.Io.KnownBytes.{Appends};
 ghost use Rattle.series_rules.specs.Batch.{BatchFits, IsTold, RunFits, limit};
 ghost use Rattle.series_rules.specs.BatchSteps.{InputFits, RequestFits, RequestsFit};
+ghost use Rattle.series_rules.specs.Faults.{IsBatchFaultOf, IsRequestFaultOf};
 ghost use Rattle.series_rules.specs.declared.requests.Request.{Request};
 
 use crate::answer_text::{is_refusal, write_answer};
@@ -124,6 +125,7 @@ fn run_request<D: Desk, W: Write>(
     ensures premise { D.is_sound desk.new → D.is_sound desk.old }
     ensures run { (L : List Request) → D.stands_for desk.old L → D.is_sound desk.new →
         RequestFits precedence.now L request.now (Appends (W.contents writer.old) (W.contents writer.new)) (D.stands_for desk.new) result }
+    ensures fault { IfErr result (IsRequestFaultOf D.may_give) }
 {
     let answer = match answer(alloc, desk, precedence, request) {
         Ok(answer) => answer,
@@ -157,6 +159,7 @@ fn run_requests<D: Desk, W: Write>(
     ensures premise { D.is_sound desk.new → D.is_sound desk.old }
     ensures run { (L : List Request) → D.stands_for desk.old L → D.is_sound desk.new →
         RunFits precedence.now L requests.now (Appends (W.contents writer.old) (W.contents writer.new)) (D.stands_for desk.new) result }
+    ensures fault { IfErr result (IsBatchFaultOf D.may_give) }
 {
     let mut done = 0u64;
     let mut refused = 0u64;
@@ -176,7 +179,8 @@ fn run_requests<D: Desk, W: Write>(
 
 /// Answers a batch under a precedence table: reads its text to the end, or to one byte past
 /// 4,194,304, makes all requests, then asks them one after the other and writes each answer before
-/// the next request. Gives the number of refusals.
+/// the next request. Gives the number of refusals. A fault of the store is want of memory or one
+/// that the desk may give.
 pub fn run_batch<D: Desk, R: Read, W: Write>(
     alloc: Global,
     desk: &mut D,
@@ -188,6 +192,7 @@ pub fn run_batch<D: Desk, R: Read, W: Write>(
     // There is a text, that of the reader where it tells its bytes, for which the batch ends as the definitions have it.
     ensures run { (text : List ℕ) × IsTold (R.remaining reader.old) text × ((L : List Request) → D.stands_for desk.old L → D.is_sound desk.new →
         BatchFits precedence.now L text (Appends (W.contents writer.old) (W.contents writer.new)) (D.stands_for desk.new) result) }
+    ensures fault { IfErr result (IsBatchFaultOf D.may_give) }
 {
     let requests = match read_batch(alloc, reader) {
         Ok(requests) => requests,

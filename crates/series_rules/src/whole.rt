@@ -1,6 +1,7 @@
 // A run of requests.
 
 ghost use Rattle.std.specs.Prelude.{◌≡◌, ◌∷◌, List, IfOk};
+ghost use Rattle.series_rules.specs.Faults.{HasFaultsOf};
 ghost use Rattle.series_rules.specs.Runs.{AreAnswered, effective};
 ghost use Rattle.series_rules.specs.declared.requests.Request.{Request};
 
@@ -15,8 +16,8 @@ use std::alloc::{AllocError, Global};
 
 /// Asks a desk requests one after the other, and goes on after a storage fault. Leaving out the
 /// requests that were answered with a storage fault, each answer is the definition's, and the
-/// desk then stands for the list with the other requests. Only want of memory for the outcomes
-/// refuses it.
+/// desk then stands for the list with the other requests. Each fault is want of memory or one that
+/// the desk may give. Only want of memory for the outcomes refuses it.
 pub fn ask_all<D: Desk>(
     alloc: Global,
     desk: &mut D,
@@ -26,6 +27,7 @@ pub fn ask_all<D: Desk>(
     ensures premise { D.is_sound desk.new → D.is_sound desk.old }
     ensures answers { (L : List Request) → D.stands_for desk.old L → D.is_sound desk.new → IfOk result (λ outcomes.
         AreAnswered precedence.now L requests.now outcomes × D.stands_for desk.new (effective L requests.now outcomes)) }
+    ensures fault { IfOk result (HasFaultsOf D.may_give) }
 {
     let mut outcomes = Items::new(alloc);
     for request in requests {

@@ -1,5 +1,8 @@
 use Rattle.std.proofs.Common.{◌≡◌, ◌+◌, ◌++◌, ◌∷◌, [], take, sym, ap, ◌∙◌}
 use Rattle.std.proofs.lemmas.List.{take_more}
+use Rattle.std.proofs.lemmas.List.Elements.{All-push}
+use Rattle.std.specs.Prelude.{IfErr}
+use Rattle.series_rules.specs.Faults.{IsFaultOf}
 use Rattle.series_rules.specs.Runs.{effective}
 use Rattle.series_rules.proofs.RunLemmas.{answered_more}
 use Rattle.series_rules.proofs.whole.ask_all.Goals as goal
@@ -16,4 +19,5 @@ loop-request-preserved g c = record {
       (answered_more c.args.precedence.now L (take i rs) c.loop-request.outcomes c.request-item.result c.answer-outcome.result (g.D.Desk.stands_for c.answer-outcome.new.desk) before.0
       (λ a e. rw e at (c.answer-outcome.ensures.ok (effective L (take i rs) c.loop-request.outcomes) before.1 sound))
       (λ f e. rw e at (c.answer-outcome.ensures.err (effective L (take i rs) c.loop-request.outcomes) before.1 sound)));
+  faults = rw c.in_ok-push.ensures.ok (All-push (λ o. IfErr o (IsFaultOf g.D.Desk.may_give)) c.loop-request.outcomes c.answer-outcome.result c.loop-request.invariant.faults c.answer-outcome.ensures.fault);
 }

@@ -1,4 +1,5 @@
 use Rattle.std.proofs.Common.{List, take}
+use Rattle.series_rules.specs.Faults.{HasFaultsOf}
 use Rattle.series_rules.specs.Runs.{AreAnswered, effective}
 use Rattle.series_rules.specs.declared.requests.Request.{Request}
 use Rattle.series_rules.proofs.whole.ask_all.Given as goal
@@ -8,4 +9,5 @@ invariant-loop-request g l = record {
   premise : g.D.Desk.is_sound l.desk → g.D.Desk.is_sound l.fn.desk;
   so_far : (L : List Request) → g.D.Desk.stands_for l.fn.desk L → g.D.Desk.is_sound l.desk →
       AreAnswered l.precedence L (take l.request-index l.requests) l.outcomes × g.D.Desk.stands_for l.desk (effective L (take l.request-index l.requests) l.outcomes);
+  faults : HasFaultsOf g.D.Desk.may_give l.outcomes;
 }

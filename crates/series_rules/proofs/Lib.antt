@@ -1,5 +1,4 @@
 pub mod PieceLists
-pub mod Slots
 pub mod Questions
 pub mod Apart
 pub mod Fronts

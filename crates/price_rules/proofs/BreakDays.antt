@@ -12,7 +12,7 @@ use Rattle.price_rules.specs.Calendar.{on_day}
 use Rattle.price_rules.specs.Breaks.{Breaks, IsBreakDays, IsSteady, within, begins_within, ends_within, breaks_of}
 use Rattle.onix_message.specs.declared.parts.Price.{Price}
 use Rattle.price_rules.specs.declared.offer.Offer.{Offer}
-use Rattle.price_rules.specs.declared.offer.PriceQuery.{PriceQuery}
+use Rattle.price_rules.specs.declared.offer.CalendarQuery.{CalendarQuery}
 
 pub few_within : (from to day : ℤ) → length (within from to day) ≤ 1
 few_within from to day = grind arith
@@ -137,7 +137,7 @@ ended_back : (first day : ℤ) (o : Option ℤ) → first ≤ℤ day → HasNotE
 ended_back first day None l h = tt
 ended_back first day (Some z) l h = omega (arith, ints)
 
-holds_on : (o : Offer) (q : PriceQuery) (first day : ℤ) → first ≤ℤ day → NoneBreaks o.prices first day → (p : Price) → Contains o.prices p → Holds o.market (on_day q first) p → Holds o.market (on_day q day) p
+holds_on : (o : Offer) (q : CalendarQuery) (first day : ℤ) → first ≤ℤ day → NoneBreaks o.prices first day → (p : Price) → Contains o.prices p → Holds o.market (on_day q first) p → Holds o.market (on_day q day) p
 holds_on o q first day l n p m h = record {
   same_type = h.same_type;
   same_currency = h.same_currency;
@@ -148,7 +148,7 @@ holds_on o q first day l n p m h = record {
   enough = h.enough;
 }
 
-holds_back : (o : Offer) (q : PriceQuery) (first day : ℤ) → first ≤ℤ day → NoneBreaks o.prices first day → (p : Price) → Contains o.prices p → Holds o.market (on_day q day) p → Holds o.market (on_day q first) p
+holds_back : (o : Offer) (q : CalendarQuery) (first day : ℤ) → first ≤ℤ day → NoneBreaks o.prices first day → (p : Price) → Contains o.prices p → Holds o.market (on_day q day) p → Holds o.market (on_day q first) p
 holds_back o q first day l n p m h = record {
   same_type = h.same_type;
   same_currency = h.same_currency;
@@ -163,7 +163,7 @@ best_same : {X : Type 0} (P Q : X → Type 0) (B : X → X → Type 0) (xs : Lis
 best_same P Q B xs None f g h = λ k d l q. h k d l (g (get_or xs k d) (Contains-get_or xs k d l) q)
 best_same P Q B xs (Some x) f g h = (h.0, f x h.0 h.1, λ k d l q. h.2 k d l (g (get_or xs k d) (Contains-get_or xs k d l) q))
 
-current_on : (o : Offer) (q : PriceQuery) (first day : ℤ) → first ≤ℤ day → NoneBreaks o.prices first day → (a : Option ℕ) → IsCurrent o (on_day q first) a → IsCurrent o (on_day q day) a
+current_on : (o : Offer) (q : CalendarQuery) (first day : ℤ) → first ≤ℤ day → NoneBreaks o.prices first day → (a : Option ℕ) → IsCurrent o (on_day q first) a → IsCurrent o (on_day q day) a
 current_on o q first day l n None h = best_same (Holds o.market (on_day q first)) (Holds o.market (on_day q day)) Outranks o.prices None (holds_on o q first day l n) (holds_back o q first day l n) h
 current_on o q first day l n (Some a) h = (h.0, h.1, best_same (Holds o.market (on_day q first)) (Holds o.market (on_day q day)) Outranks o.prices (Some h.0) (holds_on o q first day l n) (holds_back o q first day l n) h.2)
 

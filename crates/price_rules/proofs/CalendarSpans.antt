@@ -10,7 +10,7 @@ use Rattle.price_rules.specs.Current.{current}
 use Rattle.price_rules.specs.Price.{IsCurrent}
 use Rattle.price_rules.specs.Spans.{calendar_spans, day_count, day_span, joined, spans_from}
 use Rattle.price_rules.specs.declared.offer.Offer.{Offer}
-use Rattle.price_rules.specs.declared.offer.PriceQuery.{PriceQuery}
+use Rattle.price_rules.specs.declared.offer.CalendarQuery.{CalendarQuery}
 use Rattle.price_rules.specs.declared.calendar.Span.{Span}
 use Rattle.price_rules.proofs.Covers.{covers_unique}
 use Rattle.price_rules.proofs.CurrentPrice.{current_is, current_unique}
@@ -61,19 +61,19 @@ count_reaches from to (pos n) e le = omega (arith, ints)
 count_reaches from to (negsuc n) e le = absurd (omega (arith, ints))
 
 -- what is computed is the calendar
-calendar_is : (o : Offer) (q : PriceQuery) (from to : ℤ) → from ≤ℤ to → IsCalendar o q from to (calendar_spans o q from to)
+calendar_is : (o : Offer) (q : CalendarQuery) → q.from ≤ℤ q.to → IsCalendar o q (calendar_spans o q)
 unfolding calendar_spans
-calendar_is o q from to le =
+calendar_is o q le =
     spans_cover (λ day. IsCurrent o (on_day q day)) (λ day. current o (on_day q day)) (λ day. current_is o (on_day q day))
-    (day_count ((to +ℤ pos 1) -ℤ from)) from (to +ℤ pos 1) (count_reaches from to ((to +ℤ pos 1) -ℤ from) refl le)
+    (day_count ((q.to +ℤ pos 1) -ℤ q.from)) q.from (q.to +ℤ pos 1) (count_reaches q.from q.to ((q.to +ℤ pos 1) -ℤ q.from) refl le)
 
-pub calendar_unique : (o : Offer) (q : PriceQuery) (from to : ℤ) (spans others : List Span) → IsCalendar o q from to spans → IsCalendar o q from to others → spans ≡ others
-calendar_unique o q from to spans others h k =
-    covers_unique (λ day. IsCurrent o (on_day q day)) (λ day. current_unique o (on_day q day)) from (to +ℤ pos 1) spans others h k
+pub calendar_unique : (o : Offer) (q : CalendarQuery) (spans others : List Span) → IsCalendar o q spans → IsCalendar o q others → spans ≡ others
+calendar_unique o q spans others h k =
+    covers_unique (λ day. IsCurrent o (on_day q day)) (λ day. current_unique o (on_day q day)) q.from (q.to +ℤ pos 1) spans others h k
 
 -- and nothing else is
-pub calendar_exact : (o : Offer) (q : PriceQuery) (from to : ℤ) (spans : List Span) → from ≤ℤ to → IsCalendar o q from to spans ↔ (spans ≡ calendar_spans o q from to)
-calendar_exact o q from to spans le = (
-  λ h. calendar_unique o q from to spans (calendar_spans o q from to) h (calendar_is o q from to le),
-  λ e. subst (IsCalendar o q from to) (sym e) (calendar_is o q from to le),
+pub calendar_exact : (o : Offer) (q : CalendarQuery) (spans : List Span) → q.from ≤ℤ q.to → IsCalendar o q spans ↔ (spans ≡ calendar_spans o q)
+calendar_exact o q spans le = (
+  λ h. calendar_unique o q spans (calendar_spans o q) h (calendar_is o q le),
+  λ e. subst (IsCalendar o q) (sym e) (calendar_is o q le),
 )

@@ -10,7 +10,7 @@ use Rattle.price_rules.specs.Calendar.{on_day}
 use Rattle.price_rules.specs.Breaks.{IsBreakDays, IsSteady}
 use Rattle.price_rules.proofs.CurrentPrice.{current_exact}
 use Rattle.price_rules.specs.declared.offer.Offer.{Offer}
-use Rattle.price_rules.specs.declared.offer.PriceQuery.{PriceQuery}
+use Rattle.price_rules.specs.declared.offer.CalendarQuery.{CalendarQuery}
 
 not_before : (o : Offer) (from to : ℤ) (days : List ℤ) → IsBreakDays o from to days → (day : ℤ) → Contains days day → from ≤ℤ day
 not_before o from to days b day h = ⊎_elim (λ e. omega (arith, ints)) (λ k. omega (arith, ints)) ((b.each day).0 h)
@@ -65,7 +65,7 @@ next_is o from to days b k d other l h lt =
     (λ back. let a = ascends o from to days b h.0 k d back l in absurd (omega (arith, ints)))
     (cases_lt k h.0)
 
-pub segment_days : (o : Offer) (q : PriceQuery) (from to : ℤ) (days : List ℤ) → from ≤ℤ to → IsBreakDays o from to days → IsSteady o to days
+pub segment_days : (o : Offer) (q : CalendarQuery) (from to : ℤ) (days : List ℤ) → from ≤ℤ to → IsBreakDays o from to days → IsSteady o to days
     → (k : ℕ) (first last : ℤ) (amount : Option ℕ) → k < length days → get_or days k first ≡ first → last +ℤ pos 1 ≡ get_or days (k + 1) (to +ℤ pos 1)
     → IsCurrent o (on_day q first) amount → (day : ℤ) → first ≤ℤ day → day ≤ℤ last → IsCurrent o (on_day q day) amount
 segment_days o q from to days le b steady k first last amount l at edge now day up down =

@@ -5,7 +5,7 @@ use Rattle.onix_message.specs.declared.parts.Price.{Price}
 use Rattle.price_rules.specs.Calendar.{on_day}
 use Rattle.price_rules.specs.Current.{current}
 use Rattle.price_rules.specs.declared.offer.Offer.{Offer}
-use Rattle.price_rules.specs.declared.offer.PriceQuery.{PriceQuery}
+use Rattle.price_rules.specs.declared.offer.CalendarQuery.{CalendarQuery}
 
 -- a price begins on the day, or ended on the day before
 abbrev pub Breaks : List Price → ℤ → Type 0
@@ -23,7 +23,7 @@ abbrev pub IsSteady : Offer → ℤ → List ℤ → Type 0
 IsSteady offer to days =
     (first day : ℤ) → Contains days first → first ≤ℤ day → day ≤ℤ to
     → ((other : ℤ) → Contains days other → first <ℤ other → day <ℤ other)
-    → (q : PriceQuery) → current offer (on_day q day) ≡ current offer (on_day q first)
+    → (q : CalendarQuery) → current offer (on_day q day) ≡ current offer (on_day q first)
 
 -- the day, if it lies in the range after its first day
 abbrev pub within : ℤ → ℤ → ℤ → List ℤ

@@ -3,6 +3,7 @@ use Rattle.std.specs.Prelude.{◌≡◌, ℕ, ℤ, pos, ◌+ℤ◌, ◌≤ℤ◌
 use Rattle.price_rules.specs.Price.{IsCurrent}
 use Rattle.price_rules.specs.declared.offer.Offer.{Offer}
 use Rattle.price_rules.specs.declared.offer.PriceQuery.{PriceQuery}
+use Rattle.price_rules.specs.declared.offer.CalendarQuery.{CalendarQuery}
 use Rattle.price_rules.specs.declared.calendar.Span.{Span}
 
 -- the last day is before the first, or there are more than 3,660 days
@@ -13,14 +14,9 @@ IsBadRange from to = (to <ℤ from) ⊎ ((from +ℤ pos 3_660) ≤ℤ to)
 abbrev pub is_bad_range : ℤ → ℤ → Bool
 is_bad_range from to = int_lt to from || int_lt (from +ℤ pos 3_659) to
 
--- the question of a calendar, at its first day
-abbrev pub question : ℤ → List ℕ → List ℕ → List ℕ → ℕ → PriceQuery
-question day country currency price_type quantity =
-    record { day = day; country = country; currency = currency; price_type = price_type; quantity = quantity }
-
--- the question on another day
-abbrev pub on_day : PriceQuery → ℤ → PriceQuery
-on_day q day = record q { day = day }
+-- the prices of a calendar's question that are asked for on one day
+abbrev pub on_day : CalendarQuery → ℤ → PriceQuery
+on_day q day = record { day = day; country = q.country; currency = q.currency; price_type = q.price_type; quantity = q.quantity }
 
 -- the spans do not begin with one of the same amount
 abbrev pub Differs : Span → List Span → Type 0
@@ -36,6 +32,6 @@ Covers HasAmount first end (s ∷ rest) =
     × Differs s rest
     × Covers HasAmount (s.last +ℤ pos 1) end rest
 
--- the calendar of the offer for the question, whose own day decides nothing, from one day to another
-abbrev pub IsCalendar : Offer → PriceQuery → ℤ → ℤ → List Span → Type 0
-IsCalendar offer q from to spans = Covers (λ day. IsCurrent offer (on_day q day)) from (to +ℤ pos 1) spans
+-- the calendar of the offer for the question
+abbrev pub IsCalendar : Offer → CalendarQuery → List Span → Type 0
+IsCalendar offer q spans = Covers (λ day. IsCurrent offer (on_day q day)) q.from (q.to +ℤ pos 1) spans

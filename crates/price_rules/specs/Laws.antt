@@ -1,5 +1,5 @@
 -- The laws of the definitions: what is computed is what the definitions in words allow, and nothing else.
-use Rattle.std.specs.Prelude.{◌≡◌, ◌↔◌, ℕ, ℤ, ◌≤ℤ◌, ◌≤◌, List, Option, Err}
+use Rattle.std.specs.Prelude.{◌≡◌, ◌↔◌, ℕ, ◌≤ℤ◌, ◌≤◌, List, Option, Err}
 use Rattle.price_rules.specs.Price.{IsCurrent}
 use Rattle.price_rules.specs.Calendar.{IsCalendar}
 use Rattle.price_rules.specs.Choice.{IsChoice}
@@ -10,6 +10,7 @@ use Rattle.price_rules.specs.Spans.{calendar_spans}
 use Rattle.toml.specs.Data.{Items}
 use Rattle.price_rules.specs.declared.offer.Offer.{Offer}
 use Rattle.price_rules.specs.declared.offer.PriceQuery.{PriceQuery}
+use Rattle.price_rules.specs.declared.offer.CalendarQuery.{CalendarQuery}
 use Rattle.price_rules.specs.declared.calendar.Span.{Span}
 use Rattle.price_rules.specs.declared.choice.Choice.{Choice}
 use Rattle.price_rules.specs.declared.precedence.PrecedenceFault.TheVariants as fault
@@ -21,17 +22,17 @@ CurrentIsExact =
     (offer : Offer) (q : PriceQuery) (amount : Option ℕ)
     → IsCurrent offer q amount ↔ (amount ≡ current offer q)
 
--- two calendars of the same offer, range, country, currency, price type and quantity are equal
+-- two calendars of the same offer for the same question are equal
 abbrev pub CalendarIsUnique : Type 0
 CalendarIsUnique =
-    (offer : Offer) (q : PriceQuery) (from to : ℤ) (spans others : List Span)
-    → IsCalendar offer q from to spans → IsCalendar offer q from to others → spans ≡ others
+    (offer : Offer) (q : CalendarQuery) (spans others : List Span)
+    → IsCalendar offer q spans → IsCalendar offer q others → spans ≡ others
 
 -- in a range that has a day, spans are the calendar exactly where they are what `calendar_spans` gives
 abbrev pub CalendarIsExact : Type 0
 CalendarIsExact =
-    (offer : Offer) (q : PriceQuery) (from to : ℤ) (spans : List Span) → from ≤ℤ to
-    → IsCalendar offer q from to spans ↔ (spans ≡ calendar_spans offer q from to)
+    (offer : Offer) (q : CalendarQuery) (spans : List Span) → q.from ≤ℤ q.to
+    → IsCalendar offer q spans ↔ (spans ≡ calendar_spans offer q)
 
 -- an answer is the choice exactly where it is what `choice` gives
 abbrev pub ChoiceIsExact : Type 0

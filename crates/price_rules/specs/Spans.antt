@@ -4,7 +4,7 @@ use Rattle.std.specs.Option.{option_eq}
 use Rattle.price_rules.specs.Calendar.{on_day}
 use Rattle.price_rules.specs.Current.{current}
 use Rattle.price_rules.specs.declared.offer.Offer.{Offer}
-use Rattle.price_rules.specs.declared.offer.PriceQuery.{PriceQuery}
+use Rattle.price_rules.specs.declared.offer.CalendarQuery.{CalendarQuery}
 use Rattle.price_rules.specs.declared.calendar.Span.{Span}
 
 -- a span before others, one with the first of them where they have the same amount
@@ -28,7 +28,7 @@ abbrev pub day_count : ℤ → ℕ
 day_count (pos n) = n
 day_count (negsuc n) = 0
 
--- the calendar of the offer for the question from one day to another
-unfoldable pub calendar_spans : Offer → PriceQuery → ℤ → ℤ → List Span
-calendar_spans offer q from to =
-    spans_from (λ day. current offer (on_day q day)) from (day_count ((to +ℤ pos 1) -ℤ from))
+-- the calendar of the offer for the question
+unfoldable pub calendar_spans : Offer → CalendarQuery → List Span
+calendar_spans offer q =
+    spans_from (λ day. current offer (on_day q day)) q.from (day_count ((q.to +ℤ pos 1) -ℤ q.from))

@@ -4,7 +4,7 @@ ghost use Rattle.std.specs.Prelude.{◌≡◌, ◌↔◌, ◌+◌, ◌+ℤ◌, �
 ghost use Rattle.std.specs.List.{AllPairs};
 ghost use Rattle.onix_terms.specs.Day.{IsDayNumber};
 ghost use Rattle.price_rules.specs.Breaks.{IsBreakDays, IsSteady};
-ghost use Rattle.price_rules.specs.Calendar.{IsBadRange, IsCalendar, is_bad_range, on_day, question};
+ghost use Rattle.price_rules.specs.Calendar.{IsBadRange, IsCalendar, is_bad_range, on_day};
 ghost use Rattle.price_rules.specs.Price.{IsCurrent};
 ghost use Rattle.price_rules.specs.Spans.{calendar_spans};
 ghost use Rattle.price_rules.specs.Steps.{IsJoined};
@@ -12,12 +12,10 @@ ghost use Rattle.price_rules.specs.declared.calendar.CalendarFault.TheVariants.{
 
 use crate::breaks::break_days;
 use crate::current::current_price;
-use crate::offer::{Offer, PriceQuery};
+use crate::offer::{CalendarQuery, Offer, PriceQuery};
 use onix_terms::amount::Amount;
-use onix_terms::code::{Code2, Country, Currency};
 use onix_terms::day::Day;
 use onix_terms::items::Items;
-use onix_terms::quantity::Quantity;
 use std::alloc::{AllocError, AllocFailed, Global};
 use thiserror::Error;
 
@@ -70,12 +68,17 @@ pub fn is_bad_range(from: Day, to: Day) -> bool
 }
 
 /// The current price on one day.
-pub(crate) fn amount_on(offer: &Offer, query: &PriceQuery, day: Day) -> Option<Amount>
+pub(crate) fn amount_on(offer: &Offer, query: &CalendarQuery, day: Day) -> Option<Amount>
     ensures { IsCurrent offer.now (on_day query.now day) result }
 {
-    let mut asked = *query;
-    asked.day = day;
-    current_price(offer, &asked)
+    let query = PriceQuery {
+        day,
+        country: query.country,
+        currency: query.currency,
+        price_type: query.price_type,
+        quantity: query.quantity,
+    };
+    current_price(offer, &query)
 }
 
 /// Joins the span to the open one where their amounts are equal, else puts the open one down.
@@ -109,25 +112,23 @@ fn last_of(days: &[Day], k: usize, to: Day) -> Day
 fn spans_of(
     alloc: Global,
     offer: &Offer,
-    query: &PriceQuery,
+    query: &CalendarQuery,
     days: &[Day],
-    from: Day,
-    to: Day,
 ) -> Result<Items<Span>, AllocError>
-    requires range { from ≤ℤ to }
-    requires days { IsBreakDays offer.now from to days.now }
-    requires steady { IsSteady offer.now to days.now }
-    ensures { IfOk result (λ spans. IsCalendar offer.now query.now from to spans) }
+    requires range { query.now.from ≤ℤ query.now.to }
+    requires days { IsBreakDays offer.now query.now.from query.now.to days.now }
+    requires steady { IsSteady offer.now query.now.to days.now }
+    ensures { IfOk result (λ spans. IsCalendar offer.now query.now spans) }
 {
     let mut spans = Items::new(alloc);
     let mut open = Span {
-        first: from,
-        last: last_of(days, 0, to),
-        amount: amount_on(offer, query, from),
+        first: query.from,
+        last: last_of(days, 0, query.to),
+        amount: amount_on(offer, query, query.from),
     };
     for k in 1..days.len() {
         let first = days[k];
-        let last = last_of(days, k, to);
+        let last = last_of(days, k, query.to);
         let amount = amount_on(offer, query, first);
         open = join(
             &mut spans,
@@ -143,32 +144,17 @@ fn spans_of(
     Ok(spans)
 }
 
-/// The calendar of the offer from one day to another, both included: in order, the spans of days
-/// with one current price, as long as they can be. `BadRange` comes exactly where the range is
-/// bad, `Memory` only where memory ran out.
+/// The calendar of the offer: in order, the spans of days with one current price, as long as they
+/// can be. `BadRange` comes exactly where the range is bad, `Memory` only where memory ran out.
 pub fn calendar(
     alloc: Global,
     offer: &Offer,
-    from: Day,
-    to: Day,
-    country: Country,
-    currency: Currency,
-    price_type: Code2,
-    quantity: Quantity,
+    query: &CalendarQuery,
 ) -> Result<Items<Span>, CalendarFault>
-    ensures meaning { IfOk result
-        (λ spans. IsCalendar offer.now (question from country currency price_type quantity) from to spans) }
-    ensures value { IfOk result
-        (λ spans. spans ≡ calendar_spans offer.now (question from country currency price_type quantity) from to) }
-    ensures bad_range { (result ≡ Err CalendarFault.BadRange) ↔ IsBadRange from to }
+    ensures meaning { IfOk result (λ spans. IsCalendar offer.now query.now spans) }
+    ensures value { IfOk result (λ spans. spans ≡ calendar_spans offer.now query.now) }
+    ensures bad_range { (result ≡ Err CalendarFault.BadRange) ↔ IsBadRange query.now.from query.now.to }
 {
-    let days = break_days(alloc, offer, from, to)?;
-    let query = PriceQuery {
-        day: from,
-        country,
-        currency,
-        price_type,
-        quantity,
-    };
-    Ok(spans_of(alloc, offer, &query, days.as_slice(), from, to)?)
+    let days = break_days(alloc, offer, query.from, query.to)?;
+    Ok(spans_of(alloc, offer, query, days.as_slice())?)
 }

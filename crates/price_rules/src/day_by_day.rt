@@ -2,37 +2,32 @@
 // tests run beside it.
 
 ghost use Rattle.std.specs.Prelude.{◌≡◌, ◌↔◌, ◌≤ℤ◌, IfOk, Err};
-ghost use Rattle.price_rules.specs.Calendar.{IsBadRange, IsCalendar, question};
+ghost use Rattle.price_rules.specs.Calendar.{IsBadRange, IsCalendar};
 ghost use Rattle.price_rules.specs.Spans.{calendar_spans};
 
 use crate::calendar::{CalendarFault, Span, amount_on, is_bad_range, join};
-use crate::offer::{Offer, PriceQuery};
-use onix_terms::code::{Code2, Country, Currency};
-use onix_terms::day::Day;
+use crate::offer::{CalendarQuery, Offer};
 use onix_terms::items::Items;
-use onix_terms::quantity::Quantity;
 use std::alloc::{AllocError, Global};
 
 // One span from each day on, equal neighbours joined.
 fn daily_spans(
     alloc: Global,
     offer: &Offer,
-    query: &PriceQuery,
-    from: Day,
-    to: Day,
+    query: &CalendarQuery,
 ) -> Result<Items<Span>, AllocError>
-    requires { from ≤ℤ to }
-    ensures { IfOk result (λ spans. IsCalendar offer.now query.now from to spans) }
+    requires { query.now.from ≤ℤ query.now.to }
+    ensures { IfOk result (λ spans. IsCalendar offer.now query.now spans) }
 {
     let mut spans = Items::new(alloc);
     let mut open = Span {
-        first: from,
-        last: from,
-        amount: amount_on(offer, query, from),
+        first: query.from,
+        last: query.from,
+        amount: amount_on(offer, query, query.from),
     };
-    let more = from.days_to(to);
+    let more = query.from.days_to(query.to);
     for step in 0..more {
-        let day = from.after(step + 1);
+        let day = query.from.after(step + 1);
         let amount = amount_on(offer, query, day);
         open = join(
             &mut spans,
@@ -52,28 +47,14 @@ fn daily_spans(
 pub fn calendar_day_by_day(
     alloc: Global,
     offer: &Offer,
-    from: Day,
-    to: Day,
-    country: Country,
-    currency: Currency,
-    price_type: Code2,
-    quantity: Quantity,
+    query: &CalendarQuery,
 ) -> Result<Items<Span>, CalendarFault>
-    ensures meaning { IfOk result
-        (λ spans. IsCalendar offer.now (question from country currency price_type quantity) from to spans) }
-    ensures value { IfOk result
-        (λ spans. spans ≡ calendar_spans offer.now (question from country currency price_type quantity) from to) }
-    ensures bad_range { (result ≡ Err CalendarFault.BadRange) ↔ IsBadRange from to }
+    ensures meaning { IfOk result (λ spans. IsCalendar offer.now query.now spans) }
+    ensures value { IfOk result (λ spans. spans ≡ calendar_spans offer.now query.now) }
+    ensures bad_range { (result ≡ Err CalendarFault.BadRange) ↔ IsBadRange query.now.from query.now.to }
 {
-    if is_bad_range(from, to) {
+    if is_bad_range(query.from, query.to) {
         return Err(CalendarFault::BadRange);
     }
-    let query = PriceQuery {
-        day: from,
-        country,
-        currency,
-        price_type,
-        quantity,
-    };
-    Ok(daily_spans(alloc, offer, &query, from, to)?)
+    Ok(daily_spans(alloc, offer, query)?)
 }

@@ -7,8 +7,7 @@ pub fn current_is_exact()
     ensures { CurrentIsExact }
 {}
 
-/// Two lists of spans that are the calendar of the same offer, range, country, currency, price
-/// type and quantity are equal.
+/// Two lists of spans that are the calendar of the same offer for the same question are equal.
 pub fn calendar_is_unique()
     ensures { CalendarIsUnique }
 {}

@@ -32,3 +32,15 @@ pub struct PriceQuery {
     pub price_type: Code2,
     pub quantity: Quantity,
 }
+
+/// Which calendar is asked for: of prices of this type, in this currency, for so many copies that
+/// are sold in this country, from one day to another, both included.
+#[derive(Clone, Copy, Debug)]
+pub struct CalendarQuery {
+    pub from: Day,
+    pub to: Day,
+    pub country: Country,
+    pub currency: Currency,
+    pub price_type: Code2,
+    pub quantity: Quantity,
+}

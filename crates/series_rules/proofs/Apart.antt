@@ -102,7 +102,7 @@ agreements_are_apart (AskGaps x ∷ L) = agreements_are_apart L
 agreements_are_apart (AskCatalogue x ∷ L) = agreements_are_apart L
 agreements_are_apart (AskPrice x y ∷ L) = agreements_are_apart L
 agreements_are_apart (AskChoice x y ∷ L) = agreements_are_apart L
-agreements_are_apart (AskCalendar x1 x2 x3 x4 x5 x6 x7 ∷ L) = agreements_are_apart L
+agreements_are_apart (AskCalendar x1 x2 ∷ L) = agreements_are_apart L
 agreements_are_apart (Malformed x ∷ L) = agreements_are_apart L
 
 -- what one finds by its parties, the other finds too, where both find the same by each name

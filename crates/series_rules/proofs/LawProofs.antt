@@ -14,7 +14,6 @@ use Rattle.series_rules.specs.Firsts.{first_at, put_at, admitted, admitted_at, a
 use Rattle.series_rules.specs.Series.{in_front_of, unbroken, front_of, kept_of, after_all, catalogue_of}
 use Rattle.series_rules.specs.Gaps.{gaps_of}
 use Rattle.series_rules.specs.Content.{SameContent}
-use Rattle.price_rules.specs.Calendar.{question}
 use Rattle.price_rules.specs.declared.precedence.Rule.{Rule}
 use Rattle.series_rules.specs.PriceAnswers.{calendar_answer, chosen_by, prices_of}
 use Rattle.series_rules.specs.Laws.{NextIsLeast, ByContentAlone, FrontOnlyGrows}
@@ -142,8 +141,7 @@ answer_same rules L M (Waive s n) same =
     ∙ ap (waive_answer_at (Waive s n ∷ M) n) (same.agreements s))
 answer_same rules L M (AskPrice isbn q) same = ap (λ offers. answer.Price isbn (prices_of q offers)) (same_offers L M same isbn)
 answer_same rules L M (AskChoice isbn q) same = ap (λ offers. answer.Choice isbn (chosen_by rules q offers)) (same_offers L M same isbn)
-answer_same rules L M (AskCalendar isbn from to country currency price_type quantity) same =
-    ap (calendar_answer isbn (question from country currency price_type quantity) from to) (same_offers L M same isbn)
+answer_same rules L M (AskCalendar isbn q) same = ap (calendar_answer isbn q) (same_offers L M same isbn)
 answer_same rules L M (AskGaps s) same = gaps_same L M same (named (agreements_of L) s) ∙ ap (λ o. gaps_or_unknown (option_map (gaps_of M) o)) (same.agreements s)
 answer_same rules L M (AskCatalogue s) same = catalogue_same L M same s (named (agreements_of L) s) ∙ ap (λ o. catalogue_or_unknown s (option_map (catalogue_of M) o)) (same.agreements s)
 answer_same rules L M (Malformed row) same = refl

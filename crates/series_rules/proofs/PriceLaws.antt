@@ -17,6 +17,7 @@ use Rattle.price_rules.specs.Spans.{calendar_spans}
 use Rattle.price_rules.specs.declared.choice.Choice.{Choice}
 use Rattle.price_rules.specs.declared.offer.Offer.{Offer}
 use Rattle.price_rules.specs.declared.offer.PriceQuery.{PriceQuery}
+use Rattle.price_rules.specs.declared.offer.CalendarQuery.{CalendarQuery}
 use Rattle.price_rules.specs.declared.precedence.Rule.{Rule}
 use Rattle.series_rules.specs.PriceAnswers.{calendars_of, chosen_offer, listed}
 use Rattle.series_rules.specs.PriceLaws.{PricesAreTrue, IsChosenOffer, ChoiceIsTrue, IsCalendarAnswer, CalendarsAreTrue}
@@ -46,15 +47,15 @@ in_order from to good = by (int_lt to from) refl
     by true e = absurd (good (inl (omega (arith, ints))))
     by false e = omega (arith, ints)
 
-dated_are_true : (q : PriceQuery) (from to : ℤ) → from ≤ℤ to → (offers : List Offer) → AllZip (λ o d. (d.offer ≡ listed o) × IsCalendar o q from to d.spans) offers (calendars_of q from to offers)
-dated_are_true q from to le [] = tt
-dated_are_true q from to le (o ∷ offers) = ((refl, (calendar_exact o q from to (calendar_spans o q from to) le).1 refl), dated_are_true q from to le offers)
+dated_are_true : (q : CalendarQuery) → q.from ≤ℤ q.to → (offers : List Offer) → AllZip (λ o d. (d.offer ≡ listed o) × IsCalendar o q d.spans) offers (calendars_of q offers)
+dated_are_true q le [] = tt
+dated_are_true q le (o ∷ offers) = ((refl, (calendar_exact o q (calendar_spans o q) le).1 refl), dated_are_true q le offers)
 
 pub calendars_are_true : CalendarsAreTrue
-calendars_are_true isbn q from to offers = by (is_bad_range from to) (bad_range_decides from to)
+calendars_are_true isbn q offers = by (is_bad_range q.from q.to) (bad_range_decides q.from q.to)
   where
-    by : (b : Bool) → Decides b (IsBadRange from to) → IsCalendarAnswer isbn q from to offers (cond b answer.BadRange (answer.Calendar isbn (calendars_of q from to offers)))
+    by : (b : Bool) → Decides b (IsBadRange q.from q.to) → IsCalendarAnswer isbn q offers (cond b answer.BadRange (answer.Calendar isbn (calendars_of q offers)))
     by true bad = bad.0 refl
     by false bad =
-        let good : IsBadRange from to → ⊥ = λ is. absurd (let e = bad.1 is in cc) in
-        (good, refl, dated_are_true q from to (in_order from to good) offers)
+        let good : IsBadRange q.from q.to → ⊥ = λ is. absurd (let e = bad.1 is in cc) in
+        (good, refl, dated_are_true q (in_order q.from q.to good) offers)

@@ -13,7 +13,6 @@ use Rattle.series_rules.specs.declared.requests.Request.{Request}
 use Rattle.series_rules.specs.Gaps.{gaps_of}
 use Rattle.series_rules.specs.Offers.{offers_after}
 use Rattle.series_rules.specs.PriceAnswers.{calendar_answer, chosen_by, prices_of}
-use Rattle.price_rules.specs.Calendar.{question}
 use Rattle.price_rules.specs.declared.precedence.Rule.{Rule}
 use Rattle.series_rules.specs.declared.requests.Request.TheVariants.{Agree, Deliver, Waive, AskPrice, AskChoice, AskCalendar, AskGaps, AskCatalogue, Malformed}
 use Rattle.series_rules.specs.declared.requests.Had.{Had}
@@ -114,8 +113,7 @@ answer_to rules L (Deliver records) = answer.Delivery (delivery_answer L records
 answer_to rules L (Waive series n) = answer.Waiver series n (waive_answer L series n)
 answer_to rules L (AskPrice isbn q) = answer.Price isbn (prices_of q (offers_after L isbn))
 answer_to rules L (AskChoice isbn q) = answer.Choice isbn (chosen_by rules q (offers_after L isbn))
-answer_to rules L (AskCalendar isbn from to country currency price_type quantity) =
-    calendar_answer isbn (question from country currency price_type quantity) from to (offers_after L isbn)
+answer_to rules L (AskCalendar isbn q) = calendar_answer isbn q (offers_after L isbn)
 answer_to rules L (AskGaps series) = gaps_or_unknown (gaps_answer L series)
 answer_to rules L (AskCatalogue series) = catalogue_or_unknown series (catalogue_answer L series)
 answer_to rules L (Malformed row) = answer.Malformed row

@@ -1,5 +1,5 @@
 -- Answers about the offers of an article.
-use Rattle.std.specs.Prelude.{ℕ, ℤ, List, Option, if◌then◌else◌, map, option_map, slice_get}
+use Rattle.std.specs.Prelude.{ℕ, List, Option, if◌then◌else◌, map, option_map, slice_get}
 use Rattle.onix_terms.specs.Options.{◌>>=◌}
 use Rattle.price_rules.specs.Calendar.{is_bad_range}
 use Rattle.price_rules.specs.Chosen.{choice}
@@ -8,6 +8,7 @@ use Rattle.price_rules.specs.Spans.{calendar_spans}
 use Rattle.price_rules.specs.declared.choice.Choice.{Choice}
 use Rattle.price_rules.specs.declared.offer.Offer.{Offer}
 use Rattle.price_rules.specs.declared.offer.PriceQuery.{PriceQuery}
+use Rattle.price_rules.specs.declared.offer.CalendarQuery.{CalendarQuery}
 use Rattle.price_rules.specs.declared.precedence.Rule.{Rule}
 use Rattle.series_rules.specs.declared.answers.Answer.{Answer}
 use Rattle.series_rules.specs.declared.answers.Answer.TheVariants as answer
@@ -36,14 +37,14 @@ chosen_offer offers c = option_map (λ o. record { rule = c.rule; offer = listed
 abbrev pub chosen_by : List Rule → PriceQuery → List Offer → Option ChosenOffer
 chosen_by rules q offers = choice rules offers q >>= chosen_offer offers
 
--- an offer with its calendar from one day to another
-abbrev pub dated : PriceQuery → ℤ → ℤ → Offer → OfferCalendar
-dated q from to o = record { offer = listed o; spans = calendar_spans o q from to }
+-- an offer with its calendar
+abbrev pub dated : CalendarQuery → Offer → OfferCalendar
+dated q o = record { offer = listed o; spans = calendar_spans o q }
 
 -- each offer with its calendar
-abbrev pub calendars_of : PriceQuery → ℤ → ℤ → List Offer → List OfferCalendar
-calendars_of q from to offers = map (dated q from to) offers
+abbrev pub calendars_of : CalendarQuery → List Offer → List OfferCalendar
+calendars_of q offers = map (dated q) offers
 
 -- the answer to a question about a calendar: a bad range is refused, whether or not there are offers
-abbrev pub calendar_answer : List ℕ → PriceQuery → ℤ → ℤ → List Offer → Answer
-calendar_answer isbn q from to offers = if is_bad_range from to then answer.BadRange else answer.Calendar isbn (calendars_of q from to offers)
+abbrev pub calendar_answer : List ℕ → CalendarQuery → List Offer → Answer
+calendar_answer isbn q offers = if is_bad_range q.from q.to then answer.BadRange else answer.Calendar isbn (calendars_of q offers)

@@ -1,5 +1,5 @@
 -- Answers about the offers of an article, in words.
-use Rattle.std.specs.Prelude.{◌≡◌, ℕ, ℤ, List, Option, Some, None, slice_get}
+use Rattle.std.specs.Prelude.{◌≡◌, ℕ, List, Option, Some, None, slice_get}
 use Rattle.std.specs.List.{AllZip}
 use Rattle.price_rules.specs.Calendar.{IsBadRange, IsCalendar}
 use Rattle.price_rules.specs.Choice.{IsChoice}
@@ -7,6 +7,7 @@ use Rattle.price_rules.specs.Price.{IsCurrent}
 use Rattle.price_rules.specs.declared.choice.Choice.{Choice}
 use Rattle.price_rules.specs.declared.offer.Offer.{Offer}
 use Rattle.price_rules.specs.declared.offer.PriceQuery.{PriceQuery}
+use Rattle.price_rules.specs.declared.offer.CalendarQuery.{CalendarQuery}
 use Rattle.price_rules.specs.declared.precedence.Rule.{Rule}
 use Rattle.series_rules.specs.PriceAnswers.{calendar_answer, chosen_by, listed, prices_of}
 use Rattle.series_rules.specs.declared.answers.Answer.{Answer}
@@ -29,12 +30,12 @@ abbrev pub ChoiceIsTrue : Type 0
 ChoiceIsTrue = (rules : List Rule) (q : PriceQuery) (offers : List Offer) → IsChosenOffer rules q offers (chosen_by rules q offers)
 
 -- a bad range is refused, and no other; else the answer has the offers in their order, each with its calendar
-abbrev pub IsCalendarAnswer : List ℕ → PriceQuery → ℤ → ℤ → List Offer → Answer → Type 0
-IsCalendarAnswer isbn q from to offers answer.BadRange = IsBadRange from to
-IsCalendarAnswer isbn q from to offers (answer.Calendar article dated) =
-    (IsBadRange from to → ⊥) × (article ≡ isbn) × AllZip (λ o d. (d.offer ≡ listed o) × IsCalendar o q from to d.spans) offers dated
-IsCalendarAnswer isbn q from to offers _ = ⊥
+abbrev pub IsCalendarAnswer : List ℕ → CalendarQuery → List Offer → Answer → Type 0
+IsCalendarAnswer isbn q offers answer.BadRange = IsBadRange q.from q.to
+IsCalendarAnswer isbn q offers (answer.Calendar article dated) =
+    (IsBadRange q.from q.to → ⊥) × (article ≡ isbn) × AllZip (λ o d. (d.offer ≡ listed o) × IsCalendar o q d.spans) offers dated
+IsCalendarAnswer isbn q offers _ = ⊥
 
 -- an answer about a calendar is that
 abbrev pub CalendarsAreTrue : Type 0
-CalendarsAreTrue = (isbn : List ℕ) (q : PriceQuery) (from to : ℤ) (offers : List Offer) → IsCalendarAnswer isbn q from to offers (calendar_answer isbn q from to offers)
+CalendarsAreTrue = (isbn : List ℕ) (q : CalendarQuery) (offers : List Offer) → IsCalendarAnswer isbn q offers (calendar_answer isbn q offers)

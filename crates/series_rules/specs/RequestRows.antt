@@ -11,6 +11,7 @@ use Rattle.onix_terms.specs.Options.{◌>>=◌}
 use Rattle.onix_message.specs.Fields.{is_clean, optional_party, party_of}
 use Rattle.onix_message.specs.declared.agreement.Agreement.{Agreement}
 use Rattle.price_rules.specs.declared.offer.PriceQuery.{PriceQuery}
+use Rattle.price_rules.specs.declared.offer.CalendarQuery.{CalendarQuery}
 use Rattle.series_rules.specs.declared.requests.Request.{Request}
 use Rattle.series_rules.specs.declared.requests.Request.TheVariants as request
 
@@ -65,21 +66,23 @@ price_question_of (isbn ∷ day ∷ country ∷ currency ∷ price_type ∷ quan
   Some (i, q)
 price_question_of _ = None
 
--- a calendar of an article: from one day to another, and which prices
-unfoldable pub calendar_from : List ℕ → List ℕ → List ℕ → List ℕ → List ℕ → List ℕ → List (List ℕ) → Option Request
-calendar_from isbn from to country currency price_type quantity = do
-  i ← isbn13_of isbn
+-- which calendar is asked for: from one day to another, in a country and a currency, of a type, and for a quantity
+unfoldable pub calendar_query_from : List ℕ → List ℕ → List ℕ → List ℕ → List ℕ → List (List ℕ) → Option CalendarQuery
+calendar_query_from from to country currency price_type quantity = do
   f ← day_of from
   l ← day_of to
   c ← country_of country
   u ← currency_of currency
   t ← code2_of price_type
   q ← quantity_asked quantity
-  Some (request.AskCalendar i f l c u t q)
+  Some (record { from = f; to = l; country = c; currency = u; price_type = t; quantity = q })
 
--- the question that the fields after `AskCalendar` make
-unfoldable pub calendar_question_of : List (List ℕ) → Option Request
-calendar_question_of (isbn ∷ from ∷ to ∷ country ∷ currency ∷ price_type ∷ quantity) = calendar_from isbn from to country currency price_type quantity
+-- the article and the calendar that the fields after `AskCalendar` ask for
+unfoldable pub calendar_question_of : List (List ℕ) → Option (List ℕ × CalendarQuery)
+calendar_question_of (isbn ∷ from ∷ to ∷ country ∷ currency ∷ price_type ∷ quantity) = do
+  i ← isbn13_of isbn
+  q ← calendar_query_from from to country currency price_type quantity
+  Some (i, q)
 calendar_question_of _ = None
 
 -- the request that the fields after a name make
@@ -89,7 +92,7 @@ named_request name fields =
     else if bytes_eq name (codes "Waive") then waiver_of fields
     else if bytes_eq name (codes "AskPrice") then option_map (λ (i, q). request.AskPrice i q) (price_question_of fields)
     else if bytes_eq name (codes "AskChoice") then option_map (λ (i, q). request.AskChoice i q) (price_question_of fields)
-    else if bytes_eq name (codes "AskCalendar") then calendar_question_of fields
+    else if bytes_eq name (codes "AskCalendar") then option_map (λ (i, q). request.AskCalendar i q) (calendar_question_of fields)
     else if bytes_eq name (codes "AskGaps") then option_map request.AskGaps (series_of fields)
     else if bytes_eq name (codes "AskCatalogue") then option_map request.AskCatalogue (series_of fields)
     else None

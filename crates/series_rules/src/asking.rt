@@ -12,11 +12,10 @@ use crate::desk::Desk;
 use crate::price_answers::{choose_offer, date_offers, price_offers};
 use crate::requests::Request;
 use onix_message::agreement::StoreFault;
-use onix_terms::day::Day;
 use onix_terms::isbn13::Isbn13;
 use onix_terms::series_name::SeriesName;
 use price_rules::calendar::is_bad_range;
-use price_rules::offer::PriceQuery;
+use price_rules::offer::{CalendarQuery, PriceQuery};
 use price_rules::precedence::Precedence;
 use std::alloc::Global;
 
@@ -70,21 +69,19 @@ fn answer_calendar<D: Desk>(
     alloc: Global,
     desk: &mut D,
     isbn: &Isbn13,
-    query: &PriceQuery,
-    from: Day,
-    to: Day,
+    query: &CalendarQuery,
 ) -> Result<Answer, StoreFault>
     ensures premise { D.is_sound desk.new → D.is_sound desk.old }
     ensures ok { (L : List Request) → D.stands_for desk.old L → D.is_sound desk.new → IfOk result (λ a.
-        a ≡ calendar_answer isbn.now query.now from to (offers_after L isbn.now)) }
+        a ≡ calendar_answer isbn.now query.now (offers_after L isbn.now)) }
     ensures left { (L : List Request) → D.stands_for desk.old L → D.is_sound desk.new → D.stands_for desk.new L }
     ensures fault { IfErr result (IsFaultOf D.may_give) }
 {
-    if is_bad_range(from, to) {
+    if is_bad_range(query.from, query.to) {
         return Ok(Answer::BadRange);
     }
     let offers = desk.offers_of(isbn)?;
-    match date_offers(alloc, offers, query, from, to) {
+    match date_offers(alloc, offers, query) {
         Ok(offers) => Ok(Answer::Calendar {
             isbn: *isbn,
             offers,
@@ -153,24 +150,7 @@ pub fn answer<D: Desk>(
         }),
         Request::AskPrice { isbn, query } => answer_price(alloc, desk, isbn, query),
         Request::AskChoice { isbn, query } => answer_choice(desk, precedence, isbn, query),
-        Request::AskCalendar {
-            isbn,
-            from,
-            to,
-            country,
-            currency,
-            price_type,
-            quantity,
-        } => {
-            let query = PriceQuery {
-                day: *from,
-                country: *country,
-                currency: *currency,
-                price_type: *price_type,
-                quantity: *quantity,
-            };
-            answer_calendar(alloc, desk, isbn, &query, *from, *to)
-        }
+        Request::AskCalendar { isbn, query } => answer_calendar(alloc, desk, isbn, query),
         Request::AskGaps(series) => answer_gaps(desk, series),
         Request::AskCatalogue(series) => answer_catalogue(desk, series),
         Request::Malformed { row } => Ok(Answer::Malformed { row: *row }),

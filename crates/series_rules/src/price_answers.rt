@@ -5,12 +5,11 @@ ghost use Rattle.price_rules.specs.Calendar.{is_bad_range};
 ghost use Rattle.series_rules.specs.PriceAnswers.{calendars_of, chosen_by, dated, listed, priced, prices_of};
 
 use crate::answers::{ChosenOffer, ListedOffer, OfferCalendar, PricedOffer};
-use onix_terms::day::Day;
 use onix_terms::items::Items;
 use price_rules::calendar::{CalendarFault, calendar};
 use price_rules::choice::choose;
 use price_rules::current::current_price;
-use price_rules::offer::{Offer, PriceQuery};
+use price_rules::offer::{CalendarQuery, Offer, PriceQuery};
 use price_rules::precedence::Precedence;
 use std::alloc::{AllocError, Global};
 
@@ -68,28 +67,16 @@ pub(crate) fn choose_offer(
     })
 }
 
-// The offer with its calendar. The query's own day decides nothing.
+// The offer with its calendar.
 fn date_offer(
     alloc: Global,
     offer: Offer,
-    query: &PriceQuery,
-    from: Day,
-    to: Day,
+    query: &CalendarQuery,
 ) -> Result<OfferCalendar, AllocError>
-    requires { is_bad_range from to ≡ false }
-    ensures { IfOk result (λ o. o ≡ dated query.now from to offer) }
+    requires { is_bad_range query.now.from query.now.to ≡ false }
+    ensures { IfOk result (λ o. o ≡ dated query.now offer) }
 {
-    let spans = calendar(
-        alloc,
-        &offer,
-        from,
-        to,
-        query.country,
-        query.currency,
-        query.price_type,
-        query.quantity,
-    );
-    match spans {
+    match calendar(alloc, &offer, query) {
         Ok(spans) => Ok(OfferCalendar {
             offer: into_listed(offer),
             spans,
@@ -99,20 +86,18 @@ fn date_offer(
     }
 }
 
-/// Each offer with its calendar, in a range that is not bad. The query's own day decides nothing.
+/// Each offer with its calendar, in a range that is not bad.
 pub(crate) fn date_offers(
     alloc: Global,
     offers: Items<Offer>,
-    query: &PriceQuery,
-    from: Day,
-    to: Day,
+    query: &CalendarQuery,
 ) -> Result<Items<OfferCalendar>, AllocError>
-    requires { is_bad_range from to ≡ false }
-    ensures { IfOk result (λ dated. dated ≡ calendars_of query.now from to offers) }
+    requires { is_bad_range query.now.from query.now.to ≡ false }
+    ensures { IfOk result (λ dated. dated ≡ calendars_of query.now offers) }
 {
     let mut dated = Items::new(alloc);
     for offer in offers.into_vec() {
-        dated.push(date_offer(alloc, offer, query, from, to)?)?;
+        dated.push(date_offer(alloc, offer, query)?)?;
     }
     Ok(dated)
 }

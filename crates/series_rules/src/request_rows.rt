@@ -3,7 +3,7 @@
 ghost use Rattle.std.specs.Prelude.{◌≡◌, IfOk, map};
 ghost use Rattle.series_rules.specs.Pieces.{pieces};
 ghost use Rattle.onix_message.specs.Gives.{Gives};
-ghost use Rattle.series_rules.specs.RequestRows.{agreement_from, agreement_of, begins_message, calendar_from, calendar_question_of, named_request, price_question_of, quantity_asked, query_from, request_of, row_request, series_of, waiver_of};
+ghost use Rattle.series_rules.specs.RequestRows.{agreement_from, agreement_of, begins_message, calendar_query_from, calendar_question_of, named_request, price_question_of, quantity_asked, query_from, request_of, row_request, series_of, waiver_of};
 
 use crate::pieces::cut_pieces;
 use crate::requests::Request;
@@ -19,7 +19,7 @@ use onix_terms::number::Number;
 use onix_terms::quantity::Quantity;
 use onix_terms::series_name::SeriesName;
 use onix_terms::text::Text;
-use price_rules::offer::PriceQuery;
+use price_rules::offer::{CalendarQuery, PriceQuery};
 use std::alloc::{AllocError, Global};
 
 // The agreement of a name, a sender, perhaps an addressee, and a first number.
@@ -136,27 +136,24 @@ fn read_price_question(fields: &[Text]) -> Result<(Isbn13, PriceQuery), RowFault
     Ok((isbn, query))
 }
 
-#[tactic(auto, unfolding(crate::specs::RequestRows::calendar_from))]
-fn make_calendar_question(
-    isbn: &Text,
+#[tactic(auto, unfolding(crate::specs::RequestRows::calendar_query_from))]
+fn make_calendar_query(
     from: &Text,
     to: &Text,
     country: &Text,
     currency: &Text,
     price_type: &Text,
     quantity: &[Text],
-) -> Result<Request, RowFault>
-    ensures { Gives result (calendar_from isbn.now from.now to.now country.now currency.now price_type.now quantity.now) }
+) -> Result<CalendarQuery, RowFault>
+    ensures { Gives result (calendar_query_from from.now to.now country.now currency.now price_type.now quantity.now) }
 {
-    let isbn = Isbn13::read(isbn.as_str()).ok_or(RowFault::Wrong)?;
     let from = Day::read(from.as_str()).ok_or(RowFault::Wrong)?;
     let to = Day::read(to.as_str()).ok_or(RowFault::Wrong)?;
     let country = Country::read(country.as_str()).ok_or(RowFault::Wrong)?;
     let currency = Currency::read(currency.as_str()).ok_or(RowFault::Wrong)?;
     let price_type = Code2::read(price_type.as_str()).ok_or(RowFault::Wrong)?;
     let quantity = read_quantity(quantity)?;
-    Ok(Request::AskCalendar {
-        isbn,
+    Ok(CalendarQuery {
         from,
         to,
         country,
@@ -166,16 +163,18 @@ fn make_calendar_question(
     })
 }
 
-// The question that the fields after `AskCalendar` make. A range that is reversed or too long is
-// asked for too: the answer refuses it.
+// The article and the calendar that the fields after `AskCalendar` ask for. A range that is
+// reversed or too long is asked for too: the answer refuses it.
 #[tactic(auto, unfolding(crate::specs::RequestRows::calendar_question_of))]
-fn read_calendar_question(fields: &[Text]) -> Result<Request, RowFault>
+fn read_calendar_question(fields: &[Text]) -> Result<(Isbn13, CalendarQuery), RowFault>
     ensures { Gives result (calendar_question_of fields.now) }
 {
     let [isbn, from, to, country, currency, price_type, quantity @ ..] = fields else {
         return Err(RowFault::Wrong);
     };
-    make_calendar_question(isbn, from, to, country, currency, price_type, quantity)
+    let isbn = Isbn13::read(isbn.as_str()).ok_or(RowFault::Wrong)?;
+    let query = make_calendar_query(from, to, country, currency, price_type, quantity)?;
+    Ok((isbn, query))
 }
 
 // The request that the fields after a name make.
@@ -197,7 +196,8 @@ fn read_named(alloc: Global, name: &str, fields: &[Text]) -> Result<Request, Row
         return Ok(Request::AskChoice { isbn, query });
     }
     if name == "AskCalendar" {
-        return read_calendar_question(fields);
+        let (isbn, query) = read_calendar_question(fields)?;
+        return Ok(Request::AskCalendar { isbn, query });
     }
     if name == "AskGaps" {
         return Ok(Request::AskGaps(read_series(fields)?));

@@ -3,14 +3,11 @@
 use onix_message::agreement::Agreement;
 use onix_message::parts::Contents;
 use onix_message::records::Record;
-use onix_terms::code::{Code2, Country, Currency};
-use onix_terms::day::Day;
 use onix_terms::isbn13::Isbn13;
 use onix_terms::items::Items;
 use onix_terms::number::Number;
-use onix_terms::quantity::Quantity;
 use onix_terms::series_name::SeriesName;
-use price_rules::offer::PriceQuery;
+use price_rules::offer::{CalendarQuery, PriceQuery};
 
 /// One request of a batch.
 #[derive(Debug, Drop)]
@@ -20,38 +17,19 @@ pub enum Request {
     /// The records of a message.
     Deliver(Items<Record>),
     /// The wholesaler says that a number will never come.
-    Waive {
-        series: SeriesName,
-        number: Number,
-    },
+    Waive { series: SeriesName, number: Number },
     /// What each offer of an article costs.
-    AskPrice {
-        isbn: Isbn13,
-        query: PriceQuery,
-    },
+    AskPrice { isbn: Isbn13, query: PriceQuery },
     /// Which offer of an article the shop chooses.
-    AskChoice {
-        isbn: Isbn13,
-        query: PriceQuery,
-    },
+    AskChoice { isbn: Isbn13, query: PriceQuery },
     /// What each offer of an article costs from one day to another, both included.
-    AskCalendar {
-        isbn: Isbn13,
-        from: Day,
-        to: Day,
-        country: Country,
-        currency: Currency,
-        price_type: Code2,
-        quantity: Quantity,
-    },
+    AskCalendar { isbn: Isbn13, query: CalendarQuery },
     /// Which numbers a series lacks.
     AskGaps(SeriesName),
     /// Which records a series has.
     AskCatalogue(SeriesName),
     /// No request: it stops being one at this row of its piece, counted from 1.
-    Malformed {
-        row: u32,
-    },
+    Malformed { row: u32 },
 }
 
 /// What stands at a number of a series.

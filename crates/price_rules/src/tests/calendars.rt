@@ -2,7 +2,7 @@ use super::offers::{FOUR_PRICES, day, offer_of, question};
 use crate::breaks::break_days;
 use crate::calendar::{CalendarFault, Span, calendar};
 use crate::day_by_day::calendar_day_by_day;
-use crate::offer::Offer;
+use crate::offer::{CalendarQuery, Offer};
 use onix_terms::day::Day;
 use onix_terms::items::Items;
 use std::alloc::Global;
@@ -117,40 +117,17 @@ fn days_text(alloc: Global, found: Result<Vec<Day>, CalendarFault>) -> Result<St
     Ok(text)
 }
 
-// The spans by break days.
-fn by_break_days(alloc: Global, offer: &Offer, from: Day, to: Day) -> Result<String, Fail> {
+// The question for prices of type 02 in GBP for one copy that is sold in GB.
+fn calendar_question(from: Day, to: Day) -> Result<CalendarQuery, Fail> {
     let query = question("20250101", "GB", "1")?;
-    spans_text(
-        alloc,
-        calendar(
-            alloc,
-            offer,
-            from,
-            to,
-            query.country,
-            query.currency,
-            query.price_type,
-            query.quantity,
-        ),
-    )
-}
-
-// The spans day by day.
-fn by_days(alloc: Global, offer: &Offer, from: Day, to: Day) -> Result<String, Fail> {
-    let query = question("20250101", "GB", "1")?;
-    spans_text(
-        alloc,
-        calendar_day_by_day(
-            alloc,
-            offer,
-            from,
-            to,
-            query.country,
-            query.currency,
-            query.price_type,
-            query.quantity,
-        ),
-    )
+    Ok(CalendarQuery {
+        from,
+        to,
+        country: query.country,
+        currency: query.currency,
+        price_type: query.price_type,
+        quantity: query.quantity,
+    })
 }
 
 // Whether both calendars and the break days are as wanted.
@@ -162,11 +139,11 @@ fn is_right(
     spans: &str,
     days: &str,
 ) -> Result<bool, Fail> {
-    Ok(
-        by_break_days(alloc, offer, from, to)?.as_str() == spans
-            && by_days(alloc, offer, from, to)?.as_str() == spans
-            && days_text(alloc, break_days(alloc, offer, from, to))?.as_str() == days,
-    )
+    let query = calendar_question(from, to)?;
+    let by_break_days = spans_text(alloc, calendar(alloc, offer, &query))?;
+    let by_days = spans_text(alloc, calendar_day_by_day(alloc, offer, &query))?;
+    let breaks = days_text(alloc, break_days(alloc, offer, from, to))?;
+    Ok(by_break_days.as_str() == spans && by_days.as_str() == spans && breaks.as_str() == days)
 }
 
 #[test]

@@ -10,8 +10,8 @@ pub loop-k-init : goal.loop-k-init
 loop-k-init c =
     let o = c.args.offer.now in
     let q = c.args.query.now in
-    let from = c.args.from in
-    let to = c.args.to in
+    let from = c.args.query.now.from in
+    let to = c.args.query.now.to in
     let days = c.args.days.now in
     let some = some_day o from to days c.requires.days in
     let first = first_day o from to days c.requires.days from in
@@ -26,8 +26,8 @@ pub loop-k-preserved : goal.loop-k-preserved
 loop-k-preserved c =
     let o = c.args.offer.now in
     let q = c.args.query.now in
-    let from = c.args.from in
-    let to = c.args.to in
+    let from = c.args.query.now.from in
+    let to = c.args.query.now.to in
     let days = c.args.days.now in
     let C = λ (day : ℤ). IsCurrent o (on_day q day) in
     let k = c.loop-k.k in
@@ -46,5 +46,5 @@ loop-k-preserved c =
 pub returns : goal.returns
 returns c =
     let C = λ (day : ℤ). IsCurrent c.args.offer.now (on_day c.args.query.now day) in
-    let e : get_or c.args.days.now c.loop-k.k (c.args.to +ℤ pos 1) ≡ c.args.to +ℤ pos 1 = get_or_past c.args.days.now c.loop-k.k (c.args.to +ℤ pos 1) c.loop-k-test.false in
-    rw c.in_ok-push.ensures.ok (subst (λ z. Covers C c.args.from z (c.loop-k.spans ++ c.loop-k.open ∷ [])) e c.loop-k.invariant)
+    let e : get_or c.args.days.now c.loop-k.k (c.args.query.now.to +ℤ pos 1) ≡ c.args.query.now.to +ℤ pos 1 = get_or_past c.args.days.now c.loop-k.k (c.args.query.now.to +ℤ pos 1) c.loop-k-test.false in
+    rw c.in_ok-push.ensures.ok (subst (λ z. Covers C c.args.query.now.from z (c.loop-k.spans ++ c.loop-k.open ∷ [])) e c.loop-k.invariant)

@@ -5,4 +5,4 @@ use Rattle.price_rules.proofs.day_by_day.daily_spans.Given as goal
 
 abbrev pub invariant-loop-step : goal.invariant-loop-step
 invariant-loop-step l =
-    Covers (λ day. IsCurrent l.offer (on_day l.query day)) l.from (l.from +ℤ pos (l.step + 1)) (l.spans ++ l.open ∷ [])
+    Covers (λ day. IsCurrent l.offer (on_day l.query day)) l.query.from (l.query.from +ℤ pos (l.step + 1)) (l.spans ++ l.open ∷ [])

@@ -16,7 +16,7 @@ returns-in-AskChoice-clause-ok g c = λ L stands sound.
 pub returns-in-AskCalendar-clause-ok : goal.returns-in-AskCalendar-clause-ok
 returns-in-AskCalendar-clause-ok g c = λ L stands sound.
     let desk = c.answer_calendar.new.desk in
-    rw c.in-AskCalendar.is (asked c.args.precedence.now L (AskCalendar c.in-AskCalendar.isbn c.in-AskCalendar.from c.in-AskCalendar.to c.in-AskCalendar.country c.in-AskCalendar.currency c.in-AskCalendar.price_type c.in-AskCalendar.quantity) refl refl (g.D.Desk.stands_for desk) (g.met.D.Desk.by_content desk L) c.answer_calendar.result (c.answer_calendar.ensures.ok L stands sound) (c.answer_calendar.ensures.left L stands sound))
+    rw c.in-AskCalendar.is (asked c.args.precedence.now L (AskCalendar c.in-AskCalendar.isbn c.in-AskCalendar.query) refl refl (g.D.Desk.stands_for desk) (g.met.D.Desk.by_content desk L) c.answer_calendar.result (c.answer_calendar.ensures.ok L stands sound) (c.answer_calendar.ensures.left L stands sound))
 
 pub returns-in-AskGaps-clause-ok : goal.returns-in-AskGaps-clause-ok
 returns-in-AskGaps-clause-ok g c = λ L stands sound.

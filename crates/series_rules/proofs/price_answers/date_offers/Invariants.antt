@@ -5,6 +5,6 @@ use Rattle.series_rules.proofs.price_answers.date_offers.Given as goal
 
 abbrev pub invariant-loop-offer : goal.invariant-loop-offer
 invariant-loop-offer l = record {
-  so_far : l.dated ++ calendars_of l.query l.fn.from l.fn.to (into_iter_items l.offer-iterator) ≡ calendars_of l.query l.fn.from l.fn.to l.fn.offers;
+  so_far : l.dated ++ calendars_of l.query (into_iter_items l.offer-iterator) ≡ calendars_of l.query l.fn.offers;
   counted : into_iter_len l.offer-iterator ≡ length (into_iter_items l.offer-iterator);
 }

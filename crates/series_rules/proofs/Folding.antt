@@ -11,8 +11,7 @@ use Rattle.onix_terms.specs.Number.{number_from}
 use Rattle.catalogue_rules.specs.declared.effect.Effect.{Effect}
 use Rattle.series_rules.specs.Answers.{placed_answer}
 use Rattle.series_rules.specs.Folded.{BeginsWith, IsFold, IsFolded}
-use Rattle.series_rules.specs.Series.{IsFront, after_all, after_had, effect_of_had, kept_of}
-use Rattle.series_rules.specs.declared.answers.DeliveryAnswer.{DeliveryAnswer}
+use Rattle.series_rules.specs.Series.{IsFront, after_had, effect_of_had, kept_of}
 use Rattle.series_rules.specs.declared.answers.DeliveryAnswer.TheVariants as delivery
 use Rattle.series_rules.specs.declared.fold.Fold.{Fold}
 use Rattle.series_rules.specs.declared.requests.Had.{Had}

@@ -1,14 +1,11 @@
 -- The report on the gaps of a series is true of it.
-use Rattle.std.proofs.Common.{◌≡◌, ◌+◌, ◌-◌, ◌<◌, ◌≤◌, ℕ, zero, suc, Bool, true, false, List, [], ◌∷◌, Option, Some, None, refl, sym, ap, ◌∙◌, subst, arith, cond, nat_eq, ◌⊎◌, inl, inr}
-use Rattle.std.specs.Prelude.{filter, is_none, nat_lt}
-use Rattle.std.specs.List.{range_with_len}
-use Rattle.std.proofs.lemmas.Bool.{cases_lt, cases_eq}
+use Rattle.std.proofs.Common.{◌≡◌, ◌+◌, ◌<◌, ◌≤◌, ℕ, zero, suc, Bool, true, false, List, [], ◌∷◌, Option, Some, None, refl, sym, ap, ◌∙◌, arith, cond, nat_eq, ◌⊎◌, inl, inr}
+use Rattle.std.specs.Prelude.{is_none}
+use Rattle.std.proofs.lemmas.Bool.{cases_lt}
 use Rattle.std.proofs.lemmas.Bool.Decides.{nat_tests}
-use Rattle.onix_message.specs.declared.agreement.Agreement.{Agreement}
 use Rattle.series_rules.specs.Firsts.{first_at}
-use Rattle.series_rules.specs.Gaps.{IsGreatest, IsUpTo, IsInRanges, AreRangesFrom, IsGapReport, numbers_up_to, lacking, with_number, ranges_of, greatest_of, gaps_of}
+use Rattle.series_rules.specs.Gaps.{IsUpTo, IsInRanges, AreRangesFrom, numbers_up_to, lacking, with_number, ranges_of, greatest_of}
 use Rattle.series_rules.specs.Laws.{GapsAreTrue}
-use Rattle.series_rules.specs.declared.requests.Request.{Request}
 use Rattle.series_rules.specs.declared.requests.Had.{Had}
 use Rattle.series_rules.proofs.Greatest.{greatest_is}
 use Rattle.series_rules.proofs.LawProofs.{next_is_least}

@@ -5,7 +5,7 @@ use Rattle.std.proofs.Math.Seq.{take-append_seam, take-append-add}
 use Rattle.std.proofs.lemmas.Bool.{cases_lt, eqb-true}
 use Rattle.std.specs.List.{AllByRecursion, flat_map}
 use Rattle.std.proofs.lemmas.Option.{same_Some}
-use Rattle.onix_message.specs.Draft.{DraftHasDetails, Stops, Takes, allows, draft_rows, part_rows}
+use Rattle.onix_message.specs.Draft.{DraftHasDetails, Stops, Takes, allows, draft_rows, has_ended, part_rows}
 use Rattle.onix_message.specs.Grammar.{BeginsMessage, CountsAfter, IsBadRow, IsFront, IsMessage, KeepsOrder, is_counted, may_follow}
 use Rattle.onix_message.specs.Nest.{SuppliesHaveDetails, content_rows, product_rows, rows_after}
 use Rattle.onix_message.specs.OpeningRow.{opening_of}
@@ -331,6 +331,17 @@ some-next (part.InProduct p) never = (row.EndMessage 0, refl)
 some-next (part.InSupply p s) never = (row.SupplyDetail (record { supplier = record { role = []; party = None; name = [] }; availability = []; unpriced = None; prices = [] }), refl)
 some-next (part.InDetail p s d) never = (row.EndMessage 0, refl)
 some-next (part.Ended n) never = absurd (never n refl)
+
+-- the end that a draft has
+pub its-end : (p : Part) → has_ended p ≡ true → (n : ℕ) × (p ≡ part.Ended n)
+its-end part.Nothing e = cc e
+its-end (part.InProduct p) e = cc e
+its-end (part.InSupply p s) e = cc e
+its-end (part.InDetail p s d) e = cc e
+its-end (part.Ended n) e = (n, refl)
+
+pub no-end : (p : Part) → has_ended p ≡ false → (n : ℕ) → p ≡ part.Ended n → ⊥
+no-end p e n is = cc (sym e ∙ ap has_ended is)
 
 pub stops-end : (records : List Record) (first : Record) (rest : List Record) (o : Opening) (k : ℕ) (d : Draft) (place : ℕ) → records ≡ first ∷ rest → opening_of first ≡ Some o
     → Holds o (take k rest) d → k ≡ length rest → ((n : ℕ) → d.part ≡ part.Ended n → ⊥) → place ≡ k + 2 → Breaks records place

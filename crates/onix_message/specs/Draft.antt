@@ -53,6 +53,11 @@ PartHasDetails (part.Ended n) = ⊤
 abbrev pub DraftHasDetails : Draft → Type 0
 DraftHasDetails d = AllByRecursion SuppliesHaveDetails d.products × PartHasDetails d.part
 
+-- whether the last row was an end
+abbrev pub has_ended : Part → Bool
+has_ended (part.Ended n) = true
+has_ended _ = false
+
 -- one row was added
 pub record Adds (old : Draft) (r : Row) (new : Draft) : Type 0 where
   pub rows : draft_rows new ≡ draft_rows old ++ r ∷ []

@@ -85,13 +85,13 @@ fn make_opening(
         number.now repeat.now sent.now price_type.now currency.now) }
 {
     let form = read_form(version)?;
-    let sender = read_party(alloc, sender_type, sender_value)?;
-    let addressee = read_optional_party(alloc, to_type, to_value)?;
     let number = read_optional_number(number)?;
     let repeat = read_optional_digits(repeat)?;
     let default_type = read_optional_code(price_type)?;
     let default_currency = read_optional_currency(currency)?;
     let sent = sent.copy(alloc)?;
+    let sender = read_party(alloc, sender_type, sender_value)?;
+    let addressee = read_optional_party(alloc, to_type, to_value)?;
     Ok(Opening {
         form,
         header: Header {

@@ -134,18 +134,24 @@ fn push_minimum(alloc: Global, fields: &mut Record, minimum: Quantity) -> Result
     Ok(())
 }
 
+fn push_price(alloc: Global, fields: &mut Record, price: &Price) -> Result<(), AllocError>
+    ensures { OnOk result (fields.new ≡ fields.old ++ price_record price.now) }
+{
+    push_text(alloc, fields, "Price")?;
+    push_text(alloc, fields, price.price_type.as_str())?;
+    push_amount(alloc, fields, price.amount)?;
+    push_text(alloc, fields, price.currency.as_str())?;
+    push_territory(alloc, fields, &price.territory)?;
+    push_day(alloc, fields, price.from)?;
+    push_day(alloc, fields, price.until)?;
+    push_minimum(alloc, fields, price.minimum)
+}
+
 fn record_of_price(alloc: Global, price: &Price) -> Result<Record, AllocError>
     ensures { IfOk result (λ fields. fields ≡ price_record price.now) }
 {
     let mut fields = Items::new(alloc);
-    push_text(alloc, &mut fields, "Price")?;
-    push_text(alloc, &mut fields, price.price_type.as_str())?;
-    push_amount(alloc, &mut fields, price.amount)?;
-    push_text(alloc, &mut fields, price.currency.as_str())?;
-    push_territory(alloc, &mut fields, &price.territory)?;
-    push_day(alloc, &mut fields, price.from)?;
-    push_day(alloc, &mut fields, price.until)?;
-    push_minimum(alloc, &mut fields, price.minimum)?;
+    push_price(alloc, &mut fields, price)?;
     Ok(fields)
 }
 

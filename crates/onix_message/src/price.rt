@@ -126,9 +126,9 @@ fn make_price(
     let price_type = read_code_or(header.default_type, price_type)?;
     let amount = read_amount(amount)?;
     let currency = read_currency_or(header.default_currency, currency)?;
-    let territory = read_territory(alloc, included, regions, excluded)?;
     let from = read_optional_day(from)?;
     let until = read_optional_day(until)?;
+    let territory = read_territory(alloc, included, regions, excluded)?;
     Ok(Price {
         price_type,
         amount,

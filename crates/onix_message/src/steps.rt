@@ -63,7 +63,10 @@ fn close_to_product(part: Part) -> Result<Product, StepFault>
             let supply = close_detail(supply, detail)?;
             Ok(close_supply(product, supply)?)
         }
-        _ => Err(StepFault::OutOfOrder),
+        other => {
+            drop(other);
+            Err(StepFault::OutOfOrder)
+        }
     }
 }
 
@@ -78,13 +81,16 @@ fn close_to_products(products: Items<Product>, part: Part) -> Result<Items<Produ
 {
     match part {
         Part::Nothing => Ok(products),
-        Part::InSupply(..) => Err(StepFault::OutOfOrder),
-        Part::Ended(_) => Err(StepFault::OutOfOrder),
         Part::InProduct(product) => Ok(push_product(products, product)?),
         Part::InDetail(product, supply, detail) => {
             let supply = close_detail(supply, detail)?;
             let product = close_supply(product, supply)?;
             Ok(push_product(products, product)?)
+        }
+        other => {
+            drop(other);
+            drop(products);
+            Err(StepFault::OutOfOrder)
         }
     }
 }
@@ -162,7 +168,12 @@ fn add_detail(draft: Draft, detail: SupplyDetail) -> Result<Draft, StepFault>
                 part: Part::InDetail(product, supply, detail),
             })
         }
-        _ => Err(StepFault::OutOfOrder),
+        other => {
+            drop(other);
+            drop(detail);
+            drop(products);
+            Err(StepFault::OutOfOrder)
+        }
     }
 }
 
@@ -199,7 +210,12 @@ fn add_price(draft: Draft, price: Price) -> Result<Draft, StepFault>
                 part: Part::InDetail(product, supply, detail),
             })
         }
-        _ => Err(StepFault::OutOfOrder),
+        other => {
+            drop(other);
+            drop(price);
+            drop(products);
+            Err(StepFault::OutOfOrder)
+        }
     }
 }
 

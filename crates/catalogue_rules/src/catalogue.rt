@@ -205,6 +205,3 @@ impl Catalogue {
         self.len() == 0
     }
 }
-
-#[cfg(test)]
-mod tests;

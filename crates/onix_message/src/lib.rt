@@ -24,5 +24,3 @@ pub mod row;
 mod rows;
 mod steps;
 mod supply;
-#[cfg(test)]
-mod tests;

@@ -28,6 +28,4 @@ pub mod plain;
 pub mod quantity;
 pub mod series_name;
 pub mod territory;
-#[cfg(test)]
-mod tests;
 pub mod text;

@@ -16,5 +16,3 @@ pub mod laws;
 pub mod offer;
 pub mod precedence;
 mod rules_file;
-#[cfg(test)]
-mod tests;

@@ -1,6 +1,5 @@
 // Offers and questions, read from texts.
 
-use crate::offer::{Offer, PriceQuery};
 use onix_message::parts::{Price, Supplier};
 use onix_terms::amount::Amount;
 use onix_terms::code::{Code2, Country, Currency};
@@ -10,6 +9,7 @@ use onix_terms::quantity::Quantity;
 use onix_terms::series_name::SeriesName;
 use onix_terms::territory::Territory;
 use onix_terms::text::Text;
+use price_rules::offer::{Offer, PriceQuery};
 use std::alloc::Global;
 use std::test::Fail;
 
@@ -28,6 +28,7 @@ fn currency() -> Result<Currency, Fail> {
     Ok(Currency::read("GBP").ok_or("currency")?)
 }
 
+/// The day that a text writes, or a failed test.
 pub fn day(text: &str) -> Result<Day, Fail> {
     Ok(Day::read(text).ok_or("day")?)
 }

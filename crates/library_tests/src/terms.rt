@@ -1,17 +1,17 @@
 // Worked values of each term.
 
-use crate::Memory;
-use crate::amount::Amount;
-use crate::code::{Code2, Country, Currency};
-use crate::countries::countries_text;
-use crate::day::Day;
-use crate::isbn13::Isbn13;
-use crate::number::Number;
-use crate::plain::Plain;
-use crate::quantity::Quantity;
-use crate::series_name::SeriesName;
-use crate::territory::{TermFault, Territory};
-use crate::text::Text;
+use onix_terms::Memory;
+use onix_terms::amount::Amount;
+use onix_terms::code::{Code2, Country, Currency};
+use onix_terms::countries::countries_text;
+use onix_terms::day::Day;
+use onix_terms::isbn13::Isbn13;
+use onix_terms::number::Number;
+use onix_terms::plain::Plain;
+use onix_terms::quantity::Quantity;
+use onix_terms::series_name::SeriesName;
+use onix_terms::territory::{TermFault, Territory};
+use onix_terms::text::Text;
 
 #[test]
 fn amounts(rt: HostRuntime) {

@@ -1,6 +1,6 @@
 use super::offers::{FOUR_PRICES, offer_of, question};
-use crate::current::current_price;
 use onix_terms::amount::Amount;
+use price_rules::current::current_price;
 use std::alloc::Global;
 use std::test::Fail;
 

@@ -1,10 +1,10 @@
 use super::offers::{FOUR_PRICES, day, offer_of, question};
-use crate::breaks::break_days;
-use crate::calendar::{CalendarFault, Span, calendar};
-use crate::day_by_day::calendar_day_by_day;
-use crate::offer::{CalendarQuery, Offer};
 use onix_terms::day::Day;
 use onix_terms::items::Items;
+use price_rules::breaks::break_days;
+use price_rules::calendar::{CalendarFault, Span, calendar};
+use price_rules::day_by_day::calendar_day_by_day;
+use price_rules::offer::{CalendarQuery, Offer};
 use std::alloc::Global;
 use std::test::Fail;
 

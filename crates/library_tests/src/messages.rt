@@ -1,7 +1,7 @@
-use crate::contents::{ContentsFault, read_contents, write_contents};
-use crate::message::{MessageFault, read_message};
-use crate::parts::Contents;
-use crate::records::{RecordFault, read_records, write_records};
+use onix_message::contents::{ContentsFault, read_contents, write_contents};
+use onix_message::message::{MessageFault, read_message};
+use onix_message::parts::Contents;
+use onix_message::records::{RecordFault, read_records, write_records};
 use onix_terms::plain::Plain;
 use std::test::Fail;
 

@@ -1,4 +1,4 @@
-use crate::precedence::{Precedence, PrecedenceFault};
+use price_rules::precedence::{Precedence, PrecedenceFault};
 use std::alloc::Global;
 use std::test::Fail;
 

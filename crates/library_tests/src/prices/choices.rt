@@ -1,8 +1,8 @@
 use super::offers::{offer_of, question};
-use crate::choice::{Choice, choose};
-use crate::offer::Offer;
-use crate::precedence::Precedence;
 use onix_terms::amount::Amount;
+use price_rules::choice::{Choice, choose};
+use price_rules::offer::Offer;
+use price_rules::precedence::Precedence;
 use std::alloc::Global;
 use std::test::Fail;
 

@@ -1,8 +1,8 @@
 ghost use Rattle.std.specs.Prelude.{◌≡◌, [], IfOk, length, map};
 ghost use Rattle.catalogue_rules.specs.Records.{HasFewDetails, records_of};
 
-use super::Catalogue;
-use crate::entry::Entry;
+use catalogue_rules::catalogue::Catalogue;
+use catalogue_rules::entry::Entry;
 use onix_message::parts::{ProductIdentifier, ProductSupply, Supplier, SupplyDetail};
 use onix_terms::code::Code2;
 use onix_terms::isbn13::Isbn13;

@@ -1,4 +1,5 @@
-// One more row of a message.
+// One more row of a message. What is left over where a row is refused is dropped by a call, and not
+// where it goes out of scope: docs/DECISIONS.md says why.
 
 ghost use Rattle.std.specs.Prelude.{◌≡◌, ◌≢◌, ◌++◌, ◌∷◌, [], ℕ, List, IfOk, IfErr, MatchResult, true};
 ghost use Rattle.std.specs.List.{AllByRecursion, flat_map};

@@ -85,7 +85,7 @@ named-bare o name fields r =
     (choose (bytes_eq name (codes "EndMessage")) _ _ r (made-bare row.EndMessage (end_of fields) (λ x e. tt) r)
     (λ e. cc e))))))
 
-row-bare : (o : Opening) (fields : List (List ℕ)) (r : Row) → row_of o fields ≡ Some r → IsBare r
+pub row-bare : (o : Opening) (fields : List (List ℕ)) (r : Row) → row_of o fields ≡ Some r → IsBare r
 unfolding row_of
 row-bare o [] r e = cc e
 row-bare o (name ∷ fields) r e = choose (list_all is_clean (name ∷ fields)) _ _ r (named-bare o name fields r) (λ f. cc f) e

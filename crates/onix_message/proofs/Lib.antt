@@ -7,6 +7,8 @@ pub mod Orders
 pub mod Fronts
 pub mod FrontRows
 pub mod Bare
+pub mod RowFaults
+pub mod Pairs
 pub mod Nests
 pub mod Explained
 pub mod OneText

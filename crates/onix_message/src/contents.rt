@@ -88,7 +88,7 @@ fn opening_record(alloc: Global) -> Result<Record, AllocError>
     ensures { IfOk result (λ fields. fields ≡ plain_opening) }
 {
     let mut fields = Items::new(alloc);
-    for text in ["Message", "2", "01", "x", "", "", "", "", "", "", ""] {
+    for text in &["Message", "2", "01", "x", "", "", "", "", "", "", ""] {
         push_text(alloc, &mut fields, text)?;
     }
     Ok(fields)

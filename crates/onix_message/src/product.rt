@@ -1,10 +1,10 @@
 // The row of a product.
 
-ghost use Rattle.std.specs.Prelude.{◌≡◌, [], IfOk};
+ghost use Rattle.std.specs.Prelude.{◌≡◌};
 ghost use Rattle.onix_message.specs.Gives.{Gives};
 ghost use Rattle.onix_message.specs.ProductRow.{identifier_of, pairs_of, product_of};
 
-use crate::fields::read_filled;
+use crate::fields::{read_code, read_filled};
 use crate::parts::{Product, ProductIdentifier};
 use crate::row::RowFault;
 use onix_terms::code::Code2;
@@ -45,8 +45,7 @@ fn read_pairs(alloc: Global, fields: &[Text]) -> Result<Items<ProductIdentifier>
 
 #[tactic(auto, unfolding(crate::specs::ProductRow::product_of))]
 pub(crate) fn read_product(alloc: Global, fields: &[Text]) -> Result<Product, RowFault>
-    ensures gives { Gives result (product_of fields.now) }
-    ensures bare { IfOk result (λ p. p.supplies ≡ []) }
+    ensures { Gives result (product_of fields.now) }
 {
     let [reference, notification, pairs @ ..] = fields else {
         return Err(RowFault::Wrong);
@@ -54,10 +53,8 @@ pub(crate) fn read_product(alloc: Global, fields: &[Text]) -> Result<Product, Ro
     if pairs.is_empty() {
         return Err(RowFault::Wrong);
     }
+    let notification = read_code(notification)?;
     let reference = read_filled(alloc, reference)?;
-    let Some(notification) = Code2::read(notification.as_str()) else {
-        return Err(RowFault::Wrong);
-    };
     let ids = read_pairs(alloc, pairs)?;
     Ok(Product {
         reference,

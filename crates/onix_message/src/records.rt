@@ -1,6 +1,6 @@
 // The records of a text, and the text of records.
 
-ghost use Rattle.std.specs.Prelude.{◌≡◌, ◌≤◌, ◌<◌, ◌++◌, ◌∷◌, [], IfOk, OnOk, OnErr, IsErrOf, IsUtf8, List, ℕ, length};
+ghost use Rattle.std.specs.Prelude.{◌≡◌, ◌≤◌, ◌<◌, ◌++◌, ◌∷◌, [], IfOk, OnOk, OnErr, IsErrOf, IsUtf8, List, Ok, ℕ, length};
 ghost use Rattle.csv.specs.Records.{fields_of};
 ghost use Rattle.onix_message.specs.Records.{records_of, records_text};
 ghost use Rattle.std.specs.String.{string_bytes};
@@ -41,6 +41,21 @@ fn record_of(alloc: Global, row: &StringRecord) -> Result<Record, AllocError>
     Ok(out)
 }
 
+// Adds a row that was read from a text in memory.
+fn push_row(
+    alloc: Global,
+    rows: &mut Items<Record>,
+    read: Result<StringRecord, csv::Error>,
+) -> Result<(), AllocError>
+    ensures { OnOk result ((row : StringRecord) × (read ≡ Ok row) × (rows.new ≡ rows.old ++ fields_of row ∷ [])) }
+{
+    match read {
+        Ok(row) => rows.push(record_of(alloc, &row)?),
+        // A slice is read without a fault and is text, so what is left is memory.
+        Err(_) => Err(AllocError),
+    }
+}
+
 // The records of a text that is valid UTF-8.
 pub(crate) fn rows_of(alloc: Global, text: &[u8]) -> Result<Items<Record>, AllocError>
     ensures { IfOk result (λ rows. rows ≡ records_of text.now) }
@@ -51,11 +66,10 @@ pub(crate) fn rows_of(alloc: Global, text: &[u8]) -> Result<Items<Record>, Alloc
         .from_reader(alloc, text);
     let mut rows = Items::new(alloc);
     for row in rdr.into_records() {
-        // A slice is read without a fault and is text, so what is left is memory.
-        let Ok(row) = row else {
+        let Ok(()) = push_row(alloc, &mut rows, row) else {
+            drop(rows);
             return Err(AllocError);
         };
-        rows.push(record_of(alloc, &row)?)?;
     }
     Ok(rows)
 }

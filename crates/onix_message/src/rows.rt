@@ -1,8 +1,8 @@
 // The row that a record is.
 
-ghost use Rattle.std.specs.Prelude.{◌≡◌, IfOk};
+ghost use Rattle.std.specs.Prelude.{◌≡◌};
 ghost use Rattle.onix_message.specs.Gives.{Gives};
-ghost use Rattle.onix_message.specs.Row.{IsBare, end_of, named_row, row_of};
+ghost use Rattle.onix_message.specs.Row.{end_of, named_row, row_of};
 
 use crate::fields::are_clean;
 use crate::opening::read_opening_fields;
@@ -34,27 +34,43 @@ fn read_named(
     name: &str,
     fields: &[Text],
 ) -> Result<Row, RowFault>
-    ensures gives { Gives result (named_row opening.now name.now fields.now) }
-    ensures bare { IfOk result (λ r. IsBare r) }
+    ensures { Gives result (named_row opening.now name.now fields.now) }
 {
     if name == "Message" {
-        let Opening { form: _, header } = read_opening_fields(alloc, fields)?;
-        return Ok(Row::Message(header));
+        return match read_opening_fields(alloc, fields) {
+            Ok(Opening { form: _, header }) => Ok(Row::Message(header)),
+            Err(fault) => Err(fault),
+        };
     }
     if name == "Product" {
-        return Ok(Row::Product(read_product(alloc, fields)?));
+        return match read_product(alloc, fields) {
+            Ok(product) => Ok(Row::Product(product)),
+            Err(fault) => Err(fault),
+        };
     }
     if name == "ProductSupply" {
-        return Ok(Row::ProductSupply(read_supply(alloc, fields)?));
+        return match read_supply(alloc, fields) {
+            Ok(supply) => Ok(Row::ProductSupply(supply)),
+            Err(fault) => Err(fault),
+        };
     }
     if name == "SupplyDetail" {
-        return Ok(Row::SupplyDetail(read_detail(alloc, fields)?));
+        return match read_detail(alloc, fields) {
+            Ok(detail) => Ok(Row::SupplyDetail(detail)),
+            Err(fault) => Err(fault),
+        };
     }
     if name == "Price" {
-        return Ok(Row::Price(read_price(alloc, opening, fields)?));
+        return match read_price(alloc, opening, fields) {
+            Ok(price) => Ok(Row::Price(price)),
+            Err(fault) => Err(fault),
+        };
     }
     if name == "EndMessage" {
-        return Ok(Row::EndMessage(read_end(fields)?));
+        return match read_end(fields) {
+            Ok(count) => Ok(Row::EndMessage(count)),
+            Err(fault) => Err(fault),
+        };
     }
     Err(RowFault::Wrong)
 }
@@ -62,8 +78,7 @@ fn read_named(
 // The row that a record is, in a message that begins so.
 #[tactic(auto, unfolding(crate::specs::Row::row_of))]
 pub(crate) fn read_row(alloc: Global, opening: &Opening, fields: &Record) -> Result<Row, RowFault>
-    ensures gives { Gives result (row_of opening.now fields.now) }
-    ensures bare { IfOk result (λ r. IsBare r) }
+    ensures { Gives result (row_of opening.now fields.now) }
 {
     let Some((name, rest)) = fields.as_slice().split_first() else {
         return Err(RowFault::Wrong);

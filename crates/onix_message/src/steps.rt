@@ -228,7 +228,11 @@ pub(crate) fn add_row(draft: Draft, next: Row) -> Result<Draft, StepFault>
     ensures refused { IfErr result (λ e. Refuses draft next e) }
 {
     match next {
-        Row::Message(_) => Err(StepFault::OutOfOrder),
+        Row::Message(header) => {
+            drop(header);
+            drop(draft);
+            Err(StepFault::OutOfOrder)
+        }
         Row::Product(product) => add_product(draft, product),
         Row::ProductSupply(supply) => add_supply(draft, supply),
         Row::SupplyDetail(detail) => add_detail(draft, detail),

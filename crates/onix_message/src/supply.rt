@@ -1,6 +1,6 @@
 // The rows of a supply and of its details.
 
-ghost use Rattle.std.specs.Prelude.{◌≡◌, [], IfOk};
+ghost use Rattle.std.specs.Prelude.{◌≡◌};
 ghost use Rattle.onix_message.specs.Gives.{Gives};
 ghost use Rattle.onix_message.specs.SupplyRow.{detail_from, detail_of, supplier_name, supply_of};
 
@@ -15,8 +15,7 @@ use onix_terms::text::Text;
 use std::alloc::Global;
 
 pub(crate) fn read_supply(alloc: Global, fields: &[Text]) -> Result<ProductSupply, RowFault>
-    ensures gives { Gives result (supply_of fields.now) }
-    ensures bare { IfOk result (λ s. s.details ≡ []) }
+    ensures { Gives result (supply_of fields.now) }
 {
     let [included, regions, excluded] = fields else {
         return Err(RowFault::Wrong);
@@ -46,9 +45,8 @@ fn make_detail(
     availability: &Text,
     unpriced: &Text,
 ) -> Result<SupplyDetail, RowFault>
-    ensures gives { Gives result
+    ensures { Gives result
         (detail_from role.now id_type.now id_value.now name.now availability.now unpriced.now) }
-    ensures bare { IfOk result (λ d. d.prices ≡ []) }
 {
     let role = read_code(role)?;
     let party = read_optional_party(alloc, id_type, id_value)?;
@@ -65,8 +63,7 @@ fn make_detail(
 
 #[tactic(auto, unfolding(crate::specs::SupplyRow::detail_of))]
 pub(crate) fn read_detail(alloc: Global, fields: &[Text]) -> Result<SupplyDetail, RowFault>
-    ensures gives { Gives result (detail_of fields.now) }
-    ensures bare { IfOk result (λ d. d.prices ≡ []) }
+    ensures { Gives result (detail_of fields.now) }
 {
     let [role, id_type, id_value, name, availability, unpriced] = fields else {
         return Err(RowFault::Wrong);

@@ -1,4 +1,3 @@
-use Rattle.std.proofs.Common.{length}
 use Rattle.onix_message.proofs.Explained.{explained}
 use Rattle.onix_message.proofs.Fronts.{stops-none, stops-one}
 use Rattle.onix_message.proofs.message.read_message.Goals as goal

@@ -1,10 +1,10 @@
-use Rattle.std.proofs.Common.{◌≡◌, ◌++◌, length, Some}
-use Rattle.onix_terms.specs.Options.{◌>>=◌}
+use Rattle.std.proofs.Common.{length}
 use Rattle.onix_message.specs.ProductRow.{pairs_of}
+use Rattle.onix_message.proofs.Pairs.{Completes}
 use Rattle.onix_message.proofs.product.read_pairs.Given as goal
 
 abbrev pub invariant-loop-rest : goal.invariant-loop-rest
-invariant-loop-rest l = (pairs_of l.rest >>= (λ more. Some (l.ids ++ more))) ≡ pairs_of l.fields
+invariant-loop-rest l = Completes l.rest l.ids (pairs_of l.fields)
 
 abbrev pub decreases-loop-rest : goal.decreases-loop-rest
 decreases-loop-rest l = length l.rest

@@ -5,4 +5,4 @@ use Rattle.onix_message.proofs.RowLists.{no-header}
 use Rattle.onix_message.proofs.steps.add_row.Goals as goal
 
 pub returns-in-Message-clause-refused : goal.returns-in-Message-clause-refused
-returns-in-Message-clause-refused c = ap (λ (r : Row). allows c.args.draft.part r) c.in-Message.is ∙ no-header c.args.draft.part c.in-Message.field-0
+returns-in-Message-clause-refused c = ap (λ (r : Row). allows c.args.draft.part r) c.in-Message.is ∙ no-header c.args.draft.part c.in-Message.header

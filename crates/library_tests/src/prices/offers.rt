@@ -1,4 +1,4 @@
-// Offers and questions, read from texts.
+// Offers and questions, read from texts: each is `None` where a field is not read.
 
 use onix_message::parts::{Price, Supplier};
 use onix_terms::amount::Amount;
@@ -11,7 +11,6 @@ use onix_terms::territory::Territory;
 use onix_terms::text::Text;
 use price_rules::offer::{Offer, PriceQuery};
 use std::alloc::Global;
-use std::test::Fail;
 
 /// A market and four prices with ranges of days, of which some overlap.
 pub const FOUR_PRICES: &str = "GB IE,,
@@ -20,90 +19,57 @@ pub const FOUR_PRICES: &str = "GB IE,,
 9.5,,,,20250515,20250520,1
 9,,,,20250515,20250516,1";
 
-fn code(text: &str) -> Result<Code2, Fail> {
-    Ok(Code2::read(text).ok_or("code")?)
-}
-
-fn currency() -> Result<Currency, Fail> {
-    Ok(Currency::read("GBP").ok_or("currency")?)
-}
-
-/// The day that a text writes, or a failed test.
-pub fn day(text: &str) -> Result<Day, Fail> {
-    Ok(Day::read(text).ok_or("day")?)
-}
-
-fn day_or_none(text: &str) -> Result<Option<Day>, Fail> {
-    if text.is_empty() {
-        Ok(None)
-    } else {
-        Ok(Some(day(text)?))
-    }
+/// The field at this place of a row, from 0, or an empty text.
+pub fn field(row: &str, place: usize) -> &str {
+    row.split(',').nth(place).unwrap_or("")
 }
 
 // CountriesIncluded, RegionsIncluded and CountriesExcluded.
-fn market_of(alloc: Global, row: &str) -> Result<Territory, Fail> {
-    let mut fields = row.split(',');
-    let included = fields.next().unwrap_or("");
-    let regions = fields.next().unwrap_or("");
-    let excluded = fields.next().unwrap_or("");
-    Ok(Territory::read(alloc, included, regions, excluded)?)
+fn market_of(alloc: Global, row: &str) -> Option<Territory> {
+    Territory::read(alloc, field(row, 0), field(row, 1), field(row, 2)).ok()
 }
 
-// PriceAmount, the three fields of the territory, From, Until and MinimumOrderQuantity.
-fn price_of(alloc: Global, row: &str) -> Result<Price, Fail> {
-    let mut fields = row.split(',');
-    let amount = Amount::read(fields.next().unwrap_or("")).ok_or("amount")?;
-    let included = fields.next().unwrap_or("");
-    let regions = fields.next().unwrap_or("");
-    let excluded = fields.next().unwrap_or("");
-    let from = day_or_none(fields.next().unwrap_or(""))?;
-    let until = day_or_none(fields.next().unwrap_or(""))?;
-    let minimum = Quantity::read(fields.next().unwrap_or("")).ok_or("minimum")?;
-    let price_type = code("02")?;
-    let currency = currency()?;
-    let territory = Territory::read(alloc, included, regions, excluded)?;
-    Ok(Price {
-        price_type,
-        amount,
-        currency,
-        territory,
-        minimum,
-        from,
-        until,
-    })
+// The row has PriceAmount, the three fields of the territory, From, Until and
+// MinimumOrderQuantity; a price without a From or an Until has an empty field there.
+fn push_price(alloc: Global, prices: &mut Items<Price>, row: &str) -> Option<()> {
+    let price = Price {
+        price_type: Code2::read("02")?,
+        amount: Amount::read(field(row, 0))?,
+        currency: Currency::read("GBP")?,
+        minimum: Quantity::read(field(row, 6))?,
+        from: Day::read(field(row, 4)),
+        until: Day::read(field(row, 5)),
+        territory: Territory::read(alloc, field(row, 1), field(row, 2), field(row, 3)).ok()?,
+    };
+    prices.push(price).ok()
 }
 
 // A row for each price, below the row of the market.
-fn prices_of(alloc: Global, rows: &str) -> Result<Items<Price>, Fail> {
+fn prices_of(alloc: Global, rows: &str) -> Option<Items<Price>> {
     let mut prices = Items::new(alloc);
-    let mut lines = rows.lines();
-    let _market = lines.next();
-    for row in lines {
-        prices.push(price_of(alloc, row)?)?;
+    for row in rows.lines().skip(1) {
+        push_price(alloc, &mut prices, row)?;
     }
-    Ok(prices)
+    Some(prices)
 }
 
 /// An offer of the series, whose rows are its market and its prices.
-pub fn offer_of(
-    alloc: Global,
-    series: &str,
-    availability: &str,
-    rows: &str,
-) -> Result<Offer, Fail> {
-    let series = SeriesName::read(series).ok_or("series")?;
-    let availability = code(availability)?;
-    let role = code("04")?;
-    let market = market_of(alloc, rows.lines().next().unwrap_or(""))?;
-    let prices = prices_of(alloc, rows)?;
+pub fn offer_of(alloc: Global, series: &str, availability: &str, rows: &str) -> Option<Offer> {
+    let series = SeriesName::read(series)?;
+    let availability = Code2::read(availability)?;
+    let role = Code2::read("04")?;
+    // Joined by `zip`: a `?` at each would let go of the others in place, which is dear to prove.
+    let reference = Text::from_str(alloc, "R1").ok();
+    let name = Text::from_str(alloc, "North Books").ok();
+    let market = market_of(alloc, rows.lines().next().unwrap_or(""));
+    let prices = prices_of(alloc, rows);
+    let ((reference, name), (market, prices)) = reference.zip(name).zip(market.zip(prices))?;
     let supplier = Supplier {
         role,
         party: None,
-        name: Text::from_str(alloc, "North Books")?,
+        name,
     };
-    let reference = Text::from_str(alloc, "R1")?;
-    Ok(Offer {
+    Some(Offer {
         series,
         reference,
         place: 1,
@@ -115,12 +81,12 @@ pub fn offer_of(
 }
 
 /// The question for prices of type 02 in GBP.
-pub fn question(date: &str, country: &str, quantity: &str) -> Result<PriceQuery, Fail> {
-    Ok(PriceQuery {
-        day: day(date)?,
-        country: Country::read(country).ok_or("country")?,
-        currency: currency()?,
-        price_type: code("02")?,
-        quantity: Quantity::read(quantity).ok_or("quantity")?,
+pub fn question(date: &str, country: &str, quantity: &str) -> Option<PriceQuery> {
+    Some(PriceQuery {
+        day: Day::read(date)?,
+        country: Country::read(country)?,
+        currency: Currency::read("GBP")?,
+        price_type: Code2::read("02")?,
+        quantity: Quantity::read(quantity)?,
     })
 }

@@ -1,12 +1,12 @@
-use super::offers::{FOUR_PRICES, offer_of, question};
+use super::offers::{FOUR_PRICES, field, offer_of, question};
+use crate::cases::expect;
 use onix_terms::amount::Amount;
 use price_rules::current::current_price;
 use std::alloc::Global;
-use std::test::Fail;
 
 // An offer's market and prices, and then in each line a day, a country and a quantity with the
 // current price there, empty for none.
-const CASES: [(&str, &str); 5] = [
+const CASES: &[(&str, &str)] = &[
     (
         FOUR_PRICES,
         "20250331,GB,1,
@@ -50,23 +50,19 @@ const CASES: [(&str, &str); 5] = [
 ];
 
 // Whether the offer has the price that the line says.
-fn is_right(alloc: Global, rows: &str, line: &str) -> Result<bool, Fail> {
-    let mut fields = line.split(',');
-    let day = fields.next().unwrap_or("");
-    let country = fields.next().unwrap_or("");
-    let quantity = fields.next().unwrap_or("");
-    let query = question(day, country, quantity)?;
-    let wanted = Amount::read(fields.next().unwrap_or(""));
+fn is_right(alloc: Global, rows: &str, line: &str) -> Option<bool> {
+    let query = question(field(line, 0), field(line, 1), field(line, 2))?;
     let offer = offer_of(alloc, "north", "21", rows)?;
-    Ok(current_price(&offer, &query) == wanted)
+    let found = current_price(&offer, &query);
+    drop(offer);
+    Some(found == Amount::read(field(line, 3)))
 }
 
 #[test]
-fn current_prices(rt: HostRuntime) -> Result<(), Fail> {
+fn current_prices(rt: HostRuntime) {
     for (rows, lines) in CASES {
         for line in lines.lines() {
-            assert!(rt; is_right(rt.alloc(), rows, line)?, "{line}");
+            expect(&rt, is_right(rt.alloc(), rows, line) == Some(true), line);
         }
     }
-    Ok(())
 }

@@ -9,7 +9,7 @@ optional_decimal None = []
 optional_decimal (Some n) = decimal n
 
 -- the numbers of a report, each behind its name
-abbrev pub gap_fields : GapReport → List (List ℕ)
+unfoldable pub gap_fields : GapReport → List (List ℕ)
 gap_fields g =
     codes "gaps"
     ∷ g.series

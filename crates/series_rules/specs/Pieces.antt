@@ -2,17 +2,22 @@
 use Rattle.std.specs.Prelude.{ℕ, Bool, false, List, [], ◌∷◌, ◌||◌, codes, if◌then◌else◌}
 use Rattle.std.specs.Str.{bytes_eq}
 
+-- the names of questions
+abbrev pub is_question_name : List ℕ → Bool
+is_question_name name =
+    bytes_eq name (codes "AskPrice")
+    || bytes_eq name (codes "AskChoice")
+    || bytes_eq name (codes "AskCalendar")
+    || bytes_eq name (codes "AskGaps")
+    || bytes_eq name (codes "AskCatalogue")
+
 -- the names that begin a request
 abbrev pub is_request_name : List ℕ → Bool
 is_request_name name =
     bytes_eq name (codes "Agree")
     || bytes_eq name (codes "Message")
-    || bytes_eq name (codes "AskPrice")
-    || bytes_eq name (codes "AskChoice")
-    || bytes_eq name (codes "AskCalendar")
-    || bytes_eq name (codes "AskGaps")
-    || bytes_eq name (codes "AskCatalogue")
     || bytes_eq name (codes "Waive")
+    || is_question_name name
 
 -- a record begins a request where its first field is one of these names
 abbrev pub begins_request : List (List ℕ) → Bool

@@ -85,17 +85,22 @@ calendar_question_of (isbn ∷ from ∷ to ∷ country ∷ currency ∷ price_ty
   Some (i, q)
 calendar_question_of _ = None
 
--- the request that the fields after a name make
-abbrev pub named_request : List ℕ → List (List ℕ) → Option Request
-named_request name fields =
-    if bytes_eq name (codes "Agree") then option_map request.Agree (agreement_of fields)
-    else if bytes_eq name (codes "Waive") then waiver_of fields
-    else if bytes_eq name (codes "AskPrice") then option_map (λ (i, q). request.AskPrice i q) (price_question_of fields)
+-- the question that the fields after a name ask
+abbrev pub question_of : List ℕ → List (List ℕ) → Option Request
+question_of name fields =
+    if bytes_eq name (codes "AskPrice") then option_map (λ (i, q). request.AskPrice i q) (price_question_of fields)
     else if bytes_eq name (codes "AskChoice") then option_map (λ (i, q). request.AskChoice i q) (price_question_of fields)
     else if bytes_eq name (codes "AskCalendar") then option_map (λ (i, q). request.AskCalendar i q) (calendar_question_of fields)
     else if bytes_eq name (codes "AskGaps") then option_map request.AskGaps (series_of fields)
     else if bytes_eq name (codes "AskCatalogue") then option_map request.AskCatalogue (series_of fields)
     else None
+
+-- the request that the fields after a name make
+abbrev pub named_request : List ℕ → List (List ℕ) → Option Request
+named_request name fields =
+    if bytes_eq name (codes "Agree") then option_map request.Agree (agreement_of fields)
+    else if bytes_eq name (codes "Waive") then waiver_of fields
+    else question_of name fields
 
 -- the request that a record is, unless one of its fields is wrong
 abbrev pub row_request : List (List ℕ) → Option Request

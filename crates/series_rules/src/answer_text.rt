@@ -1,28 +1,61 @@
 // Answers as records and as text.
 
-ghost use Rattle.std.specs.Prelude.{◌≡◌, ◌++◌, ◌∷◌, [], IfOk, codes, map};
+ghost use Rattle.std.specs.Prelude.{◌≡◌, ◌++◌, ◌∷◌, [], IfOk, OnOk, codes, map};
 ghost use Rattle.std.specs.Fmt.{decimal};
 ghost use Rattle.std.specs.String.{string_bytes};
 ghost use Rattle.series_rules.specs.AnswerText.{agree_fields, answer_records, before_first_fields, delivery_fields, effect_fields, is_refused, malformed_fields, text_of, waiver_fields};
 
 use crate::answers::{AgreeAnswer, Answer, DeliveryAnswer, WaiveAnswer};
-use crate::catalogue_text::catalogue_rows;
-use crate::gap_text::gap_rows;
-use crate::price_text::{calendar_rows, choice_row, price_rows};
-use crate::text_rows::{digits, row};
+use crate::catalogue_text::push_catalogue;
+use crate::gap_text::push_gaps;
+use crate::price_text::{choice_row, push_calendars, push_prices};
+use crate::text_rows::{digits, push_labelled, push_number, push_text, row};
 use catalogue_rules::effect::Effect;
 use onix_message::records::{Record, write_records};
 use onix_terms::items::Items;
 use onix_terms::number::Number;
 use onix_terms::series_name::SeriesName;
-use onix_terms::text::Text;
 use std::alloc::{AllocError, Global};
+
+// A refusal that has nothing to add to its reason.
+fn refusal_row(alloc: Global, reason: &str) -> Result<Record, AllocError>
+    ensures { IfOk result (λ r. r ≡ codes "refused" ∷ reason.now ∷ []) }
+{
+    row(alloc, &["refused", reason])
+}
 
 fn malformed_row(alloc: Global, place: u32) -> Result<Record, AllocError>
     ensures { IfOk result (λ r. r ≡ malformed_fields place) }
 {
     let place = digits(alloc, place)?;
     row(alloc, &["refused", "malformed", place.as_str()])
+}
+
+// Adds the name of a series and a number of it.
+fn push_place(
+    alloc: Global,
+    out: &mut Record,
+    series: &SeriesName,
+    number: Number,
+) -> Result<(), AllocError>
+    ensures { OnOk result (out.new ≡ out.old ++ (series.now ∷ decimal number ∷ [])) }
+{
+    push_text(alloc, out, series.as_str())?;
+    push_number(alloc, out, number.value())
+}
+
+// An answer of a word, or of a refusal and its reason, about a number of a series.
+fn numbered_row(
+    alloc: Global,
+    words: &[&str],
+    series: &SeriesName,
+    number: Number,
+) -> Result<Record, AllocError>
+    ensures { IfOk result (λ r. r ≡ map (λ w. w.now) words.now ++ (series.now ∷ decimal number ∷ [])) }
+{
+    let mut out = row(alloc, words)?;
+    push_place(alloc, &mut out, series, number)?;
+    Ok(out)
 }
 
 fn before_first_row(
@@ -33,18 +66,9 @@ fn before_first_row(
 ) -> Result<Record, AllocError>
     ensures { IfOk result (λ r. r ≡ before_first_fields series.now number first) }
 {
-    let number = digits(alloc, number.value())?;
-    let first = digits(alloc, first.value())?;
-    row(
-        alloc,
-        &[
-            "refused",
-            "before-first",
-            series.as_str(),
-            number.as_str(),
-            first.as_str(),
-        ],
-    )
+    let mut out = numbered_row(alloc, &["refused", "before-first"], series, number)?;
+    push_number(alloc, &mut out, first.value())?;
+    Ok(out)
 }
 
 fn agree_row(
@@ -68,7 +92,24 @@ fn agree_row(
     }
 }
 
-// The answer to an applied message: the five counts of its effect, each behind its name.
+// Adds the five counts of an effect, each behind its name.
+fn push_effect(alloc: Global, out: &mut Record, effect: &Effect) -> Result<(), AllocError>
+    ensures { OnOk result (out.new ≡ out.old ++ effect_fields effect.now) }
+{
+    push_labelled(
+        alloc,
+        out,
+        &[
+            ("replaced=", u64::from(effect.replaced)),
+            ("updated=", u64::from(effect.updated)),
+            ("deleted=", u64::from(effect.deleted)),
+            ("unknown=", u64::from(effect.unknown)),
+            ("ignored=", u64::from(effect.ignored)),
+        ],
+    )
+}
+
+// The answer to an applied message.
 fn applied_row(
     alloc: Global,
     series: &SeriesName,
@@ -77,32 +118,9 @@ fn applied_row(
 ) -> Result<Record, AllocError>
     ensures { IfOk result (λ r. r ≡ codes "applied" ∷ series.now ∷ decimal number ∷ effect_fields effect.now) }
 {
-    let Effect {
-        replaced,
-        updated,
-        deleted,
-        unknown,
-        ignored,
-    } = *effect;
-    let number = digits(alloc, number.value())?;
-    let replaced = format!(in alloc; "replaced={replaced}")?;
-    let updated = format!(in alloc; "updated={updated}")?;
-    let deleted = format!(in alloc; "deleted={deleted}")?;
-    let unknown = format!(in alloc; "unknown={unknown}")?;
-    let ignored = format!(in alloc; "ignored={ignored}")?;
-    row(
-        alloc,
-        &[
-            "applied",
-            series.as_str(),
-            number.as_str(),
-            replaced.as_str(),
-            updated.as_str(),
-            deleted.as_str(),
-            unknown.as_str(),
-            ignored.as_str(),
-        ],
-    )
+    let mut out = numbered_row(alloc, &["applied"], series, number)?;
+    push_effect(alloc, &mut out, effect)?;
+    Ok(out)
 }
 
 fn held_row(
@@ -113,26 +131,8 @@ fn held_row(
 ) -> Result<Record, AllocError>
     ensures { IfOk result (λ r. r ≡ codes "held" ∷ series.now ∷ decimal number ∷ (codes "waiting-for=" ++ decimal next) ∷ []) }
 {
-    let number = digits(alloc, number.value())?;
-    let next = format!(in alloc; "waiting-for={next}")?;
-    row(
-        alloc,
-        &["held", series.as_str(), number.as_str(), next.as_str()],
-    )
-}
-
-// An answer of a word, or of a refusal and its reason, about a number of a series.
-fn numbered_row(
-    alloc: Global,
-    words: &[&str],
-    series: &SeriesName,
-    number: Number,
-) -> Result<Record, AllocError>
-    ensures { IfOk result (λ r. r ≡ map (λ w. w.now) words.now ++ (series.now ∷ decimal number ∷ [])) }
-{
-    let mut out = row(alloc, words)?;
-    out.push(Text::from_str(alloc, series.as_str())?)?;
-    out.push(Text::from_string(digits(alloc, number.value())?))?;
+    let mut out = numbered_row(alloc, &["held"], series, number)?;
+    push_labelled(alloc, &mut out, &[("waiting-for=", u64::from(next))])?;
     Ok(out)
 }
 
@@ -141,8 +141,8 @@ fn delivery_row(alloc: Global, answer: &DeliveryAnswer) -> Result<Record, AllocE
 {
     match answer {
         DeliveryAnswer::Malformed { row } => malformed_row(alloc, *row),
-        DeliveryAnswer::Unnumbered => row(alloc, &["refused", "unnumbered"]),
-        DeliveryAnswer::UnknownSeries => row(alloc, &["refused", "unknown-series"]),
+        DeliveryAnswer::Unnumbered => refusal_row(alloc, "unnumbered"),
+        DeliveryAnswer::UnknownSeries => refusal_row(alloc, "unknown-series"),
         DeliveryAnswer::BeforeFirst {
             series,
             number,
@@ -182,46 +182,37 @@ fn waiver_row(
     ensures { IfOk result (λ r. r ≡ waiver_fields series.now number answer.now) }
 {
     match answer {
-        WaiveAnswer::UnknownSeries => row(alloc, &["refused", "unknown-series"]),
+        WaiveAnswer::UnknownSeries => refusal_row(alloc, "unknown-series"),
         WaiveAnswer::BeforeFirst { first } => before_first_row(alloc, series, number, *first),
         WaiveAnswer::Had => numbered_row(alloc, &["refused", "had"], series, number),
         WaiveAnswer::Waived => numbered_row(alloc, &["waived"], series, number),
     }
 }
 
-// A list of one record.
-fn one_row(alloc: Global, row: Record) -> Result<Items<Record>, AllocError>
-    ensures { IfOk result (λ rows. rows ≡ row ∷ []) }
-{
-    let mut rows = Items::new(alloc);
-    rows.push(row)?;
-    Ok(rows)
-}
-
-// The records of an answer.
-fn answer_rows(alloc: Global, answer: &Answer) -> Result<Items<Record>, AllocError>
-    ensures { IfOk result (λ rows. rows ≡ answer_records answer.now) }
+// Adds the records of an answer.
+fn push_answer(alloc: Global, rows: &mut Items<Record>, answer: &Answer) -> Result<(), AllocError>
+    ensures { OnOk result (rows.new ≡ rows.old ++ answer_records answer.now) }
 {
     match answer {
         Answer::Agreement {
             name,
             first,
             answer,
-        } => one_row(alloc, agree_row(alloc, name, *first, answer)?),
-        Answer::Delivery(answer) => one_row(alloc, delivery_row(alloc, answer)?),
+        } => rows.push(agree_row(alloc, name, *first, answer)?),
+        Answer::Delivery(answer) => rows.push(delivery_row(alloc, answer)?),
         Answer::Waiver {
             series,
             number,
             answer,
-        } => one_row(alloc, waiver_row(alloc, series, *number, answer)?),
-        Answer::Price { isbn, offers } => price_rows(alloc, isbn, offers.as_slice()),
-        Answer::Choice { isbn, choice } => one_row(alloc, choice_row(alloc, isbn, choice)?),
-        Answer::Calendar { isbn, offers } => calendar_rows(alloc, isbn, offers.as_slice()),
-        Answer::BadRange => one_row(alloc, row(alloc, &["refused", "bad-range"])?),
-        Answer::Gaps(report) => gap_rows(alloc, report),
-        Answer::Catalogue { series, catalogue } => catalogue_rows(alloc, series, catalogue),
-        Answer::UnknownSeries => one_row(alloc, row(alloc, &["refused", "unknown-series"])?),
-        Answer::Malformed { row } => one_row(alloc, malformed_row(alloc, *row)?),
+        } => rows.push(waiver_row(alloc, series, *number, answer)?),
+        Answer::Price { isbn, offers } => push_prices(alloc, rows, isbn, offers.as_slice()),
+        Answer::Choice { isbn, choice } => rows.push(choice_row(alloc, isbn, choice)?),
+        Answer::Calendar { isbn, offers } => push_calendars(alloc, rows, isbn, offers.as_slice()),
+        Answer::BadRange => rows.push(refusal_row(alloc, "bad-range")?),
+        Answer::Gaps(report) => push_gaps(alloc, rows, report),
+        Answer::Catalogue { series, catalogue } => push_catalogue(alloc, rows, series, catalogue),
+        Answer::UnknownSeries => rows.push(refusal_row(alloc, "unknown-series")?),
+        Answer::Malformed { row } => rows.push(malformed_row(alloc, *row)?),
     }
 }
 
@@ -231,12 +222,13 @@ fn answer_rows(alloc: Global, answer: &Answer) -> Result<Items<Record>, AllocErr
 pub fn write_answer(alloc: Global, answer: &Answer) -> Result<String, AllocError>
     ensures { IfOk result (λ text. string_bytes text ≡ text_of answer.now) }
 {
-    let rows = answer_rows(alloc, answer)?;
+    let mut rows = Items::new(alloc);
+    push_answer(alloc, &mut rows, answer)?;
     write_records(alloc, rows.as_slice())
 }
 
 /// Whether the text of an answer begins with the field `refused`.
-#[tactic(auto, unfolding(crate::specs::AnswerText::is_refused, crate::specs::CatalogueText::catalogue_records, crate::specs::GapText::gap_records, crate::specs::PriceText::price_records, crate::specs::PriceText::calendar_records))]
+#[tactic(auto, unfolding(crate::specs::AnswerText::is_refused, crate::specs::CatalogueText::catalogue_records, crate::specs::GapText::gap_records, crate::specs::GapText::gap_fields, crate::specs::PriceText::price_records, crate::specs::PriceText::calendar_records))]
 pub fn is_refusal(answer: &Answer) -> bool
     ensures { result ≡ is_refused answer.now }
 {

@@ -47,14 +47,14 @@ pub enum BatchFault {
 const LIMIT: usize = 4_194_304;
 
 /// Why the requests of a batch were not read.
-#[derive(Debug, Drop)]
+#[derive(Drop)]
 enum InputFault {
     Read,
     Records(RecordFault),
 }
 
 /// Why one request has no answer that is written.
-#[derive(Debug, Drop)]
+#[derive(Drop)]
 enum RequestFault {
     Store(StoreFault),
     Write,
@@ -132,7 +132,9 @@ fn run_request<D: Desk, W: Write>(
         Err(fault) => return Err(RequestFault::Store(fault)),
     };
     let is_refused = is_refusal(&answer);
-    let Ok(text) = write_answer(alloc, &answer) else {
+    let text = write_answer(alloc, &answer);
+    drop(answer);
+    let Ok(text) = text else {
         return Err(RequestFault::Memory);
     };
     match write_whole(writer, text.as_bytes()) {

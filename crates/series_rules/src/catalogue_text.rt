@@ -50,19 +50,19 @@ fn head_row(alloc: Global, series: &SeriesName, count: usize) -> Result<Record, 
     row(alloc, &["catalogue", series.as_str(), count.as_str()])
 }
 
-/// The records of a catalogue, in order of reference.
+/// Adds the records of a catalogue, in order of reference.
 #[tactic(auto, unfolding(crate::specs::CatalogueText::catalogue_records))]
-pub fn catalogue_rows(
+pub(crate) fn push_catalogue(
     alloc: Global,
+    rows: &mut Items<Record>,
     series: &SeriesName,
     catalogue: &Catalogue,
-) -> Result<Items<Record>, AllocError>
-    ensures { IfOk result (λ rows. rows ≡ catalogue_records series.now catalogue.now) }
+) -> Result<(), AllocError>
+    ensures { OnOk result (rows.new ≡ rows.old ++ catalogue_records series.now catalogue.now) }
 {
-    let mut rows = Items::new(alloc);
     rows.push(head_row(alloc, series, catalogue.len())?)?;
     for (reference, entry) in catalogue.entries() {
-        push_entry(alloc, &mut rows, reference.as_str(), entry)?;
+        push_entry(alloc, rows, reference.as_str(), entry)?;
     }
-    Ok(rows)
+    Ok(())
 }

@@ -1,53 +1,46 @@
 // The records of a report on the gaps of a series.
 
-ghost use Rattle.std.specs.Prelude.{◌≡◌, ◌++◌, IfOk, codes};
-ghost use Rattle.std.specs.String.{string_bytes};
+ghost use Rattle.std.specs.Prelude.{◌≡◌, ◌++◌, ◌∷◌, [], IfOk, OnOk, codes};
 ghost use Rattle.series_rules.specs.GapText.{gap_fields, gap_records, missing_fields, optional_decimal};
 
 use crate::answers::GapReport;
-use crate::text_rows::{digits, row};
+use crate::text_rows::{digits, push_labelled, push_text, row};
 use onix_message::records::Record;
 use onix_terms::items::Items;
 use onix_terms::number::Number;
 use std::alloc::{AllocError, Global};
 
-fn greatest_text(alloc: Global, greatest: Option<Number>) -> Result<String, AllocError>
-    ensures { IfOk result (λ t. string_bytes t ≡ codes "greatest=" ++ optional_decimal greatest) }
+// Adds the greatest number that has something, or nothing behind its name.
+fn push_greatest(
+    alloc: Global,
+    out: &mut Record,
+    greatest: Option<Number>,
+) -> Result<(), AllocError>
+    ensures { OnOk result (out.new ≡ out.old ++ (codes "greatest=" ++ optional_decimal greatest) ∷ []) }
 {
     match greatest {
-        None => String::from_str(alloc, "greatest="),
-        Some(number) => {
-            let number = number.value();
-            format!(in alloc; "greatest={number}")
-        }
+        None => push_text(alloc, out, "greatest="),
+        Some(number) => push_labelled(alloc, out, &[("greatest=", u64::from(number.value()))]),
     }
 }
 
 // The record that begins the answer: the numbers of the report, each behind its name.
+#[tactic(auto, unfolding(crate::specs::GapText::gap_fields))]
 fn head_row(alloc: Global, report: &GapReport) -> Result<Record, AllocError>
     ensures { IfOk result (λ r. r ≡ gap_fields report.now) }
 {
-    let first = report.first.value();
-    let next = report.next;
-    let held = report.held;
-    let missing = report.missing.len();
-    let first = format!(in alloc; "first={first}")?;
-    let next = format!(in alloc; "next={next}")?;
-    let greatest = greatest_text(alloc, report.greatest)?;
-    let held = format!(in alloc; "held={held}")?;
-    let missing = format!(in alloc; "missing={missing}")?;
-    row(
+    let first = u64::from(report.first.value());
+    let next = u64::from(report.next);
+    let missing = report.missing.len() as u64;
+    let mut out = row(alloc, &["gaps", report.series.as_str()])?;
+    push_labelled(alloc, &mut out, &[("first=", first), ("next=", next)])?;
+    push_greatest(alloc, &mut out, report.greatest)?;
+    push_labelled(
         alloc,
-        &[
-            "gaps",
-            report.series.as_str(),
-            first.as_str(),
-            next.as_str(),
-            greatest.as_str(),
-            held.as_str(),
-            missing.as_str(),
-        ],
-    )
+        &mut out,
+        &[("held=", report.held), ("missing=", missing)],
+    )?;
+    Ok(out)
 }
 
 // The record of numbers that are missing.
@@ -59,16 +52,19 @@ fn missing_row(alloc: Global, first: Number, last: Number) -> Result<Record, All
     row(alloc, &["missing", first.as_str(), last.as_str()])
 }
 
-/// The records of a report: its numbers, and then each range of numbers that are missing.
+/// Adds the records of a report: its numbers, and then each range of numbers that are missing.
 #[tactic(auto, unfolding(crate::specs::GapText::gap_records))]
-pub fn gap_rows(alloc: Global, report: &GapReport) -> Result<Items<Record>, AllocError>
-    ensures { IfOk result (λ rows. rows ≡ gap_records report.now) }
+pub(crate) fn push_gaps(
+    alloc: Global,
+    rows: &mut Items<Record>,
+    report: &GapReport,
+) -> Result<(), AllocError>
+    ensures { OnOk result (rows.new ≡ rows.old ++ gap_records report.now) }
 {
-    let mut rows = Items::new(alloc);
     rows.push(head_row(alloc, report)?)?;
     let missing = report.missing.as_slice();
     for range in missing {
         rows.push(missing_row(alloc, range.0, range.1)?)?;
     }
-    Ok(rows)
+    Ok(())
 }

@@ -1,25 +1,29 @@
 // The pieces of a batch.
 
 ghost use Rattle.std.specs.Prelude.{◌≡◌, ◌++◌, IfOk, OnOk};
-ghost use Rattle.series_rules.specs.Pieces.{begins_request, is_request_name, pieces};
+ghost use Rattle.series_rules.specs.Pieces.{begins_request, is_question_name, is_request_name, pieces};
 ghost use Rattle.series_rules.specs.Closed.{closed};
 
 use onix_message::records::Record;
 use onix_terms::items::Items;
 use std::alloc::{AllocError, Global};
 
-// Whether a name begins a request.
-fn is_request(name: &str) -> bool
-    ensures { result ≡ is_request_name name.now }
+// Whether a name is that of a question.
+fn is_question(name: &str) -> bool
+    ensures { result ≡ is_question_name name.now }
 {
-    name == "Agree"
-        || name == "Message"
-        || name == "AskPrice"
+    name == "AskPrice"
         || name == "AskChoice"
         || name == "AskCalendar"
         || name == "AskGaps"
         || name == "AskCatalogue"
-        || name == "Waive"
+}
+
+// Whether a name begins a request.
+fn is_request(name: &str) -> bool
+    ensures { result ≡ is_request_name name.now }
+{
+    name == "Agree" || name == "Message" || name == "Waive" || is_question(name)
 }
 
 // Whether a record begins a request.

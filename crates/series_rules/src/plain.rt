@@ -160,26 +160,32 @@ fn delivered(
         (a ≡ delivery_answer L records.now) × PlainStands kept.new.items (Request.Deliver records.now ∷ L)) }
     ensures err { (L : List Request) → PlainStands kept.old.items L → OnErr result (PlainStands kept.new.items L) }
 {
-    let (header, contents) = match read_message(alloc, records) {
+    let message = match read_message(alloc, records) {
         Ok(message) => message,
         Err(MessageFault::Malformed { row }) => return Ok(DeliveryAnswer::Malformed { row }),
         Err(MessageFault::Memory) => return Err(AllocError),
     };
+    let header = &message.0;
     let Some(number) = header.number else {
+        drop(message);
         return Ok(DeliveryAnswer::Unnumbered);
     };
     let Some(at) = place_between(kept, &header.sender, &header.addressee) else {
+        drop(message);
         return Ok(DeliveryAnswer::UnknownSeries);
     };
     let series = &mut kept[at];
     let first = series.agreement().first;
     if number.value() < first.value() {
+        drop(message);
         return Ok(DeliveryAnswer::BeforeFirst {
             series: series.agreement().name,
             number,
             first,
         });
     }
+    let (header, contents) = message;
+    drop(header);
     Ok(series.deliver(number, contents)?)
 }
 

@@ -1,6 +1,6 @@
 // Answers about the offers of an article.
 
-ghost use Rattle.std.specs.Prelude.{◌≡◌, IfOk, false};
+ghost use Rattle.std.specs.Prelude.{◌≡◌, IfOk, false, slice_get};
 ghost use Rattle.price_rules.specs.Calendar.{is_bad_range};
 ghost use Rattle.series_rules.specs.PriceAnswers.{calendars_of, chosen_by, dated, listed, priced, prices_of};
 
@@ -49,6 +49,18 @@ pub(crate) fn price_offers(
     Ok(priced)
 }
 
+// The offer at that index, where there is one.
+fn offer_at(offers: Items<Offer>, index: usize) -> Option<Offer>
+    ensures { result ≡ slice_get offers index }
+{
+    let mut offers = offers.into_vec();
+    if index < offers.len() {
+        Some(offers.swap_remove(index))
+    } else {
+        None
+    }
+}
+
 /// The offer that the precedence table chooses.
 pub(crate) fn choose_offer(
     precedence: &Precedence,
@@ -58,8 +70,7 @@ pub(crate) fn choose_offer(
     ensures { result ≡ chosen_by precedence.now query.now offers }
 {
     let choice = choose(precedence, offers.as_slice(), query)?;
-    let mut offers = offers.into_vec();
-    let offer = offers.swap_remove(choice.offer_index);
+    let offer = offer_at(offers, choice.offer_index)?;
     Some(ChosenOffer {
         rule: choice.rule,
         offer: into_listed(offer),
@@ -76,11 +87,10 @@ fn date_offer(
     requires { is_bad_range query.now.from query.now.to ≡ false }
     ensures { IfOk result (λ o. o ≡ dated query.now offer) }
 {
-    match calendar(alloc, &offer, query) {
-        Ok(spans) => Ok(OfferCalendar {
-            offer: into_listed(offer),
-            spans,
-        }),
+    let spans = calendar(alloc, &offer, query);
+    let offer = into_listed(offer);
+    match spans {
+        Ok(spans) => Ok(OfferCalendar { offer, spans }),
         Err(CalendarFault::BadRange) => unreachable!(),
         Err(CalendarFault::Memory) => Err(AllocError),
     }

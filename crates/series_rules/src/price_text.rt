@@ -6,7 +6,7 @@ ghost use Rattle.onix_terms.specs.Day.{day_text};
 ghost use Rattle.series_rules.specs.PriceText.{calendar_records, choice_fields, chosen_fields, dated_records, head_fields, listed_fields, optional_amount, price_records, priced_fields, span_fields};
 
 use crate::answers::{ChosenOffer, ListedOffer, OfferCalendar, PricedOffer};
-use crate::text_rows::{digits, row};
+use crate::text_rows::{digits, push_number, push_text, row};
 use onix_message::records::Record;
 use onix_terms::amount::Amount;
 use onix_terms::day::Day;
@@ -42,15 +42,22 @@ fn head_row(alloc: Global, name: &str, isbn: &Isbn13, count: usize) -> Result<Re
     row(alloc, &[name, isbn.as_str(), count.as_str()])
 }
 
+// Adds which offer it is.
+fn push_offer(alloc: Global, out: &mut Record, offer: &ListedOffer) -> Result<(), AllocError>
+    ensures { OnOk result (out.new ≡ out.old ++ listed_fields offer.now) }
+{
+    push_text(alloc, out, offer.series.as_str())?;
+    out.push(offer.reference.copy(alloc)?)?;
+    push_number(alloc, out, offer.place)?;
+    push_text(alloc, out, offer.availability.as_str())
+}
+
 // A record of these fields, and then which offer it is.
 fn offer_row(alloc: Global, fields: &[&str], offer: &ListedOffer) -> Result<Record, AllocError>
     ensures { IfOk result (λ r. r ≡ map (λ f. f.now) fields.now ++ listed_fields offer.now) }
 {
     let mut out = row(alloc, fields)?;
-    out.push(Text::from_str(alloc, offer.series.as_str())?)?;
-    out.push(offer.reference.copy(alloc)?)?;
-    out.push(Text::from_string(digits(alloc, offer.place)?))?;
-    out.push(Text::from_str(alloc, offer.availability.as_str())?)?;
+    push_offer(alloc, &mut out, offer)?;
     Ok(out)
 }
 
@@ -62,21 +69,21 @@ fn priced_row(alloc: Global, priced: &PricedOffer) -> Result<Record, AllocError>
     Ok(out)
 }
 
-/// The records of the offers of an article with their current prices.
+/// Adds the records of the offers of an article with their current prices.
 #[tactic(auto, unfolding(crate::specs::PriceText::price_records))]
-pub(crate) fn price_rows(
+pub(crate) fn push_prices(
     alloc: Global,
+    rows: &mut Items<Record>,
     isbn: &Isbn13,
     offers: &[PricedOffer],
-) -> Result<Items<Record>, AllocError>
-    ensures { IfOk result (λ rows. rows ≡ price_records isbn.now offers.now) }
+) -> Result<(), AllocError>
+    ensures { OnOk result (rows.new ≡ rows.old ++ price_records isbn.now offers.now) }
 {
-    let mut rows = Items::new(alloc);
     rows.push(head_row(alloc, "price", isbn, offers.len())?)?;
     for priced in offers {
         rows.push(priced_row(alloc, priced)?)?;
     }
-    Ok(rows)
+    Ok(())
 }
 
 fn chosen_row(alloc: Global, isbn: &Isbn13, chosen: &ChosenOffer) -> Result<Record, AllocError>
@@ -133,19 +140,19 @@ fn push_calendar(
     Ok(())
 }
 
-/// The records of the offers of an article with their calendars.
+/// Adds the records of the offers of an article with their calendars.
 #[tactic(auto, unfolding(crate::specs::PriceText::calendar_records))]
-pub(crate) fn calendar_rows(
+pub(crate) fn push_calendars(
     alloc: Global,
+    rows: &mut Items<Record>,
     isbn: &Isbn13,
     offers: &[OfferCalendar],
-) -> Result<Items<Record>, AllocError>
-    ensures { IfOk result (λ rows. rows ≡ calendar_records isbn.now offers.now) }
+) -> Result<(), AllocError>
+    ensures { OnOk result (rows.new ≡ rows.old ++ calendar_records isbn.now offers.now) }
 {
-    let mut rows = Items::new(alloc);
     rows.push(head_row(alloc, "calendar", isbn, offers.len())?)?;
     for calendar in offers {
-        push_calendar(alloc, &mut rows, calendar)?;
+        push_calendar(alloc, rows, calendar)?;
     }
-    Ok(rows)
+    Ok(())
 }

@@ -3,7 +3,7 @@
 ghost use Rattle.std.specs.Prelude.{◌≡◌, IfOk, map};
 ghost use Rattle.series_rules.specs.Pieces.{pieces};
 ghost use Rattle.onix_message.specs.Gives.{Gives};
-ghost use Rattle.series_rules.specs.RequestRows.{agreement_from, agreement_of, begins_message, calendar_query_from, calendar_question_of, named_request, price_question_of, quantity_asked, query_from, request_of, row_request, series_of, waiver_of};
+ghost use Rattle.series_rules.specs.RequestRows.{agreement_from, agreement_of, begins_message, calendar_query_from, calendar_question_of, named_request, price_question_of, quantity_asked, question_of, query_from, request_of, row_request, series_of, waiver_of};
 
 use crate::pieces::cut_pieces;
 use crate::requests::Request;
@@ -177,16 +177,10 @@ fn read_calendar_question(fields: &[Text]) -> Result<(Isbn13, CalendarQuery), Ro
     Ok((isbn, query))
 }
 
-// The request that the fields after a name make.
-fn read_named(alloc: Global, name: &str, fields: &[Text]) -> Result<Request, RowFault>
-    ensures { Gives result (named_request name.now fields.now) }
+// The question that the fields after a name ask.
+fn read_question(name: &str, fields: &[Text]) -> Result<Request, RowFault>
+    ensures { Gives result (question_of name.now fields.now) }
 {
-    if name == "Agree" {
-        return Ok(Request::Agree(read_agreement(alloc, fields)?));
-    }
-    if name == "Waive" {
-        return read_waiver(fields);
-    }
     if name == "AskPrice" {
         let (isbn, query) = read_price_question(fields)?;
         return Ok(Request::AskPrice { isbn, query });
@@ -206,6 +200,19 @@ fn read_named(alloc: Global, name: &str, fields: &[Text]) -> Result<Request, Row
         return Ok(Request::AskCatalogue(read_series(fields)?));
     }
     Err(RowFault::Wrong)
+}
+
+// The request that the fields after a name make.
+fn read_named(alloc: Global, name: &str, fields: &[Text]) -> Result<Request, RowFault>
+    ensures { Gives result (named_request name.now fields.now) }
+{
+    if name == "Agree" {
+        return Ok(Request::Agree(read_agreement(alloc, fields)?));
+    }
+    if name == "Waive" {
+        return read_waiver(fields);
+    }
+    read_question(name, fields)
 }
 
 // The request that a record is.

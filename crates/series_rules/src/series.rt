@@ -103,9 +103,14 @@ fn deliver_at(
     ensures err { OnErr result ((n : ℕ) → get nat_cmp numbers.new n ≡ get nat_cmp numbers.old n) }
 {
     match numbers.get(&number) {
-        Some(Had::Waived) => Ok(DeliveryAnswer::Waived { series, number }),
+        Some(Had::Waived) => {
+            drop(contents);
+            Ok(DeliveryAnswer::Waived { series, number })
+        }
         Some(Had::Message(other)) => {
-            if other.is_same(&contents) {
+            let is_same = other.is_same(&contents);
+            drop(contents);
+            if is_same {
                 fold.place(numbers, series, from, number)
             } else {
                 Ok(DeliveryAnswer::OtherContents { series, number })

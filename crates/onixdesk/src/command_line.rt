@@ -28,19 +28,28 @@ pub enum Reading<'a> {
     Memory,
 }
 
-fn command<'a>(alloc: Global) -> Result<Command<'a>, AllocError> {
-    let batch = Command::new(alloc, "batch")
+// The one command, `batch`.
+fn batch<'a>(alloc: Global) -> Command<'a> {
+    Command::new(alloc, "batch")
         .about("Read requests from standard input, write their answers to standard output")
         .long_about(
             "Reads agreements, messages, waivers and questions as CSV records from standard input, up to 4,194,304 bytes of UTF-8, and writes the answer to each, in order, to standard output. The desk is kept in memory and ends with the batch. A precedence table is named before the command: onixdesk --rules FILE batch.",
-        );
-    let rules = Arg::new(alloc, "rules")
+        )
+}
+
+// The option `--rules FILE`.
+fn rules<'a>(alloc: Global) -> Arg<'a> {
+    Arg::new(alloc, "rules")
         .long("rules")
         .value_name("FILE")
         .action(ArgAction::Set)
         .help(
             "Choose among offers by the precedence table of this TOML file; it stands before the command, and without it there are no rules",
-        );
+        )
+}
+
+// The program's words, without its command and option.
+fn program<'a>(alloc: Global) -> Command<'a> {
     Command::new(alloc, "onixdesk")
         .about(
             "The intake of a bookshop's buying desk: numbered ONIX messages in, proved answers out",
@@ -50,8 +59,10 @@ fn command<'a>(alloc: Global) -> Result<Command<'a>, AllocError> {
         )
         .subcommand_required(true)
         .disable_help_subcommand(true)
-        .arg(rules)?
-        .subcommand(batch)
+}
+
+fn command<'a>(alloc: Global) -> Result<Command<'a>, AllocError> {
+    program(alloc).arg(rules(alloc))?.subcommand(batch(alloc))
 }
 
 // What clap could not read as an invocation.

@@ -3,7 +3,6 @@
 mod cases;
 mod inputs;
 
-use self::cases::Case;
 use self::cases::calendars::CALENDARS;
 use self::cases::choices::CHOICES;
 use self::cases::malformed::MALFORMED;
@@ -11,16 +10,22 @@ use self::cases::orders::ORDERS;
 use self::cases::priced::PRICED;
 use self::cases::prices::PRICES;
 use self::cases::questions::QUESTIONS;
-use self::cases::rules_files::RULES_TEXTS;
-use self::inputs::{COMMAND_LINES, INPUTS};
+use self::cases::rules_files::{RULES_TEXTS, RulesText};
+use self::cases::{Case, read_case, read_ruled_case};
+use self::inputs::{COMMAND_LINES, CommandLine, INPUTS, Input};
 use crate::run;
+use onix_message::agreement::StoreFault;
 use onix_message::records::read_records;
+use onix_terms::items::Items;
 use price_rules::precedence::Precedence;
 use series_rules::answer_text::write_answer;
+use series_rules::answers::Answer;
 use series_rules::plain::PlainDesk;
 use series_rules::request_rows::read_requests;
+use series_rules::requests::Request;
 use series_rules::whole::ask_all;
 use std::alloc::{AllocError, Global};
+use std::fmt::Debug;
 use std::fs;
 use std::io::{self, ErrorKind, Read, Write};
 use std::process::Abort;
@@ -34,12 +39,11 @@ struct Ran {
     status: u8,
 }
 
-fn run_on(rt: &HostRuntime, words: &[&str], input: &[u8]) -> Ran {
+fn run_on<R: Read>(rt: &HostRuntime, words: &[&str], input: &mut R) -> Ran {
     let alloc = rt.alloc();
-    let mut input = input;
     let mut output = Vec::new(alloc);
     let mut errors = Vec::new(alloc);
-    let status = run(rt, words, &mut input, &mut output, &mut errors);
+    let status = run(rt, words, input, &mut output, &mut errors);
     Ran {
         output,
         errors,
@@ -47,12 +51,59 @@ fn run_on(rt: &HostRuntime, words: &[&str], input: &[u8]) -> Ran {
     }
 }
 
-fn joined(alloc: Global, texts: &[&str]) -> Result<Vec<u8>, AllocError> {
-    let mut all = Vec::new(alloc);
-    for text in texts {
-        all.extend_from_slice(text.as_bytes())?;
+// A run whose output cannot be written.
+fn run_unwritten<R: Read>(rt: &HostRuntime, words: &[&str], input: &mut R) -> Ran {
+    let alloc = rt.alloc();
+    let mut errors = Vec::new(alloc);
+    let status = run(rt, words, input, &mut Broken, &mut errors);
+    Ran {
+        output: Vec::new(alloc),
+        errors,
+        status,
     }
-    Ok(all)
+}
+
+// Ends the test, with the name of the case, where a value is not the wanted one.
+fn expect<T: PartialEq + Debug + Copy>(
+    stop: &impl Abort,
+    what: &str,
+    name: &str,
+    value: T,
+    wanted: T,
+) {
+    assert_eq!(stop; value, wanted, "{what} of: {name}");
+}
+
+// Ends the test where a run of the case did not write these bytes or end with this status.
+fn expect_run(stop: &impl Abort, name: &str, ran: &Ran, output: &[u8], errors: &[u8], status: u8) {
+    expect(stop, "output", name, ran.output.as_slice(), output);
+    expect(stop, "errors", name, ran.errors.as_slice(), errors);
+    expect(stop, "status", name, ran.status, status);
+}
+
+fn requests_of(alloc: Global, text: &[u8]) -> Result<Items<Request>, Fail> {
+    let records = read_records(alloc, text)?;
+    Ok(read_requests(alloc, records)?)
+}
+
+// The texts of the answers. A fault has none.
+fn texts_of(alloc: Global, outcomes: &[Result<Answer, StoreFault>]) -> Result<Vec<u8>, Fail> {
+    let mut texts = Vec::new(alloc);
+    for outcome in outcomes {
+        if let Ok(answer) = outcome {
+            texts.extend_from_slice(write_answer(alloc, answer)?.as_bytes())?;
+        }
+    }
+    Ok(texts)
+}
+
+// The texts of the answers to the requests of a text, asked one after the other of a desk that
+// goes on after storage faults.
+fn answered(alloc: Global, precedence: &Precedence, text: &[u8]) -> Result<Vec<u8>, Fail> {
+    let requests = requests_of(alloc, text)?;
+    let mut desk = PlainDesk::new(alloc);
+    let outcomes = ask_all(alloc, &mut desk, precedence, requests.as_slice())?;
+    texts_of(alloc, outcomes.as_slice())
 }
 
 // Runs a case as a batch of the program, and as a list of requests that goes on after storage
@@ -64,46 +115,24 @@ fn run_case(
     precedence: &Precedence,
     case: &Case,
 ) -> Result<(), Fail> {
-    let name = case.name;
-    let input = joined(rt.alloc(), case.requests)?;
-    let wanted = joined(rt.alloc(), case.answers)?;
-    let ran = run_on(rt, words, input.as_slice());
-    assert_eq!(stop;
-        ran.output.as_slice(),
-        wanted.as_slice(),
-        "output of: {name}"
-    );
-    assert_eq!(stop; ran.errors.len(), 0, "errors of: {name}");
-    assert_eq!(stop; ran.status, case.status, "status of: {name}");
-    let texts = answered(rt.alloc(), precedence, input.as_slice())?;
-    assert_eq!(stop; texts.as_slice(), wanted.as_slice(), "answers of: {name}");
+    let batch = case.batch.as_bytes();
+    let wanted = case.answers.as_bytes();
+    let texts = answered(rt.alloc(), precedence, batch)?;
+    expect(stop, "answers", case.name, texts.as_slice(), wanted);
+    let ran = run_on(rt, words, &mut case.batch.as_bytes());
+    expect_run(stop, case.name, &ran, wanted, b"", case.status);
     Ok(())
 }
 
 // Runs cases without rules.
-fn run_cases(rt: &HostRuntime, stop: &impl Abort, cases: &[Case]) -> Result<(), Fail> {
+fn run_cases(rt: &HostRuntime, stop: &impl Abort, texts: &[&str]) -> Result<(), Fail> {
     let words = ["onixdesk", "batch"];
     let precedence = Precedence::none(rt.alloc());
-    for case in cases {
-        run_case(rt, stop, words.as_slice(), &precedence, case)?;
+    for text in texts {
+        let case = read_case(text).ok_or("a text that is no case")?;
+        run_case(rt, stop, words.as_slice(), &precedence, &case)?;
     }
     Ok(())
-}
-
-// The texts of the answers to the requests of a text, asked one after the other of a desk that
-// goes on after storage faults. A fault has no text.
-fn answered(alloc: Global, precedence: &Precedence, text: &[u8]) -> Result<Vec<u8>, Fail> {
-    let records = read_records(alloc, text)?;
-    let requests = read_requests(alloc, records)?;
-    let mut desk = PlainDesk::new(alloc);
-    let outcomes = ask_all(alloc, &mut desk, precedence, requests.as_slice())?;
-    let mut texts = Vec::new(alloc);
-    for outcome in outcomes.as_slice() {
-        if let Ok(answer) = outcome {
-            texts.extend_from_slice(write_answer(alloc, answer)?.as_bytes())?;
-        }
-    }
-    Ok(texts)
 }
 
 #[test]
@@ -136,16 +165,45 @@ fn questions_about_calendars(rt: HostRuntime) -> Result<(), Fail> {
     run_cases(&rt, &rt, CALENDARS.as_slice())
 }
 
+// Runs a case under the rules of this file.
+fn run_ruled(rt: &HostRuntime, stop: &impl Abort, file: &str, text: &str) -> Result<(), Fail> {
+    let words = ["onixdesk", "--rules", file, "batch"];
+    let (rules, case) = read_ruled_case(text).ok_or("a text that is no case")?;
+    fs::write(rt, file, rules)?;
+    let precedence = Precedence::read(rt.alloc(), rules)?;
+    run_case(rt, stop, words.as_slice(), &precedence, &case)
+}
+
 #[test]
 fn choices_under_rules(rt: HostRuntime) -> Result<(), Fail> {
     let file = "choices.toml";
-    let words = ["onixdesk", "--rules", file, "batch"];
-    for ruled in CHOICES.as_slice() {
-        fs::write(&rt, file, ruled.rules)?;
-        let precedence = Precedence::read(rt.alloc(), ruled.rules)?;
-        run_case(&rt, &rt, words.as_slice(), &precedence, &ruled.case)?;
+    for text in CHOICES.as_slice() {
+        run_ruled(&rt, &rt, file, text)?;
     }
     fs::remove_file(&rt, file)?;
+    Ok(())
+}
+
+// A text, another so many times, and a last one.
+fn repeated(
+    alloc: Global,
+    before: &[u8],
+    again: &[u8],
+    times: u32,
+    after: &[u8],
+) -> Result<Vec<u8>, AllocError> {
+    let mut all = before.to_vec(alloc)?;
+    for _ in 0..times {
+        all.extend_from_slice(again)?;
+    }
+    all.extend_from_slice(after)?;
+    Ok(all)
+}
+
+// Writes the text of a rules file.
+fn write_rules(rt: &HostRuntime, file: &str, case: &RulesText) -> Result<(), Fail> {
+    let text = repeated(rt.alloc(), b"", case.again, case.times, case.after)?;
+    fs::write(rt, file, text.as_slice())?;
     Ok(())
 }
 
@@ -154,75 +212,64 @@ fn rules_files(rt: HostRuntime) -> Result<(), Fail> {
     let file = "rules.toml";
     let words = ["onixdesk", "--rules", file, "batch"];
     for case in RULES_TEXTS.as_slice() {
-        let name = case.name;
-        let mut text = Vec::new(rt.alloc());
-        for _ in 0..case.times {
-            text.extend_from_slice(case.again)?;
-        }
-        text.extend_from_slice(case.after)?;
-        fs::write(&rt, file, text.as_slice())?;
-        let ran = run_on(&rt, words.as_slice(), b"".as_slice());
-        assert_eq!(rt; ran.output.len(), 0, "output of: {name}");
-        assert_eq!(rt; ran.errors.as_slice(), case.errors, "errors of: {name}");
-        assert_eq!(rt; ran.status, case.status, "status of: {name}");
+        write_rules(&rt, file, case)?;
+        let ran = run_on(&rt, words.as_slice(), &mut b"".as_slice());
+        expect_run(&rt, case.name, &ran, b"", case.errors, case.status);
     }
     fs::remove_file(&rt, file)?;
     Ok(())
 }
 
 // After a fault of the rules file nothing is read from the input and nothing is written.
+fn expect_rules_fault(rt: &HostRuntime, stop: &impl Abort, file: &str, wanted: &str) {
+    let words = ["onixdesk", "--rules", file, "batch"];
+    let ran = run_unwritten(rt, words.as_slice(), &mut Broken);
+    expect_run(stop, file, &ran, b"", wanted.as_bytes(), 2);
+}
+
 #[test]
 fn rules_come_before_the_input(rt: HostRuntime) -> Result<(), Fail> {
     fs::write(&rt, "bad.toml", "rule = ")?;
-    for (file, wanted) in [
-        ("absent.toml", "onixdesk: file: absent.toml\n"),
-        (".", "onixdesk: file: .\n"),
-        ("bad.toml", "onixdesk: rules: not TOML\n"),
-    ] {
-        let words = ["onixdesk", "--rules", file, "batch"];
-        let mut errors = Vec::new(rt.alloc());
-        let status = run(&rt, words.as_slice(), &mut Broken, &mut Broken, &mut errors);
-        assert_eq!(rt; status, 2, "status of: {file}");
-        assert_eq!(rt; errors.as_slice(), wanted.as_bytes(), "errors of: {file}");
-    }
+    expect_rules_fault(&rt, &rt, "absent.toml", "onixdesk: file: absent.toml\n");
+    expect_rules_fault(&rt, &rt, ".", "onixdesk: file: .\n");
+    expect_rules_fault(&rt, &rt, "bad.toml", "onixdesk: rules: not TOML\n");
     fs::remove_file(&rt, "bad.toml")?;
+    Ok(())
+}
+
+fn run_input(rt: &HostRuntime, stop: &impl Abort, case: &Input) -> Result<(), AllocError> {
+    let words = ["onixdesk", "batch"];
+    let input = repeated(rt.alloc(), case.before, case.again, case.times, case.after)?;
+    let ran = run_on(rt, words.as_slice(), &mut input.as_slice());
+    expect_run(stop, case.name, &ran, case.output, case.errors, case.status);
     Ok(())
 }
 
 #[test]
 fn long_and_bad_inputs(rt: HostRuntime) -> Result<(), Fail> {
-    let words = ["onixdesk", "batch"];
     for case in INPUTS.as_slice() {
-        let name = case.name;
-        let mut input = case.before.to_vec(rt.alloc())?;
-        for _ in 0..case.times {
-            input.extend_from_slice(case.again)?;
-        }
-        input.extend_from_slice(case.after)?;
-        let ran = run_on(&rt, words.as_slice(), input.as_slice());
-        assert_eq!(rt; ran.output.as_slice(), case.output, "output of: {name}");
-        assert_eq!(rt; ran.errors.as_slice(), case.errors, "errors of: {name}");
-        assert_eq!(rt; ran.status, case.status, "status of: {name}");
+        run_input(&rt, &rt, case)?;
     }
     Ok(())
 }
 
+// Ends the test where a run of the case did not end with its status, or wrote to another place.
+fn expect_command_line(stop: &impl Abort, case: &CommandLine, ran: &Ran) {
+    let name = case.name;
+    let errors = ran.errors.as_slice();
+    let is_own = errors.starts_with(b"onixdesk: ".as_slice());
+    expect(stop, "status", name, ran.status, case.status);
+    expect(stop, "output", name, ran.output.is_empty(), !case.prints);
+    expect(stop, "errors", name, errors.is_empty(), case.status == 0);
+    expect(stop, "words", name, is_own, false);
+}
+
 #[test]
-fn command_lines(rt: HostRuntime) -> Result<(), Fail> {
+fn command_lines(rt: HostRuntime) {
     for case in COMMAND_LINES.as_slice() {
-        let name = case.name;
-        let ran = run_on(&rt, case.words, b"".as_slice());
-        assert_eq!(rt; ran.status, case.status, "status of: {name}");
-        assert_eq!(rt; ran.output.is_empty(), !case.prints, "output of: {name}");
-        assert_eq!(rt;
-            ran.errors.is_empty(),
-            case.status == 0,
-            "errors of: {name}"
-        );
-        let is_own = ran.errors.starts_with(b"onixdesk: ".as_slice());
-        assert!(rt; !is_own, "words of: {name}");
+        let ran = run_on(&rt, case.words, &mut b"".as_slice());
+        expect_command_line(&rt, case, &ran);
     }
-    Ok(())
 }
 
 // An input that cannot be read, and an output that cannot be written.
@@ -246,18 +293,10 @@ impl Write for Broken {
 }
 
 #[test]
-fn broken_input_and_output(rt: HostRuntime) -> Result<(), Fail> {
+fn broken_input_and_output(rt: HostRuntime) {
     let words = ["onixdesk", "batch"];
-    let mut output = Vec::new(rt.alloc());
-    let mut errors = Vec::new(rt.alloc());
-    let status = run(&rt, words.as_slice(), &mut Broken, &mut output, &mut errors);
-    assert_eq!(rt; status, 3);
-    assert_eq!(rt; output.len(), 0);
-    assert_eq!(rt; errors.as_slice(), b"onixdesk: input: read\n".as_slice());
-    let mut input = b"Foo,1\n".as_slice();
-    let mut errors = Vec::new(rt.alloc());
-    let status = run(&rt, words.as_slice(), &mut input, &mut Broken, &mut errors);
-    assert_eq!(rt; status, 3);
-    assert_eq!(rt; errors.as_slice(), b"onixdesk: output\n".as_slice());
-    Ok(())
+    let ran = run_on(&rt, words.as_slice(), &mut Broken);
+    expect_run(&rt, "no input", &ran, b"", b"onixdesk: input: read\n", 3);
+    let ran = run_unwritten(&rt, words.as_slice(), &mut b"Foo,1\n".as_slice());
+    expect_run(&rt, "no output", &ran, b"", b"onixdesk: output\n", 3);
 }

@@ -1,161 +1,172 @@
 // Pieces and messages that are malformed.
 
-use super::{AGREE, AGREED, Case};
-
-pub static MALFORMED: [Case; 15] = [
-    Case {
-        name: "a message without its last line",
-        requests: &[
-            AGREE,
-            "Message,1,06,4012345000009,06,5012345678900,1,1,20250301,,\nProduct,R1,03,15,9781234567897\nProductSupply,GB IE,,\nSupplyDetail,04,06,4012345000009,North Books,21,\n",
-        ],
-        answers: &[AGREED, "refused,malformed,5\n"],
-        status: 1,
-    },
-    Case {
-        name: "a message cut in a field",
-        requests: &[
-            AGREE,
-            "Message,1,06,4012345000009,06,5012345678900,1,1,20250301,,\nProduct,\"R1",
-        ],
-        answers: &[AGREED, "refused,malformed,2\n"],
-        status: 1,
-    },
-    Case {
-        name: "a wrong count at the end",
-        requests: &[
-            AGREE,
-            "Message,1,06,4012345000009,06,5012345678900,1,1,20250301,,\nProduct,R1,03,15,9781234567897\nProductSupply,GB IE,,\nSupplyDetail,04,06,4012345000009,North Books,21,\nEndMessage,3\n",
-        ],
-        answers: &[AGREED, "refused,malformed,5\n"],
-        status: 1,
-    },
-    Case {
-        name: "a row after the end",
-        requests: &[
-            AGREE,
-            "Message,1,06,4012345000009,06,5012345678900,1,1,20250301,,\nProduct,R1,03,15,9781234567897\nProductSupply,GB IE,,\nSupplyDetail,04,06,4012345000009,North Books,21,\nEndMessage,4\nSupplyDetail,04,06,4012345000009,North Books,21,\n",
-        ],
-        answers: &[AGREED, "refused,malformed,6\n"],
-        status: 1,
-    },
-    Case {
-        name: "a supply without a detail",
-        requests: &[
-            AGREE,
-            "Message,1,06,4012345000009,06,5012345678900,1,1,20250301,,\nProduct,R1,03,15,9781234567897\nProductSupply,GB IE,,\nEndMessage,3\n",
-        ],
-        answers: &[AGREED, "refused,malformed,4\n"],
-        status: 1,
-    },
-    Case {
-        name: "a control character in a field",
-        requests: &[
-            AGREE,
-            "Message,1,06,4012345000009,06,5012345678900,1,1,20250301,,\nProduct,R\t1,03,15,9781234567897\n",
-        ],
-        answers: &[AGREED, "refused,malformed,2\n"],
-        status: 1,
-    },
-    Case {
-        name: "one record that is no request",
-        requests: &["Foo,1\n"],
-        answers: &["refused,malformed,1\n"],
-        status: 1,
-    },
-    Case {
-        name: "a record after a request",
-        requests: &[AGREE, "Foo,1\n"],
-        answers: &["refused,malformed,2\n"],
-        status: 1,
-    },
-    Case {
-        name: "an agreement with a name outside its grammar",
-        requests: &["Agree,North,06,4012345000009,06,5012345678900,1\n"],
-        answers: &["refused,malformed,1\n"],
-        status: 1,
-    },
-    Case {
-        name: "a message with a price without its last line",
-        requests: &[
-            AGREE,
-            "Message,1,06,4012345000009,06,5012345678900,1,1,20250301,02,GBP\nProduct,R1,03,15,9781234567897\nProductSupply,GB IE,,\nSupplyDetail,04,06,4012345000009,North Books,21,\nPrice,,1,,,,,,\n",
-        ],
-        answers: &[AGREED, "refused,malformed,6\n"],
-        status: 1,
-    },
-    Case {
-        name: "a wrong count after a price",
-        requests: &[
-            AGREE,
-            "Message,1,06,4012345000009,06,5012345678900,1,1,20250301,02,GBP\nProduct,R1,03,15,9781234567897\nProductSupply,GB IE,,\nSupplyDetail,04,06,4012345000009,North Books,21,\nPrice,,1,,,,,,\nEndMessage,4\n",
-        ],
-        answers: &[AGREED, "refused,malformed,6\n"],
-        status: 1,
-    },
-    Case {
-        name: "a price after the end",
-        requests: &[
-            AGREE,
-            "Message,1,06,4012345000009,06,5012345678900,1,1,20250301,02,GBP\nProduct,R1,03,15,9781234567897\nProductSupply,GB IE,,\nSupplyDetail,04,06,4012345000009,North Books,21,\nPrice,,1,,,,,,\nEndMessage,5\nPrice,,1,,,,,,\n",
-        ],
-        answers: &[AGREED, "refused,malformed,7\n"],
-        status: 1,
-    },
-    Case {
-        name: "a price under no supply detail",
-        requests: &[
-            AGREE,
-            "Message,1,06,4012345000009,06,5012345678900,1,1,20250301,02,GBP\nProduct,R1,03,15,9781234567897\nProductSupply,GB IE,,\nPrice,,1,,,,,,\nEndMessage,4\n",
-        ],
-        answers: &[AGREED, "refused,malformed,4\n"],
-        status: 1,
-    },
-    Case {
-        name: "a price without a type and a currency anywhere",
-        requests: &[
-            AGREE,
-            "Message,1,06,4012345000009,06,5012345678900,1,1,20250301,,\nProduct,R1,03,15,9781234567897\nProductSupply,GB IE,,\nSupplyDetail,04,06,4012345000009,North Books,21,\nPrice,,1,,,,,,\nEndMessage,5\n",
-        ],
-        answers: &[AGREED, "refused,malformed,5\n"],
-        status: 1,
-    },
-    Case {
-        name: "questions outside their grammar, and one with a record after it",
-        requests: &[
-            "AskPrice,9781234567897,20250301,GB,GBP\n",
-            "AskPrice,9781234567897,20250301,GB,GBP,02,\n",
-            "AskPrice,9781234567897,20250301,GB,GBP,02,1000000\n",
-            "AskPrice,9781234567897,20250301,GB,GBP,02,1,1\n",
-            "AskPrice,978123456789,20250301,GB,GBP,02\n",
-            "AskPrice,9781234567897,20230229,GB,GBP,02\n",
-            "AskPrice,9781234567897,00000101,GB,GBP,02\n",
-            "AskChoice,9781234567897,20250301,gb,GBP,02\n",
-            "AskChoice,9781234567897,20250301,GB,GB,02\n",
-            "AskCalendar,9781234567897,20250301,20250302,GB,GBP,2\n",
-            "AskCalendar,9781234567897,20250301,GB,GBP,02\n",
-            "AskCalendar,9781234567897,20250301,20250302,GB,GBP,02,\n",
-            "AskGaps,north,1\n",
-            "AskCatalogue,North\n",
-            "AskPrice,9781234567897,20250301,GB,GBP,02\nFoo,1\n",
-        ],
-        answers: &[
-            "refused,malformed,1\n",
-            "refused,malformed,1\n",
-            "refused,malformed,1\n",
-            "refused,malformed,1\n",
-            "refused,malformed,1\n",
-            "refused,malformed,1\n",
-            "refused,malformed,1\n",
-            "refused,malformed,1\n",
-            "refused,malformed,1\n",
-            "refused,malformed,1\n",
-            "refused,malformed,1\n",
-            "refused,malformed,1\n",
-            "refused,malformed,1\n",
-            "refused,malformed,1\n",
-            "refused,malformed,2\n",
-        ],
-        status: 1,
-    },
+pub const MALFORMED: [&str; 15] = [
+    "a message without its last line
+Agree,north,06,4012345000009,06,5012345678900,1
+Message,1,06,4012345000009,06,5012345678900,1,1,20250301,,
+Product,R1,03,15,9781234567897
+ProductSupply,GB IE,,
+SupplyDetail,04,06,4012345000009,North Books,21,
+-- status 1
+agreed,north,1
+refused,malformed,5
+",
+    // This batch ends within its last line.
+    "a message cut in a field
+Agree,north,06,4012345000009,06,5012345678900,1
+Message,1,06,4012345000009,06,5012345678900,1,1,20250301,,
+Product,\"R1-- status 1
+agreed,north,1
+refused,malformed,2
+",
+    "a wrong count at the end
+Agree,north,06,4012345000009,06,5012345678900,1
+Message,1,06,4012345000009,06,5012345678900,1,1,20250301,,
+Product,R1,03,15,9781234567897
+ProductSupply,GB IE,,
+SupplyDetail,04,06,4012345000009,North Books,21,
+EndMessage,3
+-- status 1
+agreed,north,1
+refused,malformed,5
+",
+    "a row after the end
+Agree,north,06,4012345000009,06,5012345678900,1
+Message,1,06,4012345000009,06,5012345678900,1,1,20250301,,
+Product,R1,03,15,9781234567897
+ProductSupply,GB IE,,
+SupplyDetail,04,06,4012345000009,North Books,21,
+EndMessage,4
+SupplyDetail,04,06,4012345000009,North Books,21,
+-- status 1
+agreed,north,1
+refused,malformed,6
+",
+    "a supply without a detail
+Agree,north,06,4012345000009,06,5012345678900,1
+Message,1,06,4012345000009,06,5012345678900,1,1,20250301,,
+Product,R1,03,15,9781234567897
+ProductSupply,GB IE,,
+EndMessage,3
+-- status 1
+agreed,north,1
+refused,malformed,4
+",
+    "a control character in a field
+Agree,north,06,4012345000009,06,5012345678900,1
+Message,1,06,4012345000009,06,5012345678900,1,1,20250301,,
+Product,R\t1,03,15,9781234567897
+-- status 1
+agreed,north,1
+refused,malformed,2
+",
+    "one record that is no request
+Foo,1
+-- status 1
+refused,malformed,1
+",
+    "a record after a request
+Agree,north,06,4012345000009,06,5012345678900,1
+Foo,1
+-- status 1
+refused,malformed,2
+",
+    "an agreement with a name outside its grammar
+Agree,North,06,4012345000009,06,5012345678900,1
+-- status 1
+refused,malformed,1
+",
+    "a message with a price without its last line
+Agree,north,06,4012345000009,06,5012345678900,1
+Message,1,06,4012345000009,06,5012345678900,1,1,20250301,02,GBP
+Product,R1,03,15,9781234567897
+ProductSupply,GB IE,,
+SupplyDetail,04,06,4012345000009,North Books,21,
+Price,,1,,,,,,
+-- status 1
+agreed,north,1
+refused,malformed,6
+",
+    "a wrong count after a price
+Agree,north,06,4012345000009,06,5012345678900,1
+Message,1,06,4012345000009,06,5012345678900,1,1,20250301,02,GBP
+Product,R1,03,15,9781234567897
+ProductSupply,GB IE,,
+SupplyDetail,04,06,4012345000009,North Books,21,
+Price,,1,,,,,,
+EndMessage,4
+-- status 1
+agreed,north,1
+refused,malformed,6
+",
+    "a price after the end
+Agree,north,06,4012345000009,06,5012345678900,1
+Message,1,06,4012345000009,06,5012345678900,1,1,20250301,02,GBP
+Product,R1,03,15,9781234567897
+ProductSupply,GB IE,,
+SupplyDetail,04,06,4012345000009,North Books,21,
+Price,,1,,,,,,
+EndMessage,5
+Price,,1,,,,,,
+-- status 1
+agreed,north,1
+refused,malformed,7
+",
+    "a price under no supply detail
+Agree,north,06,4012345000009,06,5012345678900,1
+Message,1,06,4012345000009,06,5012345678900,1,1,20250301,02,GBP
+Product,R1,03,15,9781234567897
+ProductSupply,GB IE,,
+Price,,1,,,,,,
+EndMessage,4
+-- status 1
+agreed,north,1
+refused,malformed,4
+",
+    "a price without a type and a currency anywhere
+Agree,north,06,4012345000009,06,5012345678900,1
+Message,1,06,4012345000009,06,5012345678900,1,1,20250301,,
+Product,R1,03,15,9781234567897
+ProductSupply,GB IE,,
+SupplyDetail,04,06,4012345000009,North Books,21,
+Price,,1,,,,,,
+EndMessage,5
+-- status 1
+agreed,north,1
+refused,malformed,5
+",
+    "questions outside their grammar, and one with a record after it
+AskPrice,9781234567897,20250301,GB,GBP
+AskPrice,9781234567897,20250301,GB,GBP,02,
+AskPrice,9781234567897,20250301,GB,GBP,02,1000000
+AskPrice,9781234567897,20250301,GB,GBP,02,1,1
+AskPrice,978123456789,20250301,GB,GBP,02
+AskPrice,9781234567897,20230229,GB,GBP,02
+AskPrice,9781234567897,00000101,GB,GBP,02
+AskChoice,9781234567897,20250301,gb,GBP,02
+AskChoice,9781234567897,20250301,GB,GB,02
+AskCalendar,9781234567897,20250301,20250302,GB,GBP,2
+AskCalendar,9781234567897,20250301,GB,GBP,02
+AskCalendar,9781234567897,20250301,20250302,GB,GBP,02,
+AskGaps,north,1
+AskCatalogue,North
+AskPrice,9781234567897,20250301,GB,GBP,02
+Foo,1
+-- status 1
+refused,malformed,1
+refused,malformed,1
+refused,malformed,1
+refused,malformed,1
+refused,malformed,1
+refused,malformed,1
+refused,malformed,1
+refused,malformed,1
+refused,malformed,1
+refused,malformed,1
+refused,malformed,1
+refused,malformed,1
+refused,malformed,1
+refused,malformed,1
+refused,malformed,2
+",
 ];

@@ -2,8 +2,8 @@
 
 use crate::texts::small_messages;
 use crate::times::{print_ratio, used};
+use desk_batch::batch::run_batch;
 use price_rules::precedence::Precedence;
-use series_rules::batch::run_batch;
 use series_rules::plain::PlainDesk;
 
 // The time of a batch of so many messages, in microseconds.

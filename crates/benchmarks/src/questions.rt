@@ -2,9 +2,9 @@
 
 use crate::texts::{large_catalogue, repeated};
 use crate::times::{print_ratio, used};
+use desk_batch::batch::run_batch;
 use onix_terms::series_name::SeriesName;
 use price_rules::precedence::Precedence;
-use series_rules::batch::run_batch;
 use series_rules::desk::Desk;
 use series_rules::plain::PlainDesk;
 

@@ -3,9 +3,9 @@
 use crate::texts::messages;
 use crate::times::{print_ratio, used};
 use csv::{ByteRecord, ReaderBuilder};
+use desk_batch::pieces::cut_pieces;
 use onix_message::message::read_message;
 use onix_message::records::read_records;
-use series_rules::pieces::cut_pieces;
 use std::alloc::Global;
 use std::fs;
 use std::rt::Files;

@@ -3,10 +3,10 @@ use Rattle.std.proofs.Common.{◌≡◌, ◌-◌, ℕ, zero, suc, List, [], ◌�
 use Rattle.std.proofs.lemmas.List.{append_assoc}
 use Rattle.price_rules.specs.declared.precedence.Rule.{Rule}
 use Rattle.series_rules.specs.Answers.{answer_to}
-use Rattle.series_rules.specs.AnswerText.{text_of}
-use Rattle.series_rules.specs.Batch.{BatchFits, output, requests_of}
-use Rattle.series_rules.specs.declared.batch.BatchFault.{BatchFault}
-use Rattle.series_rules.specs.declared.batch.BatchFault.TheVariants as fault
+use Rattle.desk_batch.specs.AnswerText.{text_of}
+use Rattle.desk_batch.specs.Batch.{BatchFits, output, requests_of}
+use Rattle.desk_batch.specs.declared.batch.BatchFault.{BatchFault}
+use Rattle.desk_batch.specs.declared.batch.BatchFault.TheVariants as fault
 use Rattle.series_rules.specs.declared.requests.Request.{Request}
 
 -- the answers to the first requests begin the answers to all

@@ -5,7 +5,7 @@ use Rattle.std.proofs.lemmas.List.{length-take, take_all}
 use Rattle.std.specs.Prelude.{Option, Some, None, Result, Ok, Err, IfSome, option_map}
 use Rattle.price_rules.specs.declared.precedence.PrecedenceFault.TheVariants as fault
 use Rattle.price_rules.specs.declared.precedence.Rule.{Rule}
-use Rattle.series_rules.specs.Batch.{IsTold, limit}
+use Rattle.desk_batch.specs.Batch.{IsTold, limit}
 use Rattle.onixdesk.specs.declared.rules.RulesFault.{RulesFault}
 use Rattle.onixdesk.specs.declared.rules.RulesFault.TheVariants as rules_fault
 use Rattle.onixdesk.specs.RulesFile.{RulesFit}

@@ -1,7 +1,7 @@
 -- How the command `batch` ends.
 use Rattle.std.specs.Prelude.{◌≡◌, ◌⊎◌, ◌++◌, ℕ, List, [], nat_eq, if◌then◌else◌}
 use Rattle.price_rules.specs.declared.precedence.Rule.{Rule}
-use Rattle.series_rules.specs.Batch.{output, refusals, requests_of}
+use Rattle.desk_batch.specs.Batch.{output, refusals, requests_of}
 
 -- the status of a batch that was answered to its end: whether an answer is a refusal
 abbrev pub answered_status : List Rule → List ℕ → ℕ

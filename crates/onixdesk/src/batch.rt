@@ -2,12 +2,12 @@
 
 ghost use Rattle.std.specs.Prelude.{◌≤◌, ℕ, List, []};
 ghost use Rattle.std.specs.Io.KnownBytes.{Appends};
-ghost use Rattle.series_rules.specs.Batch.{IsTold};
+ghost use Rattle.desk_batch.specs.Batch.{IsTold};
 ghost use Rattle.onixdesk.specs.Ends.{Ends};
 
 use crate::fault::{Fault, report};
+use desk_batch::batch::{BatchFault, run_batch};
 use price_rules::precedence::Precedence;
-use series_rules::batch::{BatchFault, run_batch};
 use series_rules::desk::Desk;
 use series_rules::plain::PlainDesk;
 use std::alloc::Global;

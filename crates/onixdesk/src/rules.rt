@@ -1,7 +1,7 @@
 // The precedence table of the shop, from the file that `--rules` names.
 
 ghost use Rattle.std.specs.Prelude.{◌≡◌, ℕ, List, Err};
-ghost use Rattle.series_rules.specs.Batch.{IsTold};
+ghost use Rattle.desk_batch.specs.Batch.{IsTold};
 ghost use Rattle.onixdesk.specs.RulesFile.{RulesFit, status_of};
 
 use crate::fault::{Fault, report};

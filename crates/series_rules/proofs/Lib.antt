@@ -1,4 +1,3 @@
-pub mod PieceLists
 pub mod Questions
 pub mod Apart
 pub mod Fronts
@@ -6,8 +5,6 @@ pub mod OfferLists
 pub mod Greatest
 pub mod LawProofs
 pub mod PriceLaws
-pub mod Runs
-pub mod Bytes
 pub mod Walks
 pub mod EqualContents
 pub mod Numbers

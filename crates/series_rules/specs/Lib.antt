@@ -1,6 +1,3 @@
-pub mod Pieces
-pub mod Closed
-pub mod RequestRows
 pub mod Agreements
 pub mod Firsts
 pub mod Series
@@ -9,14 +6,8 @@ pub mod Offers
 pub mod PriceAnswers
 pub mod Answers
 pub mod Content
-pub mod GapText
-pub mod PriceText
-pub mod CatalogueText
-pub mod AnswerText
 pub mod Laws
 pub mod PriceLaws
-pub mod Batch
-pub mod BatchSteps
 pub mod Folded
 pub mod KeptSeries
 pub mod Plain

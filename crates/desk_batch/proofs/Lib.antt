@@ -1,0 +1,3 @@
+pub mod PieceLists
+pub mod Runs
+pub mod Bytes

@@ -1,0 +1,205 @@
+// Batches: the requests of a text, answered one after the other.
+
+ghost use Rattle.std.specs.Prelude.{◌≡◌, ◌≤◌, ◌++◌, ℕ, List, IfOk, OnOk, OnErr, IfErr, length, if◌then◌else◌};
+ghost use Rattle.std.specs.Io.KnownBytes.{Appends};
+ghost use Rattle.desk_batch.specs.Batch.{BatchFits, IsTold, RunFits, limit};
+ghost use Rattle.desk_batch.specs.BatchSteps.{InputFits, RequestFits, RequestsFit};
+ghost use Rattle.desk_batch.specs.BatchFaults.{IsBatchFaultOf, IsRequestFaultOf};
+ghost use Rattle.series_rules.specs.declared.requests.Request.{Request};
+
+use crate::answer_text::{is_refusal, write_answer};
+use crate::request_rows::read_requests;
+use onix_message::agreement::StoreFault;
+use onix_message::records::{RecordFault, read_records};
+use onix_terms::items::Items;
+use price_rules::precedence::Precedence;
+use series_rules::asking::answer;
+use series_rules::desk::Desk;
+use series_rules::requests::Request;
+use std::alloc::Global;
+use std::io::{Read, Write};
+use thiserror::Error;
+
+/// Why a batch was not answered to its end.
+#[derive(Debug, Drop, Error)]
+pub enum BatchFault {
+    /// The text has no records, or memory ran out before its requests were made. Nothing was asked
+    /// of the desk.
+    #[error("the batch has no records: {0:?}")]
+    Records(RecordFault),
+    /// The desk's store failed. The first `done` requests have taken effect and are answered.
+    #[error("the store failed after {done} requests: {fault:?}")]
+    Store { done: u64, fault: StoreFault },
+    /// A read failed. Nothing was asked of the desk.
+    #[error("the batch cannot be read")]
+    Read,
+    /// A write failed or took nothing. The first `done` requests have taken effect, and what was
+    /// written is a part of their answers, from the first on.
+    #[error("the answers cannot be written after {done} requests")]
+    Write { done: u64 },
+    /// Memory ran out for the answer of request `done`, counted from 1. The first `done` requests
+    /// have taken effect, and all answers before this one are written.
+    #[error("out of memory at the answer of request {done}")]
+    Memory { done: u64 },
+}
+
+/// The longest text of a batch, in bytes.
+const LIMIT: usize = 4_194_304;
+
+/// Why the requests of a batch were not read.
+#[derive(Drop)]
+enum InputFault {
+    Read,
+    Records(RecordFault),
+}
+
+/// Why one request has no answer that is written.
+#[derive(Drop)]
+enum RequestFault {
+    Store(StoreFault),
+    Write,
+    Memory,
+}
+
+// Reads to the end, or to one byte past the limit.
+fn read_input<R: Read>(alloc: Global, reader: &mut R) -> Result<Vec<u8>, InputFault>
+    ensures ok { IfOk result (λ bytes. (length bytes.items ≤ limit) × IsTold (R.remaining reader.old) bytes.items) }
+    ensures err { IfErr result (λ f. (text : List ℕ) × IsTold (R.remaining reader.old) text × InputFits text f) }
+{
+    let mut bytes = Vec::new(alloc);
+    let mut chunk = [0u8; 4096];
+    'reading: while bytes.len() <= LIMIT {
+        let room = (LIMIT + 1 - bytes.len()).min(4096);
+        match reader.read(&mut chunk[..room]) {
+            Ok(0) => return Ok(bytes),
+            Ok(n) => {
+                if bytes.extend_from_slice(&chunk[..n]).is_err() {
+                    return Err(InputFault::Records(RecordFault::Memory));
+                }
+            }
+            Err(_) => return Err(InputFault::Read),
+        }
+    }
+    Err(InputFault::Records(RecordFault::TooLarge))
+}
+
+// Reads the requests of a batch, of which neither the bytes nor the records are kept.
+fn read_batch<R: Read>(alloc: Global, reader: &mut R) -> Result<Items<Request>, InputFault>
+    ensures { (text : List ℕ) × IsTold (R.remaining reader.old) text × RequestsFit text result }
+{
+    let bytes = read_input(alloc, reader)?;
+    let records = match read_records(alloc, bytes.as_slice()) {
+        Ok(records) => records,
+        Err(fault) => return Err(InputFault::Records(fault)),
+    };
+    match read_requests(alloc, records) {
+        Ok(requests) => Ok(requests),
+        Err(_) => Err(InputFault::Records(RecordFault::Memory)),
+    }
+}
+
+// Writes all of the bytes, or a part of them.
+fn write_whole<W: Write>(writer: &mut W, bytes: &[u8]) -> Result<(), ()>
+    ensures ok { OnOk result (Appends (W.contents writer.old) (W.contents writer.new) bytes.now) }
+    ensures err { OnErr result ((part rest : List ℕ) × (part ++ rest ≡ bytes.now) × Appends (W.contents writer.old) (W.contents writer.new) part) }
+{
+    let mut at = 0;
+    while at < bytes.len() {
+        match writer.write(&bytes[at..]) {
+            Ok(0) => return Err(()),
+            Ok(n) => at += n,
+            Err(_) => return Err(()),
+        }
+    }
+    Ok(())
+}
+
+// Asks one request, writes its answer, and says whether that is a refusal.
+fn run_request<D: Desk, W: Write>(
+    alloc: Global,
+    desk: &mut D,
+    precedence: &Precedence,
+    request: &Request,
+    writer: &mut W,
+) -> Result<bool, RequestFault>
+    ensures premise { D.is_sound desk.new → D.is_sound desk.old }
+    ensures run { (L : List Request) → D.stands_for desk.old L → D.is_sound desk.new →
+        RequestFits precedence.now L request.now (Appends (W.contents writer.old) (W.contents writer.new)) (D.stands_for desk.new) result }
+    ensures fault { IfErr result (IsRequestFaultOf D.may_give) }
+{
+    let answer = match answer(alloc, desk, precedence, request) {
+        Ok(answer) => answer,
+        Err(fault) => return Err(RequestFault::Store(fault)),
+    };
+    let is_refused = is_refusal(&answer);
+    let text = write_answer(alloc, &answer);
+    drop(answer);
+    let Ok(text) = text else {
+        return Err(RequestFault::Memory);
+    };
+    match write_whole(writer, text.as_bytes()) {
+        Ok(()) => Ok(is_refused),
+        Err(()) => Err(RequestFault::Write),
+    }
+}
+
+fn one_if(b: bool) -> u64
+    ensures is { result ≡ (if b then 1 else 0) }
+    ensures most { result ≤ 1 }
+{
+    if b { 1 } else { 0 }
+}
+
+// Asks requests one after the other, and gives the number of refusals.
+fn run_requests<D: Desk, W: Write>(
+    alloc: Global,
+    desk: &mut D,
+    precedence: &Precedence,
+    requests: &[Request],
+    writer: &mut W,
+) -> Result<u64, BatchFault>
+    ensures premise { D.is_sound desk.new → D.is_sound desk.old }
+    ensures run { (L : List Request) → D.stands_for desk.old L → D.is_sound desk.new →
+        RunFits precedence.now L requests.now (Appends (W.contents writer.old) (W.contents writer.new)) (D.stands_for desk.new) result }
+    ensures fault { IfErr result (IsBatchFaultOf D.may_give) }
+{
+    let mut done = 0u64;
+    let mut refused = 0u64;
+    for request in requests {
+        match run_request(alloc, desk, precedence, request, writer) {
+            Ok(is_refused) => {
+                done += 1;
+                refused += one_if(is_refused);
+            }
+            Err(RequestFault::Store(fault)) => return Err(BatchFault::Store { done, fault }),
+            Err(RequestFault::Write) => return Err(BatchFault::Write { done: done + 1 }),
+            Err(RequestFault::Memory) => return Err(BatchFault::Memory { done: done + 1 }),
+        }
+    }
+    Ok(refused)
+}
+
+/// Answers a batch under a precedence table: reads its text to the end, or to one byte past
+/// 4,194,304, makes all requests, then asks them one after the other and writes each answer before
+/// the next request. Gives the number of refusals. A fault of the store is want of memory or one
+/// that the desk may give.
+pub fn run_batch<D: Desk, R: Read, W: Write>(
+    alloc: Global,
+    desk: &mut D,
+    precedence: &Precedence,
+    reader: &mut R,
+    writer: &mut W,
+) -> Result<u64, BatchFault>
+    ensures premise { D.is_sound desk.new → D.is_sound desk.old }
+    // There is a text, that of the reader where it tells its bytes, for which the batch ends as the definitions have it.
+    ensures run { (text : List ℕ) × IsTold (R.remaining reader.old) text × ((L : List Request) → D.stands_for desk.old L → D.is_sound desk.new →
+        BatchFits precedence.now L text (Appends (W.contents writer.old) (W.contents writer.new)) (D.stands_for desk.new) result) }
+    ensures fault { IfErr result (IsBatchFaultOf D.may_give) }
+{
+    let requests = match read_batch(alloc, reader) {
+        Ok(requests) => requests,
+        Err(InputFault::Read) => return Err(BatchFault::Read),
+        Err(InputFault::Records(fault)) => return Err(BatchFault::Records(fault)),
+    };
+    run_requests(alloc, desk, precedence, requests.as_slice(), writer)
+}

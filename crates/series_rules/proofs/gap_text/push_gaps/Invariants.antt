@@ -1,6 +1,0 @@
-use Rattle.std.proofs.Common.{◌≡◌, ◌++◌, map, take}
-use Rattle.series_rules.specs.GapText.{missing_fields}
-use Rattle.series_rules.proofs.gap_text.push_gaps.Given as goal
-
-abbrev pub invariant-loop-range : goal.invariant-loop-range
-invariant-loop-range l = l.rows ≡ l.initial.rows ++ map missing_fields (take l.range-index l.missing)

@@ -1,6 +1,0 @@
-use Rattle.std.proofs.Common.{◌≡◌, ◌++◌, map, take}
-use Rattle.series_rules.specs.PriceText.{span_fields}
-use Rattle.series_rules.proofs.price_text.push_calendar.Given as goal
-
-abbrev pub invariant-loop-span : goal.invariant-loop-span
-invariant-loop-span l = l.rows ≡ l.initial.rows ++ map span_fields (take l.span-index l.span-items)

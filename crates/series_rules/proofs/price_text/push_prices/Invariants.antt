@@ -1,6 +1,0 @@
-use Rattle.std.proofs.Common.{◌≡◌, ◌++◌, map, take}
-use Rattle.series_rules.specs.PriceText.{priced_fields}
-use Rattle.series_rules.proofs.price_text.push_prices.Given as goal
-
-abbrev pub invariant-loop-priced : goal.invariant-loop-priced
-invariant-loop-priced l = l.rows ≡ l.initial.rows ++ map priced_fields (take l.priced-index l.offers)

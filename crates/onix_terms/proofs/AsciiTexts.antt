@@ -9,7 +9,6 @@ use Rattle.std.proofs.lemmas.Bool.{and_parts}
 use Rattle.std.proofs.lemmas.Bool.Decides.{nat_tests}
 use Rattle.std.proofs.lemmas.Option.{cond_some}
 use Rattle.onix_terms.specs.Code.{fixed_text}
-use Rattle.onix_terms.specs.SeriesName.{is_name_byte}
 
 -- only ASCII bytes pass
 pub record IsAsciiTest (allowed : ℕ → Bool) : Type 0 where

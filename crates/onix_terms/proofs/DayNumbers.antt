@@ -6,7 +6,7 @@ use Rattle.std.specs.Option.{option_eq}
 use Rattle.std.proofs.lemmas.Int.{ints, by_lt_z}
 use Rattle.std.proofs.lemmas.Bool.{cases_lt}
 use Rattle.std.proofs.lemmas.Bool.Decides.{nat_tests, Decides-int_eq}
-use Rattle.jiff_core.specs.Calendar.{IsCivilDate, day_count, days_of_years, days_of_months, days_from_civil, days_in_month}
+use Rattle.jiff_core.specs.Calendar.{IsCivilDate, IsDate, day_count, days_of_years, days_of_months, days_from_civil, days_in_month}
 use Rattle.jiff_core.specs.declared.civil.date.Date.{Date}
 use Rattle.jiff_core.proofs.CalendarLemmas.{day_count-lt_year, day_count_bounds, days_from_civil-day_count, days_in_month_bounds}
 use Rattle.jiff_core.proofs.DateLemmas.{epoch_day_injective}
@@ -92,6 +92,20 @@ day_from-date d year month day number y m n begun is =
     let dated : IsDated year month day = record { civil = civil-same _ _ _ _ _ _ y m n (d.year_in, d.month_in, d.day_in); begun = begun } in
     let same : days_from_civil d.year d.month d.day ≡ days_from_civil (pos year) month day = rw (y, m, n) refl in
     day_from-dated year month day dated number (is ∙ same)
+
+not-chosen : (test : Bool) (there : ℤ) → (test ≡ true → ⊥) → None ≡ (if test then Some there else None)
+not-chosen true there never = absurd (never refl)
+not-chosen false there never = refl
+
+-- without such a date there is no day
+pub day_from-none : (year month day : ℕ) → (IsDated year month day → ⊥) → None ≡ day_from year month day
+day_from-none year month day never = not-chosen (is_date year month day) (days_from_civil (pos year) month day) (λ e. never (passes-dated year month day e))
+
+-- such a date is one of the calendar
+pub dated-is_date : (year month day : ℕ) (y m d : ℤ) → y ≡ pos year → m ≡ pos month → d ≡ pos day → IsDated year month day → IsDate y m d
+dated-is_date year month day y m d same_year same_month same_day dated =
+    let c = dated.civil in
+    rw (same_year, same_month, same_day) (c.0, (omega (arith, ints, c.1), omega (arith, ints, c.1)), (omega (arith, ints, c.2), omega (arith, ints, c.2)))
 
 -- what a number that has a day says of its parts
 record IsPartsOf (date : ℕ) (day : ℤ) : Type 0 where

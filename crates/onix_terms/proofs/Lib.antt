@@ -1,4 +1,5 @@
 pub mod AsciiTexts
+pub mod FixedTexts
 pub mod DigitTexts
 pub mod AmountTexts
 pub mod DayNumbers

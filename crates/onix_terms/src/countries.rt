@@ -11,7 +11,6 @@ use crate::text::Text;
 use std::alloc::{AllocError, Global};
 
 // The codes with one more, in its place.
-#[tactic(auto, unfolding(crate::specs::Territory::with_code))]
 fn add_code(mut codes: Items<Country>, code: Country) -> Result<Items<Country>, AllocError>
     ensures { IfOk result (λ new. new ≡ with_code codes code) }
 {
@@ -48,7 +47,6 @@ enum Next<'a> {
 }
 
 // What a text of codes begins with.
-#[tactic(auto, unfolding(crate::specs::Territory::codes_in))]
 fn next_code(text: &[u8]) -> Next<'_>
     ensures { BeginsWith text.now result }
 {

@@ -1,11 +1,30 @@
-use Rattle.std.proofs.Common.{◌≡◌, ◌<◌, ◌++◌, ◌-◌, ℕ, List, true, length, take, drop, refl, ap, sym, ◌∙◌, arith}
+use Rattle.std.proofs.Common.{◌≡◌, ◌<◌, ◌++◌, ◌-◌, ◌==◌, ◌&&◌, ℕ, nat_lt, nat_le, Bool, List, None, true, false, length, take, drop, refl, ap, sym, ◌∙◌, arith}
 use Rattle.std.specs.Prelude.{IsTrue, replicate}
 use Rattle.std.specs.List.{list_all}
 use Rattle.std.proofs.Math.Seq.{take-append_seam}
 use Rattle.std.proofs.lemmas.List.{drop-replicate}
+use Rattle.std.proofs.lemmas.Bool.{eqb-true, lt-leb, lt-ltb}
 use Rattle.std.proofs.lemmas.Bool.Decides.{nat_tests}
-use Rattle.onix_terms.specs.SeriesName.{is_name_byte, is_series_name, padded}
+use Rattle.onix_terms.specs.SeriesName.{is_name_byte, is_series_name, padded, series_name_of}
 use Rattle.onix_terms.proofs.series_name.SeriesName.read.Goals as goal
+use Rattle.onix_terms.proofs.series_name.SeriesName.read.Goals.{then-is_empty-via-then-is_empty, then-is_empty-via-else-is_empty+then-given-gt32, then-is_empty-via-else-is_empty+else-given-gt32+then-not-are_name_bytes}
+
+-- what is no name
+too_short : (given : List ℕ) → (length given == 0) ≡ true → is_series_name given ≡ false
+too_short given e = rw (eqb-true (length given) 0 e) refl
+
+too_long : (given : List ℕ) → 32 < length given → is_series_name given ≡ false
+too_long given long = rw (lt-ltb 0 (length given) (omega arith), lt-leb (length given) 32 long) refl
+
+both_false : (a b : Bool) → b ≡ false → (a && b) ≡ false
+both_false true b e = e
+both_false false b e = refl
+
+wrong_byte : (given : List ℕ) → list_all is_name_byte given ≡ false → is_series_name given ≡ false
+wrong_byte given e = both_false (nat_lt 0 (length given) && nat_le (length given) 32) (list_all is_name_byte given) e
+
+no_name : (text given : List ℕ) → given ≡ text → is_series_name given ≡ false → None ≡ series_name_of text
+no_name text given is other = rw (ap is_series_name (sym is) ∙ other) refl
 
 -- the first bytes of an array that was zeros are the name, and zeros follow it
 laid_out : (name laid zeros : List ℕ) → laid ≡ name → zeros ≡ replicate 32 0 → IsTrue (is_series_name name) →
@@ -24,3 +43,13 @@ invariant_of-result c =
     let all : list_all is_name_byte c.as_bytes-given.result.now ≡ true = sym c.if-not-are_name_bytes.ensures in
     let is_name : IsTrue (is_series_name c.as_bytes-given.result.now) = grind (arith, nat_tests, all, few) in
     laid_out c.as_bytes-given.result.now _ _ c.copy_from_slice.ensures.after refl is_name
+
+pub returns-then-is_empty : goal.returns-then-is_empty
+returns-then-is_empty c =
+    let given = c.as_bytes-given.result.now in
+    let other : is_series_name given ≡ false = elim c.then-is_empty.branch [
+      | then-is_empty-via-then-is_empty w ↦ too_short given (sym w.if-is_empty.ensures)
+      | then-is_empty-via-else-is_empty+then-given-gt32 w ↦ too_long given w.if-given-gt32.true
+      | then-is_empty-via-else-is_empty+else-given-gt32+then-not-are_name_bytes w ↦ wrong_byte given (sym w.if-not-are_name_bytes.ensures)
+    ] in
+    no_name c.args.text.now given c.as_bytes-given.ensures.value other

@@ -24,6 +24,9 @@ later_never : (a : Option ℤ) → IsLater a a → ⊥
 later_never None h = h
 later_never (Some a) h = grind (arith, ints)
 
+pub later_apart : (a b : Option ℤ) → a ≡ b → IsLater a b → ⊥
+later_apart a b e h = later_never a (subst (IsLater a) (sym e) h)
+
 later_chain : (a b c : Option ℤ) → IsLater a b → IsLater b c → IsLater a c
 later_chain None b c h k = h
 later_chain (Some a) None c h k = absurd k
@@ -103,7 +106,7 @@ outranks_decides =
     (then_decides (λ p. p.from) IsLater _ is_later (option_eq int_eq) (λ p r. nat_lt p.amount r.amount) is_later_decides (option-decides Decides-int_eq)
     (λ p r. Decides-ltb p.amount r.amount))
 
-of_best : (o : Offer) (q : PriceQuery) (best : Option Price) → IsBest (Holds o.market q) Outranks o.prices best → IsCurrent o q (option_map (λ p. p.amount) best)
+pub of_best : (o : Offer) (q : PriceQuery) (best : Option Price) → IsBest (Holds o.market q) Outranks o.prices best → IsCurrent o q (option_map (λ p. p.amount) best)
 of_best o q None h = h
 of_best o q (Some p) h = (p, refl, h)
 

@@ -5,6 +5,7 @@ pub mod Covers
 pub mod CalendarSpans
 pub mod BreakDays
 pub mod Segments
+pub mod Tests
 pub mod Texts
 pub mod Scan
 pub mod Candidates

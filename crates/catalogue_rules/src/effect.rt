@@ -72,9 +72,10 @@ impl Effect {
         match change {
             Change::Replace => self.replaced += 1,
             Change::Update if is_known => self.updated += 1,
+            Change::Update => self.unknown += 1,
             Change::Delete if is_known => self.deleted += 1,
+            Change::Delete => self.unknown += 1,
             Change::Ignore => self.ignored += 1,
-            Change::Update | Change::Delete => self.unknown += 1,
         }
     }
 }

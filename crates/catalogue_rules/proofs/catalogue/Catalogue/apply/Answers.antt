@@ -1,6 +1,7 @@
 use Rattle.std.proofs.Common.{◌≡◌, ◌≤◌, ℕ, List, ap, subst, sym, ◌∙◌}
 use Rattle.std.specs.FinMap as map
 use Rattle.std.specs.List.{All, Contains}
+use Rattle.std.proofs.lemmas.Result.{IfOk-from_err}
 use Rattle.onix_message.specs.DetailCount.{detail_count}
 use Rattle.onix_message.specs.declared.parts.Product.{Product}
 use Rattle.catalogue_rules.specs.Effects.{after}
@@ -25,3 +26,15 @@ settle-requires-clause-few c =
     let few = subst (λ (ps : List Product). All (λ p. detail_count p.supplies ≤ 19998) ps) (sym c.products.ensures.products) c.products.ensures.few_details in
     few-changes base plan.draft plan.fresh (after base products) c.in_ok-draft.ensures.plan
     (few-after base products few (subst (EachHas HasFewDetails) c.self.view_is c.self.invariant))
+
+pub returns-in_err-draft-clause-ok : goal.returns-in_err-draft-clause-ok
+returns-in_err-draft-clause-ok c = IfOk-from_err c.from_residual.result _ c.from_residual.ensures.0
+
+pub returns-in_err-draft-clause-effect : goal.returns-in_err-draft-clause-effect
+returns-in_err-draft-clause-effect c = IfOk-from_err c.from_residual.result _ c.from_residual.ensures.0
+
+pub returns-in_err-make_room-clause-ok : goal.returns-in_err-make_room-clause-ok
+returns-in_err-make_room-clause-ok c = IfOk-from_err c.from_residual-in_err-make_room.result _ c.from_residual-in_err-make_room.ensures.0
+
+pub returns-in_err-make_room-clause-effect : goal.returns-in_err-make_room-clause-effect
+returns-in_err-make_room-clause-effect c = IfOk-from_err c.from_residual-in_err-make_room.result _ c.from_residual-in_err-make_room.ensures.0

@@ -1,6 +1,7 @@
 use Rattle.std.proofs.Common.{◌≡◌, List, ℕ, sym, ap, subst, ◌∙◌}
 use Rattle.std.specs.FinMap as map
 use Rattle.std.specs.Option.{option_copied}
+use Rattle.std.proofs.lemmas.Result.{IfOk-from_err}
 use Rattle.catalogue_rules.specs.Records.{ByReference}
 use Rattle.catalogue_rules.specs.Effects.{after_product, with_entry, entry_after, change_of}
 use Rattle.catalogue_rules.specs.Plans.{IsPlan, entry_now}
@@ -34,3 +35,15 @@ returns-clause-plan c = λ m plan.
           subst (λ (s : Plan). IsPlan base s.draft s.fresh (after_product m p)) (sym w.self-is)
           (subst (λ (n : ByReference). IsPlan base old.draft old.fresh n) (ap (with_entry m p.reference) entry) (left_alone base m old.draft old.fresh plan p.reference))
     ]
+
+pub returns-in_err-now-clause-plan : goal.returns-in_err-now-clause-plan
+returns-in_err-now-clause-plan c = IfOk-from_err c.from_residual.result _ c.from_residual.ensures.0
+
+pub returns-in_err-now-clause-effect : goal.returns-in_err-now-clause-effect
+returns-in_err-now-clause-effect c = IfOk-from_err c.from_residual.result _ c.from_residual.ensures.0
+
+pub returns-in_err-put-clause-plan : goal.returns-in_err-put-clause-plan
+returns-in_err-put-clause-plan c = IfOk-from_err c.from_residual-in_err-put.result _ c.from_residual-in_err-put.ensures.0
+
+pub returns-in_err-put-clause-effect : goal.returns-in_err-put-clause-effect
+returns-in_err-put-clause-effect c = IfOk-from_err c.from_residual-in_err-put.result _ c.from_residual-in_err-put.ensures.0

@@ -2,6 +2,7 @@
 use Rattle.std.proofs.Common.{◌≡◌, ℕ, Bool, true, false, List, Option, Some, None, refl, sym, ap, ◌∙◌, arith, cond, nat_eq}
 use Rattle.std.specs.Ordering.{nat_cmp}
 use Rattle.std.specs.BTreeMap.{is_at}
+use Rattle.std.specs.Option.{option_or}
 use Rattle.std.proofs.lemmas.Bool.Decides.{nat_tests}
 use Rattle.series_rules.proofs.EqualContents.{same_contents_itself}
 use Rattle.onix_message.specs.declared.parts.Product.{Product}
@@ -9,6 +10,7 @@ use Rattle.series_rules.specs.Answers.{answer_against, placed_answer}
 use Rattle.series_rules.specs.Plain.{with_had}
 use Rattle.series_rules.specs.declared.requests.Had.{Had}
 use Rattle.series_rules.specs.declared.requests.Had.TheVariants.{Message}
+use Rattle.series_rules.proofs.OptionsOr.{or_none}
 use Rattle.series_rules.proofs.Walks.{at_test}
 
 -- what was put where nothing stood and then taken out again leaves what stood
@@ -22,6 +24,14 @@ taken_back f g h n x none put taken k = go (nat_eq n k) refl
 -- it stands where nothing stood
 pub stands_there : (f : ℕ → Option Had) (n : ℕ) (x : Had) → f n ≡ None → with_had f n x n ≡ Some x
 stands_there f n x none = let same : nat_eq n n ≡ true = grind (arith, nat_tests) in rw (none, same) refl
+
+-- one more at a number that has something changes nothing
+pub stands_still : (f : ℕ → Option Had) (n : ℕ) (h x : Had) → f n ≡ Some h → (k : ℕ) → f k ≡ with_had f n x k
+stands_still f n h x there k = go (nat_eq n k) refl
+  where
+    go : (b : Bool) → nat_eq n k ≡ b → f k ≡ option_or (f k) (cond b (Some x) None)
+    go true e = let same : k ≡ n = grind (arith, nat_tests) in let here : f k ≡ Some h = ap f same ∙ there in rw here refl
+    go false e = sym (or_none (f k))
 
 -- a delivery is against itself where nothing stood
 pub against_itself : (hs : List Had) (s : List ℕ) (from n : ℕ) (c : List Product) (o : Option Had) → o ≡ Some (Message c) → answer_against hs s from n c o ≡ placed_answer hs s from n

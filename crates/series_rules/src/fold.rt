@@ -89,7 +89,8 @@ impl Fold {
         ensures folded { IsFolded (get nat_cmp numbers.now) from self.new }
         ensures front { (hs : List Had) → IsFront (get nat_cmp numbers.now) from hs → OnOk result (IsFold from hs self.new) }
     {
-        for (number, had) in numbers.range(start_of(self.next, from)..) {
+        let start = start_of(self.next, from);
+        for (number, had) in numbers.range(start..) {
             if number.value() < self.next {
                 continue;
             }

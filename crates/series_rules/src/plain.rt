@@ -186,7 +186,8 @@ fn delivered(
     }
     let (header, contents) = message;
     drop(header);
-    Ok(series.deliver(number, contents)?)
+    let answer = series.deliver(number, contents)?;
+    Ok(answer)
 }
 
 fn waived(

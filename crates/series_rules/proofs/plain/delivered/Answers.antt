@@ -27,14 +27,14 @@ returns-clause-ok c = λ L stands.
     let m = c.in-Ok.message in
     let kept = c.args.kept.now.items in
     let first = first_in (λ s. has_parties m.0.sender m.0.addressee s.agreement) kept c.deref.result.now c.in-Some-place_between.at c.index_mut-series.result.now c.deref.ensures.value c.in-Some-place_between.ensures c.index_mut-series.ensures.value in
-    delivered_at kept L c.args.records.now m c.in-Some.number c.in-Some-place_between.at c.index_mut-series.result.now c.deliver.new.self c.in_ok-deliver.field-0
-    stands c.in-Ok.ensures.message c.in-Some.is first (omega arith) c.deliver.ensures.agreement c.in_ok-deliver.ensures.ok c.in_ok-deliver.ensures.answer
+    delivered_at kept L c.args.records.now m c.in-Some.number c.in-Some-place_between.at c.index_mut-series.result.now c.deliver.new.self c.in_ok-answer.answer
+    stands c.in-Ok.ensures.message c.in-Some.is first (omega arith) c.deliver.ensures.agreement c.in_ok-answer.ensures.ok c.in_ok-answer.ensures.answer
 
-pub returns-in_err-deliver-clause-err : goal.returns-in_err-deliver-clause-err
-returns-in_err-deliver-clause-err c = λ L stands.
+pub returns-in_err-answer-clause-err : goal.returns-in_err-answer-clause-err
+returns-in_err-answer-clause-err c = λ L stands.
     let m = c.in-Ok.message in
     let kept = c.args.kept.now.items in
     let place = first_in (λ s. has_parties m.0.sender m.0.addressee s.agreement) kept c.deref.result.now c.in-Some-place_between.at c.index_mut-series.result.now c.deref.ensures.value c.in-Some-place_between.ensures c.index_mut-series.ensures.value in
     on_fault c.from_residual.result _
     (stands_again kept L c.in-Some-place_between.at c.index_mut-series.result.now c.deliver.new.self stands
-    (own_place kept stands.apart m.0.sender m.0.addressee c.in-Some-place_between.at c.index_mut-series.result.now place) c.deliver.ensures.agreement c.in_err-deliver.ensures.err)
+    (own_place kept stands.apart m.0.sender m.0.addressee c.in-Some-place_between.at c.index_mut-series.result.now place) c.deliver.ensures.agreement c.in_err-answer.ensures.err)

@@ -1,4 +1,4 @@
-use Rattle.std.proofs.Common.{◌≡◌, ◌+◌, ◌++◌, ◌∷◌, [], ap, ◌∙◌, subst, arith, length}
+use Rattle.std.proofs.Common.{◌≡◌, ◌+◌, ◌++◌, ◌∷◌, [], ap, ◌∙◌, subst, arith, rules, length}
 use Rattle.std.specs.Ordering.{nat_cmp}
 use Rattle.std.specs.BTreeMap.{get}
 use Rattle.series_rules.proofs.Folding.{begins_more, front_folded, last_length}
@@ -8,9 +8,9 @@ use Rattle.series_rules.proofs.fold.Fold.go_on.Goals as goal
 pub loop-number-init : goal.loop-number-init
 loop-number-init c =
     let entries = c.args.numbers.now.entries in
-    let start : c.into_iter-number-iterator.result ≡ entries_from c.start_of.result entries = c.into_iter-number-iterator.ensures.into_iter_gives ∙ c.range-number-items.ensures.between tt in
+    let start : c.into_iter-number-iterator.result ≡ entries_from c.start_of-start.result entries = c.into_iter-number-iterator.ensures.into_iter_gives ∙ c.range-number-items.ensures.between (search rules) in
     record {
-      walk = (c.start_of.result, c.start_of.ensures, rw start (rest_from entries c.start_of.result c.range-number-items.ensures.ordered));
+      walk = (c.start_of-start.result, c.start_of-start.ensures, rw start (rest_from entries c.start_of-start.result c.range-number-items.ensures.ordered));
       folded = c.requires;
     }
 
@@ -36,6 +36,9 @@ returns-then-value-self-2-clause-front c = λ hs is.
     let w = c.loop-number.invariant.walk in
     let walk : Rest f w.0 ((c.in-Some.number.now, c.in-Some.had.now) ∷ c.next.new.self) = subst (Rest f w.0) c.in-Some.ensures.steps w.2 in
     front_folded f c.args.from c.loop-number.self c.loop-number.invariant.folded (rest_gap f w.0 _ _ walk c.loop-number.self.next w.1 (omega arith)) hs is
+
+pub add-requires : goal.add-requires
+add-requires c = omega arith
 
 pub returns-in_err-add-clause-folded : goal.returns-in_err-add-clause-folded
 returns-in_err-add-clause-folded c =

@@ -131,7 +131,10 @@ fn read_framed(alloc: Global, text: &str) -> Result<Contents, ContentsFault>
 {
     let records = frame(alloc, rows_of(alloc, text.as_bytes())?)?;
     match read_message(alloc, records.as_slice()) {
-        Ok((_, contents)) => Ok(contents),
+        Ok((header, contents)) => {
+            drop(header);
+            Ok(contents)
+        }
         Err(MessageFault::Malformed { row: _ }) => Err(ContentsFault::NotContents),
         Err(MessageFault::Memory) => Err(ContentsFault::Memory),
     }

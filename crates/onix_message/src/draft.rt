@@ -7,7 +7,7 @@ use onix_terms::items::Items;
 use std::alloc::AllocError;
 
 /// The part of the last product that stands open.
-#[derive(Debug, Drop)]
+#[derive(Drop)]
 pub enum Part {
     Nothing,
     InProduct(Product),
@@ -17,14 +17,14 @@ pub enum Part {
 }
 
 /// The rows so far: the products that are closed, and what stands open.
-#[derive(Debug, Drop)]
+#[derive(Drop)]
 pub struct Draft {
     pub products: Items<Product>,
     pub part: Part,
 }
 
 /// Why a row was not added.
-#[derive(Debug, Drop)]
+#[derive(Drop)]
 pub enum StepFault {
     OutOfOrder,
     Memory,

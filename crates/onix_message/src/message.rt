@@ -150,7 +150,10 @@ pub fn read_message(alloc: Global, records: &[Record]) -> Result<(Header, Conten
     match read_opening(alloc, first) {
         Ok(opening) => match read_products(alloc, &opening, rest) {
             Ok(contents) => Ok((opening.header, contents)),
-            Err(fault) => Err(fault),
+            Err(fault) => {
+                drop(opening);
+                Err(fault)
+            }
         },
         Err(RowFault::Wrong) => Err(MessageFault::Malformed { row: 1 }),
         Err(RowFault::Memory) => Err(MessageFault::Memory),

@@ -33,8 +33,8 @@ impl Clone for Supplier {
     fn clone(&self) -> Result<Supplier, AllocError> {
         Ok(Supplier {
             role: self.role,
-            party: self.party.duplicate()?,
             name: self.name.duplicate()?,
+            party: self.party.duplicate()?,
         })
     }
 }
@@ -76,10 +76,10 @@ impl Clone for SupplyDetail {
 
     fn clone(&self) -> Result<SupplyDetail, AllocError> {
         Ok(SupplyDetail {
-            supplier: self.supplier.duplicate()?,
             availability: self.availability,
             unpriced: self.unpriced,
             prices: self.prices.duplicate()?,
+            supplier: self.supplier.duplicate()?,
         })
     }
 }

@@ -50,7 +50,11 @@ fn push_row(
     ensures { OnOk result ((row : StringRecord) × (read ≡ Ok row) × (rows.new ≡ rows.old ++ fields_of row ∷ [])) }
 {
     match read {
-        Ok(row) => rows.push(record_of(alloc, &row)?),
+        Ok(row) => {
+            let fields = record_of(alloc, &row);
+            drop(row);
+            rows.push(fields?)
+        }
         // A slice is read without a fault and is text, so what is left is memory.
         Err(_) => Err(AllocError),
     }

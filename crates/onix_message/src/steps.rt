@@ -16,38 +16,32 @@ use onix_terms::items::Items;
 use std::alloc::AllocError;
 
 // The supply with the detail that stood open.
-fn close_detail(supply: ProductSupply, detail: SupplyDetail) -> Result<ProductSupply, AllocError>
+fn close_detail(
+    mut supply: ProductSupply,
+    detail: SupplyDetail,
+) -> Result<ProductSupply, AllocError>
     ensures rows { IfOk result (λ s. supply_rows s ≡ supply_rows supply ++ detail_rows detail) }
     ensures details { IfOk result (λ s. s.details ≢ []) }
 {
-    let ProductSupply {
-        market,
-        mut details,
-    } = supply;
-    details.push(detail)?;
-    Ok(ProductSupply { market, details })
+    let Ok(()) = supply.details.push(detail) else {
+        drop(supply);
+        return Err(AllocError);
+    };
+    Ok(supply)
 }
 
 // The product with the supply that stood open.
-fn close_supply(product: Product, supply: ProductSupply) -> Result<Product, AllocError>
+fn close_supply(mut product: Product, supply: ProductSupply) -> Result<Product, AllocError>
     requires before { SuppliesHaveDetails product }
     requires own { supply.details ≢ [] }
     ensures rows { IfOk result (λ p. product_rows p ≡ product_rows product ++ supply_rows supply) }
     ensures details { IfOk result (λ p. SuppliesHaveDetails p) }
 {
-    let Product {
-        reference,
-        notification,
-        ids,
-        mut supplies,
-    } = product;
-    supplies.push(supply)?;
-    Ok(Product {
-        reference,
-        notification,
-        ids,
-        supplies,
-    })
+    let Ok(()) = product.supplies.push(supply) else {
+        drop(product);
+        return Err(AllocError);
+    };
+    Ok(product)
 }
 
 // The product that stands open, where a supply may come.
@@ -61,7 +55,10 @@ fn close_to_product(part: Part) -> Result<Product, StepFault>
     match part {
         Part::InProduct(product) => Ok(product),
         Part::InDetail(product, supply, detail) => {
-            let supply = close_detail(supply, detail)?;
+            let Ok(supply) = close_detail(supply, detail) else {
+                drop(product);
+                return Err(StepFault::Memory);
+            };
             Ok(close_supply(product, supply)?)
         }
         other => {
@@ -82,17 +79,13 @@ fn close_to_products(products: Items<Product>, part: Part) -> Result<Items<Produ
 {
     match part {
         Part::Nothing => Ok(products),
-        Part::InProduct(product) => Ok(push_product(products, product)?),
-        Part::InDetail(product, supply, detail) => {
-            let supply = close_detail(supply, detail)?;
-            let product = close_supply(product, supply)?;
-            Ok(push_product(products, product)?)
-        }
-        other => {
-            drop(other);
-            drop(products);
-            Err(StepFault::OutOfOrder)
-        }
+        open => match close_to_product(open) {
+            Ok(product) => Ok(push_product(products, product)?),
+            Err(fault) => {
+                drop(products);
+                Err(fault)
+            }
+        },
     }
 }
 
@@ -116,11 +109,16 @@ fn add_product(draft: Draft, product: Product) -> Result<Draft, StepFault>
     ensures refused { IfErr result (λ e. Refuses draft (row.Product product) e) }
 {
     let Draft { products, part } = draft;
-    let products = close_to_products(products, part)?;
-    Ok(Draft {
-        products,
-        part: Part::InProduct(product),
-    })
+    match close_to_products(products, part) {
+        Ok(products) => Ok(Draft {
+            products,
+            part: Part::InProduct(product),
+        }),
+        Err(fault) => {
+            drop(product);
+            Err(fault)
+        }
+    }
 }
 
 fn add_end(draft: Draft, count: u32) -> Result<Draft, StepFault>
@@ -143,11 +141,17 @@ fn add_supply(draft: Draft, supply: ProductSupply) -> Result<Draft, StepFault>
     ensures refused { IfErr result (λ e. Refuses draft (row.ProductSupply supply) e) }
 {
     let Draft { products, part } = draft;
-    let product = close_to_product(part)?;
-    Ok(Draft {
-        products,
-        part: Part::InSupply(product, supply),
-    })
+    match close_to_product(part) {
+        Ok(product) => Ok(Draft {
+            products,
+            part: Part::InSupply(product, supply),
+        }),
+        Err(fault) => {
+            drop(supply);
+            drop(products);
+            Err(fault)
+        }
+    }
 }
 
 fn add_detail(draft: Draft, detail: SupplyDetail) -> Result<Draft, StepFault>
@@ -163,7 +167,12 @@ fn add_detail(draft: Draft, detail: SupplyDetail) -> Result<Draft, StepFault>
             part: Part::InDetail(product, supply, detail),
         }),
         Part::InDetail(product, supply, last) => {
-            let supply = close_detail(supply, last)?;
+            let Ok(supply) = close_detail(supply, last) else {
+                drop(detail);
+                drop(product);
+                drop(products);
+                return Err(StepFault::Memory);
+            };
             Ok(Draft {
                 products,
                 part: Part::InDetail(product, supply, detail),
@@ -179,22 +188,14 @@ fn add_detail(draft: Draft, detail: SupplyDetail) -> Result<Draft, StepFault>
 }
 
 // The detail that stands open, with one more price.
-fn with_price(detail: SupplyDetail, price: Price) -> Result<SupplyDetail, AllocError>
+fn with_price(mut detail: SupplyDetail, price: Price) -> Result<SupplyDetail, AllocError>
     ensures { IfOk result (λ d. detail_rows d ≡ detail_rows detail ++ row.Price price ∷ []) }
 {
-    let SupplyDetail {
-        supplier,
-        availability,
-        unpriced,
-        mut prices,
-    } = detail;
-    prices.push(price)?;
-    Ok(SupplyDetail {
-        supplier,
-        availability,
-        unpriced,
-        prices,
-    })
+    let Ok(()) = detail.prices.push(price) else {
+        drop(detail);
+        return Err(AllocError);
+    };
+    Ok(detail)
 }
 
 fn add_price(draft: Draft, price: Price) -> Result<Draft, StepFault>
@@ -205,7 +206,12 @@ fn add_price(draft: Draft, price: Price) -> Result<Draft, StepFault>
     let Draft { products, part } = draft;
     match part {
         Part::InDetail(product, supply, detail) => {
-            let detail = with_price(detail, price)?;
+            let Ok(detail) = with_price(detail, price) else {
+                drop(supply);
+                drop(product);
+                drop(products);
+                return Err(StepFault::Memory);
+            };
             Ok(Draft {
                 products,
                 part: Part::InDetail(product, supply, detail),

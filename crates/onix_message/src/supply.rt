@@ -49,10 +49,10 @@ fn make_detail(
         (detail_from role.now id_type.now id_value.now name.now availability.now unpriced.now) }
 {
     let role = read_code(role)?;
-    let party = read_optional_party(alloc, id_type, id_value)?;
-    let name = read_supplier_name(alloc, &party, name)?;
     let availability = read_code(availability)?;
     let unpriced = read_optional_code(unpriced)?;
+    let party = read_optional_party(alloc, id_type, id_value)?;
+    let name = read_supplier_name(alloc, &party, name)?;
     Ok(SupplyDetail {
         supplier: Supplier { role, party, name },
         availability,

@@ -20,15 +20,15 @@ returns-in-InSupply-clause-added c =
       details = search rules;
     }
 
-pub returns-in_ok-supply-in-InDetail-clause-added : goal.returns-in_ok-supply-in-InDetail-clause-added
-returns-in_ok-supply-in-InDetail-clause-added c =
+pub returns-in-Ok-clause-added : goal.returns-in-Ok-clause-added
+returns-in-Ok-clause-added c =
     let front = flat_map product_rows c.args.draft.products in
     let new = c.args.detail in
     let product = c.in-InDetail.product in
-    let supply = c.in_ok-supply-in-InDetail.supply in
+    let supply = c.in-Ok.supply in
     record {
       rows = detail-rows front product supply new c.requires.bare
-          ∙ ap (λ (t : List Row). (front ++ (product_rows product ++ t)) ++ row.SupplyDetail new ∷ []) c.in_ok-supply-in-InDetail.ensures.rows
+          ∙ ap (λ (t : List Row). (front ++ (product_rows product ++ t)) ++ row.SupplyDetail new ∷ []) c.in-Ok.ensures.rows
           ∙ ap (λ (p : Part). (front ++ part_rows p) ++ row.SupplyDetail new ∷ []) (sym c.in-InDetail.is);
       allowed = ap (λ (p : Part). allows p (row.SupplyDetail new)) c.in-InDetail.is;
       next = detail-next product supply new new;

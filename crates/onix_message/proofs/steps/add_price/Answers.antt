@@ -7,13 +7,13 @@ use Rattle.onix_message.specs.declared.row.Row.TheVariants as row
 use Rattle.onix_message.proofs.RowLists.{price-next, price-rows}
 use Rattle.onix_message.proofs.steps.add_price.Goals as goal
 
-pub returns-in_ok-detail-in-InDetail-clause-added : goal.returns-in_ok-detail-in-InDetail-clause-added
-returns-in_ok-detail-in-InDetail-clause-added c =
+pub returns-in-Ok-clause-added : goal.returns-in-Ok-clause-added
+returns-in-Ok-clause-added c =
     let front = flat_map product_rows c.args.draft.products in
     let price = c.args.price in
-    let detail = c.in_ok-detail-in-InDetail.detail in
+    let detail = c.in-Ok.detail in
     record {
-      rows = price-rows front c.in-InDetail.product c.in-InDetail.supply c.in-InDetail.detail detail price c.in_ok-detail-in-InDetail.ensures
+      rows = price-rows front c.in-InDetail.product c.in-InDetail.supply c.in-InDetail.detail detail price c.in-Ok.ensures
           ∙ ap (λ (p : Part). (front ++ part_rows p) ++ row.Price price ∷ []) (sym c.in-InDetail.is);
       allowed = ap (λ (p : Part). allows p (row.Price price)) c.in-InDetail.is;
       next = price-next c.in-InDetail.product c.in-InDetail.supply detail price;

@@ -7,14 +7,14 @@ use Rattle.onix_message.specs.Draft.{part_rows}
 use Rattle.onix_message.proofs.RowLists.{bare-supply, supply-next}
 use Rattle.onix_message.proofs.steps.add_supply.Goals as goal
 
-pub returns-clause-added : goal.returns-clause-added
-returns-clause-added c =
+pub returns-in-Ok-clause-added : goal.returns-in-Ok-clause-added
+returns-in-Ok-clause-added c =
     let front = flat_map product_rows c.args.draft.products in
     record {
-      rows = ap (λ (t : List Row). front ++ (product_rows c.in_ok-product.product ++ t)) (bare-supply c.args.supply c.requires.bare)
-          ∙ ap (λ (t : List Row). front ++ (t ++ row.ProductSupply c.args.supply ∷ [])) c.in_ok-product.ensures.rows
+      rows = ap (λ (t : List Row). front ++ (product_rows c.in-Ok.product ++ t)) (bare-supply c.args.supply c.requires.bare)
+          ∙ ap (λ (t : List Row). front ++ (t ++ row.ProductSupply c.args.supply ∷ [])) c.in-Ok.ensures.rows
           ∙ sym (append_assoc front (part_rows c.args.draft.part) (row.ProductSupply c.args.supply ∷ []));
-      allowed = c.in_ok-product.ensures.allowed c.args.supply;
-      next = supply-next c.in_ok-product.product c.args.supply c.args.supply;
+      allowed = c.in-Ok.ensures.allowed c.args.supply;
+      next = supply-next c.in-Ok.product c.args.supply c.args.supply;
       details = search rules;
     }

@@ -23,10 +23,7 @@ fn close_detail(
     ensures rows { IfOk result (λ s. supply_rows s ≡ supply_rows supply ++ detail_rows detail) }
     ensures details { IfOk result (λ s. s.details ≢ []) }
 {
-    let Ok(()) = supply.details.push(detail) else {
-        drop(supply);
-        return Err(AllocError);
-    };
+    supply.details.push(detail)?;
     Ok(supply)
 }
 
@@ -37,10 +34,7 @@ fn close_supply(mut product: Product, supply: ProductSupply) -> Result<Product, 
     ensures rows { IfOk result (λ p. product_rows p ≡ product_rows product ++ supply_rows supply) }
     ensures details { IfOk result (λ p. SuppliesHaveDetails p) }
 {
-    let Ok(()) = product.supplies.push(supply) else {
-        drop(product);
-        return Err(AllocError);
-    };
+    product.supplies.push(supply)?;
     Ok(product)
 }
 
@@ -191,10 +185,7 @@ fn add_detail(draft: Draft, detail: SupplyDetail) -> Result<Draft, StepFault>
 fn with_price(mut detail: SupplyDetail, price: Price) -> Result<SupplyDetail, AllocError>
     ensures { IfOk result (λ d. detail_rows d ≡ detail_rows detail ++ row.Price price ∷ []) }
 {
-    let Ok(()) = detail.prices.push(price) else {
-        drop(detail);
-        return Err(AllocError);
-    };
+    detail.prices.push(price)?;
     Ok(detail)
 }
 

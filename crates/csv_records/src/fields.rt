@@ -1,0 +1,148 @@
+// The fields of one record.
+
+ghost use Rattle.std.specs.Prelude.{◌≡◌, ◌++◌, ◌∷◌, [], OnOk, OnErr, length, take, map, slice_get, option_map};
+ghost use Rattle.csv.specs.Records.{fields_of};
+
+use crate::ends::end_of;
+use crate::record::Record;
+use csv::StringRecord;
+use std::alloc::{AllocError, Global};
+use std::marker::Model;
+
+/// Fields, one after the other in one buffer. Contracts see the list of them.
+#[derive(Drop)]
+pub struct FieldBuffer {
+    bytes: Vec<u8>,
+    ends: Vec<usize>,
+}
+
+impl Model for FieldBuffer {
+    ghost use Rattle.std.specs.Prelude.{List, ℕ};
+    ghost use Rattle.csv_records.specs.Cuts.{cut, HoldsTexts};
+
+    ghost Value = { List (List ℕ) };
+
+    ghost view = { λ f. cut 0 f.ends.items f.bytes.items };
+
+    ghost invariant = { λ f. HoldsTexts f.ends.items f.bytes.items };
+}
+
+impl FieldBuffer {
+    /// No fields. It takes no memory.
+    pub fn new(alloc: Global) -> FieldBuffer
+        ensures { result ≡ [] }
+    {
+        FieldBuffer {
+            bytes: Vec::new(alloc),
+            ends: Vec::new(alloc),
+        }
+    }
+
+    /// How many fields there are.
+    pub fn len(&self) -> usize
+        ensures { result ≡ length self.now }
+    {
+        self.ends.len()
+    }
+
+    /// Adds a field at the end. Without memory for it the fields stay as they were.
+    pub fn push(&mut self, text: &str) -> Result<(), AllocError>
+        ensures ok { OnOk result (self.new ≡ self.old ++ text.now ∷ []) }
+        ensures err { OnErr result (self.new ≡ self.old) }
+    {
+        let size = self.bytes.len();
+        self.bytes.extend_from_slice(text.as_bytes())?;
+        let end = self.bytes.len();
+        let Ok(()) = self.ends.push(end) else {
+            self.bytes.truncate(size);
+            return Err(AllocError);
+        };
+        Ok(())
+    }
+
+    /// Adds these fields at the end, all of them, or none where there is no memory.
+    pub fn push_all(&mut self, fields: &[&str]) -> Result<(), AllocError>
+        ensures ok { OnOk result (self.new ≡ self.old ++ map (λ f. f.now) fields.now) }
+        ensures err { OnErr result (self.new ≡ self.old) }
+    {
+        let count = self.len();
+        for text in fields {
+            let Ok(()) = self.push(text) else {
+                self.truncate(count);
+                return Err(AllocError);
+            };
+        }
+        Ok(())
+    }
+
+    /// Adds the fields of a record at the end, all of them, or none where there is no memory.
+    pub fn push_record(&mut self, record: &Record<'_>) -> Result<(), AllocError>
+        ensures ok { OnOk result (self.new ≡ self.old ++ record.now) }
+        ensures err { OnErr result (self.new ≡ self.old) }
+    {
+        let count = self.len();
+        for i in 0..record.len() {
+            if let Some(text) = record.get(i) {
+                let Ok(()) = self.push(text) else {
+                    self.truncate(count);
+                    return Err(AllocError);
+                };
+            }
+        }
+        Ok(())
+    }
+
+    // Adds the fields of a record that csv read, all of them, or none where there is no memory.
+    pub(crate) fn push_read(&mut self, record: &StringRecord) -> Result<(), AllocError>
+        ensures ok { OnOk result (self.new ≡ self.old ++ fields_of record.now) }
+        ensures err { OnErr result (self.new ≡ self.old) }
+    {
+        let count = self.len();
+        for i in 0..record.len() {
+            if let Some(text) = record.get(i) {
+                let Ok(()) = self.push(text) else {
+                    self.truncate(count);
+                    return Err(AllocError);
+                };
+            }
+        }
+        Ok(())
+    }
+
+    /// Lets go of the fields from this index on, counted from 0. It keeps the memory.
+    pub fn truncate(&mut self, count: usize)
+        ensures { self.new ≡ take count self.old }
+    {
+        if count < self.ends.len() {
+            let end = end_of(&self.ends, count);
+            self.ends.truncate(count);
+            self.bytes.truncate(end);
+        }
+    }
+
+    /// Lets go of all fields. It keeps the memory.
+    pub fn clear(&mut self)
+        ensures { self.new ≡ [] }
+    {
+        self.truncate(0);
+    }
+
+    /// The field at an index, counted from 0.
+    pub fn get(&self, index: usize) -> Option<&str>
+        ensures { option_map (λ s. s.now) result ≡ slice_get self.now index }
+    {
+        if index >= self.ends.len() {
+            return None;
+        }
+        let start = end_of(&self.ends, index);
+        let end = end_of(&self.ends, index + 1);
+        Some(unsafe { str::from_utf8_unchecked(&self.bytes.as_slice()[start..end]) })
+    }
+
+    /// The fields as one record.
+    pub fn as_record(&self) -> Record<'_>
+        ensures { result ≡ self.now }
+    {
+        Record::of(self, 0, self.len())
+    }
+}

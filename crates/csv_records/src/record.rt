@@ -1,0 +1,101 @@
+// One record that is lent.
+
+ghost use Rattle.std.specs.Prelude.{◌≡◌, ◌≤◌, ◌<◌, ◌-◌, ◌∷◌, [], OnOk, IfSome, IfNone, Some, length, take, drop, map, slice_get, option_map};
+
+use crate::fields::FieldBuffer;
+use std::alloc::AllocError;
+use std::marker::Model;
+
+/// A record, lent from the buffer in which it lies. Contracts see the list of its fields.
+#[derive(Drop)]
+pub struct Record<'a> {
+    fields: &'a FieldBuffer,
+    start: usize,
+    end: usize,
+}
+
+impl<'a> Model for Record<'a> {
+    ghost use Rattle.std.specs.Prelude.{List, ℕ, ◌≤◌, ◌-◌, length, take, drop};
+
+    ghost Value = { List (List ℕ) };
+
+    ghost view = { λ r. take (r.end - r.start) (drop r.start r.fields.now) };
+
+    ghost invariant = { λ r. (r.start ≤ r.end) × (r.end ≤ length r.fields.now) };
+}
+
+impl<'a> Record<'a> {
+    // The fields from one index to before another.
+    pub(crate) fn of(fields: &'a FieldBuffer, start: usize, end: usize) -> Record<'a>
+        requires { (start ≤ end) × (end ≤ length fields.now) }
+        ensures { result ≡ take (end - start) (drop start fields.now) }
+    {
+        Record { fields, start, end }
+    }
+
+    /// How many fields there are.
+    pub fn len(&self) -> usize
+        ensures { result ≡ length self.now }
+    {
+        self.end - self.start
+    }
+
+    /// The field at an index, counted from 0.
+    pub fn get(&self, index: usize) -> Option<&'a str>
+        ensures { option_map (λ s. s.now) result ≡ slice_get self.now index }
+    {
+        if index >= self.end - self.start {
+            return None;
+        }
+        self.fields.get(self.start + index)
+    }
+
+    /// The field at an index that there is, counted from 0.
+    pub fn at(&self, index: usize) -> &'a str
+        requires { index < length self.now }
+        ensures { slice_get self.now index ≡ Some result.now }
+    {
+        match self.get(index) {
+            Some(text) => text,
+            None => "",
+        }
+    }
+
+    /// The fields from one index to before another, counted from 0.
+    pub fn part(&self, start: usize, end: usize) -> Record<'a>
+        requires { (start ≤ end) × (end ≤ length self.now) }
+        ensures { result ≡ take (end - start) (drop start self.now) }
+    {
+        Record {
+            fields: self.fields,
+            start: self.start + start,
+            end: self.start + end,
+        }
+    }
+
+    /// The first field, and the record of the others.
+    pub fn split_first(&self) -> Option<(&'a str, Record<'a>)>
+        ensures some { IfSome result (λ p. self.now ≡ p.0.now ∷ p.1) }
+        ensures none { IfNone result (self.now ≡ []) }
+    {
+        if self.len() == 0 {
+            return None;
+        }
+        Some((self.at(0), self.part(1, self.len())))
+    }
+
+    /// Puts the fields into a list, in place of what it held, so that they can be taken apart by a
+    /// pattern. One list serves all records of a text. Without memory what the list holds is not
+    /// said.
+    pub fn fill(&self, list: &mut Vec<&'a str>) -> Result<(), AllocError>
+        ensures { OnOk result (map (λ f. f.now) list.new.items ≡ self.now) }
+    {
+        list.clear();
+        for i in 0..self.len() {
+            if let Some(text) = self.get(i) {
+                list.push(text)?;
+            }
+        }
+        Ok(())
+    }
+}

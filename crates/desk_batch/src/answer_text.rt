@@ -7,93 +7,79 @@ ghost use Rattle.desk_batch.specs.AnswerText.{agree_fields, answer_records, befo
 
 use crate::catalogue_text::push_catalogue;
 use crate::gap_text::push_gaps;
-use crate::price_text::{choice_row, push_calendars, push_prices};
-use crate::text_rows::{digits, push_labelled, push_number, push_text, row};
+use crate::price_text::{fill_choice, push_calendars, push_prices};
+use crate::text_rows::{fill, push_labelled, push_number};
 use catalogue_rules::effect::Effect;
-use onix_message::records::{Record, write_records};
-use onix_terms::items::Items;
+use csv_records::buffer::RecordBuffer;
+use csv_records::fields::FieldBuffer;
+use csv_records::writing::write_records;
 use onix_terms::number::Number;
 use onix_terms::series_name::SeriesName;
 use series_rules::answers::{AgreeAnswer, Answer, DeliveryAnswer, WaiveAnswer};
 use std::alloc::{AllocError, Global};
 
+// Each function that fills puts the fields of a record in place of what the list had.
+
 // A refusal that has nothing to add to its reason.
-fn refusal_row(alloc: Global, reason: &str) -> Result<Record, AllocError>
-    ensures { IfOk result (λ r. r ≡ codes "refused" ∷ reason.now ∷ []) }
+fn fill_refusal(out: &mut FieldBuffer, reason: &str) -> Result<(), AllocError>
+    ensures { OnOk result (out.new ≡ codes "refused" ∷ reason.now ∷ []) }
 {
-    row(alloc, &["refused", reason])
+    fill(out, &["refused", reason])
 }
 
-fn malformed_row(alloc: Global, place: u32) -> Result<Record, AllocError>
-    ensures { IfOk result (λ r. r ≡ malformed_fields place) }
+fn fill_malformed(out: &mut FieldBuffer, row: u32) -> Result<(), AllocError>
+    ensures { OnOk result (out.new ≡ malformed_fields row) }
 {
-    let place = digits(alloc, place)?;
-    row(alloc, &["refused", "malformed", place.as_str()])
-}
-
-// Adds the name of a series and a number of it.
-fn push_place(
-    alloc: Global,
-    out: &mut Record,
-    series: &SeriesName,
-    number: Number,
-) -> Result<(), AllocError>
-    ensures { OnOk result (out.new ≡ out.old ++ (series.now ∷ decimal number ∷ [])) }
-{
-    push_text(alloc, out, series.as_str())?;
-    push_number(alloc, out, number.value())
+    fill(out, &["refused", "malformed"])?;
+    push_number(out, row)
 }
 
 // An answer of a word, or of a refusal and its reason, about a number of a series.
-fn numbered_row(
-    alloc: Global,
+fn fill_numbered(
+    out: &mut FieldBuffer,
     words: &[&str],
     series: &SeriesName,
     number: Number,
-) -> Result<Record, AllocError>
-    ensures { IfOk result (λ r. r ≡ map (λ w. w.now) words.now ++ (series.now ∷ decimal number ∷ [])) }
+) -> Result<(), AllocError>
+    ensures { OnOk result (out.new ≡ map (λ w. w.now) words.now ++ (series.now ∷ decimal number ∷ [])) }
 {
-    let mut out = row(alloc, words)?;
-    push_place(alloc, &mut out, series, number)?;
-    Ok(out)
+    fill(out, words)?;
+    out.push(series.as_str())?;
+    push_number(out, number.value())
 }
 
-fn before_first_row(
-    alloc: Global,
+fn fill_before_first(
+    out: &mut FieldBuffer,
     series: &SeriesName,
     number: Number,
     first: Number,
-) -> Result<Record, AllocError>
-    ensures { IfOk result (λ r. r ≡ before_first_fields series.now number first) }
+) -> Result<(), AllocError>
+    ensures { OnOk result (out.new ≡ before_first_fields series.now number first) }
 {
-    let mut out = numbered_row(alloc, &["refused", "before-first"], series, number)?;
-    push_number(alloc, &mut out, first.value())?;
-    Ok(out)
+    fill_numbered(out, &["refused", "before-first"], series, number)?;
+    push_number(out, first.value())
 }
 
-fn agree_row(
-    alloc: Global,
+fn fill_agreement(
+    out: &mut FieldBuffer,
     name: &SeriesName,
     first: Number,
     answer: &AgreeAnswer,
-) -> Result<Record, AllocError>
-    ensures { IfOk result (λ r. r ≡ agree_fields name.now first answer.now) }
+) -> Result<(), AllocError>
+    ensures { OnOk result (out.new ≡ agree_fields name.now first answer.now) }
 {
     match answer {
-        AgreeAnswer::Agreed => {
-            let first = digits(alloc, first.value())?;
-            row(alloc, &["agreed", name.as_str(), first.as_str()])
-        }
-        AgreeAnswer::NameTaken => row(alloc, &["refused", "name-taken", name.as_str()]),
-        AgreeAnswer::SeriesTaken { name: holder } => row(
-            alloc,
+        AgreeAnswer::Agreed => fill_numbered(out, &["agreed"], name, first),
+        AgreeAnswer::NameTaken => fill(out, &["refused", "name-taken", name.as_str()]),
+        AgreeAnswer::SeriesTaken { name: holder } => fill(
+            out,
             &["refused", "series-taken", holder.as_str()],
         ),
     }
 }
 
 // Adds the five counts of an effect, each behind its name.
-fn push_effect(alloc: Global, out: &mut Record, effect: &Effect) -> Result<(), AllocError>
+fn push_effect(alloc: Global, out: &mut FieldBuffer, effect: &Effect) -> Result<(), AllocError>
     ensures { OnOk result (out.new ≡ out.old ++ effect_fields effect.now) }
 {
     push_labelled(
@@ -110,52 +96,56 @@ fn push_effect(alloc: Global, out: &mut Record, effect: &Effect) -> Result<(), A
 }
 
 // The answer to an applied message.
-fn applied_row(
+fn fill_applied(
     alloc: Global,
+    out: &mut FieldBuffer,
     series: &SeriesName,
     number: Number,
     effect: &Effect,
-) -> Result<Record, AllocError>
-    ensures { IfOk result (λ r. r ≡ codes "applied" ∷ series.now ∷ decimal number ∷ effect_fields effect.now) }
+) -> Result<(), AllocError>
+    ensures { OnOk result (out.new ≡ codes "applied" ∷ series.now ∷ decimal number ∷ effect_fields effect.now) }
 {
-    let mut out = numbered_row(alloc, &["applied"], series, number)?;
-    push_effect(alloc, &mut out, effect)?;
-    Ok(out)
+    fill_numbered(out, &["applied"], series, number)?;
+    push_effect(alloc, out, effect)
 }
 
-fn held_row(
+fn fill_held(
     alloc: Global,
+    out: &mut FieldBuffer,
     series: &SeriesName,
     number: Number,
     next: u32,
-) -> Result<Record, AllocError>
-    ensures { IfOk result (λ r. r ≡ codes "held" ∷ series.now ∷ decimal number ∷ (codes "waiting-for=" ++ decimal next) ∷ []) }
+) -> Result<(), AllocError>
+    ensures { OnOk result (out.new ≡ codes "held" ∷ series.now ∷ decimal number ∷ (codes "waiting-for=" ++ decimal next) ∷ []) }
 {
-    let mut out = numbered_row(alloc, &["held"], series, number)?;
-    push_labelled(alloc, &mut out, &[("waiting-for=", u64::from(next))])?;
-    Ok(out)
+    fill_numbered(out, &["held"], series, number)?;
+    push_labelled(alloc, out, &[("waiting-for=", u64::from(next))])
 }
 
-fn delivery_row(alloc: Global, answer: &DeliveryAnswer) -> Result<Record, AllocError>
-    ensures { IfOk result (λ r. r ≡ delivery_fields answer.now) }
+fn fill_delivery(
+    alloc: Global,
+    out: &mut FieldBuffer,
+    answer: &DeliveryAnswer,
+) -> Result<(), AllocError>
+    ensures { OnOk result (out.new ≡ delivery_fields answer.now) }
 {
     match answer {
-        DeliveryAnswer::Malformed { row } => malformed_row(alloc, *row),
-        DeliveryAnswer::Unnumbered => refusal_row(alloc, "unnumbered"),
-        DeliveryAnswer::UnknownSeries => refusal_row(alloc, "unknown-series"),
+        DeliveryAnswer::Malformed { row } => fill_malformed(out, *row),
+        DeliveryAnswer::Unnumbered => fill_refusal(out, "unnumbered"),
+        DeliveryAnswer::UnknownSeries => fill_refusal(out, "unknown-series"),
         DeliveryAnswer::BeforeFirst {
             series,
             number,
             first,
-        } => before_first_row(alloc, series, *number, *first),
-        DeliveryAnswer::Waived { series, number } => numbered_row(
-            alloc,
+        } => fill_before_first(out, series, *number, *first),
+        DeliveryAnswer::Waived { series, number } => fill_numbered(
+            out,
             &["refused", "waived"],
             series,
             *number,
         ),
-        DeliveryAnswer::OtherContents { series, number } => numbered_row(
-            alloc,
+        DeliveryAnswer::OtherContents { series, number } => fill_numbered(
+            out,
             &["refused", "other-contents"],
             series,
             *number,
@@ -164,56 +154,68 @@ fn delivery_row(alloc: Global, answer: &DeliveryAnswer) -> Result<Record, AllocE
             series,
             number,
             effect,
-        } => applied_row(alloc, series, *number, effect),
+        } => fill_applied(alloc, out, series, *number, effect),
         DeliveryAnswer::Held {
             series,
             number,
             waiting_for,
-        } => held_row(alloc, series, *number, *waiting_for),
+        } => fill_held(alloc, out, series, *number, *waiting_for),
     }
 }
 
-fn waiver_row(
-    alloc: Global,
+fn fill_waiver(
+    out: &mut FieldBuffer,
     series: &SeriesName,
     number: Number,
     answer: &WaiveAnswer,
-) -> Result<Record, AllocError>
-    ensures { IfOk result (λ r. r ≡ waiver_fields series.now number answer.now) }
+) -> Result<(), AllocError>
+    ensures { OnOk result (out.new ≡ waiver_fields series.now number answer.now) }
 {
     match answer {
-        WaiveAnswer::UnknownSeries => refusal_row(alloc, "unknown-series"),
-        WaiveAnswer::BeforeFirst { first } => before_first_row(alloc, series, number, *first),
-        WaiveAnswer::Had => numbered_row(alloc, &["refused", "had"], series, number),
-        WaiveAnswer::Waived => numbered_row(alloc, &["waived"], series, number),
+        WaiveAnswer::UnknownSeries => fill_refusal(out, "unknown-series"),
+        WaiveAnswer::BeforeFirst { first } => fill_before_first(out, series, number, *first),
+        WaiveAnswer::Had => fill_numbered(out, &["refused", "had"], series, number),
+        WaiveAnswer::Waived => fill_numbered(out, &["waived"], series, number),
     }
 }
 
 // Adds the records of an answer.
-fn push_answer(alloc: Global, rows: &mut Items<Record>, answer: &Answer) -> Result<(), AllocError>
-    ensures { OnOk result (rows.new ≡ rows.old ++ answer_records answer.now) }
+fn push_answer(
+    alloc: Global,
+    out: &mut FieldBuffer,
+    records: &mut RecordBuffer,
+    answer: &Answer,
+) -> Result<(), AllocError>
+    ensures { OnOk result (records.new ≡ records.old ++ answer_records answer.now) }
 {
     match answer {
+        Answer::Price { isbn, offers } => {
+            return push_prices(alloc, out, records, isbn, offers.as_slice());
+        }
+        Answer::Calendar { isbn, offers } => {
+            return push_calendars(alloc, out, records, isbn, offers.as_slice());
+        }
+        Answer::Gaps(report) => return push_gaps(alloc, out, records, report),
+        Answer::Catalogue { series, catalogue } => {
+            return push_catalogue(alloc, out, records, series, catalogue);
+        }
         Answer::Agreement {
             name,
             first,
             answer,
-        } => rows.push(agree_row(alloc, name, *first, answer)?),
-        Answer::Delivery(answer) => rows.push(delivery_row(alloc, answer)?),
+        } => fill_agreement(out, name, *first, answer)?,
+        Answer::Delivery(answer) => fill_delivery(alloc, out, answer)?,
         Answer::Waiver {
             series,
             number,
             answer,
-        } => rows.push(waiver_row(alloc, series, *number, answer)?),
-        Answer::Price { isbn, offers } => push_prices(alloc, rows, isbn, offers.as_slice()),
-        Answer::Choice { isbn, choice } => rows.push(choice_row(alloc, isbn, choice)?),
-        Answer::Calendar { isbn, offers } => push_calendars(alloc, rows, isbn, offers.as_slice()),
-        Answer::BadRange => rows.push(refusal_row(alloc, "bad-range")?),
-        Answer::Gaps(report) => push_gaps(alloc, rows, report),
-        Answer::Catalogue { series, catalogue } => push_catalogue(alloc, rows, series, catalogue),
-        Answer::UnknownSeries => rows.push(refusal_row(alloc, "unknown-series")?),
-        Answer::Malformed { row } => rows.push(malformed_row(alloc, *row)?),
+        } => fill_waiver(out, series, *number, answer)?,
+        Answer::Choice { isbn, choice } => fill_choice(alloc, out, isbn, choice)?,
+        Answer::BadRange => fill_refusal(out, "bad-range")?,
+        Answer::UnknownSeries => fill_refusal(out, "unknown-series")?,
+        Answer::Malformed { row } => fill_malformed(out, *row)?,
     }
+    records.push(&out.as_record())
 }
 
 /// The text of an answer: its records, with commas between fields and a line feed after each
@@ -222,9 +224,10 @@ fn push_answer(alloc: Global, rows: &mut Items<Record>, answer: &Answer) -> Resu
 pub fn write_answer(alloc: Global, answer: &Answer) -> Result<String, AllocError>
     ensures { IfOk result (λ text. string_bytes text ≡ text_of answer.now) }
 {
-    let mut rows = Items::new(alloc);
-    push_answer(alloc, &mut rows, answer)?;
-    write_records(alloc, rows.as_slice())
+    let mut records = RecordBuffer::new(alloc);
+    let mut fields = FieldBuffer::new(alloc);
+    push_answer(alloc, &mut fields, &mut records, answer)?;
+    write_records(alloc, &records.as_records())
 }
 
 /// Whether the text of an answer begins with the field `refused`.

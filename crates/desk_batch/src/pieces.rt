@@ -1,10 +1,13 @@
 // The pieces of a batch.
 
 ghost use Rattle.std.specs.Prelude.{◌≡◌, ◌++◌, IfOk, OnOk};
+ghost use Rattle.csv.specs.Records.{fields_of};
 ghost use Rattle.desk_batch.specs.Pieces.{begins_request, is_question_name, is_request_name, pieces};
 ghost use Rattle.desk_batch.specs.Closed.{closed};
 
-use onix_message::records::Record;
+use csv::StringRecord;
+use csv_records::buffer::RecordBuffer;
+use csv_records::reading::RecordReader;
 use onix_terms::items::Items;
 use std::alloc::{AllocError, Global};
 
@@ -27,17 +30,17 @@ fn is_request(name: &str) -> bool
 }
 
 // Whether a record begins a request.
-fn begins_piece(row: &Record) -> bool
-    ensures { result ≡ begins_request row.now }
+fn begins_piece(from: &StringRecord) -> bool
+    ensures { result ≡ begins_request (fields_of from.now) }
 {
-    match row.as_slice() {
-        [] => false,
-        [name, ..] => is_request(name.as_str()),
+    match from.get(0) {
+        None => false,
+        Some(name) => is_request(name),
     }
 }
 
 // Puts a piece behind others, unless it has no record.
-fn close_piece(cut: &mut Items<Items<Record>>, piece: Items<Record>) -> Result<(), AllocError>
+fn close_piece(cut: &mut Items<RecordBuffer>, piece: RecordBuffer) -> Result<(), AllocError>
     ensures { OnOk result (cut.new ≡ cut.old ++ closed piece) }
 {
     if piece.is_empty() {
@@ -46,19 +49,23 @@ fn close_piece(cut: &mut Items<Items<Record>>, piece: Items<Record>) -> Result<(
     cut.push(piece)
 }
 
-/// Cuts the records of a batch before each that begins a request. The records are moved, none is
-/// copied.
-pub fn cut_pieces(alloc: Global, records: Items<Record>) -> Result<Items<Items<Record>>, AllocError>
-    ensures { IfOk result (λ cut. cut ≡ pieces records) }
+/// Cuts the records that a reader has left before each that begins a request. Each piece has a
+/// buffer of its own, so that it can be let go of when its request is answered.
+pub fn read_pieces(
+    alloc: Global,
+    mut reader: RecordReader<'_>,
+) -> Result<Items<RecordBuffer>, AllocError>
+    ensures { IfOk result (λ cut. cut ≡ pieces reader) }
 {
     let mut cut = Items::new(alloc);
-    let mut piece = Items::new(alloc);
-    for row in records.into_vec() {
-        if begins_piece(&row) {
+    let mut piece = RecordBuffer::new(alloc);
+    let mut next = StringRecord::new(alloc);
+    while reader.read(&mut next)? {
+        if begins_piece(&next) {
             close_piece(&mut cut, piece)?;
-            piece = Items::new(alloc);
+            piece = RecordBuffer::new(alloc);
         }
-        piece.push(row)?;
+        piece.push_read(&next)?;
     }
     close_piece(&mut cut, piece)?;
     Ok(cut)

@@ -1,17 +1,16 @@
 // The records of answers about the offers of an article.
 
-ghost use Rattle.std.specs.Prelude.{◌≡◌, ◌++◌, IfOk, OnOk, map};
+ghost use Rattle.std.specs.Prelude.{◌≡◌, ◌++◌, ◌∷◌, [], IfOk, OnOk, map};
 ghost use Rattle.std.specs.String.{string_bytes};
 ghost use Rattle.onix_terms.specs.Day.{day_text};
 ghost use Rattle.desk_batch.specs.PriceText.{calendar_records, choice_fields, chosen_fields, dated_records, head_fields, listed_fields, optional_amount, price_records, priced_fields, span_fields};
 
-use crate::text_rows::{digits, push_number, push_text, row};
-use onix_message::records::Record;
+use crate::text_rows::{fill, push_count, push_number};
+use csv_records::buffer::RecordBuffer;
+use csv_records::fields::FieldBuffer;
 use onix_terms::amount::Amount;
 use onix_terms::day::Day;
 use onix_terms::isbn13::Isbn13;
-use onix_terms::items::Items;
-use onix_terms::text::Text;
 use price_rules::calendar::Span;
 use series_rules::answers::{ChosenOffer, ListedOffer, OfferCalendar, PricedOffer};
 use std::alloc::{AllocError, Global};
@@ -26,116 +25,133 @@ fn amount_digits(alloc: Global, amount: Option<Amount>) -> Result<String, AllocE
     Ok(text)
 }
 
-fn day_digits(alloc: Global, day: Day) -> Result<String, AllocError>
-    ensures { IfOk result (λ t. string_bytes t ≡ day_text day) }
+// Adds an amount, or an empty field.
+fn push_amount(
+    alloc: Global,
+    out: &mut FieldBuffer,
+    amount: Option<Amount>,
+) -> Result<(), AllocError>
+    ensures { OnOk result (out.new ≡ out.old ++ optional_amount amount ∷ []) }
+{
+    out.push(amount_digits(alloc, amount)?.as_str())
+}
+
+fn push_day(alloc: Global, out: &mut FieldBuffer, day: Day) -> Result<(), AllocError>
+    ensures { OnOk result (out.new ≡ out.old ++ day_text day ∷ []) }
 {
     let mut text = String::new(alloc);
     day.write(&mut text)?;
-    Ok(text)
+    out.push(text.as_str())
 }
 
 // The record that begins an answer: its name, the article, and how many offers follow.
-fn head_row(alloc: Global, name: &str, isbn: &Isbn13, count: usize) -> Result<Record, AllocError>
-    ensures { IfOk result (λ r. r ≡ head_fields name.now isbn.now count) }
+fn fill_head(
+    out: &mut FieldBuffer,
+    name: &str,
+    isbn: &Isbn13,
+    count: usize,
+) -> Result<(), AllocError>
+    ensures { OnOk result (out.new ≡ head_fields name.now isbn.now count) }
 {
-    let count = count.to_string(alloc)?;
-    row(alloc, &[name, isbn.as_str(), count.as_str()])
+    fill(out, &[name, isbn.as_str()])?;
+    push_count(out, count)
 }
 
 // Adds which offer it is.
-fn push_offer(alloc: Global, out: &mut Record, offer: &ListedOffer) -> Result<(), AllocError>
+fn push_offer(out: &mut FieldBuffer, offer: &ListedOffer) -> Result<(), AllocError>
     ensures { OnOk result (out.new ≡ out.old ++ listed_fields offer.now) }
 {
-    push_text(alloc, out, offer.series.as_str())?;
-    out.push(offer.reference.copy(alloc)?)?;
-    push_number(alloc, out, offer.place)?;
-    push_text(alloc, out, offer.availability.as_str())
+    out.push(offer.series.as_str())?;
+    out.push(offer.reference.as_str())?;
+    push_number(out, offer.place)?;
+    out.push(offer.availability.as_str())
 }
 
-// A record of these fields, and then which offer it is.
-fn offer_row(alloc: Global, fields: &[&str], offer: &ListedOffer) -> Result<Record, AllocError>
-    ensures { IfOk result (λ r. r ≡ map (λ f. f.now) fields.now ++ listed_fields offer.now) }
+fn fill_priced(
+    alloc: Global,
+    out: &mut FieldBuffer,
+    priced: &PricedOffer,
+) -> Result<(), AllocError>
+    ensures { OnOk result (out.new ≡ priced_fields priced.now) }
 {
-    let mut out = row(alloc, fields)?;
-    push_offer(alloc, &mut out, offer)?;
-    Ok(out)
-}
-
-fn priced_row(alloc: Global, priced: &PricedOffer) -> Result<Record, AllocError>
-    ensures { IfOk result (λ r. r ≡ priced_fields priced.now) }
-{
-    let mut out = offer_row(alloc, &["offer"], &priced.offer)?;
-    out.push(Text::from_string(amount_digits(alloc, priced.amount)?))?;
-    Ok(out)
+    fill(out, &["offer"])?;
+    push_offer(out, &priced.offer)?;
+    push_amount(alloc, out, priced.amount)
 }
 
 /// Adds the records of the offers of an article with their current prices.
 #[tactic(auto, unfolding(crate::specs::PriceText::price_records))]
 pub(crate) fn push_prices(
     alloc: Global,
-    rows: &mut Items<Record>,
+    out: &mut FieldBuffer,
+    records: &mut RecordBuffer,
     isbn: &Isbn13,
     offers: &[PricedOffer],
 ) -> Result<(), AllocError>
-    ensures { OnOk result (rows.new ≡ rows.old ++ price_records isbn.now offers.now) }
+    ensures { OnOk result (records.new ≡ records.old ++ price_records isbn.now offers.now) }
 {
-    rows.push(head_row(alloc, "price", isbn, offers.len())?)?;
+    fill_head(out, "price", isbn, offers.len())?;
+    records.push(&out.as_record())?;
     for priced in offers {
-        rows.push(priced_row(alloc, priced)?)?;
+        fill_priced(alloc, out, priced)?;
+        records.push(&out.as_record())?;
     }
     Ok(())
 }
 
-fn chosen_row(alloc: Global, isbn: &Isbn13, chosen: &ChosenOffer) -> Result<Record, AllocError>
-    ensures { IfOk result (λ r. r ≡ chosen_fields isbn.now chosen.now) }
+fn fill_chosen(
+    alloc: Global,
+    out: &mut FieldBuffer,
+    isbn: &Isbn13,
+    chosen: &ChosenOffer,
+) -> Result<(), AllocError>
+    ensures { OnOk result (out.new ≡ chosen_fields isbn.now chosen.now) }
 {
-    let rule = digits(alloc, chosen.rule)?;
-    let mut out = offer_row(
-        alloc,
-        &["choice", isbn.as_str(), rule.as_str()],
-        &chosen.offer,
-    )?;
-    out.push(Text::from_string(amount_digits(alloc, Some(chosen.amount))?))?;
-    Ok(out)
+    fill(out, &["choice", isbn.as_str()])?;
+    push_number(out, chosen.rule)?;
+    push_offer(out, &chosen.offer)?;
+    push_amount(alloc, out, Some(chosen.amount))
 }
 
-/// The record of the choice among the offers of an article.
-pub(crate) fn choice_row(
+/// Puts the record of the choice among the offers of an article in place of what the list had.
+pub(crate) fn fill_choice(
     alloc: Global,
+    out: &mut FieldBuffer,
     isbn: &Isbn13,
     choice: &Option<ChosenOffer>,
-) -> Result<Record, AllocError>
-    ensures { IfOk result (λ r. r ≡ choice_fields isbn.now choice.now) }
+) -> Result<(), AllocError>
+    ensures { OnOk result (out.new ≡ choice_fields isbn.now choice.now) }
 {
     match choice {
-        Some(chosen) => chosen_row(alloc, isbn, chosen),
-        None => row(alloc, &["choice", isbn.as_str(), "none"]),
+        Some(chosen) => fill_chosen(alloc, out, isbn, chosen),
+        None => fill(out, &["choice", isbn.as_str(), "none"]),
     }
 }
 
-fn span_row(alloc: Global, span: &Span) -> Result<Record, AllocError>
-    ensures { IfOk result (λ r. r ≡ span_fields span.now) }
+fn fill_span(alloc: Global, out: &mut FieldBuffer, span: &Span) -> Result<(), AllocError>
+    ensures { OnOk result (out.new ≡ span_fields span.now) }
 {
-    let first = day_digits(alloc, span.first)?;
-    let last = day_digits(alloc, span.last)?;
-    let amount = amount_digits(alloc, span.amount)?;
-    row(
-        alloc,
-        &["span", first.as_str(), last.as_str(), amount.as_str()],
-    )
+    fill(out, &["span"])?;
+    push_day(alloc, out, span.first)?;
+    push_day(alloc, out, span.last)?;
+    push_amount(alloc, out, span.amount)
 }
 
 // Adds the records of an offer's calendar.
 fn push_calendar(
     alloc: Global,
-    rows: &mut Items<Record>,
+    out: &mut FieldBuffer,
+    records: &mut RecordBuffer,
     calendar: &OfferCalendar,
 ) -> Result<(), AllocError>
-    ensures { OnOk result (rows.new ≡ rows.old ++ dated_records calendar.now) }
+    ensures { OnOk result (records.new ≡ records.old ++ dated_records calendar.now) }
 {
-    rows.push(offer_row(alloc, &["offer"], &calendar.offer)?)?;
+    fill(out, &["offer"])?;
+    push_offer(out, &calendar.offer)?;
+    records.push(&out.as_record())?;
     for span in calendar.spans.as_slice() {
-        rows.push(span_row(alloc, span)?)?;
+        fill_span(alloc, out, span)?;
+        records.push(&out.as_record())?;
     }
     Ok(())
 }
@@ -144,15 +160,17 @@ fn push_calendar(
 #[tactic(auto, unfolding(crate::specs::PriceText::calendar_records))]
 pub(crate) fn push_calendars(
     alloc: Global,
-    rows: &mut Items<Record>,
+    out: &mut FieldBuffer,
+    records: &mut RecordBuffer,
     isbn: &Isbn13,
     offers: &[OfferCalendar],
 ) -> Result<(), AllocError>
-    ensures { OnOk result (rows.new ≡ rows.old ++ calendar_records isbn.now offers.now) }
+    ensures { OnOk result (records.new ≡ records.old ++ calendar_records isbn.now offers.now) }
 {
-    rows.push(head_row(alloc, "calendar", isbn, offers.len())?)?;
+    fill_head(out, "calendar", isbn, offers.len())?;
+    records.push(&out.as_record())?;
     for calendar in offers {
-        push_calendar(alloc, rows, calendar)?;
+        push_calendar(alloc, out, records, calendar)?;
     }
     Ok(())
 }

@@ -1,7 +1,3 @@
-pub mod FieldFacts
-pub mod RecordsAre
-pub mod RecordsText
-pub mod ReadBack
 pub mod RowLists
 pub mod Orders
 pub mod Fronts
@@ -9,6 +5,7 @@ pub mod FrontRows
 pub mod Bare
 pub mod RowFaults
 pub mod Pairs
+pub mod TenFields
 pub mod Nests
 pub mod Explained
 pub mod OneText

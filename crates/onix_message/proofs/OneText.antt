@@ -1,17 +1,16 @@
 -- Contents have one text each, which is read again.
-use Rattle.std.proofs.Common.{◌≡◌, ◌≢◌, ◌++◌, ◌∷◌, ◌∙◌, [], ℕ, List, Option, Some, None, true, false, refl, sym, ap, map, subst}
+use Rattle.std.proofs.Common.{◌≡◌, ◌≢◌, ◌++◌, ◌∷◌, ◌∙◌, [], ℕ, List, Option, Some, true, false, refl, sym, ap, map, subst, arith, length, length-append, ◌≤◌}
 use Rattle.std.specs.Prelude.{◌==◌}
 use Rattle.std.specs.Cmp.Lexicographic.{bytes_decides}
 use Rattle.std.specs.List.{flat_map}
 use Rattle.std.specs.Str.{bytes_eq}
-use Rattle.std.proofs.lemmas.List.{map-append}
+use Rattle.std.proofs.lemmas.List.{length-map, map-append}
 use Rattle.std.proofs.lemmas.Option.{same_Some}
 use Rattle.csv.specs.Reading.{strip_bom}
-use Rattle.onix_message.specs.ContentsText.{IsContents, contents_text, end_record, framed}
+use Rattle.onix_message.specs.ContentsText.{IsContents, contents_text, end_record, framed, plain_opening}
 use Rattle.onix_message.specs.Grammar.{IsMessage}
-use Rattle.onix_message.specs.Message.{message_of}
 use Rattle.onix_message.specs.Nest.{content_rows, detail_rows, product_rows, supply_rows}
-use Rattle.onix_message.specs.Records.{AllFilled, records_of, records_text}
+use Rattle.csv_records.specs.RecordTexts.{AllFilled, records_of, records_text}
 use Rattle.onix_message.specs.RowRecords.{content_records, detail_record, detail_records, price_record, product_record, product_records, supplies_records, supply_record, supply_records}
 use Rattle.onix_message.specs.declared.parts.Header.{Header}
 use Rattle.onix_message.specs.declared.parts.Price.{Price}
@@ -20,8 +19,12 @@ use Rattle.onix_message.specs.declared.parts.ProductSupply.{ProductSupply}
 use Rattle.onix_message.specs.declared.parts.SupplyDetail.{SupplyDetail}
 use Rattle.onix_message.specs.declared.row.Row.{Row}
 use Rattle.onix_message.specs.declared.row.Row.TheVariants as row
-use Rattle.onix_message.proofs.Nests.{message-computed, message-meant}
-use Rattle.onix_message.proofs.ReadBack.{one-text, records-again}
+use Rattle.onix_message.proofs.Nests.{message-computed}
+
+-- what the law of one text of records says
+pub record RecordLaw : Type 0 where
+  pub read : (rows : List (List (List ℕ))) → AllFilled rows → strip_bom (records_text rows) ≡ records_text rows → records_of (records_text rows) ≡ rows
+  pub only : (rows others : List (List (List ℕ))) → AllFilled rows → AllFilled others → records_text rows ≡ records_text others → rows ≡ others
 
 -- the record of a row of contents
 abbrev pub record_of : Row → List (List ℕ)
@@ -98,9 +101,9 @@ unmarked : (c : List Product) → strip_bom (records_text (content_records c)) �
 unmarked c = rw (content-record-rows c) (no-mark (content_rows c))
 
 -- the records of the text of contents
-pub contents-again : (c : List Product) → records_of (contents_text c) ≡ content_records c
+pub contents-again : RecordLaw → (c : List Product) → records_of (contents_text c) ≡ content_records c
 unfolding contents_text
-contents-again c = records-again (content_records c) (filled-contents c) (unmarked c)
+contents-again law c = law.read (content_records c) (filled-contents c) (unmarked c)
 
 -- a list of records is one message at most
 pub one-message : (records : List (List (List ℕ))) (g h : Header) (c d : List Product) → IsMessage records g c → IsMessage records h d → c ≡ d
@@ -109,37 +112,43 @@ one-message records g h c d m n =
     ap (λ (p : Header × List Product). p.1) (same_Some {A = Header × List Product} (g, c) (h, d) found)
 
 -- contents with the same text are the same
-pub one-contents : (c d : List Product) → IsContents c → IsContents d → contents_text c ≡ contents_text d → c ≡ d
+pub one-contents : RecordLaw → (c d : List Product) → IsContents c → IsContents d → contents_text c ≡ contents_text d → c ≡ d
 unfolding contents_text
-one-contents c d (h, is_c) (g, is_d) e =
-    let same = one-text (content_records c) (content_records d) (filled-contents c) (filled-contents d) e in
+one-contents law c d (h, is_c) (g, is_d) e =
+    let same = law.only (content_records c) (content_records d) (filled-contents c) (filled-contents d) e in
     one-message (framed (content_records c)) h g c d is_c (subst (λ (rs : List (List (List ℕ))). IsMessage (framed rs) g d) (sym same) is_d)
 
 -- A text between a header without defaults and the right end.
 
-read-only : (bytes : List ℕ) (h : Header) (c d : List Product) → message_of (framed (records_of bytes)) ≡ Some (h, c) → IsContents d → contents_text d ≡ bytes → c ≡ d
-read-only bytes h c d e (g, is_d) same =
-    one-message (framed (records_of bytes)) h g c d (message-meant (framed (records_of bytes)) h c e)
-    (subst (λ (rs : List (List (List ℕ))). IsMessage (framed rs) g d) (sym (contents-again d) ∙ ap records_of same) is_d)
+read-only : RecordLaw → (bytes : List ℕ) (h : Header) (c d : List Product) → IsMessage (framed (records_of bytes)) h c → IsContents d → contents_text d ≡ bytes → c ≡ d
+read-only law bytes h c d m (g, is_d) same =
+    one-message (framed (records_of bytes)) h g c d m
+    (subst (λ (rs : List (List (List ℕ))). IsMessage (framed rs) g d) (sym (contents-again law d) ∙ ap records_of same) is_d)
 
 -- where it is no message, no contents have it
-pub read-none : (bytes : List ℕ) → message_of (framed (records_of bytes)) ≡ None → (c : List Product) → IsContents c → contents_text c ≡ bytes → ⊥
-read-none bytes none c (h, is_c) same =
-    let found = message-computed (framed (content_records c)) h c is_c in
-    let there = ap (λ (rs : List (List (List ℕ))). message_of (framed rs)) (sym (contents-again c) ∙ ap records_of same) in
-    cc (none, found, there)
+pub read-none : RecordLaw → (bytes : List ℕ) → ((h : Header) (c : List Product) → IsMessage (framed (records_of bytes)) h c → ⊥) → (c : List Product) → IsContents c → contents_text c ≡ bytes → ⊥
+read-none law bytes none c (h, is_c) same =
+    none h c (subst (λ (rs : List (List (List ℕ))). IsMessage (framed rs) h c) (sym (contents-again law c) ∙ ap records_of same) is_c)
 
 -- where its contents have another text, no contents have it
-pub read-other : (bytes : List ℕ) (h : Header) (c : List Product) → message_of (framed (records_of bytes)) ≡ Some (h, c) → bytes_eq (contents_text c) bytes ≡ false
+pub read-other : RecordLaw → (bytes : List ℕ) (h : Header) (c : List Product) → IsMessage (framed (records_of bytes)) h c → bytes_eq (contents_text c) bytes ≡ false
     → (d : List Product) → IsContents d → contents_text d ≡ bytes → ⊥
-read-other bytes h c e other d is_d same =
-    let one : contents_text c ≡ bytes = ap contents_text (read-only bytes h c d e is_d same) ∙ same in
+read-other law bytes h c m other d is_d same =
+    let one : contents_text c ≡ bytes = ap contents_text (read-only law bytes h c d m is_d same) ∙ same in
     let equal = (bytes_decides (contents_text c) bytes).1 one in
     cc (other, equal)
 
 -- else its contents have it
-pub read-same : (bytes : List ℕ) (h : Header) (c : List Product) → message_of (framed (records_of bytes)) ≡ Some (h, c) → bytes_eq (contents_text c) bytes ≡ true → IsContents c × (contents_text c ≡ bytes)
-read-same bytes h c e equal =
-    let same = (bytes_decides (contents_text c) bytes).0 equal in
-    let m = message-meant (framed (records_of bytes)) h c e in
-    ((h, subst (λ (rs : List (List (List ℕ))). IsMessage (framed rs) h c) (ap records_of (sym same) ∙ contents-again c) m), same)
+pub read-same : (bytes : List ℕ) (c : List Product) → IsContents c → bytes_eq (contents_text c) bytes ≡ true → IsContents c × (contents_text c ≡ bytes)
+read-same bytes c is_c equal = (is_c, (bytes_decides (contents_text c) bytes).0 equal)
+
+-- contents have two rows less than a message may have
+pub contents-few : (c : List Product) → IsContents c → length (content_rows c) ≤ 19998
+unfolding framed
+contents-few c (h, m) =
+    let records = content_records c in
+    let within : length (framed records) ≤ 20000 = m.within in
+    let whole = length-append (plain_opening ∷ records) (end_record (length (plain_opening ∷ records)) ∷ []) in
+    let rows = ap (λ (t : List (List (List ℕ))). length t) (content-record-rows c) in
+    let mapped = length-map record_of (content_rows c) in
+    omega (arith, within, whole, rows, mapped)

@@ -1,5 +1,5 @@
 -- What is left of pairs of a type and a value while they are read one after the other.
-use Rattle.std.proofs.Common.{◌≡◌, ◌≤◌, ◌<◌, ◌∷◌, ◌++◌, ◌-◌, ◌∙◌, [], ℕ, List, Option, Some, None, true, false, ap, sym, arith, length, take, drop, get_or, append_assoc}
+use Rattle.std.proofs.Common.{◌≡◌, ◌≤◌, ◌<◌, ◌∷◌, ◌++◌, ◌-◌, ◌∙◌, [], ℕ, List, Option, Some, None, true, false, ap, sym, arith, length, take, drop, get_or, map, append_assoc}
 use Rattle.std.specs.Prelude.{◌==◌}
 use Rattle.std.proofs.Math.Seq.{take-length}
 use Rattle.std.proofs.lemmas.List.{append-nil}
@@ -16,24 +16,26 @@ one-more : (left : Option (List ProductIdentifier)) (ids : List ProductIdentifie
 one-more None ids id all e = e
 one-more (Some more) ids id all e = ap Some (append_assoc ids (id ∷ []) more) ∙ e
 
-pub pairs-more : (rest : List (List ℕ)) (ids new : List ProductIdentifier) (all : Option (List ProductIdentifier)) (kind value : List ℕ) (id : ProductIdentifier)
-    → 2 ≤ length rest → kind ≡ get_or rest 0 kind → value ≡ get_or rest 1 value → identifier_of kind value ≡ Some id → new ≡ ids ++ id ∷ []
-    → Completes rest ids all → Completes (take (length rest - 2) (drop 2 rest)) new all
+-- The rest are values that stand for texts, as f says.
+
+pub pairs-more : {X : Type 0} (f : X → List ℕ) (rest : List X) (ids new : List ProductIdentifier) (all : Option (List ProductIdentifier)) (kind value : X) (id : ProductIdentifier)
+    → 2 ≤ length rest → kind ≡ get_or rest 0 kind → value ≡ get_or rest 1 value → identifier_of (f kind) (f value) ≡ Some id → new ≡ ids ++ id ∷ []
+    → Completes (map f rest) ids all → Completes (map f (take (length rest - 2) (drop 2 rest))) new all
 unfolding pairs_of
-pairs-more [] ids new all kind value id two k v reads last e = absurd (omega (arith, two))
-pairs-more (x ∷ []) ids new all kind value id two k v reads last e = absurd (omega (arith, two))
-pairs-more (x ∷ y ∷ more) ids new all kind value id two k v reads last e =
-    let named : identifier_of x y ≡ Some id = rw (← k, ← v) reads in
+pairs-more f [] ids new all kind value id two k v reads last e = absurd (omega (arith, two))
+pairs-more f (x ∷ []) ids new all kind value id two k v reads last e = absurd (omega (arith, two))
+pairs-more f (x ∷ y ∷ more) ids new all kind value id two k v reads last e =
+    let named : identifier_of (f x) (f y) ≡ Some id = rw (← k, ← v) reads in
     let left : length (x ∷ y ∷ more) - 2 ≡ length more = omega arith in
-    rw (last, left, take-length more) (one-more (pairs_of more) ids id all (rw named at e))
+    rw (last, left, take-length more) (one-more (pairs_of (map f more)) ids id all (rw named at e))
 
-pub pairs-end : (rest : List (List ℕ)) (ids : List ProductIdentifier) (all : Option (List ProductIdentifier)) → true ≡ (length rest == 0) → Completes rest ids all → all ≡ Some ids
+pub pairs-end : {X : Type 0} (f : X → List ℕ) (rest : List X) (ids : List ProductIdentifier) (all : Option (List ProductIdentifier)) → true ≡ (length rest == 0) → Completes (map f rest) ids all → all ≡ Some ids
 unfolding pairs_of
-pairs-end [] ids all empty e = sym e ∙ ap Some (append-nil ids)
-pairs-end (x ∷ rest) ids all empty e = grind arith
+pairs-end f [] ids all empty e = sym e ∙ ap Some (append-nil ids)
+pairs-end f (x ∷ rest) ids all empty e = grind arith
 
-pub pairs-odd : (rest : List (List ℕ)) (ids : List ProductIdentifier) (all : Option (List ProductIdentifier)) → length rest < 2 → false ≡ (length rest == 0) → Completes rest ids all → all ≡ None
+pub pairs-odd : {X : Type 0} (f : X → List ℕ) (rest : List X) (ids : List ProductIdentifier) (all : Option (List ProductIdentifier)) → length rest < 2 → false ≡ (length rest == 0) → Completes (map f rest) ids all → all ≡ None
 unfolding pairs_of
-pairs-odd [] ids all few filled e = cc filled
-pairs-odd (x ∷ []) ids all few filled e = sym e
-pairs-odd (x ∷ y ∷ rest) ids all few filled e = absurd (omega (arith, few))
+pairs-odd f [] ids all few filled e = cc filled
+pairs-odd f (x ∷ []) ids all few filled e = sym e
+pairs-odd f (x ∷ y ∷ rest) ids all few filled e = absurd (omega (arith, few))

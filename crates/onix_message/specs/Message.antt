@@ -2,7 +2,7 @@
 use Rattle.std.specs.Prelude.{ℕ, List, [], ◌∷◌, ◌≡◌, ◌+◌, ◌==◌, ◌&&◌, ⊤, Bool, true, false, suc, Option, Some, None, if◌then◌else◌, length, nat_lt}
 use Rattle.std.specs.Option.{option_map_or}
 use Rattle.onix_terms.specs.Options.{◌>>=◌}
-use Rattle.onix_message.specs.Grammar.{is_counted, may_follow, most_records}
+use Rattle.onix_message.specs.Grammar.{IsBadRow, IsMessage, is_counted, may_follow, most_records}
 use Rattle.onix_message.specs.OpeningRow.{opening_of}
 use Rattle.onix_message.specs.Row.{message_row, row_of}
 use Rattle.onix_message.specs.declared.message.MessageFault.{MessageFault}
@@ -90,7 +90,7 @@ unfoldable pub bad_row : List (List (List ℕ)) → ℕ
 bad_row [] = 1
 bad_row (first ∷ rest) = option_map_or (λ o. 2 + length (front_rows o (message_row o) 1 rest)) (opening_of first) 1
 
--- why a message was not read: where the records stop being one, unless memory ran out
+-- why a message was not read: the records are none, and this is the row at which they stop being one; or memory ran out
 abbrev pub Explains : List (List (List ℕ)) → MessageFault → Type 0
-Explains records (fault.Malformed row) = (message_of records ≡ None) × (row ≡ bad_row records)
+Explains records (fault.Malformed row) = ((h : Header) (c : List Product) → IsMessage records h c → ⊥) × IsBadRow records row
 Explains records fault.Memory = ⊤

@@ -1,6 +1,6 @@
 // The fields of a record, and those that several rows have.
 
-ghost use Rattle.std.specs.Prelude.{◌≡◌, not};
+ghost use Rattle.std.specs.Prelude.{◌≡◌, IsErrOf, OnOk, map, not, true, false};
 ghost use Rattle.std.specs.List.{list_all};
 ghost use Rattle.onix_message.specs.Fields.{is_clean, is_control, optional, optional_party, party_of};
 ghost use Rattle.onix_message.specs.Gives.{Gives};
@@ -9,6 +9,7 @@ ghost use Rattle.onix_terms.specs.Options.{nonempty};
 ghost use Rattle.onix_terms.specs.Territory.{territory_of};
 
 use crate::row::RowFault;
+use csv_records::record::Record;
 use onix_terms::code::Code2;
 use onix_terms::party::Party;
 use onix_terms::territory::{TermFault, Territory};
@@ -35,51 +36,64 @@ fn is_clean_field(field: &[u8]) -> bool
     field.len() <= 1024 && has_no_control(field)
 }
 
-/// Whether no field is wrong in itself: each has at most 1,024 bytes and no control character.
-pub fn are_clean(fields: &[Text]) -> bool
-    ensures { result ≡ list_all is_clean fields.now }
+// Whether no field is wrong in itself: each has at most 1,024 bytes and no control character.
+fn are_clean(fields: &[&str]) -> bool
+    ensures { result ≡ list_all (λ f. is_clean f.now) fields.now }
 {
-    fields
-        .iter()
-        .all(|field| is_clean_field(field.as_str().as_bytes()))
+    fields.iter().all(|field| is_clean_field(field.as_bytes()))
+}
+
+/// Puts the fields of a record into a list, in place of what it held. A record is `Wrong` exactly
+/// where one of its fields has more than 1,024 bytes or a control character.
+pub fn read_fields<'a>(from: &Record<'a>, fields: &mut Vec<&'a str>) -> Result<(), RowFault>
+    ensures fields { OnOk result (map (λ f. f.now) fields.new.items ≡ from.now) }
+    ensures clean { OnOk result (list_all is_clean from.now ≡ true) }
+    ensures wrong { IsErrOf result RowFault.Wrong → list_all is_clean from.now ≡ false }
+{
+    from.fill(fields)?;
+    if are_clean(fields.as_slice()) {
+        Ok(())
+    } else {
+        Err(RowFault::Wrong)
+    }
 }
 
 // A text that is not empty.
-pub(crate) fn read_filled(alloc: Global, text: &Text) -> Result<Text, RowFault>
+pub(crate) fn read_filled(alloc: Global, text: &str) -> Result<Text, RowFault>
     ensures { Gives result (nonempty text.now) }
 {
-    if text.as_str().is_empty() {
+    if text.is_empty() {
         return Err(RowFault::Wrong);
     }
-    Ok(text.copy(alloc)?)
+    Ok(Text::from_str(alloc, text)?)
 }
 
-pub(crate) fn read_code(text: &Text) -> Result<Code2, RowFault>
+pub(crate) fn read_code(text: &str) -> Result<Code2, RowFault>
     ensures { Gives result (code2_of text.now) }
 {
-    let Some(code) = Code2::read(text.as_str()) else {
+    let Some(code) = Code2::read(text) else {
         return Err(RowFault::Wrong);
     };
     Ok(code)
 }
 
-pub(crate) fn read_optional_code(text: &Text) -> Result<Option<Code2>, RowFault>
+pub(crate) fn read_optional_code(text: &str) -> Result<Option<Code2>, RowFault>
     ensures { Gives result (optional code2_of text.now) }
 {
-    if text.as_str().is_empty() {
+    if text.is_empty() {
         return Ok(None);
     }
-    let Some(code) = Code2::read(text.as_str()) else {
+    let Some(code) = Code2::read(text) else {
         return Err(RowFault::Wrong);
     };
     Ok(Some(code))
 }
 
 /// A party by the type and the value of its identifier.
-pub fn read_party(alloc: Global, id_type: &Text, id_value: &Text) -> Result<Party, RowFault>
+pub fn read_party(alloc: Global, id_type: &str, id_value: &str) -> Result<Party, RowFault>
     ensures { Gives result (party_of id_type.now id_value.now) }
 {
-    let Some(id_type) = Code2::read(id_type.as_str()) else {
+    let Some(id_type) = Code2::read(id_type) else {
         return Err(RowFault::Wrong);
     };
     let id_value = read_filled(alloc, id_value)?;
@@ -89,12 +103,12 @@ pub fn read_party(alloc: Global, id_type: &Text, id_value: &Text) -> Result<Part
 /// A party, or none where both fields are empty.
 pub fn read_optional_party(
     alloc: Global,
-    id_type: &Text,
-    id_value: &Text,
+    id_type: &str,
+    id_value: &str,
 ) -> Result<Option<Party>, RowFault>
     ensures { Gives result (optional_party id_type.now id_value.now) }
 {
-    if id_type.as_str().is_empty() && id_value.as_str().is_empty() {
+    if id_type.is_empty() && id_value.is_empty() {
         return Ok(None);
     }
     Ok(Some(read_party(alloc, id_type, id_value)?))
@@ -102,18 +116,13 @@ pub fn read_optional_party(
 
 pub(crate) fn read_territory(
     alloc: Global,
-    included: &Text,
-    regions: &Text,
-    excluded: &Text,
+    included: &str,
+    regions: &str,
+    excluded: &str,
 ) -> Result<Territory, RowFault>
     ensures { Gives result (territory_of included.now regions.now excluded.now) }
 {
-    match Territory::read(
-        alloc,
-        included.as_str(),
-        regions.as_str(),
-        excluded.as_str(),
-    ) {
+    match Territory::read(alloc, included, regions, excluded) {
         Ok(territory) => Ok(territory),
         Err(TermFault::NotATerm) => Err(RowFault::Wrong),
         Err(TermFault::Memory) => Err(RowFault::Memory),

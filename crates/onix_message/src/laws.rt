@@ -1,30 +1,24 @@
 // Laws: facts about the definitions alone. Each is the contract of a function that does nothing.
 
-ghost use Rattle.std.specs.Prelude.{◌≡◌, ℕ, List, Some, true};
-ghost use Rattle.csv.specs.Reading.{strip_bom};
+ghost use Rattle.std.specs.Prelude.{◌≡◌, ℕ, List, None, Some, true};
 ghost use Rattle.onix_message.specs.ContentsText.{IsContents, contents_text};
 ghost use Rattle.onix_message.specs.Grammar.{IsBadRow, IsFront, IsMessage};
 ghost use Rattle.onix_message.specs.Message.{bad_row, message_of};
 ghost use Rattle.onix_message.specs.SameContents.{same_contents};
-ghost use Rattle.onix_message.specs.Records.{AllFilled, records_of, records_text};
 ghost use Rattle.onix_message.specs.declared.parts.Header.{Header};
 ghost use Rattle.onix_message.specs.declared.parts.Product.{Product};
 
+use csv_records::laws::one_text;
 use onix_terms::laws::{
     amount_reads_back, day_reads_back, number_reads_back, terms_are_in_range, territory_reads_back,
 };
-
-/// Records that each have a field have one text, which is read as these records.
-pub fn one_text()
-    ensures read { (rows : List (List (List ℕ))) → AllFilled rows → strip_bom (records_text rows) ≡ records_text rows → records_of (records_text rows) ≡ rows }
-    ensures only { (rows others : List (List (List ℕ))) → AllFilled rows → AllFilled others → records_text rows ≡ records_text others → rows ≡ others }
-{}
 
 /// The message that is computed of records is the one that they are by the grammar: there is
 /// no other, and where none is computed they are none.
 pub fn messages()
     ensures computed { (records : List (List (List ℕ))) (h : Header) (c : List Product) → IsMessage records h c → message_of records ≡ Some (h, c) }
     ensures meant { (records : List (List (List ℕ))) (h : Header) (c : List Product) → message_of records ≡ Some (h, c) → IsMessage records h c }
+    ensures none { (records : List (List (List ℕ))) → ((h : Header) (c : List Product) → IsMessage records h c → ⊥) → message_of records ≡ None }
     ensures fronts { (records : List (List (List ℕ))) (h : Header) (c : List Product) → IsMessage records h c → IsFront records }
 {}
 
@@ -44,7 +38,9 @@ pub fn equal_contents()
 /// Two contents with one text are equal.
 pub fn one_contents_text()
     ensures { (c d : List Product) → IsContents c → IsContents d → contents_text c ≡ contents_text d → c ≡ d }
-{}
+{
+    one_text();
+}
 
 /// The contents of a message are contents, so the text that is written of them is read as
 /// these contents.

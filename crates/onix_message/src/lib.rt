@@ -1,5 +1,5 @@
-//! ONIX messages as CSV: the records of a text, the message that records are, and the one text
-//! of contents. It stands on `csv` for records and on `onix_terms` for the values of fields.
+//! ONIX messages as CSV: the message that records are, and the one text of contents. It stands on
+//! `csv_records` for records and on `onix_terms` for the values of fields.
 //!
 //! `specs/Grammar.antt` says which records are a message: `specs/Row.antt` and the files of the
 //! rows say what one record is, `specs/Nest.antt` which rows contents have. `specs/Message.antt`
@@ -19,7 +19,6 @@ pub mod parts;
 mod plain;
 mod price;
 mod product;
-pub mod records;
 pub mod row;
 mod rows;
 mod steps;

@@ -1,21 +1,23 @@
 // Messages: a header and contents, read from records.
 
-ghost use Rattle.std.specs.Prelude.{◌≡◌, ◌≤◌, ◌∷◌, ℕ, List, IfOk, IfErr, Some, length, true, false};
+ghost use Rattle.std.specs.Prelude.{◌≡◌, ◌∷◌, IfOk, IfErr, Some, true, false};
 ghost use Rattle.onix_message.specs.Draft.{Adds, DraftHasDetails, Refuses, Stops, Takes, has_ended};
-ghost use Rattle.onix_message.specs.Grammar.{is_counted};
-ghost use Rattle.onix_message.specs.Message.{Explains, message_of};
-ghost use Rattle.onix_message.specs.Nest.{content_rows};
+ghost use Rattle.onix_message.specs.ContentsText.{IsContents};
+ghost use Rattle.onix_message.specs.Grammar.{IsMessage, is_counted};
+ghost use Rattle.onix_message.specs.Message.{Explains};
 ghost use Rattle.onix_message.specs.OpeningRow.{opening_of};
 ghost use Rattle.onix_message.specs.Row.{IsBare};
 ghost use Rattle.onix_message.specs.declared.message.MessageFault.TheVariants.{Malformed};
 
 use crate::draft::{Draft, Part, StepFault};
+use crate::laws::contents_of_messages;
 use crate::opening::read_opening;
 use crate::parts::{Contents, Header};
-use crate::records::Record;
 use crate::row::{Opening, Row, RowFault};
 use crate::rows::read_row;
 use crate::steps::add_row;
+use csv_records::record::Record;
+use csv_records::records::Records;
 use onix_terms::items::Items;
 use std::alloc::Global;
 use thiserror::Error;
@@ -58,18 +60,19 @@ fn add_counted_row(draft: Draft, next: Row, before: usize) -> Result<Draft, Step
 }
 
 // Adds the row that a record is, where it may come next.
-fn read_next(
+fn read_next<'a>(
     alloc: Global,
     opening: &Opening,
     draft: Draft,
-    fields: &Record,
+    from: &Record<'a>,
+    fields: &mut Vec<&'a str>,
     before: usize,
 ) -> Result<Draft, StepFault>
     requires { DraftHasDetails draft }
-    ensures added { IfOk result (λ new. Takes opening.now draft fields.now before new) }
-    ensures refused { IfErr result (λ e. Stops opening.now draft fields.now before e) }
+    ensures added { IfOk result (λ new. Takes opening.now draft from.now before new) }
+    ensures refused { IfErr result (λ e. Stops opening.now draft from.now before e) }
 {
-    match read_row(alloc, opening, fields) {
+    match read_row(alloc, opening, from, fields) {
         Ok(next) => add_counted_row(draft, next, before),
         Err(fault) => {
             drop(draft);
@@ -94,7 +97,7 @@ fn has_ended(part: &Part) -> bool
 // The contents of a draft, where its last row was an end. Otherwise what is missing is missing at
 // this row.
 fn close(draft: Draft, row: u32) -> Result<Contents, MessageFault>
-    requires { has_ended draft.part ≡ true → length (content_rows draft.products) ≤ 19998 }
+    requires { has_ended draft.part ≡ true → IsContents draft.products }
     ensures ended { IfOk result (λ contents. (has_ended draft.part ≡ true) × (contents ≡ draft.products)) }
     ensures fault { IfErr result (λ e. (has_ended draft.part ≡ false) × (e ≡ Malformed row)) }
 {
@@ -109,46 +112,55 @@ fn close(draft: Draft, row: u32) -> Result<Contents, MessageFault>
     }
 }
 
-// Reads the records after the first, which opened the message so.
-fn read_products(
+// Reads the records after the first, which opened the message so. The list takes the fields of each
+// in turn.
+fn read_products<'a>(
     alloc: Global,
     opening: &Opening,
-    rest: &[Record],
+    first: &Record<'a>,
+    rest: &Records<'a>,
+    fields: &mut Vec<&'a str>,
 ) -> Result<Contents, MessageFault>
-    ensures message { (first : List (List ℕ)) → opening_of first ≡ Some opening.now → IfOk result (λ contents.
-        message_of (first ∷ rest.now) ≡ Some (opening.now.header, contents)) }
-    ensures fault { (first : List (List ℕ)) → opening_of first ≡ Some opening.now → IfErr result (λ e.
-        Explains (first ∷ rest.now) e) }
+    requires { opening_of first.now ≡ Some opening.now }
+    ensures message { IfOk result (λ contents. IsMessage (first.now ∷ rest.now) opening.now.header contents) }
+    ensures fault { IfErr result (λ e. Explains (first.now ∷ rest.now) e) }
 {
     let mut draft = Draft {
         products: Items::new(alloc),
         part: Part::Nothing,
     };
-    for (i, fields) in rest.iter().enumerate() {
+    for i in 0..rest.len() {
+        let next = rest.record(i);
         if i >= 19999 {
             drop(draft);
             return Err(MessageFault::Malformed { row: 20001 });
         }
-        draft = match read_next(alloc, opening, draft, fields, i + 1) {
+        draft = match read_next(alloc, opening, draft, &next, fields, i + 1) {
             Ok(draft) => draft,
             Err(StepFault::OutOfOrder) => return Err(MessageFault::Malformed { row: i as u32 + 2 }),
             Err(StepFault::Memory) => return Err(MessageFault::Memory),
         };
     }
+    contents_of_messages();
     close(draft, rest.len() as u32 + 2)
 }
 
 /// Reads a message. `Malformed` exactly where the records are none, with the row at which they
 /// stop being one; `Memory` where memory ran out.
-pub fn read_message(alloc: Global, records: &[Record]) -> Result<(Header, Contents), MessageFault>
-    ensures message { IfOk result (λ m. message_of records.now ≡ Some (m.0, m.1)) }
+pub fn read_message(
+    alloc: Global,
+    records: &Records<'_>,
+) -> Result<(Header, Contents), MessageFault>
+    ensures message { IfOk result (λ m. IsMessage records.now m.0 m.1) }
     ensures fault { IfErr result (λ e. Explains records.now e) }
 {
     let Some((first, rest)) = records.split_first() else {
         return Err(MessageFault::Malformed { row: 1 });
     };
-    match read_opening(alloc, first) {
-        Ok(opening) => match read_products(alloc, &opening, rest) {
+    // One list takes the fields of each record in turn.
+    let mut fields = Vec::new(alloc);
+    match read_opening(alloc, &first, &mut fields) {
+        Ok(opening) => match read_products(alloc, &opening, &first, &rest, &mut fields) {
             Ok(contents) => Ok((opening.header, contents)),
             Err(fault) => {
                 drop(opening);

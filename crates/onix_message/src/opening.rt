@@ -1,6 +1,6 @@
 // The row with which a message begins.
 
-ghost use Rattle.std.specs.Prelude.{◌≡◌};
+ghost use Rattle.std.specs.Prelude.{◌≡◌, map};
 ghost use Rattle.onix_message.specs.Fields.{optional};
 ghost use Rattle.onix_message.specs.Gives.{Gives};
 ghost use Rattle.onix_message.specs.OpeningRow.{form_of, opening_fields, opening_from, opening_of};
@@ -8,59 +8,59 @@ ghost use Rattle.onix_terms.specs.Code.{currency_of};
 ghost use Rattle.onix_terms.specs.Digits.{digits_of};
 ghost use Rattle.onix_terms.specs.Number.{number_of};
 
-use crate::fields::{are_clean, read_optional_code, read_optional_party, read_party};
+use crate::fields::{read_fields, read_optional_code, read_optional_party, read_party};
 use crate::parts::Header;
-use crate::records::Record;
 use crate::row::{Form, Opening, RowFault};
+use csv_records::record::Record;
 use onix_terms::code::Currency;
 use onix_terms::digits::read_digits;
 use onix_terms::number::Number;
 use onix_terms::text::Text;
 use std::alloc::Global;
 
-fn read_form(text: &Text) -> Result<Form, RowFault>
+fn read_form(text: &str) -> Result<Form, RowFault>
     ensures { Gives result (form_of text.now) }
 {
-    if text.as_str() == "1" {
+    if text == "1" {
         return Ok(Form::One);
     }
-    if text.as_str() == "2" {
+    if text == "2" {
         return Ok(Form::Two);
     }
     Err(RowFault::Wrong)
 }
 
-fn read_optional_number(text: &Text) -> Result<Option<Number>, RowFault>
+fn read_optional_number(text: &str) -> Result<Option<Number>, RowFault>
     ensures { Gives result (optional number_of text.now) }
 {
-    if text.as_str().is_empty() {
+    if text.is_empty() {
         return Ok(None);
     }
-    let Some(number) = Number::read(text.as_str()) else {
+    let Some(number) = Number::read(text) else {
         return Err(RowFault::Wrong);
     };
     Ok(Some(number))
 }
 
-fn read_optional_digits(text: &Text) -> Result<Option<u32>, RowFault>
+fn read_optional_digits(text: &str) -> Result<Option<u32>, RowFault>
     ensures { Gives result (optional digits_of text.now) }
 {
-    if text.as_str().is_empty() {
+    if text.is_empty() {
         return Ok(None);
     }
-    let Some(number) = read_digits(text.as_str()) else {
+    let Some(number) = read_digits(text) else {
         return Err(RowFault::Wrong);
     };
     Ok(Some(number))
 }
 
-fn read_optional_currency(text: &Text) -> Result<Option<Currency>, RowFault>
+fn read_optional_currency(text: &str) -> Result<Option<Currency>, RowFault>
     ensures { Gives result (optional currency_of text.now) }
 {
-    if text.as_str().is_empty() {
+    if text.is_empty() {
         return Ok(None);
     }
-    let Some(currency) = Currency::read(text.as_str()) else {
+    let Some(currency) = Currency::read(text) else {
         return Err(RowFault::Wrong);
     };
     Ok(Some(currency))
@@ -69,16 +69,16 @@ fn read_optional_currency(text: &Text) -> Result<Option<Currency>, RowFault>
 #[tactic(auto, unfolding(crate::specs::OpeningRow::opening_from))]
 fn make_opening(
     alloc: Global,
-    version: &Text,
-    sender_type: &Text,
-    sender_value: &Text,
-    to_type: &Text,
-    to_value: &Text,
-    number: &Text,
-    repeat: &Text,
-    sent: &Text,
-    price_type: &Text,
-    currency: &Text,
+    version: &str,
+    sender_type: &str,
+    sender_value: &str,
+    to_type: &str,
+    to_value: &str,
+    number: &str,
+    repeat: &str,
+    sent: &str,
+    price_type: &str,
+    currency: &str,
 ) -> Result<Opening, RowFault>
     ensures { Gives result
         (opening_from version.now sender_type.now sender_value.now to_type.now to_value.now
@@ -89,7 +89,7 @@ fn make_opening(
     let repeat = read_optional_digits(repeat)?;
     let default_type = read_optional_code(price_type)?;
     let default_currency = read_optional_currency(currency)?;
-    let sent = sent.copy(alloc)?;
+    let sent = Text::from_str(alloc, sent)?;
     let sender = read_party(alloc, sender_type, sender_value)?;
     let addressee = read_optional_party(alloc, to_type, to_value)?;
     Ok(Opening {
@@ -108,8 +108,8 @@ fn make_opening(
 
 // What the fields after the name say.
 #[tactic(auto, unfolding(crate::specs::OpeningRow::opening_fields))]
-pub(crate) fn read_opening_fields(alloc: Global, fields: &[Text]) -> Result<Opening, RowFault>
-    ensures { Gives result (opening_fields fields.now) }
+pub(crate) fn read_opening_fields(alloc: Global, fields: &[&str]) -> Result<Opening, RowFault>
+    ensures { Gives result (opening_fields (map (λ f. f.now) fields.now)) }
 {
     let [
         version,
@@ -141,15 +141,20 @@ pub(crate) fn read_opening_fields(alloc: Global, fields: &[Text]) -> Result<Open
     )
 }
 
-// What a message says that begins with this record.
+// What a message says that begins with this record. The list takes the record's fields.
 #[tactic(auto, unfolding(crate::specs::OpeningRow::opening_of))]
-pub(crate) fn read_opening(alloc: Global, fields: &Record) -> Result<Opening, RowFault>
-    ensures { Gives result (opening_of fields.now) }
+pub(crate) fn read_opening<'a>(
+    alloc: Global,
+    from: &Record<'a>,
+    fields: &mut Vec<&'a str>,
+) -> Result<Opening, RowFault>
+    ensures { Gives result (opening_of from.now) }
 {
-    let Some((name, rest)) = fields.as_slice().split_first() else {
+    read_fields(from, fields)?;
+    let [name, rest @ ..] = fields.as_slice() else {
         return Err(RowFault::Wrong);
     };
-    if !are_clean(fields.as_slice()) || name.as_str() != "Message" {
+    if *name != "Message" {
         return Err(RowFault::Wrong);
     }
     read_opening_fields(alloc, rest)

@@ -6,6 +6,7 @@ use onix_terms::day::Day;
 use onix_terms::items::Items;
 use onix_terms::number::Number;
 use onix_terms::party::Party;
+use onix_terms::plain::Plain;
 use onix_terms::quantity::Quantity;
 use onix_terms::territory::Territory;
 use onix_terms::text::Text;
@@ -85,30 +86,35 @@ pub struct Contents {
 }
 
 impl Model for Contents {
-    ghost use Rattle.std.specs.Prelude.{List, ◌≤◌, length};
-    ghost use Rattle.onix_message.specs.Nest.{content_rows};
+    ghost use Rattle.std.specs.Prelude.{List};
+    ghost use Rattle.onix_message.specs.ContentsText.{IsContents};
     ghost use Rattle.onix_message.specs.declared.parts.Product.{Product};
 
     ghost Value = { List Product };
 
     ghost view = { λ c. c.products };
 
-    ghost invariant = { λ c. length (content_rows c.products) ≤ 19998 };
+    ghost invariant = { λ c. IsContents c.products };
 }
 
 impl Contents {
-    ghost use Rattle.std.specs.Prelude.{◌≡◌, ◌≤◌, All, length};
+    ghost use Rattle.std.specs.Prelude.{◌≡◌, ◌≤◌, ◌↔◌, All, IsTrue, length};
+    ghost use Rattle.onix_message.specs.ContentsText.{IsContents};
     ghost use Rattle.onix_message.specs.DetailCount.{detail_count};
     ghost use Rattle.onix_message.specs.Nest.{content_rows};
-    ghost use Rattle.onix_message.specs.SameContents.{same_contents};
 
     // The contents of a message that was read.
     pub(crate) fn from_products(products: Items<Product>) -> Contents
-        requires { length (content_rows products) ≤ 19998 }
+        requires { IsContents products }
         ensures { result ≡ products }
     {
         Contents { products }
     }
+
+    /// It is contents whatever it was read from, so its text can be read back.
+    pub fn is_contents(&self)
+        ensures { IsContents self.now }
+    {}
 
     /// The products in their order.
     pub fn products(&self) -> &[Product]
@@ -121,10 +127,9 @@ impl Contents {
     }
 
     /// Whether two contents are equal in all parts.
-    #[tactic(auto, unfolding(crate::specs::SameContents::same_contents))]
     pub fn is_same(&self, other: &Contents) -> bool
-        ensures { result ≡ same_contents self.now other.now }
+        ensures { IsTrue result ↔ (self.now ≡ other.now) }
     {
-        self.products == other.products
+        self.products.is_equal(&other.products)
     }
 }

@@ -1,6 +1,6 @@
 // The row of a price.
 
-ghost use Rattle.std.specs.Prelude.{◌≡◌};
+ghost use Rattle.std.specs.Prelude.{◌≡◌, map};
 ghost use Rattle.onix_message.specs.Fields.{optional};
 ghost use Rattle.onix_message.specs.Gives.{Gives};
 ghost use Rattle.onix_message.specs.PriceRow.{minimum_of, or_default, price_from, price_of, quantity_or_one};
@@ -16,13 +16,12 @@ use onix_terms::amount::Amount;
 use onix_terms::code::{Code2, Currency};
 use onix_terms::day::Day;
 use onix_terms::quantity::Quantity;
-use onix_terms::text::Text;
 use std::alloc::Global;
 
-fn read_code_or(default: Option<Code2>, text: &Text) -> Result<Code2, RowFault>
+fn read_code_or(default: Option<Code2>, text: &str) -> Result<Code2, RowFault>
     ensures { Gives result (or_default code2_of default text.now) }
 {
-    if !text.as_str().is_empty() {
+    if !text.is_empty() {
         return read_code(text);
     }
     match default {
@@ -31,11 +30,11 @@ fn read_code_or(default: Option<Code2>, text: &Text) -> Result<Code2, RowFault>
     }
 }
 
-fn read_currency_or(default: Option<Currency>, text: &Text) -> Result<Currency, RowFault>
+fn read_currency_or(default: Option<Currency>, text: &str) -> Result<Currency, RowFault>
     ensures { Gives result (or_default currency_of default text.now) }
 {
-    if !text.as_str().is_empty() {
-        let Some(currency) = Currency::read(text.as_str()) else {
+    if !text.is_empty() {
+        let Some(currency) = Currency::read(text) else {
             return Err(RowFault::Wrong);
         };
         return Ok(currency);
@@ -46,22 +45,22 @@ fn read_currency_or(default: Option<Currency>, text: &Text) -> Result<Currency, 
     }
 }
 
-fn read_amount(text: &Text) -> Result<Amount, RowFault>
+fn read_amount(text: &str) -> Result<Amount, RowFault>
     ensures { Gives result (amount_of text.now) }
 {
-    let Some(amount) = Amount::read(text.as_str()) else {
+    let Some(amount) = Amount::read(text) else {
         return Err(RowFault::Wrong);
     };
     Ok(amount)
 }
 
-fn read_optional_day(text: &Text) -> Result<Option<Day>, RowFault>
+fn read_optional_day(text: &str) -> Result<Option<Day>, RowFault>
     ensures { Gives result (optional day_of text.now) }
 {
-    if text.as_str().is_empty() {
+    if text.is_empty() {
         return Ok(None);
     }
-    let Some(day) = Day::read(text.as_str()) else {
+    let Some(day) = Day::read(text) else {
         return Err(RowFault::Wrong);
     };
     Ok(Some(day))
@@ -76,20 +75,20 @@ fn one_copy() -> Result<Quantity, RowFault>
     Ok(one)
 }
 
-fn read_quantity_or_one(text: &Text) -> Result<Quantity, RowFault>
+fn read_quantity_or_one(text: &str) -> Result<Quantity, RowFault>
     ensures { Gives result (quantity_or_one text.now) }
 {
-    if text.as_str().is_empty() {
+    if text.is_empty() {
         return one_copy();
     }
-    let Some(quantity) = Quantity::read(text.as_str()) else {
+    let Some(quantity) = Quantity::read(text) else {
         return Err(RowFault::Wrong);
     };
     Ok(quantity)
 }
 
-fn read_minimum(form: Form, fields: &[Text]) -> Result<Quantity, RowFault>
-    ensures { Gives result (minimum_of form fields.now) }
+fn read_minimum(form: Form, fields: &[&str]) -> Result<Quantity, RowFault>
+    ensures { Gives result (minimum_of form (map (λ f. f.now) fields.now)) }
 {
     let Some((minimum, more)) = fields.split_first() else {
         return one_copy();
@@ -110,14 +109,14 @@ fn make_price(
     alloc: Global,
     header: &Header,
     minimum: Quantity,
-    price_type: &Text,
-    amount: &Text,
-    currency: &Text,
-    included: &Text,
-    regions: &Text,
-    excluded: &Text,
-    from: &Text,
-    until: &Text,
+    price_type: &str,
+    amount: &str,
+    currency: &str,
+    included: &str,
+    regions: &str,
+    excluded: &str,
+    from: &str,
+    until: &str,
 ) -> Result<Price, RowFault>
     ensures { Gives result
         (price_from header.now minimum price_type.now amount.now currency.now included.now
@@ -144,9 +143,9 @@ fn make_price(
 pub(crate) fn read_price(
     alloc: Global,
     opening: &Opening,
-    fields: &[Text],
+    fields: &[&str],
 ) -> Result<Price, RowFault>
-    ensures { Gives result (price_of opening.now fields.now) }
+    ensures { Gives result (price_of opening.now (map (λ f. f.now) fields.now)) }
 {
     let [
         price_type,

@@ -1,6 +1,6 @@
 // The row of a product.
 
-ghost use Rattle.std.specs.Prelude.{◌≡◌};
+ghost use Rattle.std.specs.Prelude.{◌≡◌, map};
 ghost use Rattle.onix_message.specs.Gives.{Gives};
 ghost use Rattle.onix_message.specs.ProductRow.{identifier_of, pairs_of, product_of};
 
@@ -9,17 +9,16 @@ use crate::parts::{Product, ProductIdentifier};
 use crate::row::RowFault;
 use onix_terms::code::Code2;
 use onix_terms::items::Items;
-use onix_terms::text::Text;
 use std::alloc::Global;
 
 fn read_identifier(
     alloc: Global,
-    id_type: &Text,
-    id_value: &Text,
+    id_type: &str,
+    id_value: &str,
 ) -> Result<ProductIdentifier, RowFault>
     ensures { Gives result (identifier_of id_type.now id_value.now) }
 {
-    let Some(id_type) = Code2::read(id_type.as_str()) else {
+    let Some(id_type) = Code2::read(id_type) else {
         return Err(RowFault::Wrong);
     };
     let id_value = read_filled(alloc, id_value)?;
@@ -28,8 +27,8 @@ fn read_identifier(
 
 // Pairs of a type and a value.
 #[tactic(auto, unfolding(crate::specs::ProductRow::pairs_of))]
-fn read_pairs(alloc: Global, fields: &[Text]) -> Result<Items<ProductIdentifier>, RowFault>
-    ensures { Gives result (pairs_of fields.now) }
+fn read_pairs(alloc: Global, fields: &[&str]) -> Result<Items<ProductIdentifier>, RowFault>
+    ensures { Gives result (pairs_of (map (λ f. f.now) fields.now)) }
 {
     let mut ids = Items::new(alloc);
     let mut rest = fields;
@@ -44,8 +43,8 @@ fn read_pairs(alloc: Global, fields: &[Text]) -> Result<Items<ProductIdentifier>
 }
 
 #[tactic(auto, unfolding(crate::specs::ProductRow::product_of))]
-pub(crate) fn read_product(alloc: Global, fields: &[Text]) -> Result<Product, RowFault>
-    ensures { Gives result (product_of fields.now) }
+pub(crate) fn read_product(alloc: Global, fields: &[&str]) -> Result<Product, RowFault>
+    ensures { Gives result (product_of (map (λ f. f.now) fields.now)) }
 {
     let [reference, notification, pairs @ ..] = fields else {
         return Err(RowFault::Wrong);

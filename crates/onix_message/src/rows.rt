@@ -1,27 +1,26 @@
 // The row that a record is.
 
-ghost use Rattle.std.specs.Prelude.{◌≡◌};
+ghost use Rattle.std.specs.Prelude.{◌≡◌, map};
 ghost use Rattle.onix_message.specs.Gives.{Gives};
 ghost use Rattle.onix_message.specs.Row.{end_of, named_row, row_of};
 
-use crate::fields::are_clean;
+use crate::fields::read_fields;
 use crate::opening::read_opening_fields;
 use crate::price::read_price;
 use crate::product::read_product;
-use crate::records::Record;
 use crate::row::{Opening, Row, RowFault};
 use crate::supply::{read_detail, read_supply};
+use csv_records::record::Record;
 use onix_terms::digits::read_digits;
-use onix_terms::text::Text;
 use std::alloc::Global;
 
-fn read_end(fields: &[Text]) -> Result<u32, RowFault>
-    ensures { Gives result (end_of fields.now) }
+fn read_end(fields: &[&str]) -> Result<u32, RowFault>
+    ensures { Gives result (end_of (map (λ f. f.now) fields.now)) }
 {
     let [count] = fields else {
         return Err(RowFault::Wrong);
     };
-    let Some(count) = read_digits(count.as_str()) else {
+    let Some(count) = read_digits(count) else {
         return Err(RowFault::Wrong);
     };
     Ok(count)
@@ -32,9 +31,9 @@ fn read_named(
     alloc: Global,
     opening: &Opening,
     name: &str,
-    fields: &[Text],
+    fields: &[&str],
 ) -> Result<Row, RowFault>
-    ensures { Gives result (named_row opening.now name.now fields.now) }
+    ensures { Gives result (named_row opening.now name.now (map (λ f. f.now) fields.now)) }
 {
     if name == "Message" {
         return match read_opening_fields(alloc, fields) {
@@ -75,16 +74,19 @@ fn read_named(
     Err(RowFault::Wrong)
 }
 
-// The row that a record is, in a message that begins so.
+// The row that a record is, in a message that begins so. The list takes the record's fields.
 #[tactic(auto, unfolding(crate::specs::Row::row_of))]
-pub(crate) fn read_row(alloc: Global, opening: &Opening, fields: &Record) -> Result<Row, RowFault>
-    ensures { Gives result (row_of opening.now fields.now) }
+pub(crate) fn read_row<'a>(
+    alloc: Global,
+    opening: &Opening,
+    from: &Record<'a>,
+    fields: &mut Vec<&'a str>,
+) -> Result<Row, RowFault>
+    ensures { Gives result (row_of opening.now from.now) }
 {
-    let Some((name, rest)) = fields.as_slice().split_first() else {
+    read_fields(from, fields)?;
+    let [name, rest @ ..] = fields.as_slice() else {
         return Err(RowFault::Wrong);
     };
-    if !are_clean(fields.as_slice()) {
-        return Err(RowFault::Wrong);
-    }
-    read_named(alloc, opening, name.as_str(), rest)
+    read_named(alloc, opening, name, rest)
 }

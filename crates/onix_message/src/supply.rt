@@ -1,6 +1,6 @@
 // The rows of a supply and of its details.
 
-ghost use Rattle.std.specs.Prelude.{◌≡◌};
+ghost use Rattle.std.specs.Prelude.{◌≡◌, map};
 ghost use Rattle.onix_message.specs.Gives.{Gives};
 ghost use Rattle.onix_message.specs.SupplyRow.{detail_from, detail_of, supplier_name, supply_of};
 
@@ -14,8 +14,8 @@ use onix_terms::party::Party;
 use onix_terms::text::Text;
 use std::alloc::Global;
 
-pub(crate) fn read_supply(alloc: Global, fields: &[Text]) -> Result<ProductSupply, RowFault>
-    ensures { Gives result (supply_of fields.now) }
+pub(crate) fn read_supply(alloc: Global, fields: &[&str]) -> Result<ProductSupply, RowFault>
+    ensures { Gives result (supply_of (map (λ f. f.now) fields.now)) }
 {
     let [included, regions, excluded] = fields else {
         return Err(RowFault::Wrong);
@@ -27,23 +27,23 @@ pub(crate) fn read_supply(alloc: Global, fields: &[Text]) -> Result<ProductSuppl
     })
 }
 
-fn read_supplier_name(alloc: Global, party: &Option<Party>, name: &Text) -> Result<Text, RowFault>
+fn read_supplier_name(alloc: Global, party: &Option<Party>, name: &str) -> Result<Text, RowFault>
     ensures { Gives result (supplier_name party.now name.now) }
 {
     match party {
-        Some(_) => Ok(name.copy(alloc)?),
+        Some(_) => Ok(Text::from_str(alloc, name)?),
         None => read_filled(alloc, name),
     }
 }
 
 fn make_detail(
     alloc: Global,
-    role: &Text,
-    id_type: &Text,
-    id_value: &Text,
-    name: &Text,
-    availability: &Text,
-    unpriced: &Text,
+    role: &str,
+    id_type: &str,
+    id_value: &str,
+    name: &str,
+    availability: &str,
+    unpriced: &str,
 ) -> Result<SupplyDetail, RowFault>
     ensures { Gives result
         (detail_from role.now id_type.now id_value.now name.now availability.now unpriced.now) }
@@ -62,8 +62,8 @@ fn make_detail(
 }
 
 #[tactic(auto, unfolding(crate::specs::SupplyRow::detail_of))]
-pub(crate) fn read_detail(alloc: Global, fields: &[Text]) -> Result<SupplyDetail, RowFault>
-    ensures { Gives result (detail_of fields.now) }
+pub(crate) fn read_detail(alloc: Global, fields: &[&str]) -> Result<SupplyDetail, RowFault>
+    ensures { Gives result (detail_of (map (λ f. f.now) fields.now)) }
 {
     let [role, id_type, id_value, name, availability, unpriced] = fields else {
         return Err(RowFault::Wrong);

@@ -142,7 +142,7 @@ pub fn answer<D: Desk>(
             first: agreement.first,
             answer: desk.agree(agreement)?,
         }),
-        Request::Deliver(records) => Ok(Answer::Delivery(desk.deliver(records.as_slice())?)),
+        Request::Deliver(records) => Ok(Answer::Delivery(desk.deliver(&records.as_records())?)),
         Request::Waive { series, number } => Ok(Answer::Waiver {
             series: *series,
             number: *number,

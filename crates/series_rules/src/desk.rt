@@ -7,8 +7,8 @@ ghost use Rattle.series_rules.specs.Content.{SameContent};
 
 use crate::answers::{AgreeAnswer, DeliveryAnswer, GapReport, WaiveAnswer};
 use catalogue_rules::catalogue::Catalogue;
+use csv_records::records::Records;
 use onix_message::agreement::{Agreement, StoreFault};
-use onix_message::records::Record;
 use onix_terms::isbn13::Isbn13;
 use onix_terms::items::Items;
 use onix_terms::number::Number;
@@ -44,7 +44,7 @@ pub trait Desk {
         ensures fault { IfErr result may_give };
 
     /// Takes the records of a message.
-    fn deliver(&mut self, records: &[Record]) -> Result<DeliveryAnswer, StoreFault>
+    fn deliver(&mut self, records: &Records<'_>) -> Result<DeliveryAnswer, StoreFault>
         ensures premise { is_sound self.new → is_sound self.old }
         ensures ok { (L : List Request) → stands_for self.old L → is_sound self.new → IfOk result (λ a.
             (a ≡ delivery_answer L records.now) × stands_for self.new (Request.Deliver records.now ∷ L)) }

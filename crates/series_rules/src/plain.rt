@@ -19,9 +19,9 @@ use crate::answers::{AgreeAnswer, DeliveryAnswer, GapReport, WaiveAnswer};
 use crate::desk::Desk;
 use crate::series::Series;
 use catalogue_rules::catalogue::Catalogue;
+use csv_records::records::Records;
 use onix_message::agreement::{Agreement, StoreFault};
 use onix_message::message::{MessageFault, read_message};
-use onix_message::records::Record;
 use onix_terms::isbn13::Isbn13;
 use onix_terms::items::Items;
 use onix_terms::number::Number;
@@ -154,7 +154,7 @@ fn agreed(alloc: Global, kept: &mut Vec<Series>, a: &Agreement) -> Result<AgreeA
 fn delivered(
     alloc: Global,
     kept: &mut Vec<Series>,
-    records: &[Record],
+    records: &Records<'_>,
 ) -> Result<DeliveryAnswer, AllocError>
     ensures ok { (L : List Request) → PlainStands kept.old.items L → IfOk result (λ a.
         (a ≡ delivery_answer L records.now) × PlainStands kept.new.items (Request.Deliver records.now ∷ L)) }
@@ -290,7 +290,7 @@ impl Desk for PlainDesk {
         }
     }
 
-    fn deliver(&mut self, records: &[Record]) -> Result<DeliveryAnswer, StoreFault> {
+    fn deliver(&mut self, records: &Records<'_>) -> Result<DeliveryAnswer, StoreFault> {
         match delivered(self.alloc, &mut self.kept, records) {
             Ok(answer) => Ok(answer),
             Err(_) => Err(StoreFault::Memory),

@@ -1,10 +1,9 @@
 // Requests, and what they put at the numbers of a series.
 
+use csv_records::buffer::RecordBuffer;
 use onix_message::agreement::Agreement;
 use onix_message::parts::Contents;
-use onix_message::records::Record;
 use onix_terms::isbn13::Isbn13;
-use onix_terms::items::Items;
 use onix_terms::number::Number;
 use onix_terms::series_name::SeriesName;
 use price_rules::offer::{CalendarQuery, PriceQuery};
@@ -15,7 +14,7 @@ pub enum Request {
     /// An agreement with a wholesaler.
     Agree(Agreement),
     /// The records of a message.
-    Deliver(Items<Record>),
+    Deliver(RecordBuffer),
     /// The wholesaler says that a number will never come.
     Waive { series: SeriesName, number: Number },
     /// What each offer of an article costs.

@@ -1,5 +1,0 @@
-use Rattle.onix_message.proofs.ReadBack.{one-text, records-again}
-use Rattle.onix_message.proofs.laws.one_text.Goals as goal
-
-pub returns : goal.returns
-returns c = record { read = records-again; only = one-text }

@@ -49,6 +49,10 @@ abbrev pub countries_of : List ℕ → Option (List (List ℕ))
 countries_of [] = Some []
 countries_of (b ∷ bs) = option_map in_order (codes_in (b ∷ bs)) >>= nonempty
 
+-- a field names a country: it is one of the codes in the field
+abbrev pub IsNamed : List ℕ → List ℕ → Type 0
+IsNamed field country = (found : List (List ℕ)) × (codes_in field ≡ Some found) × Contains found country
+
 -- codes with one space between them
 abbrev pub countries_text : List (List ℕ) → List ℕ
 countries_text codes = join_with_byte 32 codes

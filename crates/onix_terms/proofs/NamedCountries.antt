@@ -1,11 +1,14 @@
 -- Codes put in order are those that were given, so a territory has the countries that its fields name.
-use Rattle.std.proofs.Common.{◌≡◌, ◌∙◌, ℕ, zero, suc, List, [], ◌∷◌, Bool, true, false, Some, refl, sym, subst, arith, inl, inr}
-use Rattle.std.specs.Prelude.{◌↔◌, ◌⊎◌, Contains, fold}
+use Rattle.std.proofs.Common.{◌≡◌, ◌∙◌, ℕ, zero, suc, List, [], ◌∷◌, Bool, true, false, Option, Some, None, refl, sym, ap, subst, arith, inl, inr}
+use Rattle.std.specs.Prelude.{◌↔◌, ◌⊎◌, ◌&&◌, ◌==◌, Contains, fold, if◌then◌else◌, option_map}
+use Rattle.std.specs.Char.{is_ascii_uppercase}
 use Rattle.std.specs.Cmp.Lexicographic.{same_text}
 use Rattle.std.specs.Str.{bytes_eq}
+use Rattle.std.proofs.lemmas.Bool.{and_parts}
+use Rattle.std.proofs.lemmas.Bool.Decides.{nat_tests}
 use Rattle.std.proofs.lemmas.List.Elements.{All-contains, All-contains_itself, All-from_recursion, recursion_from_All}
-use Rattle.std.proofs.lemmas.Option.{same_Some}
-use Rattle.onix_terms.specs.Territory.{IsNamed, codes_in, comes_before, countries_of, in_order, territory_of, with_code, world_of}
+use Rattle.std.proofs.lemmas.Option.{cond_some, same_Some}
+use Rattle.onix_terms.specs.Territory.{codes_in, comes_before, countries_of, ends_code, in_order, territory_of, with_code, words_of, world_of}
 use Rattle.onix_terms.specs.declared.territory.Territory.{Territory}
 use Rattle.onix_terms.proofs.CodeOrder.{all-fold, from-codes, has-fields, placed}
 
@@ -59,22 +62,44 @@ ordered codes c =
     let all = all-fold (Contains codes) codes [] (recursion_from_All (Contains codes) codes (All-contains_itself codes)) tt in
     (All-contains (Contains codes) (in_order codes) c (All-from_recursion (Contains codes) (in_order codes) all), λ there. all-there codes [] c (inr there))
 
--- the countries of a field are its codes in order
-codes-of : (field : List ℕ) (found : List (List ℕ)) → countries_of field ≡ Some found → (codes : List (List ℕ)) × (codes_in field ≡ Some codes) × (in_order codes ≡ found)
-unfolding codes_in
-codes-of [] found e = ([], refl, same_Some [] found e)
-codes-of (b ∷ bs) found e = let (codes, are, order, _) = from-codes (codes_in (b ∷ bs)) found e in (codes, are, order)
+-- ---- the codes of a text are its words
 
-countries-named : (field : List ℕ) (found : List (List ℕ)) → countries_of field ≡ Some found → (country : List ℕ) → Contains found country ↔ IsNamed field country
-countries-named field found e country =
-    let (codes, are, order) = codes-of field found e in
-    let same = ordered codes country in (
-      λ there. (codes, are, same.0 (rw order there)),
-      λ named. rw (← order) (same.1 (rw (same_Some codes named.0 (sym are ∙ named.1)) named.2)),
-    )
+word-space : (a : ℕ) (rest : List ℕ) → (a == 32) ≡ true → words_of (a ∷ rest) ≡ words_of rest
+word-space a rest space = rw space refl
+
+word-code : (a b : ℕ) (rest : List ℕ) → (a == 32) ≡ false → (b == 32) ≡ false → ends_code rest ≡ true → words_of (a ∷ b ∷ rest) ≡ (a ∷ b ∷ []) ∷ words_of rest
+word-code a b [] first second ends = rw (first, second) refl
+word-code a b (c ∷ rest) first second ends = rw (first, second, ends) refl
+
+words-by : (a b : ℕ) (rest : List ℕ) (space good : Bool) (after more : Option (List (List ℕ))) → (a == 32) ≡ space → (is_ascii_uppercase a && is_ascii_uppercase b && ends_code rest) ≡ good →
+    ((cs : List (List ℕ)) → after ≡ Some cs → words_of (b ∷ rest) ≡ cs) → ((cs : List (List ℕ)) → more ≡ Some cs → words_of rest ≡ cs) →
+    (codes : List (List ℕ)) → (if space then after else if good then option_map (λ cs. (a ∷ b ∷ []) ∷ cs) more else None) ≡ Some codes → words_of (a ∷ b ∷ rest) ≡ codes
+words-by a b rest true good after more s g past next codes e = word-space a (b ∷ rest) s ∙ past codes e
+words-by a b rest false true after None s g past next codes e = cc
+words-by a b rest false true after (Some cs) s g past next codes e =
+    let code = and_parts (is_ascii_uppercase a && is_ascii_uppercase b) (ends_code rest) g in
+    let letters = and_parts (is_ascii_uppercase a) (is_ascii_uppercase b) code.0 in
+    let second : (b == 32) ≡ false = grind (arith, nat_tests, letters.1) in
+    word-code a b rest s second code.1 ∙ ap (λ w. (a ∷ b ∷ []) ∷ w) (next cs refl) ∙ same_Some ((a ∷ b ∷ []) ∷ cs) codes e
+words-by a b rest false false after more s g past next codes e = cc
+
+codes-words : (text : List ℕ) (codes : List (List ℕ)) → codes_in text ≡ Some codes → words_of text ≡ codes
+unfolding codes_in
+codes-words [] codes e = same_Some [] codes e
+codes-words (a ∷ []) codes e = let space = cond_some (a == 32) [] codes e in word-space a [] space.0 ∙ space.1
+codes-words (a ∷ b ∷ rest) codes e = words-by a b rest _ _ (codes_in (b ∷ rest)) (codes_in rest) refl refl (codes-words (b ∷ rest)) (codes-words rest) codes e
+
+-- ---- the countries of a field are its words
+
+codes-of : (field : List ℕ) (found : List (List ℕ)) → countries_of field ≡ Some found → (codes : List (List ℕ)) × (words_of field ≡ codes) × (in_order codes ≡ found)
+codes-of [] found e = ([], refl, same_Some [] found e)
+codes-of (b ∷ bs) found e = let (codes, are, order, _) = from-codes (codes_in (b ∷ bs)) found e in (codes, codes-words (b ∷ bs) codes are, order)
+
+countries-named : (field : List ℕ) (found : List (List ℕ)) → countries_of field ≡ Some found → (country : List ℕ) → Contains found country ↔ Contains (words_of field) country
+countries-named field found e country = let (codes, are, order) = codes-of field found e in rw (← order, are) (ordered codes country)
 
 pub territory-named : (included regions excluded : List ℕ) (t : Territory) → territory_of included regions excluded ≡ Some t →
-    ((country : List ℕ) → Contains t.included country ↔ IsNamed included country) × ((country : List ℕ) → Contains t.excluded country ↔ IsNamed excluded country)
+    ((country : List ℕ) → Contains t.included country ↔ Contains (words_of included) country) × ((country : List ℕ) → Contains t.excluded country ↔ Contains (words_of excluded) country)
 territory-named included regions excluded t is =
     let f = has-fields (countries_of included) (world_of regions) (countries_of excluded) _ t is in
     (countries-named included t.included f.included_is, countries-named excluded t.excluded f.excluded_is)

@@ -1,10 +1,10 @@
 -- Dates of the years 1 to 9999 and the numbers of their days.
 use Rattle.std.proofs.Common.{◌≡◌, ℕ, zero, suc, ℤ, pos, neg_ℤ, ◌≤◌, ◌<◌, ◌+◌, ◌*◌, ◌/◌, ◌%◌, ◌≤ℤ◌, ◌<ℤ◌, ◌∙◌, Bool, true, false, Some, None, refl, sym, ap, subst, arith, lit≤, inl, inr}
-use Rattle.std.specs.Prelude.{◌&&◌, nat_lt, nat_le, if◌then◌else◌}
+use Rattle.std.specs.Prelude.{◌&&◌, nat_lt, nat_le}
 use Rattle.std.specs.Ordering.{int_eq}
 use Rattle.std.specs.Option.{option_eq}
 use Rattle.std.proofs.lemmas.Int.{ints, by_lt_z}
-use Rattle.std.proofs.lemmas.Bool.{cases_lt, cond-false, cond-true, false_from_ne_true}
+use Rattle.std.proofs.lemmas.Bool.{cases_lt, cond_both, cond-false, cond-true, false_from_ne_true}
 use Rattle.std.proofs.lemmas.Bool.Decides.{nat_tests, Decides-int_eq}
 use Rattle.std.proofs.lemmas.Option.{cond_some}
 use Rattle.jiff_core.specs.Calendar.{IsCivilDate, IsDate, day_count, days_of_years, days_of_months, days_from_civil, days_in_month}
@@ -133,10 +133,6 @@ one-date date other day e f =
     let days : date % 100 ≡ other % 100 = same.2 in
     omega arith
 
-either-is : (found : Bool) (here rest n : ℕ) → (found ≡ true → here ≡ n) → (found ≡ false → rest ≡ n) → (if found then here else rest) ≡ n
-either-is true here rest n yes-here no-here = yes-here refl
-either-is false here rest n yes-here no-here = no-here refl
-
 below-next : (passes : ℕ → Bool) (n bound : ℕ) → n < suc bound → passes n ≡ true → passes bound ≡ false → n < bound
 below-next passes n bound small there none =
     elim (cases_lt n bound) [
@@ -149,7 +145,7 @@ last_below-only : (passes : ℕ → Bool) (n bound : ℕ) → n < bound → pass
 unfolding last_below
 last_below-only passes n zero small there only = absurd (omega arith)
 last_below-only passes n (suc bound) small there only =
-    either-is (passes bound) bound (last_below passes bound) n (only bound)
+    cond_both (passes bound) bound (last_below passes bound) (λ found. found ≡ n) (only bound)
     (λ none. last_below-only passes n bound (below-next passes n bound small there none) there only)
 
 pub date_of-is : (day : ℤ) (date : ℕ) → date < 100_000_000 → day_at date ≡ Some day → date_of day ≡ date

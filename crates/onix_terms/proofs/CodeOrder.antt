@@ -60,6 +60,10 @@ all-with P code first [] all = (first, tt)
 all-with P code first (x ∷ xs) all =
     all-placed P code first (bytes_eq code x) (comes_before code x) x xs (with_code xs code) all.0 all.1 (all-with P code first xs all.1)
 
+pub all-fold : (P : List ℕ → Type 0) (more codes : List (List ℕ)) → AllByRecursion P more → AllByRecursion P codes → AllByRecursion P (fold with_code codes more)
+all-fold P [] codes all old = old
+all-fold P (code ∷ more) codes all old = all-fold P more (with_code codes code) all.1 (all-with P code all.0 codes old)
+
 rises-placed : (same before : Bool) (code x : List ℕ) (xs rest : List (List ℕ)) → (before ≡ true → comes_before code x ≡ true) → IsBefore x xs → Rises xs → (same ≡ false → before ≡ false → IsBefore x rest) → Rises rest →
     Rises (placed same before code x xs rest)
 rises-placed true before code x xs rest first here all last more = (here, all)

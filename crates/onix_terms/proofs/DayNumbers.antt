@@ -1,11 +1,12 @@
 -- Dates of the years 1 to 9999 and the numbers of their days.
 use Rattle.std.proofs.Common.{◌≡◌, ℕ, zero, suc, ℤ, pos, neg_ℤ, ◌≤◌, ◌<◌, ◌+◌, ◌*◌, ◌/◌, ◌%◌, ◌≤ℤ◌, ◌<ℤ◌, ◌∙◌, Bool, true, false, Some, None, refl, sym, ap, subst, arith, lit≤, inl, inr}
-use Rattle.std.specs.Prelude.{◌&&◌, nat_lt, nat_le, if◌then◌else◌}
+use Rattle.std.specs.Prelude.{◌&&◌, nat_lt, nat_le}
 use Rattle.std.specs.Ordering.{int_eq}
 use Rattle.std.specs.Option.{option_eq}
 use Rattle.std.proofs.lemmas.Int.{ints, by_lt_z}
-use Rattle.std.proofs.lemmas.Bool.{cases_lt}
+use Rattle.std.proofs.lemmas.Bool.{cases_lt, cond_both, cond-false, cond-true, false_from_ne_true}
 use Rattle.std.proofs.lemmas.Bool.Decides.{nat_tests, Decides-int_eq}
+use Rattle.std.proofs.lemmas.Option.{cond_some}
 use Rattle.jiff_core.specs.Calendar.{IsCivilDate, IsDate, day_count, days_of_years, days_of_months, days_from_civil, days_in_month}
 use Rattle.jiff_core.specs.declared.civil.date.Date.{Date}
 use Rattle.jiff_core.proofs.CalendarLemmas.{day_count-lt_year, day_count_bounds, days_from_civil-day_count, days_in_month_bounds}
@@ -73,11 +74,8 @@ in_range y m d c begun =
 pub dated-in_range : (year month day : ℕ) → IsDated year month day → IsDayNumber (days_from_civil (pos year) month day)
 dated-in_range year month day d = in_range (pos year) month day d.civil (omega (arith, ints, d.begun))
 
-chosen : (test : Bool) (there number : ℤ) → test ≡ true → number ≡ there → Some number ≡ (if test then Some there else None)
-chosen test there number holds is = rw (holds, is) refl
-
 pub day_from-dated : (year month day : ℕ) → IsDated year month day → (number : ℤ) → number ≡ days_from_civil (pos year) month day → Some number ≡ day_from year month day
-day_from-dated year month day d number is = chosen (is_date year month day) (days_from_civil (pos year) month day) number (dated-passes year month day d) is
+day_from-dated year month day d number is = ap Some is ∙ sym (cond-true _ (Some (days_from_civil (pos year) month day)) None (dated-passes year month day d))
 
 civil-same : (y : ℤ) (m d : ℕ) (y₂ : ℤ) (m₂ d₂ : ℕ) → y ≡ y₂ → m ≡ m₂ → d ≡ d₂ → IsCivilDate y m d → IsCivilDate y₂ m₂ d₂
 civil-same y m d y₂ m₂ d₂ year month day c =
@@ -93,13 +91,9 @@ day_from-date d year month day number y m n begun is =
     let same : days_from_civil d.year d.month d.day ≡ days_from_civil (pos year) month day = rw (y, m, n) refl in
     day_from-dated year month day dated number (is ∙ same)
 
-not-chosen : (test : Bool) (there : ℤ) → (test ≡ true → ⊥) → None ≡ (if test then Some there else None)
-not-chosen true there never = absurd (never refl)
-not-chosen false there never = refl
-
 -- without such a date there is no day
 pub day_from-none : (year month day : ℕ) → (IsDated year month day → ⊥) → None ≡ day_from year month day
-day_from-none year month day never = not-chosen (is_date year month day) (days_from_civil (pos year) month day) (λ e. never (passes-dated year month day e))
+day_from-none year month day never = sym (cond-false _ (Some (days_from_civil (pos year) month day)) None (false_from_ne_true _ (λ e. never (passes-dated year month day e))))
 
 -- such a date is one of the calendar
 pub dated-is_date : (year month day : ℕ) (y m d : ℤ) → y ≡ pos year → m ≡ pos month → d ≡ pos day → IsDated year month day → IsDate y m d
@@ -112,13 +106,9 @@ record IsPartsOf (date : ℕ) (day : ℤ) : Type 0 where
   dated : IsDated (date / 10_000) (date / 100 % 100) (date % 100)
   number : days_from_civil (pos (date / 10_000)) (date / 100 % 100) (date % 100) ≡ day
 
-when-chosen : (test : Bool) (there day : ℤ) → (if test then Some there else None) ≡ Some day → (test ≡ true) × (there ≡ day)
-when-chosen true there day e = (refl, cc)
-when-chosen false there day e = cc
-
 parts-of : (date : ℕ) (day : ℤ) → day_at date ≡ Some day → IsPartsOf date day
 parts-of date day e =
-    let both = when-chosen (is_date (date / 10_000) (date / 100 % 100) (date % 100)) (days_from_civil (pos (date / 10_000)) (date / 100 % 100) (date % 100)) day e in
+    let both = cond_some (is_date (date / 10_000) (date / 100 % 100) (date % 100)) (days_from_civil (pos (date / 10_000)) (date / 100 % 100) (date % 100)) day e in
     record { dated = passes-dated _ _ _ both.0; number = both.1 }
 
 abbrev date-record : (y : ℤ) (m d : ℕ) → IsCivilDate y m d → Date
@@ -143,10 +133,6 @@ one-date date other day e f =
     let days : date % 100 ≡ other % 100 = same.2 in
     omega arith
 
-either-is : (found : Bool) (here rest n : ℕ) → (found ≡ true → here ≡ n) → (found ≡ false → rest ≡ n) → (if found then here else rest) ≡ n
-either-is true here rest n yes-here no-here = yes-here refl
-either-is false here rest n yes-here no-here = no-here refl
-
 below-next : (passes : ℕ → Bool) (n bound : ℕ) → n < suc bound → passes n ≡ true → passes bound ≡ false → n < bound
 below-next passes n bound small there none =
     elim (cases_lt n bound) [
@@ -159,7 +145,7 @@ last_below-only : (passes : ℕ → Bool) (n bound : ℕ) → n < bound → pass
 unfolding last_below
 last_below-only passes n zero small there only = absurd (omega arith)
 last_below-only passes n (suc bound) small there only =
-    either-is (passes bound) bound (last_below passes bound) n (only bound)
+    cond_both (passes bound) bound (last_below passes bound) (λ found. found ≡ n) (only bound)
     (λ none. last_below-only passes n bound (below-next passes n bound small there none) there only)
 
 pub date_of-is : (day : ℤ) (date : ℕ) → date < 100_000_000 → day_at date ≡ Some day → date_of day ≡ date

@@ -1,22 +1,15 @@
 -- Reading a text of a fixed length.
-use Rattle.std.proofs.Common.{◌≡◌, ◌≢◌, ◌∙◌, ℕ, List, Bool, true, false, Some, None, Result, Ok, Err, MatchResult, refl, sym, ap, length}
-use Rattle.std.specs.Prelude.{◌&&◌, ◌==◌, if◌then◌else◌}
+use Rattle.std.proofs.Common.{◌≡◌, ◌≢◌, ◌∙◌, ℕ, List, Bool, true, false, Some, None, Result, Ok, Err, MatchResult, sym, ap, length}
+use Rattle.std.specs.Prelude.{◌==◌}
 use Rattle.std.specs.Array.{IsWholeChunk}
 use Rattle.std.specs.List.{list_all}
 use Rattle.std.specs.Result.{result_ok}
-use Rattle.std.proofs.lemmas.Bool.{eq-eqb, ne_eqb}
+use Rattle.std.proofs.lemmas.Bool.{and_from, and_left, and_right, cond-false, cond-true, eq-eqb, ne_eqb}
 use Rattle.onix_terms.specs.Code.{fixed_text}
 
 -- an array of this size is all of the bytes, or they are more or fewer
 abbrev pub Taken : {E : Type 0} → ℕ → List ℕ → Result (List ℕ) E → Type 0
 Taken size given tried = MatchResult tried (λ bytes. IsWholeChunk given bytes size) (λ _. length given ≢ size)
-
-chosen : (long all : Bool) (bytes text : List ℕ) → long ≡ true → all ≡ true → bytes ≡ text → Some bytes ≡ (if long && all then Some text else None)
-chosen long all bytes text e f is = rw (e, f, is) refl
-
-refused : (long all : Bool) (text : List ℕ) → all ≡ false → None ≡ (if long && all then Some text else None)
-refused true all text e = rw e refl
-refused false all text e = refl
 
 -- the array is the text that was read
 pub read_some : {E : Type 0} (allowed : ℕ → Bool) (size : ℕ) (text given bytes : List ℕ) (tried : Result (List ℕ) E) →
@@ -24,8 +17,8 @@ pub read_some : {E : Type 0} (allowed : ℕ → Bool) (size : ℕ) (text given b
 read_some allowed size text given bytes (Ok taken) whole is some all =
     let same : bytes ≡ taken = cc in
     let read : bytes ≡ text = same ∙ whole.same ∙ is in
-    chosen (length text == size) (list_all allowed text) bytes text
-    (eq-eqb (length text) size (ap length (sym is) ∙ whole.long)) (ap (list_all allowed) (sym read) ∙ sym all) read
+    let long = eq-eqb (length text) size (ap length (sym is) ∙ whole.long) in
+    ap Some read ∙ sym (cond-true _ (Some text) None (and_from _ _ long (ap (list_all allowed) (sym read) ∙ sym all)))
 read_some allowed size text given bytes (Err e) whole is some all = cc
 
 -- the array is a text that reads as itself
@@ -41,7 +34,7 @@ pub read_other : {E : Type 0} (allowed : ℕ → Bool) (size : ℕ) (text given 
     Taken size given tried → given ≡ text → Some bytes ≡ result_ok tried → false ≡ list_all allowed bytes → None ≡ fixed_text allowed size text
 read_other allowed size text given bytes (Ok taken) whole is some other =
     let read : bytes ≡ text = cc (whole.same) in
-    refused (length text == size) (list_all allowed text) text (ap (list_all allowed) (sym read) ∙ sym other)
+    sym (cond-false _ (Some text) None (and_right (length text == size) _ (ap (list_all allowed) (sym read) ∙ sym other)))
 read_other allowed size text given bytes (Err e) whole is some other = cc
 
 -- a text of another length is not read
@@ -49,5 +42,4 @@ pub read_none : {E : Type 0} (allowed : ℕ → Bool) (size : ℕ) (text given :
     Taken size given tried → given ≡ text → None ≡ result_ok tried → None ≡ fixed_text allowed size text
 read_none allowed size text given (Ok taken) whole is none = cc
 read_none allowed size text given (Err e) other is none =
-    let long : (length text == size) ≡ false = ne_eqb (length text) size (λ e. other (ap length is ∙ e)) in
-    rw long refl
+    sym (cond-false _ (Some text) None (and_left _ (list_all allowed text) (ne_eqb (length text) size (λ e. other (ap length is ∙ e)))))

@@ -10,3 +10,5 @@ pub mod ReadBack
 pub mod OneText
 pub mod CodeTexts
 pub mod TerritoryTexts
+pub mod NamedCountries
+pub mod OrTests

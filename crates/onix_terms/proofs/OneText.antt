@@ -1,6 +1,6 @@
 -- A day has one text.
-use Rattle.std.proofs.Common.{◌≡◌, ℕ, ℤ, ◌<◌, ◌≤◌, ◌+◌, ◌-◌, ◌*◌, ◌^◌, ◌∙◌, List, [], ◌∷◌, Bool, true, false, Some, None, refl, sym, ap, subst, arith, length}
-use Rattle.std.specs.Prelude.{◌==◌, if◌then◌else◌}
+use Rattle.std.proofs.Common.{◌≡◌, ℕ, ℤ, ◌<◌, ◌≤◌, ◌+◌, ◌-◌, ◌*◌, ◌^◌, ◌∙◌, List, [], ◌∷◌, true, Some, refl, sym, ap, subst, arith, length}
+use Rattle.std.specs.Prelude.{◌==◌}
 use Rattle.std.specs.List.{list_all}
 use Rattle.std.specs.Char.{is_ascii_digit, digit_value}
 use Rattle.std.specs.Str.Parse.{digits_value_after}
@@ -9,7 +9,7 @@ use Rattle.std.proofs.lemmas.Bool.Decides.{nat_tests}
 use Rattle.onix_terms.specs.Options.{◌>>=◌}
 use Rattle.onix_terms.specs.Digits.{digits_of}
 use Rattle.onix_terms.specs.Day.{day_at, day_of, day_text, eight_digits}
-use Rattle.onix_terms.proofs.Ranges.{between, digits-bound}
+use Rattle.onix_terms.proofs.Ranges.{between, digits-bound, met}
 use Rattle.onix_terms.proofs.DayNumbers.{date_of-is}
 use Rattle.onix_terms.proofs.DayTexts.{eight-some}
 
@@ -43,11 +43,8 @@ by-date text date day eight digits is =
     let same : text ≡ eight_digits date = (same-digits 0 0 text (eight_digits date) eight here.all there.all (here.value ∙ sym there.value)).1 in
     same ∙ ap eight_digits (sym (date_of-is day date small is))
 
-by-test : (eight : Bool) (text : List ℕ) (day : ℤ) → (eight ≡ true → length text ≡ 8) → (if eight then digits_of text >>= day_at else None) ≡ Some day → text ≡ day_text day
-by-test false text day long e = cc
-by-test true text day long e =
-    let steps = between (digits_of text) day_at day e in
-    by-date text steps.value day (long refl) steps.first_gives steps.second_gives
-
 pub one-text : (text : List ℕ) (day : ℤ) → day_of text ≡ Some day → text ≡ day_text day
-one-text text day e = by-test (length text == 8) text day (eqb-true (length text) 8) e
+one-text text day e =
+    let eight = met (length text == 8) (digits_of text >>= day_at) day e in
+    let steps = between (digits_of text) day_at day eight.1 in
+    by-date text steps.value day (eqb-true (length text) 8 eight.0) steps.first_gives steps.second_gives

@@ -60,6 +60,11 @@ mapped : {A B : Type 0} (first : Option A) (f : A → B) (found : B) → option_
 mapped None f found e = cc
 mapped (Some value) f found e = record { value = value; first_gives = refl; second_gives = e }
 
+-- a test before it was met
+pub met : {A : Type 0} (test : Bool) (o : Option A) (found : A) → (if test then o else None) ≡ Some found → (test ≡ true) × (o ≡ Some found)
+met true o found e = (refl, e)
+met false o found e = cc
+
 bounded : (n limit found : ℕ) → (if nat_lt 0 n && nat_lt n limit then Some n else None) ≡ Some found → (0 < found) × (found < limit)
 bounded n limit found e =
     let through = cond_some (nat_lt 0 n && nat_lt n limit) n found e in
@@ -71,14 +76,10 @@ number-range text n e =
     let steps = and-then (digits_of text) number_from n e in
     bounded steps.value 1_000_000_000 n steps.second_gives
 
-quantity-by : (short : Bool) (text : List ℕ) (n : ℕ) → (if short then digits_of text >>= quantity_from else None) ≡ Some n → (0 < n) × (n < 1_000_000)
-quantity-by false text n e = cc
-quantity-by true text n e =
-    let steps = between (digits_of text) quantity_from n e in
-    bounded steps.value 1_000_000 n steps.second_gives
-
 pub quantity-range : (text : List ℕ) (n : ℕ) → quantity_of text ≡ Some n → (0 < n) × (n < 1_000_000)
-quantity-range text n e = quantity-by (nat_le (length text) 6) text n e
+quantity-range text n e =
+    let steps = between (digits_of text) quantity_from n (met (nat_le (length text) 6) (digits_of text >>= quantity_from) n e).1 in
+    bounded steps.value 1_000_000 n steps.second_gives
 
 -- 1 to 3 digits behind the point are below one
 worth-small : (places n : ℕ) → 0 < places → places ≤ 3 → n < 10 ^ places → n * last_digit_worth places < 1000
@@ -91,16 +92,13 @@ worth-small places n some few small =
       ]
     ]
 
-part-by : (short : Bool) (text : List ℕ) (n : ℕ) → (short ≡ true → length text ≤ 3) → (if short then option_map (λ d. d * last_digit_worth (length text)) (digits_of text) else None) ≡ Some n → n < 1000
-part-by false text n few e = cc
-part-by true text n few e =
-    let steps = mapped (digits_of text) (λ d. d * last_digit_worth (length text)) n e in
+part-range : (text : List ℕ) (n : ℕ) → thousandths_of text ≡ Some n → n < 1000
+part-range text n e =
+    let short = met (nat_le (length text) 3) (option_map (λ d. d * last_digit_worth (length text)) (digits_of text)) n e in
+    let steps = mapped (digits_of text) (λ d. d * last_digit_worth (length text)) n short.1 in
     let bound = digits-bound text steps.value steps.first_gives in
     let same : steps.value * last_digit_worth (length text) ≡ n = cc (steps.second_gives) in
-    subst (λ (v : ℕ). v < 1000) same (worth-small (length text) steps.value bound.some (few refl) bound.places)
-
-part-range : (text : List ℕ) (n : ℕ) → thousandths_of text ≡ Some n → n < 1000
-part-range text n e = part-by (nat_le (length text) 3) text n (leb-true (length text) 3) e
+    subst (λ (v : ℕ). v < 1000) same (worth-small (length text) steps.value bound.some (leb-true (length text) 3 short.0) bound.places)
 
 amount-by : (has : Bool) (before after text : List ℕ) (n : ℕ) →
     (if has then (digits_of before >>= (λ w. thousandths_of after >>= (λ p. Some (w * 1000 + p)))) else option_map (λ w. w * 1000) (digits_of text)) ≡ Some n → n < 1_000_000_000_000
@@ -120,11 +118,7 @@ amount-by false before after text n e =
 pub amount-range : (text : List ℕ) (n : ℕ) → amount_of text ≡ Some n → n < 1_000_000_000_000
 amount-range text n e = amount-by (nat_lt (position_or_len is_point text) (length text)) (before_first is_point text) (after_first is_point text) text n e
 
-day-by : (eight : Bool) (text : List ℕ) (day : ℤ) → (if eight then digits_of text >>= day_at else None) ≡ Some day → IsDayNumber day
-day-by false text day e = cc
-day-by true text day e =
-    let steps = between (digits_of text) day_at day e in
-    day_at-in_range steps.value day steps.second_gives
-
 pub day-range : (text : List ℕ) (day : ℤ) → day_of text ≡ Some day → IsDayNumber day
-day-range text day e = day-by (length text == 8) text day e
+day-range text day e =
+    let steps = between (digits_of text) day_at day (met (length text == 8) (digits_of text >>= day_at) day e).1 in
+    day_at-in_range steps.value day steps.second_gives

@@ -15,7 +15,7 @@ use Rattle.std.proofs.lemmas.Option.{cond_some, same_Some}
 use Rattle.onix_terms.specs.Options.{◌>>=◌}
 use Rattle.onix_terms.specs.Territory.{comes_before, with_code, in_order, nonempty, ends_code, codes_in, countries_of, countries_text, is_letter_or_space, world_of, world_text, territory_of}
 use Rattle.onix_terms.specs.declared.territory.Territory.{Territory}
-use Rattle.onix_terms.proofs.CodeOrder.{IsBefore, Rises, all-with, countries-rise, from-codes, has-fields, is-less, placed}
+use Rattle.onix_terms.proofs.CodeOrder.{IsBefore, Rises, all-fold, countries-rise, from-codes, has-fields, is-less, placed}
 
 -- two letters A to Z
 record IsCode (code : List ℕ) : Type 0 where
@@ -63,11 +63,7 @@ codes-found [] found e = found-nothing [] found refl e
 codes-found (a ∷ []) found e = let space = cond_some (a == 32) [] found e in found-nothing (a ∷ []) found (and_from _ _ (or_right _ _ space.0) refl) (ap Some space.1)
 codes-found (a ∷ b ∷ rest) found e = found-by a b rest _ _ (codes_in (b ∷ rest)) (codes_in rest) refl refl (codes-found (b ∷ rest)) (codes-found rest) found e
 
--- ---- putting in order keeps codes, and makes none
-
-codes-fold : (more found : List (List ℕ)) → AllByRecursion IsCode more → AllByRecursion IsCode found → AllByRecursion IsCode (fold with_code found more)
-codes-fold [] found all old = old
-codes-fold (code ∷ more) found all old = codes-fold more (with_code found code) all.1 (all-with IsCode code all.0 found old)
+-- ---- putting in order makes no codes
 
 length-placed : (same before : Bool) (code x : List ℕ) (xs rest : List (List ℕ)) → length rest ≤ length xs + 1 → length (placed same before code x xs rest) ≤ length xs + 2
 length-placed true before code x xs rest few = omega arith
@@ -179,7 +175,7 @@ countries-back (b ∷ bs) found e =
     let few = length-fold codes [] in
     let same : length (fold with_code [] codes) ≡ length found = ap length order in
     let room = f.room in
-    written (b ∷ bs) found some (rw (← order) (codes-fold codes [] f.all tt)) (omega (arith, few, same, room)) (countries-rise (b ∷ bs) found e)
+    written (b ∷ bs) found some (rw (← order) (all-fold IsCode codes [] f.all tt)) (omega (arith, few, same, room)) (countries-rise (b ∷ bs) found e)
 
 -- ---- a territory
 

@@ -1,11 +1,9 @@
 -- What the laws of plain data are built of: that a clone is the same value, and that a test decides whether two values are the same.
-use Rattle.std.specs.Prelude.{◌≡◌, ℕ, Bool, true, false, ◌&&◌, List, [], ◌∷◌, Option, Some, None, length, refl}
-use Rattle.std.proofs.Common.{ap, sym, ◌∙◌, take}
-use Rattle.std.proofs.Math.Seq.{take-append_seam}
+use Rattle.std.specs.Prelude.{◌≡◌, Bool, true, false, ◌&&◌, List, [], ◌∷◌, Option, Some, None, refl}
+use Rattle.std.proofs.Common.{ap}
 use Rattle.std.specs.Bool.{Decides}
 use Rattle.std.specs.List.{AllZip}
 use Rattle.std.specs.Option.{option_eq}
-use Rattle.onix_terms.specs.SeriesName.{padded}
 
 -- a list of clones is the same list, where each clone is the same value
 pub clones-same : {T : Type 0} {IsClone : T → T → Type 0} → ((x y : T) → IsClone x y → y ≡ x) → (xs ys : List T) → AllZip IsClone xs ys → ys ≡ xs
@@ -54,7 +52,3 @@ pair-clones-same a b x y clone = λ i. (a x.0 y.0 clone.0 i, b x.1 y.1 clone.1 i
 pub pair-decides : {A B : Type 0} {eqA : A → A → Bool} {eqB : B → B → Bool} → ((x y : A) → Decides (eqA x y) (x ≡ y)) → ((x y : B) → Decides (eqB x y) (x ≡ y))
     → (x y : A × B) → Decides (eqA x.0 y.0 && eqB x.1 y.1) (x ≡ y)
 pair-decides a b x y = decides-same (λ e. λ i. (e.0 i, e.1 i)) (λ e. (ap (λ p. p.0) e, ap (λ p. p.1) e)) (decides-both (a x.0 y.0) (b x.1 y.1))
-
--- names of the same length that are the same with zeros behind them are the same
-pub padded-same : (x y : List ℕ) → (padded x ≡ padded y) × (length x ≡ length y) → x ≡ y
-padded-same x y e = sym (take-append_seam x _) ∙ ap (λ n. take n (padded x)) e.1 ∙ ap (take (length y)) e.0 ∙ take-append_seam y _

@@ -1,8 +1,8 @@
 -- Territories: which texts write one, and which countries lie in it.
-use Rattle.std.specs.Prelude.{ℕ, List, [], ◌∷◌, Bool, true, false, Option, Some, None, ◌&&◌, ◌||◌, ◌==◌, fold, if◌then◌else◌, option_map, Result, Ok, Err, ◌≡◌, ◌⊎◌, length, codes, Contains, IsTrue}
+use Rattle.std.specs.Prelude.{ℕ, List, [], ◌∷◌, Bool, true, false, Option, Some, None, ◌&&◌, ◌||◌, ◌==◌, fold, if◌then◌else◌, option_map, Result, Ok, Err, ◌≡◌, ◌⊎◌, length, codes, Contains, IsTrue, nat_lt}
 use Rattle.std.specs.Char.{is_ascii_uppercase}
 use Rattle.std.specs.Cmp.Lexicographic.{slice_cmp}
-use Rattle.std.specs.List.{AllPairs, join_with_byte}
+use Rattle.std.specs.List.{AllPairs, filter, join_with_byte, slice_split}
 use Rattle.std.specs.Ordering.{is_lt, nat_cmp}
 use Rattle.std.specs.Str.{bytes_eq}
 pub use Rattle.onix_terms.specs.Options.{◌>>=◌, nonempty}
@@ -48,6 +48,10 @@ IsInOrder codes = AllPairs (λ x y. IsTrue (comes_before x y)) codes
 abbrev pub countries_of : List ℕ → Option (List (List ℕ))
 countries_of [] = Some []
 countries_of (b ∷ bs) = option_map in_order (codes_in (b ∷ bs)) >>= nonempty
+
+-- the words of a text: what stands between its spaces
+abbrev pub words_of : List ℕ → List (List ℕ)
+words_of text = filter (λ word. nat_lt 0 (length word)) (slice_split (λ b. b == 32) text)
 
 -- codes with one space between them
 abbrev pub countries_text : List (List ℕ) → List ℕ

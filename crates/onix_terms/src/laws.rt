@@ -1,6 +1,6 @@
 // What the definitions of the terms come to. Each law is the contract of a function that does nothing.
 
-ghost use Rattle.std.specs.Prelude.{◌≡◌, ◌<◌, ◌≤◌, Bool, true, List, length, ℕ, ℤ, Some, decimal};
+ghost use Rattle.std.specs.Prelude.{◌≡◌, ◌↔◌, ◌<◌, ◌≤◌, Bool, true, Contains, List, length, ℕ, ℤ, Some, decimal};
 ghost use Rattle.std.specs.List.{list_all};
 ghost use Rattle.onix_terms.specs.Amount.{amount_of, amount_text};
 ghost use Rattle.onix_terms.specs.Code.{fixed_text};
@@ -9,7 +9,7 @@ ghost use Rattle.onix_terms.specs.SeriesName.{series_name_of};
 ghost use Rattle.onix_terms.specs.Day.{IsDayNumber, day_of, day_text};
 ghost use Rattle.onix_terms.specs.Number.{number_of};
 ghost use Rattle.onix_terms.specs.Quantity.{quantity_of};
-ghost use Rattle.onix_terms.specs.Territory.{IsInOrder, countries_text, is_letter_or_space, territory_of, world_text};
+ghost use Rattle.onix_terms.specs.Territory.{IsInOrder, countries_text, is_letter_or_space, territory_of, words_of, world_text};
 ghost use Rattle.onix_terms.specs.declared.territory.Territory.{Territory};
 
 /// The decimal digits of a number are read as that number.
@@ -48,6 +48,14 @@ pub fn terms_are_in_range()
 pub fn territory_is_in_order()
     ensures included { (included regions excluded : List ℕ) (t : Territory) → territory_of included regions excluded ≡ Some t → IsInOrder t.included }
     ensures excluded { (included regions excluded : List ℕ) (t : Territory) → territory_of included regions excluded ≡ Some t → IsInOrder t.excluded }
+{}
+
+/// The countries of a territory that was read are exactly the words of its fields.
+pub fn territory_has_named_countries()
+    ensures included { (included regions excluded : List ℕ) (t : Territory) → territory_of included regions excluded ≡ Some t
+        → (country : List ℕ) → Contains t.included country ↔ Contains (words_of included) country }
+    ensures excluded { (included regions excluded : List ℕ) (t : Territory) → territory_of included regions excluded ≡ Some t
+        → (country : List ℕ) → Contains t.excluded country ↔ Contains (words_of excluded) country }
 {}
 
 /// A territory that was read is read again from its countries in order with one space between

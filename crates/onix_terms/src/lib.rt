@@ -3,9 +3,10 @@
 //!
 //! Which text writes which value is defined in `specs/`, one file for each kind, as a function
 //! from bytes to an `Option`; `laws` has what these functions come to. Only clones,
-//! `Territory::read`, the two calls `write` and the growing of texts and lists take memory.
+//! `Territory::read`, the two calls `write` and the growing of lists and of texts of more than
+//! 24 bytes take memory.
 //!
-//! It stands on `jiff` for the calendar and on `itoa` for decimal digits.
+//! It stands on `jiff` for the calendar, `itoa` for decimal digits and `smallvec` for short texts.
 #![tactic(auto)]
 
 use std::alloc::AllocError;

@@ -130,17 +130,11 @@ impl Plain for bool {
 }
 
 impl Plain for SeriesName {
-    ghost use Rattle.std.proofs.Common.{ap};
-    ghost use Rattle.std.specs.Prelude.{length};
     ghost use Rattle.std.specs.Cmp.Lexicographic.{bytes_decides};
-    ghost use Rattle.std.proofs.lemmas.Bool.Decides.{Decides-eqb};
-    ghost use Rattle.onix_terms.specs.SeriesName.{padded};
-    ghost use Rattle.onix_terms.specs.Plain.{decides-both, decides-same, padded-same};
 
     ghost clone_is_same = { λ x y e. e };
 
-    ghost eq_decides = { λ x y. decides-same (padded-same x y) (λ e. (ap padded e, ap length e))
-        (decides-both (bytes_decides (padded x) (padded y)) (Decides-eqb (length x) (length y))) };
+    ghost eq_decides = { bytes_decides };
 }
 
 impl<T: Plain> Plain for Option<T> {

@@ -1,8 +1,11 @@
+ghost use Rattle.std.proofs.Common.{refl};
 ghost use Rattle.std.specs.Prelude.{◌≡◌, ◌↔◌, IsTrue, Some};
 ghost use Rattle.std.specs.Ordering.{nat_cmp};
 ghost use Rattle.std.specs.declared.cmp.Ordering.TheVariants.{Equal, Less};
-ghost use Rattle.std.specs.Cmp.Lexicographic.{slice_cmp};
+ghost use Rattle.std.specs.Cmp;
+ghost use Rattle.std.specs.Cmp.Lexicographic.{slice_cmp, nat_list_cmp_total, nat_list_eq_equiv, texts_po, texts_ties};
 ghost use Rattle.std.specs.List.{list_all};
+ghost use Rattle.std.specs.Str.{bytes_eq};
 ghost use Rattle.onix_terms.specs.SeriesName.{is_name_byte, series_name_of};
 
 use crate::ascii::text_of;
@@ -11,7 +14,7 @@ use std::marker::Model;
 
 /// The name of a series: 1 to 32 characters of `a` to `z`, `0` to `9` and `-`, which contracts
 /// see as its bytes. It lies inline and takes no memory.
-#[derive(Clone, Copy, Debug, PartialEq, Eq, PartialOrd, Ord)]
+#[derive(Clone, Copy, Debug)]
 pub struct SeriesName {
     bytes: [u8; 32],
     len: usize,
@@ -31,6 +34,44 @@ impl Model for SeriesName {
     ghost inverse = { λ name. record { bytes = padded name; len = length name } };
 
     ghost inverse_ok = { λ a h. rw (h.0, h.1) refl };
+}
+
+impl PartialEq for SeriesName {
+    ghost eq = { bytes_eq };
+
+    ghost laws = { Cmp.partial_equiv_from_equiv nat_list_eq_equiv };
+
+    fn eq(&self, other: &SeriesName) -> bool {
+        self.as_bytes() == other.as_bytes()
+    }
+}
+
+impl Eq for SeriesName {
+    ghost laws = { nat_list_eq_equiv };
+}
+
+impl PartialOrd for SeriesName {
+    ghost partial_cmp = { λ x y. Some (slice_cmp nat_cmp x y) };
+
+    ghost laws = { texts_po };
+
+    fn partial_cmp(&self, other: &SeriesName) -> Option<Ordering> {
+        Some(self.cmp(other))
+    }
+}
+
+impl Ord for SeriesName {
+    ghost cmp = { slice_cmp nat_cmp };
+
+    ghost total = { nat_list_cmp_total };
+
+    ghost matches_partial_cmp = { λ x y. refl };
+
+    ghost matches_eq = { texts_ties };
+
+    fn cmp(&self, other: &SeriesName) -> Ordering {
+        self.as_bytes().cmp(other.as_bytes())
+    }
 }
 
 impl SeriesName {
@@ -58,19 +99,25 @@ impl SeriesName {
         text_of(&self.bytes[..self.len])
     }
 
+    fn as_bytes(&self) -> &[u8]
+        ensures { result.now ≡ self.now }
+    {
+        &self.bytes[..self.len]
+    }
+
     /// The order of the bytes.
     pub fn compare(&self, other: &SeriesName) -> Ordering
         ensures order { result ≡ slice_cmp nat_cmp self.now other.now }
         ensures equal { result ≡ Equal → self.now ≡ other.now }
     {
-        self.as_str().cmp(other.as_str())
+        self.cmp(other)
     }
 
     /// Whether this name comes before the other in the order of the bytes.
     pub fn is_before(&self, other: &SeriesName) -> bool
         ensures { IsTrue result ↔ (slice_cmp nat_cmp self.now other.now ≡ Less) }
     {
-        self.as_str() < other.as_str()
+        self < other
     }
 }
 

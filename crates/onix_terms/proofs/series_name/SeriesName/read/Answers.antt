@@ -1,9 +1,9 @@
-use Rattle.std.proofs.Common.{◌≡◌, ◌<◌, ◌++◌, ◌-◌, ◌==◌, ◌&&◌, ℕ, nat_lt, nat_le, Bool, List, None, true, false, length, take, drop, refl, ap, sym, ◌∙◌, arith}
+use Rattle.std.proofs.Common.{◌≡◌, ◌<◌, ◌++◌, ◌-◌, ◌==◌, ◌&&◌, ℕ, nat_lt, nat_le, List, None, true, false, length, take, drop, refl, ap, sym, ◌∙◌, arith}
 use Rattle.std.specs.Prelude.{IsTrue, replicate}
 use Rattle.std.specs.List.{list_all}
 use Rattle.std.proofs.Math.Seq.{take-append_seam}
 use Rattle.std.proofs.lemmas.List.{drop-replicate}
-use Rattle.std.proofs.lemmas.Bool.{eqb-true, lt-leb, lt-ltb}
+use Rattle.std.proofs.lemmas.Bool.{and_right, eqb-true, lt-leb, lt-ltb}
 use Rattle.std.proofs.lemmas.Bool.Decides.{nat_tests}
 use Rattle.onix_terms.specs.SeriesName.{is_name_byte, is_series_name, padded, series_name_of}
 use Rattle.onix_terms.proofs.series_name.SeriesName.read.Goals as goal
@@ -16,12 +16,8 @@ too_short given e = rw (eqb-true (length given) 0 e) refl
 too_long : (given : List ℕ) → 32 < length given → is_series_name given ≡ false
 too_long given long = rw (lt-ltb 0 (length given) (omega arith), lt-leb (length given) 32 long) refl
 
-both_false : (a b : Bool) → b ≡ false → (a && b) ≡ false
-both_false true b e = e
-both_false false b e = refl
-
 wrong_byte : (given : List ℕ) → list_all is_name_byte given ≡ false → is_series_name given ≡ false
-wrong_byte given e = both_false (nat_lt 0 (length given) && nat_le (length given) 32) (list_all is_name_byte given) e
+wrong_byte given e = and_right (nat_lt 0 (length given) && nat_le (length given) 32) (list_all is_name_byte given) e
 
 no_name : (text given : List ℕ) → given ≡ text → is_series_name given ≡ false → None ≡ series_name_of text
 no_name text given is other = rw (ap is_series_name (sym is) ∙ other) refl

@@ -1,2 +1,4 @@
 pub mod Cuts
+pub mod ReaderStage
 pub mod RecordTexts
+pub mod Streams

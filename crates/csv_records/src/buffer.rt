@@ -63,6 +63,13 @@ impl RecordBuffer {
         self.ends.len()
     }
 
+    /// Whether there are none.
+    pub fn is_empty(&self) -> bool
+        ensures { IsTrue result ↔ (self.now ≡ []) }
+    {
+        self.len() == 0
+    }
+
     /// Adds a record of these fields. Without memory for it the records stay as they were.
     pub fn push_fields(&mut self, fields: &[&str]) -> Result<(), AllocError>
         ensures ok { OnOk result (self.new ≡ self.old ++ map (λ f. f.now) fields.now ∷ []) }
@@ -85,8 +92,8 @@ impl RecordBuffer {
         Ok(())
     }
 
-    // Adds a record that csv read. Without memory for it the records stay as they were.
-    pub(crate) fn push_read(&mut self, record: &StringRecord) -> Result<(), AllocError>
+    /// Adds a copy of a record that csv read. Without memory for it the records stay as they were.
+    pub fn push_read(&mut self, record: &StringRecord) -> Result<(), AllocError>
         ensures ok { OnOk result (self.new ≡ self.old ++ fields_of record.now ∷ []) }
         ensures err { OnErr result (self.new ≡ self.old) }
     {

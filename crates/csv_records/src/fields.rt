@@ -1,6 +1,7 @@
 // The fields of one record.
 
-ghost use Rattle.std.specs.Prelude.{◌≡◌, ◌++◌, ◌∷◌, [], OnOk, OnErr, length, take, map, slice_get, option_map};
+ghost use Rattle.std.specs.Prelude.{◌≡◌, ◌≤◌, ◌-◌, ◌++◌, ◌∷◌, [], OnOk, OnErr, length, take, drop, map, slice_get, option_map};
+ghost use Rattle.std.specs.List.{flat_map};
 ghost use Rattle.csv.specs.Records.{fields_of};
 
 use crate::ends::end_of;
@@ -137,6 +138,16 @@ impl FieldBuffer {
         let start = end_of(&self.ends, index);
         let end = end_of(&self.ends, index + 1);
         Some(unsafe { str::from_utf8_unchecked(&self.bytes.as_slice()[start..end]) })
+    }
+
+    // The bytes of the fields from one index to before another.
+    pub(crate) fn bytes_of(&self, start: usize, end: usize) -> &[u8]
+        requires { (start ≤ end) × (end ≤ length self.now) }
+        ensures { result.now ≡ flat_map (λ f. f) (take (end - start) (drop start self.now)) }
+    {
+        let first = end_of(&self.ends, start);
+        let last = end_of(&self.ends, end);
+        &self.bytes.as_slice()[first..last]
     }
 
     /// The fields as one record.

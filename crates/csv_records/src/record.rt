@@ -1,6 +1,7 @@
 // One record that is lent.
 
 ghost use Rattle.std.specs.Prelude.{◌≡◌, ◌≤◌, ◌<◌, ◌-◌, ◌∷◌, [], OnOk, IfSome, IfNone, Some, length, take, drop, map, slice_get, option_map};
+ghost use Rattle.std.specs.List.{flat_map};
 
 use crate::fields::FieldBuffer;
 use std::alloc::AllocError;
@@ -59,6 +60,13 @@ impl<'a> Record<'a> {
             Some(text) => text,
             None => "",
         }
+    }
+
+    /// The bytes of all fields, one after the other.
+    pub fn as_bytes(&self) -> &'a [u8]
+        ensures { result.now ≡ flat_map (λ f. f) self.now }
+    {
+        self.fields.bytes_of(self.start, self.end)
     }
 
     /// The fields from one index to before another, counted from 0.

@@ -1,6 +1,6 @@
 // Records that are lent.
 
-ghost use Rattle.std.specs.Prelude.{◌≡◌, ◌≤◌, ◌<◌, ◌-◌, ◌∷◌, [], IfSome, IfNone, Some, length, take, drop, slice_get};
+ghost use Rattle.std.specs.Prelude.{◌≡◌, ◌≤◌, ◌<◌, ◌-◌, ◌∷◌, [], ◌↔◌, IfSome, IfNone, IsTrue, Some, length, take, drop, slice_get};
 
 use crate::buffer::RecordBuffer;
 use crate::record::Record;
@@ -38,6 +38,13 @@ impl<'a> Records<'a> {
         ensures { result ≡ length self.now }
     {
         self.end - self.start
+    }
+
+    /// Whether there are none.
+    pub fn is_empty(&self) -> bool
+        ensures { IsTrue result ↔ (self.now ≡ []) }
+    {
+        self.len() == 0
     }
 
     /// The record at an index that there is, counted from 0.

@@ -147,21 +147,16 @@ impl Clone for Agreement {
 
 impl Plain for Agreement {
     ghost use Rattle.std.proofs.Common.{ap};
-    ghost use Rattle.std.specs.Prelude.{length};
     ghost use Rattle.std.specs.Cmp.Lexicographic.{bytes_decides};
     ghost use Rattle.std.proofs.lemmas.Bool.Decides.{Decides-eqb};
     ghost use Rattle.onix_message.specs.SameContents.{same_party-Decides};
-    ghost use Rattle.onix_terms.specs.SeriesName.{padded};
-    ghost use Rattle.onix_terms.specs.Plain.{decides-both, decides-same, option-decides, padded-same};
+    ghost use Rattle.onix_terms.specs.Plain.{decides-both, decides-same, option-decides};
 
     ghost clone_is_same = { λ x y e. e };
 
     ghost eq_decides = { λ x y. decides-same
         (λ e. λ i. record { name = e.0 i; sender = e.1.0 i; addressee = e.1.1.0 i; first = e.1.1.1 i })
         (λ e. (ap (λ a. a.name) e, (ap (λ a. a.sender) e, (ap (λ a. a.addressee) e, ap (λ a. a.first) e))))
-        (decides-both
-        (decides-same (padded-same x.name y.name) (λ e. (ap padded e, ap length e))
-        (decides-both (bytes_decides (padded x.name) (padded y.name)) (Decides-eqb (length x.name) (length y.name))))
-        (decides-both (same_party-Decides x.sender y.sender)
+        (decides-both (bytes_decides x.name y.name) (decides-both (same_party-Decides x.sender y.sender)
         (decides-both (option-decides same_party-Decides x.addressee y.addressee) (Decides-eqb x.first y.first)))) };
 }

@@ -14,4 +14,4 @@ returns-in_err-default_currency c = grind (arith, common_steps)
 pub returns : goal.returns
 unfolding opening_from
 returns c =
-    rw (c.in_ok-form.ensures, c.in_ok-sender.ensures, c.in_ok-addressee.ensures, c.in_ok-number.ensures, c.in_ok-repeat.ensures, c.in_ok-default_type.ensures, c.in_ok-default_currency.ensures, c.in_ok-sent.ensures) refl
+    rw (c.in_ok-form.ensures, c.in_ok-sender.ensures, c.in_ok-addressee.ensures, c.in_ok-number.ensures, c.in_ok-repeat.ensures, c.in_ok-default_type.ensures, c.in_ok-default_currency.ensures, c.in_ok-sent.ensures.text) refl

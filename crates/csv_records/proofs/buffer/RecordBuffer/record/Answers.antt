@@ -1,4 +1,3 @@
-use Rattle.std.proofs.Common.{◌∙◌, sym}
 use Rattle.csv_records.proofs.CutFacts.{length-cut, cut-at, ends-at}
 use Rattle.csv_records.proofs.buffer.RecordBuffer.record.Goals as goal
 

@@ -1,0 +1,15 @@
+-- What is read of a stream.
+use Rattle.std.specs.Prelude.{◌≡◌, ◌<◌, ℕ, List, Option, Some, None, length, ⊤}
+use Rattle.csv_records.specs.declared.streams.InputFault.{InputFault}
+use Rattle.csv_records.specs.declared.streams.InputFault.TheVariants as fault
+
+-- a text is what a reader has left, where the reader tells that
+abbrev pub IsTold : Option (List ℕ) → List ℕ → Type 0
+IsTold None text = ⊤
+IsTold (Some known) text = known ≡ text
+
+-- a fault of reading a text that may have so many bytes
+abbrev pub InputFits : ℕ → List ℕ → InputFault → Type 0
+InputFits most text fault.Read = ⊤
+InputFits most text fault.TooLarge = most < length text
+InputFits most text fault.Memory = ⊤

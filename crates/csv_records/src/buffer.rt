@@ -82,23 +82,23 @@ impl RecordBuffer {
     }
 
     /// Adds a copy of a record. Without memory for it the records stay as they were.
-    pub fn push(&mut self, record: &Record<'_>) -> Result<(), AllocError>
-        ensures ok { OnOk result (self.new ≡ self.old ++ record.now ∷ []) }
+    pub fn push(&mut self, from: &Record<'_>) -> Result<(), AllocError>
+        ensures ok { OnOk result (self.new ≡ self.old ++ from.now ∷ []) }
         ensures err { OnErr result (self.new ≡ self.old) }
     {
         let start = self.fields.len();
-        self.fields.push_record(record)?;
+        self.fields.push_record(from)?;
         end_record(&mut self.fields, &mut self.ends, start)?;
         Ok(())
     }
 
     /// Adds a copy of a record that csv read. Without memory for it the records stay as they were.
-    pub fn push_read(&mut self, record: &StringRecord) -> Result<(), AllocError>
-        ensures ok { OnOk result (self.new ≡ self.old ++ fields_of record.now ∷ []) }
+    pub fn push_read(&mut self, from: &StringRecord) -> Result<(), AllocError>
+        ensures ok { OnOk result (self.new ≡ self.old ++ fields_of from.now ∷ []) }
         ensures err { OnErr result (self.new ≡ self.old) }
     {
         let start = self.fields.len();
-        self.fields.push_read(record)?;
+        self.fields.push_read(from)?;
         end_record(&mut self.fields, &mut self.ends, start)?;
         Ok(())
     }

@@ -77,13 +77,13 @@ impl FieldBuffer {
     }
 
     /// Adds the fields of a record at the end, all of them, or none where there is no memory.
-    pub fn push_record(&mut self, record: &Record<'_>) -> Result<(), AllocError>
-        ensures ok { OnOk result (self.new ≡ self.old ++ record.now) }
+    pub fn push_record(&mut self, from: &Record<'_>) -> Result<(), AllocError>
+        ensures ok { OnOk result (self.new ≡ self.old ++ from.now) }
         ensures err { OnErr result (self.new ≡ self.old) }
     {
         let count = self.len();
-        for i in 0..record.len() {
-            if let Some(text) = record.get(i) {
+        for i in 0..from.len() {
+            if let Some(text) = from.get(i) {
                 let Ok(()) = self.push(text) else {
                     self.truncate(count);
                     return Err(AllocError);
@@ -94,13 +94,13 @@ impl FieldBuffer {
     }
 
     // Adds the fields of a record that csv read, all of them, or none where there is no memory.
-    pub(crate) fn push_read(&mut self, record: &StringRecord) -> Result<(), AllocError>
-        ensures ok { OnOk result (self.new ≡ self.old ++ fields_of record.now) }
+    pub(crate) fn push_read(&mut self, from: &StringRecord) -> Result<(), AllocError>
+        ensures ok { OnOk result (self.new ≡ self.old ++ fields_of from.now) }
         ensures err { OnErr result (self.new ≡ self.old) }
     {
         let count = self.len();
-        for i in 0..record.len() {
-            if let Some(text) = record.get(i) {
+        for i in 0..from.len() {
+            if let Some(text) = from.get(i) {
                 let Ok(()) = self.push(text) else {
                     self.truncate(count);
                     return Err(AllocError);

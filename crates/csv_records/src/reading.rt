@@ -86,11 +86,11 @@ impl<'a> RecordReader<'a> {
         Ok(RecordReader::of_text(alloc, text))
     }
 
-    /// Reads the next record in place of what `record` held, or tells that there is none. One
-    /// `record` serves all records of a text. Without memory the reader has no records left, and
+    /// Reads the next record in place of what `into` held, or tells that there is none. One
+    /// `into` serves all records of a text. Without memory the reader has no records left, and
     /// each further read fails too.
-    pub fn read(&mut self, record: &mut StringRecord) -> Result<bool, AllocError>
-        ensures found { IfOk result (λ found. found ≡ true → self.old ≡ fields_of record.new ∷ self.new) }
+    pub fn read(&mut self, into: &mut StringRecord) -> Result<bool, AllocError>
+        ensures found { IfOk result (λ found. found ≡ true → self.old ≡ fields_of into.new ∷ self.new) }
         ensures ended { IfOk result (λ found. found ≡ false → (self.old ≡ []) × (self.new ≡ [])) }
         ensures err { OnErr result (self.new ≡ []) }
     {
@@ -100,7 +100,7 @@ impl<'a> RecordReader<'a> {
             Stage::Failed => return Err(AllocError),
         }
         // A text in memory is read without another fault than want of memory.
-        let Ok(found) = self.rdr.read_record(record) else {
+        let Ok(found) = self.rdr.read_record(into) else {
             self.stage = Stage::Failed;
             return Err(AllocError);
         };

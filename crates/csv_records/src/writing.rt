@@ -10,12 +10,12 @@ use csv::WriterBuilder;
 use std::alloc::{AllocError, Global};
 
 // Puts a record's fields as bytes into a list, in place of what it held.
-fn fill_bytes<'a>(record: &Record<'a>, list: &mut Vec<&'a [u8]>) -> Result<(), AllocError>
-    ensures { OnOk result (map (λ f. f.now) list.new.items ≡ record.now) }
+fn fill_bytes<'a>(from: &Record<'a>, list: &mut Vec<&'a [u8]>) -> Result<(), AllocError>
+    ensures { OnOk result (map (λ f. f.now) list.new.items ≡ from.now) }
 {
     list.clear();
-    for i in 0..record.len() {
-        if let Some(text) = record.get(i) {
+    for i in 0..from.len() {
+        if let Some(text) = from.get(i) {
             list.push(text.as_bytes())?;
         }
     }

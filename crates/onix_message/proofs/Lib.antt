@@ -4,6 +4,7 @@ pub mod Fronts
 pub mod FrontRows
 pub mod Bare
 pub mod RowFaults
+pub mod CleanFields
 pub mod Pairs
 pub mod TenFields
 pub mod Nests

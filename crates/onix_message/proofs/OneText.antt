@@ -150,5 +150,5 @@ contents-few c (h, m) =
     let within : length (framed records) ≤ 20000 = m.within in
     let whole = length-append (plain_opening ∷ records) (end_record (length (plain_opening ∷ records)) ∷ []) in
     let rows = ap (λ (t : List (List (List ℕ))). length t) (content-record-rows c) in
-    let mapped = length-map record_of (content_rows c) in
+    let mapped : length (map record_of (content_rows c)) ≡ length (content_rows c) = length-map (content_rows c) record_of in
     omega (arith, within, whole, rows, mapped)

@@ -79,7 +79,8 @@ fn framed_records(alloc: Global, text: &str) -> Result<RecordBuffer, AllocError>
     ensures { IfOk result (λ whole. whole ≡ framed (records_of text.now)) }
 {
     let mut records = opening_record(alloc)?;
-    append_records(alloc, &mut records, &mut RecordReader::of_text(alloc, text))?;
+    let mut reader = RecordReader::of_text(alloc, text);
+    append_records(alloc, &mut records, &mut reader)?;
     let mut buffer = Buffer::new();
     let count = records.len();
     records.push_fields(&["EndMessage", buffer.format(count)])?;

@@ -1,6 +1,6 @@
 // The fields of a record, and those that several rows have.
 
-ghost use Rattle.std.specs.Prelude.{◌≡◌, IsErrOf, OnOk, map, not, true, false};
+ghost use Rattle.std.specs.Prelude.{◌≡◌, IsErrOf, OnOk, length, map, nat_le, not, true, false};
 ghost use Rattle.std.specs.List.{list_all};
 ghost use Rattle.onix_message.specs.Fields.{is_clean, is_control, optional, optional_party, party_of};
 ghost use Rattle.onix_message.specs.Gives.{Gives};
@@ -23,24 +23,17 @@ fn is_control_byte(byte: u8) -> bool
     byte < 32 || byte == 127
 }
 
-fn has_no_control(field: &[u8]) -> bool
-    ensures { result ≡ list_all (λ b. not (is_control b)) field.now }
+fn has_no_control(bytes: &[u8]) -> bool
+    ensures { result ≡ list_all (λ b. not (is_control b)) bytes.now }
 {
-    field.iter().all(|b| !is_control_byte(*b))
+    bytes.iter().all(|b| !is_control_byte(*b))
 }
 
-// Whether a field is short enough and has no control character.
-fn is_clean_field(field: &[u8]) -> bool
-    ensures { result ≡ is_clean field.now }
+// Whether no field has more than 1,024 bytes.
+fn are_short(fields: &[&str]) -> bool
+    ensures { result ≡ list_all (λ f. nat_le (length f.now) 1024) fields.now }
 {
-    field.len() <= 1024 && has_no_control(field)
-}
-
-// Whether no field is wrong in itself: each has at most 1,024 bytes and no control character.
-fn are_clean(fields: &[&str]) -> bool
-    ensures { result ≡ list_all (λ f. is_clean f.now) fields.now }
-{
-    fields.iter().all(|field| is_clean_field(field.as_bytes()))
+    fields.iter().all(|field| field.len() <= 1024)
 }
 
 /// Puts the fields of a record into a list, in place of what it held. A record is `Wrong` exactly
@@ -51,7 +44,11 @@ pub fn read_fields<'a>(from: &Record<'a>, fields: &mut Vec<&'a str>) -> Result<(
     ensures wrong { IsErrOf result RowFault.Wrong → list_all is_clean from.now ≡ false }
 {
     from.fill(fields)?;
-    if are_clean(fields.as_slice()) {
+    if !are_short(fields.as_slice()) {
+        return Err(RowFault::Wrong);
+    }
+    // The bytes of all fields lie side by side, so one walk tests them.
+    if has_no_control(from.as_bytes()) {
         Ok(())
     } else {
         Err(RowFault::Wrong)

@@ -56,21 +56,27 @@ fn push_optional_code(fields: &mut FieldBuffer, code: &Option<Code2>) -> Result<
 }
 
 fn push_identifier(fields: &mut FieldBuffer, id: &ProductIdentifier) -> Result<(), AllocError>
-    ensures { OnOk result (fields.new ≡ fields.old ++ identifier_fields id.now) }
+    ensures ok { OnOk result (fields.new ≡ fields.old ++ identifier_fields id.now) }
+    ensures err { OnErr result (fields.new ≡ fields.old) }
 {
-    fields.push(id.id_type.as_str())?;
-    fields.push(id.id_value.as_str())
+    fields.push_all(&[id.id_type.as_str(), id.id_value.as_str()])
 }
 
-/// Appends the types and values of identifiers to the fields of a record, pair after pair.
+/// Appends the types and values of identifiers to the fields of a record, pair after pair. Without
+/// memory for them the fields stay as they were.
 pub fn push_identifiers(
     fields: &mut FieldBuffer,
     ids: &[ProductIdentifier],
 ) -> Result<(), AllocError>
-    ensures { OnOk result (fields.new ≡ fields.old ++ flat_map identifier_fields ids.now) }
+    ensures ok { OnOk result (fields.new ≡ fields.old ++ flat_map identifier_fields ids.now) }
+    ensures err { OnErr result (fields.new ≡ fields.old) }
 {
+    let count = fields.len();
     for id in ids {
-        push_identifier(fields, id)?;
+        let Ok(()) = push_identifier(fields, id) else {
+            fields.truncate(count);
+            return Err(AllocError);
+        };
     }
     Ok(())
 }

@@ -114,7 +114,9 @@ impl Contents {
     /// It is contents whatever it was read from, so its text can be read back.
     pub fn is_contents(&self)
         ensures { IsContents self.now }
-    {}
+    {
+        let _products = &self.products;
+    }
 
     /// The products in their order.
     pub fn products(&self) -> &[Product]

@@ -1,16 +1,14 @@
-use Rattle.std.proofs.Common.{◌≡◌, ◌∙◌, Bor, List, ℕ, map, ap, sym}
-use Rattle.std.specs.List.{list_all}
-use Rattle.std.proofs.lemmas.List.Folds.{list_all-map}
-use Rattle.onix_message.specs.Fields.{is_clean}
+use Rattle.std.proofs.Common.{◌∙◌, sym, true, false}
+use Rattle.onix_message.proofs.CleanFields.{record-clean, record-long}
 use Rattle.onix_message.proofs.fields.read_fields.Goals as goal
 
--- what the test says of the fields, it says of the record
-cleanness : (from : List (List ℕ)) (items slice : List (Bor (List ℕ))) → map (λ f. f.now) items ≡ from → slice ≡ items → list_all is_clean from ≡ list_all (λ f. is_clean f.now) slice
-cleanness from items slice filled same =
-    ap (list_all is_clean) (sym filled) ∙ list_all-map is_clean (λ f. f.now) items ∙ ap (list_all (λ f. is_clean f.now)) (sym same)
+pub returns-then-not-are_short-clause-wrong : goal.returns-then-not-are_short-clause-wrong
+returns-then-not-are_short-clause-wrong c = λ _. record-long c.args.from.now _ _ c.in_ok-fill.ensures c.as_slice.ensures.value c.if-not-are_short.ensures
 
-pub returns-then-are_clean-clause-clean : goal.returns-then-are_clean-clause-clean
-returns-then-are_clean-clause-clean c = cleanness c.args.from.now _ _ c.in_ok-fill.ensures c.as_slice.ensures.value ∙ sym c.if-are_clean.ensures
+pub returns-then-has_no_control-clause-clean : goal.returns-then-has_no_control-clause-clean
+returns-then-has_no_control-clause-clean c =
+    record-clean c.args.from.now _ _ _ true true c.in_ok-fill.ensures c.as_slice.ensures.value c.as_bytes.ensures c.if-not-are_short.ensures c.if-has_no_control.ensures
 
-pub returns-else-are_clean-clause-wrong : goal.returns-else-are_clean-clause-wrong
-returns-else-are_clean-clause-wrong c = λ _. cleanness c.args.from.now _ _ c.in_ok-fill.ensures c.as_slice.ensures.value ∙ sym c.if-are_clean.ensures
+pub returns-else-has_no_control-clause-wrong : goal.returns-else-has_no_control-clause-wrong
+returns-else-has_no_control-clause-wrong c = λ _.
+    record-clean c.args.from.now _ _ _ true false c.in_ok-fill.ensures c.as_slice.ensures.value c.as_bytes.ensures c.if-not-are_short.ensures c.if-has_no_control.ensures

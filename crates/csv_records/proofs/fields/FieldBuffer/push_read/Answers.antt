@@ -8,10 +8,10 @@ use Rattle.csv_records.proofs.fields.FieldBuffer.push_read.Goals.{in-Some+in-Ok,
 pub loop-i-preserved : goal.loop-i-preserved
 loop-i-preserved c = elim c.match-get.branch [
   | in-Some+in-Ok w ↦
-      let step = record-step (fields_of c.args.record.now) c.loop-i.i w.in-Some.text.now (sym w.in-Some.ensures.value) in
-      let joined = append_assoc c.args.self.now (take c.loop-i.i (fields_of c.args.record.now)) (w.in-Some.text.now ∷ []) in
+      let step = record-step (fields_of c.args.from.now) c.loop-i.i w.in-Some.text.now (sym w.in-Some.ensures.value) in
+      let joined = append_assoc c.args.self.now (take c.loop-i.i (fields_of c.args.from.now)) (w.in-Some.text.now ∷ []) in
       (c.loop-i.invariant.0, cc (w.in-Ok.ensures.ok, c.loop-i.invariant.1))
   | in_default w ↦
-      let lt : c.loop-i.i < length (fields_of c.args.record.now) = omega (arith, c.len-i-end.ensures) in
-      absurd (field-there (fields_of c.args.record.now) c.loop-i.i lt (sym w.in_default.ensures.value))
+      let lt : c.loop-i.i < length (fields_of c.args.from.now) = omega (arith, c.len-i-end.ensures) in
+      absurd (field-there (fields_of c.args.from.now) c.loop-i.i lt (sym w.in_default.ensures.value))
 ]

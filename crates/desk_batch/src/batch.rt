@@ -43,12 +43,9 @@ pub enum BatchFault {
     Memory { done: u64 },
 }
 
-/// The longest text of a batch, in bytes.
-const LIMIT: usize = 4_194_304;
-
 /// Why the requests of a batch were not read.
 #[derive(Drop)]
-enum InputFault {
+enum UnreadFault {
     Read,
     Records(RecordFault),
 }
@@ -61,57 +58,31 @@ enum RequestFault {
     Memory,
 }
 
-// Reads to the end, or to one byte past the limit.
-fn read_input<R: Read>(alloc: Global, reader: &mut R) -> Result<Vec<u8>, InputFault>
-    ensures ok { IfOk result (λ bytes. (length bytes.items ≤ limit) × IsTold (R.remaining reader.old) bytes.items) }
-    ensures err { IfErr result (λ f. (text : List ℕ) × IsTold (R.remaining reader.old) text × InputFits text f) }
+// The requests of a text, whose records are let go of one by one.
+fn requests_in(alloc: Global, bytes: &[u8]) -> Result<Items<Request>, RecordFault>
+    ensures { RequestsFit bytes.now (map_err UnreadFault.Records result) }
 {
-    let mut bytes = Vec::new(alloc);
-    let mut chunk = [0u8; 4096];
-    'reading: while bytes.len() <= LIMIT {
-        let room = (LIMIT + 1 - bytes.len()).min(4096);
-        match reader.read(&mut chunk[..room]) {
-            Ok(0) => return Ok(bytes),
-            Ok(n) => {
-                if bytes.extend_from_slice(&chunk[..n]).is_err() {
-                    return Err(InputFault::Records(RecordFault::Memory));
-                }
-            }
-            Err(_) => return Err(InputFault::Read),
-        }
+    let reader = RecordReader::new(alloc, bytes)?;
+    match read_requests(alloc, reader) {
+        Ok(requests) => Ok(requests),
+        Err(_) => Err(RecordFault::Memory),
     }
-    Err(InputFault::Records(RecordFault::TooLarge))
 }
 
-// Reads the requests of a batch, of which neither the bytes nor the records are kept.
-fn read_batch<R: Read>(alloc: Global, reader: &mut R) -> Result<Items<Request>, InputFault>
+// Reads the requests of a batch, of which the bytes are not kept.
+fn read_batch<R: Read>(alloc: Global, reader: &mut R) -> Result<Items<Request>, UnreadFault>
     ensures { (text : List ℕ) × IsTold (R.remaining reader.old) text × RequestsFit text result }
 {
-    let bytes = read_input(alloc, reader)?;
-    let records = match read_records(alloc, bytes.as_slice()) {
-        Ok(records) => records,
-        Err(fault) => return Err(InputFault::Records(fault)),
+    let bytes = match read_input(alloc, reader, LIMIT) {
+        Ok(bytes) => bytes,
+        Err(InputFault::Read) => return Err(UnreadFault::Read),
+        Err(InputFault::TooLarge) => return Err(UnreadFault::Records(RecordFault::TooLarge)),
+        Err(InputFault::Memory) => return Err(UnreadFault::Records(RecordFault::Memory)),
     };
-    match read_requests(alloc, records) {
+    match requests_in(alloc, bytes.as_slice()) {
         Ok(requests) => Ok(requests),
-        Err(_) => Err(InputFault::Records(RecordFault::Memory)),
+        Err(fault) => Err(UnreadFault::Records(fault)),
     }
-}
-
-// Writes all of the bytes, or a part of them.
-fn write_whole<W: Write>(writer: &mut W, bytes: &[u8]) -> Result<(), ()>
-    ensures ok { OnOk result (Appends (W.contents writer.old) (W.contents writer.new) bytes.now) }
-    ensures err { OnErr result ((part rest : List ℕ) × (part ++ rest ≡ bytes.now) × Appends (W.contents writer.old) (W.contents writer.new) part) }
-{
-    let mut at = 0;
-    while at < bytes.len() {
-        match writer.write(&bytes[at..]) {
-            Ok(0) => return Err(()),
-            Ok(n) => at += n,
-            Err(_) => return Err(()),
-        }
-    }
-    Ok(())
 }
 
 // Asks one request, writes its answer, and says whether that is a refusal.

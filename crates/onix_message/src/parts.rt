@@ -1,12 +1,12 @@
 // The parts of a message.
 
+use crate::laws::equal_contents;
 use onix_terms::amount::Amount;
 use onix_terms::code::{Code2, Currency};
 use onix_terms::day::Day;
 use onix_terms::items::Items;
 use onix_terms::number::Number;
 use onix_terms::party::Party;
-use onix_terms::plain::Plain;
 use onix_terms::quantity::Quantity;
 use onix_terms::territory::Territory;
 use onix_terms::text::Text;
@@ -102,6 +102,7 @@ impl Contents {
     ghost use Rattle.onix_message.specs.ContentsText.{IsContents};
     ghost use Rattle.onix_message.specs.DetailCount.{detail_count};
     ghost use Rattle.onix_message.specs.Nest.{content_rows};
+    ghost use Rattle.onix_message.specs.SameContents.{same_contents};
 
     // The contents of a message that was read.
     pub(crate) fn from_products(products: Items<Product>) -> Contents
@@ -128,10 +129,19 @@ impl Contents {
         self.products.as_slice()
     }
 
+    #[tactic(auto, unfolding(crate::specs::SameContents::same_contents))]
+    fn has_same_products(&self, other: &Contents) -> bool
+        ensures { result ≡ same_contents self.now other.now }
+    {
+        self.products == other.products
+    }
+
     /// Whether two contents are equal in all parts.
     pub fn is_same(&self, other: &Contents) -> bool
-        ensures { IsTrue result ↔ (self.now ≡ other.now) }
+        ensures meaning { IsTrue result ↔ (self.now ≡ other.now) }
+        ensures value { result ≡ same_contents self.now other.now }
     {
-        self.products.is_equal(&other.products)
+        equal_contents();
+        self.has_same_products(other)
     }
 }

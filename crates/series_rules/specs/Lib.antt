@@ -2,6 +2,7 @@ pub mod Agreements
 pub mod Firsts
 pub mod Series
 pub mod Gaps
+pub mod MessageFaults
 pub mod Offers
 pub mod PriceAnswers
 pub mod Answers

@@ -1,14 +1,16 @@
 // A desk in memory.
 
-ghost use Rattle.std.specs.Prelude.{◌≡◌, ◌++◌, ◌∷◌, [], ℕ, List, IfOk, OnErr, OnOk, Option, Some, None, option_copied, position};
+ghost use Rattle.std.specs.Prelude.{◌≡◌, ◌++◌, ◌∷◌, [], ℕ, List, IfErr, IfOk, OnErr, OnOk, Option, Some, None, option_copied, position};
 ghost use Rattle.std.specs.FinMap as map;
 ghost use Rattle.std.specs.Cmp.Lexicographic.{slice_cmp};
 ghost use Rattle.std.specs.Ordering.{is_lt, nat_cmp};
 ghost use Rattle.catalogue_rules.specs.Offers.{offers_in};
+ghost use Rattle.onix_message.specs.Message.{message_of};
 ghost use Rattle.onix_message.specs.SameContents.{same_party};
 ghost use Rattle.series_rules.specs.Agreements.{named, between, has_name, has_parties, same_addressee};
 ghost use Rattle.series_rules.specs.Answers.{same_agreement, agree_answer, delivery_answer, waive_answer, gaps_answer, catalogue_answer};
 ghost use Rattle.series_rules.specs.KeptSeries.{stands_at};
+ghost use Rattle.series_rules.specs.MessageFaults.{IsComputedFault};
 ghost use Rattle.series_rules.specs.Offers.{offers_after};
 ghost use Rattle.series_rules.specs.Plain.{PlainStands, kept_agreements, place_in_order};
 ghost use Rattle.series_rules.specs.Series.{IsFront, after_all};
@@ -21,7 +23,9 @@ use crate::series::Series;
 use catalogue_rules::catalogue::Catalogue;
 use csv_records::records::Records;
 use onix_message::agreement::{Agreement, StoreFault};
+use onix_message::laws::{bad_rows, messages};
 use onix_message::message::{MessageFault, read_message};
+use onix_message::parts::{Contents, Header};
 use onix_terms::isbn13::Isbn13;
 use onix_terms::items::Items;
 use onix_terms::number::Number;
@@ -151,6 +155,19 @@ fn agreed(alloc: Global, kept: &mut Vec<Series>, a: &Agreement) -> Result<AgreeA
     Ok(AgreeAnswer::Agreed)
 }
 
+// Reads a delivery, by what its answer computes of the records.
+fn read_delivery(
+    alloc: Global,
+    records: &Records<'_>,
+) -> Result<(Header, Contents), MessageFault>
+    ensures message { IfOk result (λ m. message_of records.now ≡ Some (m.0, m.1)) }
+    ensures fault { IfErr result (λ e. IsComputedFault records.now e) }
+{
+    messages();
+    bad_rows();
+    read_message(alloc, records)
+}
+
 fn delivered(
     alloc: Global,
     kept: &mut Vec<Series>,
@@ -160,7 +177,7 @@ fn delivered(
         (a ≡ delivery_answer L records.now) × PlainStands kept.new.items (Request.Deliver records.now ∷ L)) }
     ensures err { (L : List Request) → PlainStands kept.old.items L → OnErr result (PlainStands kept.new.items L) }
 {
-    let message = match read_message(alloc, records) {
+    let message = match read_delivery(alloc, records) {
         Ok(message) => message,
         Err(MessageFault::Malformed { row }) => return Ok(DeliveryAnswer::Malformed { row }),
         Err(MessageFault::Memory) => return Err(AllocError),

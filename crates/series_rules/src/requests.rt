@@ -9,7 +9,7 @@ use onix_terms::series_name::SeriesName;
 use price_rules::offer::{CalendarQuery, PriceQuery};
 
 /// One request of a batch.
-#[derive(Debug, Drop)]
+#[derive(Drop)]
 pub enum Request {
     /// An agreement with a wholesaler.
     Agree(Agreement),

@@ -10,7 +10,7 @@ deliver_new-requires-clause-absent c = sym (search rules)
 pub returns-then-is_same-clause-answer : goal.returns-then-is_same-clause-answer
 returns-then-is_same-clause-answer c = λ hs is.
     let there = rw c.in-Some-Message.field-0-is at c.in-Some-Message.ensures.value in
-    rw (← there, ← c.if-is_same.ensures) (c.place.ensures.answer hs is)
+    rw (← there, ← c.if-is_same.ensures.value) (c.place.ensures.answer hs is)
 
 pub returns-in_ok-deliver_new-in-None-clause-answer : goal.returns-in_ok-deliver_new-in-None-clause-answer
 returns-in_ok-deliver_new-in-None-clause-answer c = λ hs is.

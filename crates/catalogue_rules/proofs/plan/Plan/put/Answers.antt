@@ -17,7 +17,7 @@ returns-clause-plan c = λ m plan.
       | then-is_new+in_ok-from_str+in_ok-push w ↦
           same_plan base (with_entry m key now) (map.insert old.draft key now) c.set.new.self (old.fresh ++ key ∷ []) c.if-is_new.self.fresh
           (set ∙ ap (λ (p : Plan). map.insert p.draft key now) w.self-is)
-          (ap (λ (p : Plan). p.fresh) w.self-is ∙ w.in_ok-push.ensures.ok ∙ ap (λ (k : List ℕ). old.fresh ++ k ∷ []) w.in_ok-from_str.ensures)
+          (ap (λ (p : Plan). p.fresh) w.self-is ∙ w.in_ok-push.ensures.ok ∙ ap (λ (k : List ℕ). old.fresh ++ k ∷ []) w.in_ok-from_str.ensures.text)
           (put_new base m old.draft old.fresh plan key now (c.is_new.ensures.0 w.if-is_new.true).0)
       | else-is_new w ↦
           same_plan base (with_entry m key now) (map.insert old.draft key now) c.set.new.self old.fresh c.if-is_new.self.fresh

@@ -1,3 +1,3 @@
 pub mod PieceLists
 pub mod Runs
-pub mod Bytes
+mod RecordLists

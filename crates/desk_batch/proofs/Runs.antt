@@ -1,8 +1,8 @@
 -- One more request of a run.
-use Rattle.std.proofs.Common.{◌≡◌, ◌+◌, ◌<◌, ℕ, List, [], ◌∷◌, ◌++◌, length, take, get_or, refl, sym, ap, ◌∙◌, append_assoc, append-nil, cond, zero-add}
+use Rattle.std.proofs.Common.{◌≡◌, ◌+◌, ℕ, List, [], ◌∷◌, ◌++◌, ◌≤◌, arith, length, length-append, take, refl, sym, ap, ◌∙◌, append_assoc, append-nil, cond, zero-add}
 use Rattle.std.proofs.lemmas.List.Sums.{sum_by-append}
 use Rattle.std.specs.Prelude.{count_by}
-use Rattle.std.proofs.lemmas.List.{take_more}
+use Rattle.std.proofs.Math.Seq.{take-append_seam}
 use Rattle.price_rules.specs.declared.precedence.Rule.{Rule}
 use Rattle.series_rules.specs.Answers.{answer_to, answers, followed_by}
 use Rattle.desk_batch.specs.Batch.{output, refusals}
@@ -26,22 +26,27 @@ refusals_more rules L xs r =
     ap (count_by is_refused) (answers_more rules L xs r) ∙ sum_by-append (λ a. cond (is_refused a) 1 0) (answers rules L xs) (answer_to rules (followed_by L xs) r ∷ [])
     ∙ ap (λ n. refusals rules L xs + n) (zero-add (cond (is_refused (answer_to rules (followed_by L xs) r)) 1 0))
 
-pub record OneMore (rules : List Rule) (L rs : List Request) (i : ℕ) (r : Request) : Type 0 where
-  pub written : output rules L (take (i + 1) rs) ≡ output rules L (take i rs) ++ text_of (answer_to rules (followed_by L (take i rs)) r)
-  pub stood : followed_by L (take (i + 1) rs) ≡ r ∷ followed_by L (take i rs)
-  pub refused : refusals rules L (take (i + 1) rs) ≡ refusals rules L (take i rs) + cond (is_refused (answer_to rules (followed_by L (take i rs)) r)) 1 0
+-- one more request after those that were answered
+pub record OneMore (rules : List Rule) (L some : List Request) (r : Request) : Type 0 where
+  pub written : output rules L (some ++ r ∷ []) ≡ output rules L some ++ text_of (answer_to rules (followed_by L some) r)
+  pub stood : followed_by L (some ++ r ∷ []) ≡ r ∷ followed_by L some
+  pub refused : refusals rules L (some ++ r ∷ []) ≡ refusals rules L some + cond (is_refused (answer_to rules (followed_by L some) r)) 1 0
 
-pub one_more : (rules : List Rule) (L rs : List Request) (i : ℕ) (r : Request) → i < length rs → r ≡ get_or rs i r → OneMore rules L rs i r
-one_more rules L rs i r lt is =
-    let more : take (i + 1) rs ≡ take i rs ++ r ∷ [] = take_more rs i r lt ∙ ap (λ x. take i rs ++ x ∷ []) (sym is) in
-    record {
-      written = ap (output rules L) more ∙ output_more rules L (take i rs) r;
-      stood = ap (followed_by L) more ∙ followed_more L (take i rs) r;
-      refused = ap (refusals rules L) more ∙ refusals_more rules L (take i rs) r;
-    }
+pub one_more : (rules : List Rule) (L some : List Request) (r : Request) → OneMore rules L some r
+one_more rules L some r = record {
+  written = output_more rules L some r;
+  stood = followed_more L some r;
+  refused = refusals_more rules L some r;
+}
 
--- what was written of the next answer stands behind the answers before it
-pub part_more : (rules : List Rule) (L rs : List Request) (i : ℕ) (r : Request) (part rest : List ℕ) → OneMore rules L rs i r →
-    part ++ rest ≡ text_of (answer_to rules (followed_by L (take i rs)) r) → (output rules L (take i rs) ++ part) ++ rest ≡ output rules L (take (i + 1) rs)
-part_more rules L rs i r part rest more is =
-    append_assoc (output rules L (take i rs)) part rest ∙ ap (λ t. output rules L (take i rs) ++ t) is ∙ sym more.written
+-- the requests that were answered, of all of them
+pub first_ones : (rs some rest : List Request) (n : ℕ) → rs ≡ some ++ rest → n ≡ length some → take n rs ≡ some
+first_ones rs some rest n split count = ap (take n) split ∙ ap (λ k. take k (some ++ rest)) count ∙ take-append_seam some rest
+
+-- with the next one, and how many there are
+pub next_ones : (rs some rest : List Request) (r : Request) (n : ℕ) → rs ≡ some ++ r ∷ rest → n ≡ length some → (take (n + 1) rs ≡ some ++ r ∷ []) × (n + 1 ≤ length rs)
+next_ones rs some rest r n split count =
+    let longer = length-append some (r ∷ rest) in
+    let one = length-append some (r ∷ []) in
+    let size = ap (λ (t : List Request). length t) split in
+    (first_ones rs (some ++ r ∷ []) rest (n + 1) (split ∙ sym (append_assoc some (r ∷ []) rest)) (omega (arith, one, count)), omega (arith, longer, size, count))

@@ -2,7 +2,7 @@
 use Rattle.std.specs.Prelude.{ℕ, Bool, List, [], ◌∷◌, ◌++◌, codes}
 use Rattle.std.specs.Fmt.{decimal}
 use Rattle.std.specs.Str.{bytes_eq}
-use Rattle.onix_message.specs.Records.{records_text}
+use Rattle.csv_records.specs.RecordTexts.{records_text}
 use Rattle.catalogue_rules.specs.declared.effect.Effect.{Effect}
 use Rattle.desk_batch.specs.CatalogueText.{catalogue_records}
 use Rattle.desk_batch.specs.GapText.{gap_records}

@@ -1,9 +1,9 @@
 -- What a batch comes to.
-use Rattle.std.specs.Prelude.{◌≡◌, ◌<◌, ◌≤◌, ◌-◌, ℕ, List, [], ◌++◌, Option, Some, None, Result, Ok, Err, IsUtf8, length, map, take, count_by, ⊤}
+use Rattle.std.specs.Prelude.{◌≡◌, ◌<◌, ◌≤◌, ◌-◌, ℕ, List, [], ◌++◌, Result, Ok, Err, IsUtf8, length, map, take, count_by, ⊤}
 use Rattle.std.specs.List.{flat_map}
-use Rattle.onix_message.specs.Records.{records_of}
-use Rattle.onix_message.specs.declared.records.RecordFault.{RecordFault}
-use Rattle.onix_message.specs.declared.records.RecordFault.TheVariants as record_fault
+use Rattle.csv_records.specs.RecordTexts.{limit, records_of}
+use Rattle.csv_records.specs.declared.reading.RecordFault.{RecordFault}
+use Rattle.csv_records.specs.declared.reading.RecordFault.TheVariants as record_fault
 use Rattle.price_rules.specs.declared.precedence.Rule.{Rule}
 use Rattle.series_rules.specs.Answers.{answers, followed_by}
 use Rattle.desk_batch.specs.AnswerText.{is_refused, text_of}
@@ -25,10 +25,6 @@ output rules L rs = flat_map text_of (answers rules L rs)
 abbrev pub refusals : List Rule → List Request → List Request → ℕ
 refusals rules L rs = count_by is_refused (answers rules L rs)
 
--- how many bytes a batch may have
-abbrev pub limit : ℕ
-limit = 4194304
-
 -- why a text has no records
 abbrev pub RecordsFit : List ℕ → RecordFault → Type 0
 RecordsFit text record_fault.TooLarge = limit < length text
@@ -41,7 +37,9 @@ RunFits rules L rs written stands (Ok n) = (n ≡ refusals rules L rs) × writte
 RunFits rules L rs written stands (Err (fault.Store done f)) =
     (done < length rs) × written (output rules L (take done rs)) × stands (followed_by L (take done rs))
 RunFits rules L rs written stands (Err (fault.Write done)) =
-    (done ≤ length rs) × ((part rest : List ℕ) × (part ++ rest ≡ output rules L (take done rs)) × written part) × stands (followed_by L (take done rs))
+    (0 < done) × (done ≤ length rs)
+    × ((part rest : List ℕ) × (output rules L (take (done - 1) rs) ++ (part ++ rest) ≡ output rules L (take done rs)) × written (output rules L (take (done - 1) rs) ++ part))
+    × stands (followed_by L (take done rs))
 RunFits rules L rs written stands (Err (fault.Memory done)) =
     (0 < done) × (done ≤ length rs) × written (output rules L (take (done - 1) rs)) × stands (followed_by L (take done rs))
 RunFits rules L rs written stands (Err (fault.Records f)) = ⊥
@@ -53,8 +51,3 @@ BatchFits rules L text written stands (Err (fault.Records f)) = RecordsFit text 
 BatchFits rules L text written stands (Err fault.Read) = written [] × stands L
 BatchFits rules L text written stands (Ok n) = (length text ≤ limit) × IsUtf8 text × RunFits rules L (requests_of text) written stands (Ok n)
 BatchFits rules L text written stands (Err f) = (length text ≤ limit) × IsUtf8 text × RunFits rules L (requests_of text) written stands (Err f)
-
--- a text is what a reader has left, where the reader tells that
-abbrev pub IsTold : Option (List ℕ) → List ℕ → Type 0
-IsTold None text = ⊤
-IsTold (Some known) text = known ≡ text

@@ -189,33 +189,47 @@ fn push_answer(
     ensures { OnOk result (records.new ≡ records.old ++ answer_records answer.now) }
 {
     match answer {
-        Answer::Price { isbn, offers } => {
-            return push_prices(alloc, out, records, isbn, offers.as_slice());
-        }
-        Answer::Calendar { isbn, offers } => {
-            return push_calendars(alloc, out, records, isbn, offers.as_slice());
-        }
-        Answer::Gaps(report) => return push_gaps(alloc, out, records, report),
-        Answer::Catalogue { series, catalogue } => {
-            return push_catalogue(alloc, out, records, series, catalogue);
-        }
         Answer::Agreement {
             name,
             first,
             answer,
-        } => fill_agreement(out, name, *first, answer)?,
-        Answer::Delivery(answer) => fill_delivery(alloc, out, answer)?,
+        } => {
+            fill_agreement(out, name, *first, answer)?;
+            records.push(&out.as_record())
+        }
+        Answer::Delivery(answer) => {
+            fill_delivery(alloc, out, answer)?;
+            records.push(&out.as_record())
+        }
         Answer::Waiver {
             series,
             number,
             answer,
-        } => fill_waiver(out, series, *number, answer)?,
-        Answer::Choice { isbn, choice } => fill_choice(alloc, out, isbn, choice)?,
-        Answer::BadRange => fill_refusal(out, "bad-range")?,
-        Answer::UnknownSeries => fill_refusal(out, "unknown-series")?,
-        Answer::Malformed { row } => fill_malformed(out, *row)?,
+        } => {
+            fill_waiver(out, series, *number, answer)?;
+            records.push(&out.as_record())
+        }
+        Answer::Price { isbn, offers } => {
+            push_prices(alloc, out, records, isbn, offers.as_slice())
+        }
+        Answer::Choice { isbn, choice } => {
+            fill_choice(alloc, out, isbn, choice)?;
+            records.push(&out.as_record())
+        }
+        Answer::Calendar { isbn, offers } => {
+            push_calendars(alloc, out, records, isbn, offers.as_slice())
+        }
+        Answer::BadRange => records.push_fields(&["refused", "bad-range"]),
+        Answer::Gaps(report) => push_gaps(alloc, out, records, report),
+        Answer::Catalogue { series, catalogue } => {
+            push_catalogue(alloc, out, records, series, catalogue)
+        }
+        Answer::UnknownSeries => records.push_fields(&["refused", "unknown-series"]),
+        Answer::Malformed { row } => {
+            fill_malformed(out, *row)?;
+            records.push(&out.as_record())
+        }
     }
-    records.push(&out.as_record())
 }
 
 /// The text of an answer: its records, with commas between fields and a line feed after each

@@ -1,16 +1,18 @@
 // Batches: the requests of a text, answered one after the other.
 
-ghost use Rattle.std.specs.Prelude.{◌≡◌, ◌≤◌, ◌++◌, ℕ, List, IfOk, OnOk, OnErr, IfErr, length, if◌then◌else◌};
+ghost use Rattle.std.specs.Prelude.{◌≡◌, ◌≤◌, ℕ, List, IfErr, if◌then◌else◌};
 ghost use Rattle.std.specs.Io.KnownBytes.{Appends};
-ghost use Rattle.desk_batch.specs.Batch.{BatchFits, IsTold, RunFits, limit};
-ghost use Rattle.desk_batch.specs.BatchSteps.{InputFits, RequestFits, RequestsFit};
+ghost use Rattle.csv_records.specs.Streams.{IsTold};
+ghost use Rattle.desk_batch.specs.Batch.{BatchFits, RunFits};
+ghost use Rattle.desk_batch.specs.BatchSteps.{RequestFits, RequestsFit, TextFits};
 ghost use Rattle.desk_batch.specs.BatchFaults.{IsBatchFaultOf, IsRequestFaultOf};
 ghost use Rattle.series_rules.specs.declared.requests.Request.{Request};
 
 use crate::answer_text::{is_refusal, write_answer};
 use crate::request_rows::read_requests;
+use csv_records::reading::{LIMIT, RecordFault, RecordReader};
+use csv_records::streams::{InputFault, WriteFault, read_input, write_whole};
 use onix_message::agreement::StoreFault;
-use onix_message::records::{RecordFault, read_records};
 use onix_terms::items::Items;
 use price_rules::precedence::Precedence;
 use series_rules::asking::answer;
@@ -33,8 +35,8 @@ pub enum BatchFault {
     /// A read failed. Nothing was asked of the desk.
     #[error("the batch cannot be read")]
     Read,
-    /// A write failed or took nothing. The first `done` requests have taken effect, and what was
-    /// written is a part of their answers, from the first on.
+    /// A write failed or took nothing. The first `done` requests have taken effect. All answers
+    /// before the last of theirs are written, and a part of that, from its first byte on.
     #[error("the answers cannot be written after {done} requests")]
     Write { done: u64 },
     /// Memory ran out for the answer of request `done`, counted from 1. The first `done` requests
@@ -60,10 +62,10 @@ enum RequestFault {
 
 // The requests of a text, whose records are let go of one by one.
 fn requests_in(alloc: Global, bytes: &[u8]) -> Result<Items<Request>, RecordFault>
-    ensures { RequestsFit bytes.now (map_err UnreadFault.Records result) }
+    ensures { TextFits bytes.now result }
 {
-    let reader = RecordReader::new(alloc, bytes)?;
-    match read_requests(alloc, reader) {
+    let mut reader = RecordReader::new(alloc, bytes)?;
+    match read_requests(alloc, &mut reader) {
         Ok(requests) => Ok(requests),
         Err(_) => Err(RecordFault::Memory),
     }
@@ -110,8 +112,26 @@ fn run_request<D: Desk, W: Write>(
     };
     match write_whole(writer, text.as_bytes()) {
         Ok(()) => Ok(is_refused),
-        Err(()) => Err(RequestFault::Write),
+        Err(WriteFault) => Err(RequestFault::Write),
     }
+}
+
+// The same of a request that is let go of then, and its records with it.
+fn run_and_drop<D: Desk, W: Write>(
+    alloc: Global,
+    desk: &mut D,
+    precedence: &Precedence,
+    request: Request,
+    writer: &mut W,
+) -> Result<bool, RequestFault>
+    ensures premise { D.is_sound desk.new → D.is_sound desk.old }
+    ensures run { (L : List Request) → D.stands_for desk.old L → D.is_sound desk.new →
+        RequestFits precedence.now L request (Appends (W.contents writer.old) (W.contents writer.new)) (D.stands_for desk.new) result }
+    ensures fault { IfErr result (IsRequestFaultOf D.may_give) }
+{
+    let outcome = run_request(alloc, desk, precedence, &request, writer);
+    drop(request);
+    outcome
 }
 
 fn one_if(b: bool) -> u64
@@ -126,18 +146,20 @@ fn run_requests<D: Desk, W: Write>(
     alloc: Global,
     desk: &mut D,
     precedence: &Precedence,
-    requests: &[Request],
+    requests: Items<Request>,
     writer: &mut W,
 ) -> Result<u64, BatchFault>
     ensures premise { D.is_sound desk.new → D.is_sound desk.old }
     ensures run { (L : List Request) → D.stands_for desk.old L → D.is_sound desk.new →
-        RunFits precedence.now L requests.now (Appends (W.contents writer.old) (W.contents writer.new)) (D.stands_for desk.new) result }
+        RunFits precedence.now L requests (Appends (W.contents writer.old) (W.contents writer.new)) (D.stands_for desk.new) result }
     ensures fault { IfErr result (IsBatchFaultOf D.may_give) }
 {
+    // No more than there is room to count.
+    let _count = requests.len();
     let mut done = 0u64;
     let mut refused = 0u64;
-    for request in requests {
-        match run_request(alloc, desk, precedence, request, writer) {
+    for request in requests.into_vec() {
+        match run_and_drop(alloc, desk, precedence, request, writer) {
             Ok(is_refused) => {
                 done += 1;
                 refused += one_if(is_refused);
@@ -169,8 +191,8 @@ pub fn run_batch<D: Desk, R: Read, W: Write>(
 {
     let requests = match read_batch(alloc, reader) {
         Ok(requests) => requests,
-        Err(InputFault::Read) => return Err(BatchFault::Read),
-        Err(InputFault::Records(fault)) => return Err(BatchFault::Records(fault)),
+        Err(UnreadFault::Read) => return Err(BatchFault::Read),
+        Err(UnreadFault::Records(fault)) => return Err(BatchFault::Records(fault)),
     };
-    run_requests(alloc, desk, precedence, requests.as_slice(), writer)
+    run_requests(alloc, desk, precedence, requests, writer)
 }

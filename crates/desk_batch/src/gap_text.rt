@@ -35,11 +35,7 @@ fn fill_head(alloc: Global, out: &mut FieldBuffer, report: &GapReport) -> Result
     fill(out, &["gaps", report.series.as_str()])?;
     push_labelled(alloc, out, &[("first=", first), ("next=", next)])?;
     push_greatest(alloc, out, report.greatest)?;
-    push_labelled(
-        alloc,
-        out,
-        &[("held=", report.held), ("missing=", missing)],
-    )
+    push_labelled(alloc, out, &[("held=", report.held), ("missing=", missing)])
 }
 
 // The record of numbers that are missing.

@@ -53,14 +53,14 @@ fn close_piece(cut: &mut Items<RecordBuffer>, piece: RecordBuffer) -> Result<(),
 /// buffer of its own, so that it can be let go of when its request is answered.
 pub fn read_pieces(
     alloc: Global,
-    mut reader: RecordReader<'_>,
+    reader: &mut RecordReader<'_>,
 ) -> Result<Items<RecordBuffer>, AllocError>
-    ensures { IfOk result (λ cut. cut ≡ pieces reader) }
+    ensures { IfOk result (λ cut. cut ≡ pieces reader.old) }
 {
     let mut cut = Items::new(alloc);
     let mut piece = RecordBuffer::new(alloc);
     let mut next = StringRecord::new(alloc);
-    while reader.read(&mut next)? {
+    'reading: while reader.read(&mut next)? {
         if begins_piece(&next) {
             close_piece(&mut cut, piece)?;
             piece = RecordBuffer::new(alloc);

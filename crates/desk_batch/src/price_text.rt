@@ -67,11 +67,7 @@ fn push_offer(out: &mut FieldBuffer, offer: &ListedOffer) -> Result<(), AllocErr
     out.push(offer.availability.as_str())
 }
 
-fn fill_priced(
-    alloc: Global,
-    out: &mut FieldBuffer,
-    priced: &PricedOffer,
-) -> Result<(), AllocError>
+fn fill_priced(alloc: Global, out: &mut FieldBuffer, priced: &PricedOffer) -> Result<(), AllocError>
     ensures { OnOk result (out.new ≡ priced_fields priced.now) }
 {
     fill(out, &["offer"])?;
@@ -137,6 +133,21 @@ fn fill_span(alloc: Global, out: &mut FieldBuffer, span: &Span) -> Result<(), Al
     push_amount(alloc, out, span.amount)
 }
 
+fn push_spans(
+    alloc: Global,
+    out: &mut FieldBuffer,
+    records: &mut RecordBuffer,
+    spans: &[Span],
+) -> Result<(), AllocError>
+    ensures { OnOk result (records.new ≡ records.old ++ map span_fields spans.now) }
+{
+    for span in spans {
+        fill_span(alloc, out, span)?;
+        records.push(&out.as_record())?;
+    }
+    Ok(())
+}
+
 // Adds the records of an offer's calendar.
 fn push_calendar(
     alloc: Global,
@@ -149,11 +160,7 @@ fn push_calendar(
     fill(out, &["offer"])?;
     push_offer(out, &calendar.offer)?;
     records.push(&out.as_record())?;
-    for span in calendar.spans.as_slice() {
-        fill_span(alloc, out, span)?;
-        records.push(&out.as_record())?;
-    }
-    Ok(())
+    push_spans(alloc, out, records, calendar.spans.as_slice())
 }
 
 /// Adds the records of the offers of an article with their calendars.

@@ -266,9 +266,9 @@ pub fn read_request(alloc: Global, piece: RecordBuffer) -> Result<Request, Alloc
 /// The requests of the records that a reader has left, in order.
 pub fn read_requests(
     alloc: Global,
-    reader: RecordReader<'_>,
+    reader: &mut RecordReader<'_>,
 ) -> Result<Items<Request>, AllocError>
-    ensures { IfOk result (λ requests. requests ≡ map request_of (pieces reader)) }
+    ensures { IfOk result (λ requests. requests ≡ map request_of (pieces reader.old)) }
 {
     let mut requests = Items::new(alloc);
     for piece in read_pieces(alloc, reader)?.into_vec() {

@@ -1,52 +1,100 @@
-use Rattle.std.proofs.Common.{◌≡◌, ◌+◌, ◌++◌, take, sym, ap, arith, subst, append-nil, ◌-◌}
-use Rattle.std.proofs.KnownBytes.{Appends-trans}
+use Rattle.std.proofs.Common.{◌≡◌, ◌+◌, ◌-◌, ◌++◌, ◌∷◌, ◌∙◌, [], length, length-append, sym, ap, arith, refl, subst, append-nil, append_assoc, rules}
+use Rattle.std.proofs.KnownBytes.{Appends-nil, Appends-trans}
 use Rattle.std.specs.Io.KnownBytes.{Appends}
+use Rattle.std.specs.Vec.Iter.{into_iter_items, into_iter_len}
 use Rattle.series_rules.specs.Answers.{followed_by}
 use Rattle.desk_batch.specs.Batch.{output}
-use Rattle.desk_batch.proofs.Runs.{one_more, part_more}
+use Rattle.desk_batch.proofs.Runs.{first_ones, next_ones, one_more}
 use Rattle.desk_batch.proofs.batch.run_requests.Goals as goal
+
+pub loop-request-init : goal.loop-request-init
+loop-request-init g c =
+    let start : into_iter_items c.into_iter-request-iterator.result ≡ c.into_vec-request-items.result.items = c.into_iter-request-iterator.ensures.into_iter_gives.0 in
+    record {
+      premise = λ sound. sound;
+      some = [];
+      split = sym (start ∙ c.into_vec-request-items.ensures);
+      left = search rules;
+      all = c.len-count.ensures;
+      counted = refl;
+      few = omega arith;
+      so_far = λ L stands sound. (refl, Appends-nil (g.W.Write.contents c.args.writer.now), stands);
+    }
+
+pub loop-request-preserved : goal.loop-request-preserved
+loop-request-preserved g c =
+    let inv = c.loop-request.invariant in
+    let r = c.in-Some.request in
+    let steps = c.in-Some.ensures.steps in
+    let longer = length-append inv.some (r ∷ []) in
+    record {
+      premise = λ sound. inv.premise (c.run_and_drop.ensures.premise sound);
+      some = inv.some ++ r ∷ [];
+      split = inv.split ∙ ap (λ t. inv.some ++ t) steps.0 ∙ sym (append_assoc inv.some (r ∷ []) (into_iter_items c.next.new.self));
+      left = let e : into_iter_len c.loop-request.request-iterator ≡ length (r ∷ into_iter_items c.next.new.self) = inv.left ∙ ap length steps.0 in omega arith;
+      all = inv.all;
+      counted = omega (arith, inv.counted, longer);
+      few = omega (arith, inv.few, longer, c.one_if-refused.ensures.most);
+      so_far = λ L stands sound.
+          let before = inv.so_far L stands (c.run_and_drop.ensures.premise sound) in
+          let one = c.in-Ok.ensures.run (followed_by L inv.some) before.2 sound in
+          let more = one_more c.args.precedence.now L inv.some r in (
+            rw (before.0, c.one_if-refused.ensures.is, one.0) (sym more.refused),
+            rw more.written (Appends-trans _ _ _ _ _ before.1 one.1),
+            rw more.stood one.2,
+          );
+    }
+
+pub returns-in-Err-Store-clause-run : goal.returns-in-Err-Store-clause-run
+returns-in-Err-Store-clause-run g c = λ L stands sound.
+    let inv = c.loop-request.invariant in
+    let r = c.in-Some.request in
+    let rest = into_iter_items c.next.new.self in
+    let split = inv.split ∙ ap (λ t. inv.some ++ t) c.in-Some.ensures.steps.0 in
+    let first = first_ones c.args.requests inv.some (r ∷ rest) c.loop-request.done split inv.counted in
+    let next = next_ones c.args.requests inv.some rest r c.loop-request.done split inv.counted in
+    let before = inv.so_far L stands (c.run_and_drop.ensures.premise sound) in
+    let one = rw c.in-Err-Store.field-0-is at (c.in-Err-Store.ensures.run (followed_by L inv.some) before.2 sound) in
+    rw first (
+      omega (arith, next.1),
+      subst (Appends _ _) (append-nil (output c.args.precedence.now L inv.some)) (Appends-trans _ _ _ _ _ before.1 one.0),
+      one.1,
+    )
 
 pub returns-in-Err-Write-clause-run : goal.returns-in-Err-Write-clause-run
 returns-in-Err-Write-clause-run g c = λ L stands sound.
-    let i = c.loop-request.request-index in
-    let rs = c.args.requests.now in
-    let before = c.loop-request.invariant.so_far L stands (c.run_request.ensures.premise sound) in
-    let one = rw c.in-Err-Write.field-0-is at (c.in-Err-Write.ensures.run (followed_by L (take i rs)) before.2 sound) in
-    let more = one_more c.args.precedence.now L rs i _ c.loop-request-test.true c.request-item.is in
-    rw c.loop-request.invariant.counted (
+    let inv = c.loop-request.invariant in
+    let r = c.in-Some.request in
+    let rest = into_iter_items c.next.new.self in
+    let split = inv.split ∙ ap (λ t. inv.some ++ t) c.in-Some.ensures.steps.0 in
+    let first = first_ones c.args.requests inv.some (r ∷ rest) c.loop-request.done split inv.counted in
+    let next = next_ones c.args.requests inv.some rest r c.loop-request.done split inv.counted in
+    let before = inv.so_far L stands (c.run_and_drop.ensures.premise sound) in
+    let one = rw c.in-Err-Write.field-0-is at (c.in-Err-Write.ensures.run (followed_by L inv.some) before.2 sound) in
+    let more = one_more c.args.precedence.now L inv.some r in
+    let back : c.loop-request.done + 1 - 1 ≡ c.loop-request.done = omega arith in
+    rw (back, first, next.0) (
       omega arith,
-      (output c.args.precedence.now L (take i rs) ++ one.0.0, one.0.1, part_more c.args.precedence.now L rs i _ one.0.0 one.0.1 more one.0.2, Appends-trans _ _ _ _ _ before.1 one.0.3),
+      next.1,
+      (one.0.0, one.0.1, ap (λ t. output c.args.precedence.now L inv.some ++ t) one.0.2 ∙ sym more.written, Appends-trans _ _ _ _ _ before.1 one.0.3),
       rw more.stood one.1,
     )
 
 pub returns-in-Err-Memory-clause-run : goal.returns-in-Err-Memory-clause-run
 returns-in-Err-Memory-clause-run g c = λ L stands sound.
-    let i = c.loop-request.request-index in
-    let rs = c.args.requests.now in
-    let before = c.loop-request.invariant.so_far L stands (c.run_request.ensures.premise sound) in
-    let one = rw c.in-Err-Memory.field-0-is at (c.in-Err-Memory.ensures.run (followed_by L (take i rs)) before.2 sound) in
-    let more = one_more c.args.precedence.now L rs i _ c.loop-request-test.true c.request-item.is in
-    let back : i + 1 - 1 ≡ i = omega arith in
-    rw c.loop-request.invariant.counted (
+    let inv = c.loop-request.invariant in
+    let r = c.in-Some.request in
+    let rest = into_iter_items c.next.new.self in
+    let split = inv.split ∙ ap (λ t. inv.some ++ t) c.in-Some.ensures.steps.0 in
+    let first = first_ones c.args.requests inv.some (r ∷ rest) c.loop-request.done split inv.counted in
+    let next = next_ones c.args.requests inv.some rest r c.loop-request.done split inv.counted in
+    let before = inv.so_far L stands (c.run_and_drop.ensures.premise sound) in
+    let one = rw c.in-Err-Memory.field-0-is at (c.in-Err-Memory.ensures.run (followed_by L inv.some) before.2 sound) in
+    let more = one_more c.args.precedence.now L inv.some r in
+    let back : c.loop-request.done + 1 - 1 ≡ c.loop-request.done = omega arith in
+    rw (back, first, next.0) (
       omega arith,
-      omega arith,
-      rw back (subst (Appends _ _) (append-nil (output c.args.precedence.now L (take i rs))) (Appends-trans _ _ _ _ _ before.1 one.0)),
+      next.1,
+      subst (Appends _ _) (append-nil (output c.args.precedence.now L inv.some)) (Appends-trans _ _ _ _ _ before.1 one.0),
       rw more.stood one.1,
     )
-
-pub loop-request-preserved : goal.loop-request-preserved
-loop-request-preserved g c = record {
-  premise = λ sound. c.loop-request.invariant.premise (c.run_request.ensures.premise sound);
-  counted = ap (λ n. n + 1) c.loop-request.invariant.counted;
-  few = omega (arith, c.loop-request.invariant.few, c.one_if-refused.ensures.most);
-  so_far = λ L stands sound.
-      let i = c.loop-request.request-index in
-      let rs = c.args.requests.now in
-      let before = c.loop-request.invariant.so_far L stands (c.run_request.ensures.premise sound) in
-      let one = c.in-Ok.ensures.run (followed_by L (take i rs)) before.2 sound in
-      let more = one_more c.args.precedence.now L rs i _ c.loop-request-test.true c.request-item.is in (
-        rw (before.0, c.one_if-refused.ensures.is, one.0) (sym more.refused),
-        rw more.written (Appends-trans _ _ _ _ _ before.1 one.1),
-        rw more.stood one.2,
-      );
-}

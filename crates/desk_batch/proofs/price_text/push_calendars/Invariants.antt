@@ -4,4 +4,4 @@ use Rattle.desk_batch.specs.PriceText.{dated_records}
 use Rattle.desk_batch.proofs.price_text.push_calendars.Given as goal
 
 abbrev pub invariant-loop-calendar : goal.invariant-loop-calendar
-invariant-loop-calendar l = l.rows ≡ l.initial.rows ++ flat_map dated_records (take l.calendar-index l.offers)
+invariant-loop-calendar l = l.records ≡ l.initial.records ++ flat_map dated_records (take l.calendar-index l.offers)

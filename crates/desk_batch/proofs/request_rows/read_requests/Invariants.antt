@@ -6,6 +6,6 @@ use Rattle.desk_batch.proofs.request_rows.read_requests.Given as goal
 
 abbrev pub invariant-loop-piece : goal.invariant-loop-piece
 invariant-loop-piece l = record {
-  so_far : l.requests ++ map request_of (into_iter_items l.piece-iterator) ≡ map request_of (pieces l.fn.records);
+  so_far : l.requests ++ map request_of (into_iter_items l.piece-iterator) ≡ map request_of (pieces l.fn.reader);
   counted : into_iter_len l.piece-iterator ≡ length (into_iter_items l.piece-iterator);
 }

@@ -1,0 +1,11 @@
+use Rattle.std.proofs.Common.{ap, map, ◌∙◌}
+use Rattle.desk_batch.specs.Batch.{requests_of}
+use Rattle.desk_batch.specs.Pieces.{pieces}
+use Rattle.desk_batch.specs.RequestRows.{request_of}
+use Rattle.desk_batch.proofs.batch.requests_in.Goals as goal
+
+pub returns-in-Ok : goal.returns-in-Ok
+unfolding requests_of
+returns-in-Ok c =
+    let read = c.in_ok-reader.ensures.records in
+    (read.0, read.1, c.in-Ok.ensures ∙ ap (λ rows. map request_of (pieces rows)) read.2)

@@ -3,9 +3,9 @@
 use crate::texts::messages;
 use crate::times::{print_ratio, used};
 use csv::{ByteRecord, ReaderBuilder};
-use desk_batch::pieces::cut_pieces;
+use csv_records::reading::RecordReader;
+use desk_batch::pieces::read_pieces;
 use onix_message::message::read_message;
-use onix_message::records::read_records;
 use std::alloc::Global;
 use std::fs;
 use std::rt::Files;
@@ -28,15 +28,14 @@ fn records_by_csv(alloc: Global, bytes: &[u8]) -> anyhow::Result<u64> {
     Ok(count)
 }
 
-// How many messages the bytes are.
+// How many messages the bytes are. Each piece is let go of when its message is read.
 fn messages_of(alloc: Global, bytes: &[u8]) -> anyhow::Result<u64> {
-    let Ok(records) = read_records(alloc, bytes) else {
+    let Ok(mut reader) = RecordReader::new(alloc, bytes) else {
         anyhow::bail!("the text has no records");
     };
-    let pieces = cut_pieces(alloc, records)?;
     let mut count = 0u64;
-    for piece in pieces.as_slice() {
-        match read_message(alloc, piece.as_slice()) {
+    for piece in read_pieces(alloc, &mut reader)?.into_vec() {
+        match read_message(alloc, &piece.as_records()) {
             Ok(_) => count = count.saturating_add(1),
             Err(_) => anyhow::bail!("a piece is no message"),
         }

@@ -1,8 +1,9 @@
 use crate::cases::{expect, expect_text};
+use csv_records::reading::{RecordFault, read_records};
+use csv_records::writing::write_records;
 use onix_message::contents::{ContentsFault, read_contents, write_contents};
 use onix_message::message::{MessageFault, read_message};
 use onix_message::parts::{Contents, Product};
-use onix_message::records::{RecordFault, read_records, write_records};
 use onix_terms::Memory;
 use onix_terms::plain::Plain;
 use std::alloc::Global;
@@ -42,7 +43,7 @@ Price,02,9.990,GBP,,WORLD,,,,10
 // The row at which a text is no message, or 0.
 fn bad_row(alloc: Global, text: &str) -> Option<u32> {
     let records = read_records(alloc, text.as_bytes()).ok()?;
-    match read_message(alloc, records.as_slice()).err() {
+    match read_message(alloc, &records.as_records()).err() {
         None => Some(0),
         Some(MessageFault::Malformed { row }) => Some(row),
         Some(MessageFault::Memory) => None,
@@ -51,7 +52,7 @@ fn bad_row(alloc: Global, text: &str) -> Option<u32> {
 
 fn contents_of(alloc: Global, text: &str) -> Option<Contents> {
     let records = read_records(alloc, text.as_bytes()).ok()?;
-    let (_, contents) = read_message(alloc, records.as_slice()).ok()?;
+    let (_, contents) = read_message(alloc, &records.as_records()).ok()?;
     Some(contents)
 }
 
@@ -238,7 +239,7 @@ fn contents_have_one_text(rt: HostRuntime) {
 // What is read of the bytes, and written again.
 fn written_again(alloc: Global, bytes: &[u8]) -> Result<String, Memory> {
     match read_records(alloc, bytes) {
-        Ok(records) => write_records(alloc, records.as_slice()),
+        Ok(records) => write_records(alloc, &records.as_records()),
         Err(_) => String::from_str(alloc, "not read"),
     }
 }

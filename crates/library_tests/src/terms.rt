@@ -201,7 +201,7 @@ fn fields_without_a_territory(rt: HostRuntime) {
 
 fn copy_of(alloc: Global, text: &str) -> Result<String, Memory> {
     let copy = Text::from_str(alloc, text)?.copy(alloc)?;
-    Ok(copy.into_string())
+    String::from_str(alloc, copy.as_str())
 }
 
 #[test]

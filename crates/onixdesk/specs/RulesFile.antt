@@ -3,7 +3,7 @@ use Rattle.std.specs.Prelude.{◌≡◌, ◌<◌, ◌≤◌, ◌⊎◌, ℕ, Lis
 use Rattle.price_rules.specs.RulesFile.{precedence_of}
 use Rattle.price_rules.specs.declared.precedence.PrecedenceFault.TheVariants as fault
 use Rattle.price_rules.specs.declared.precedence.Rule.{Rule}
-use Rattle.desk_batch.specs.Batch.{limit}
+use Rattle.csv_records.specs.RecordTexts.{limit}
 use Rattle.onixdesk.specs.declared.rules.RulesFault.{RulesFault}
 use Rattle.onixdesk.specs.declared.rules.RulesFault.TheVariants as rules_fault
 

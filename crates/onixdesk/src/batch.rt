@@ -2,8 +2,9 @@
 
 ghost use Rattle.std.specs.Prelude.{◌≤◌, ℕ, List, []};
 ghost use Rattle.std.specs.Io.KnownBytes.{Appends};
-ghost use Rattle.desk_batch.specs.Batch.{IsTold};
+ghost use Rattle.csv_records.specs.Streams.{IsTold};
 ghost use Rattle.onixdesk.specs.Ends.{Ends};
+ghost use Rattle.series_rules.specs.declared.requests.Request.{Request};
 
 use crate::fault::{Fault, report};
 use desk_batch::batch::{BatchFault, run_batch};
@@ -25,7 +26,7 @@ impl From<BatchFault> for Fault {
     }
 }
 
-// Runs a batch over a desk that has seen no request.
+// Runs a batch over a desk, whatever requests it has seen.
 fn run_over<D: Desk, R: Read, W: Write, E: Write>(
     alloc: Global,
     desk: &mut D,
@@ -35,8 +36,10 @@ fn run_over<D: Desk, R: Read, W: Write, E: Write>(
     errors: &mut E,
 ) -> u8
     ensures status { result ≤ 3 }
-    ensures end { (text : List ℕ) × IsTold (R.remaining input.old) text × (D.stands_for desk.old [] → D.is_sound desk.new →
-        Ends precedence.now text (Appends (W.contents output.old) (W.contents output.new)) result) }
+    // There is a text, that of the input where it tells its bytes, of which this is the status and
+    // all answers, or a first part of them, are written.
+    ensures end { (text : List ℕ) × IsTold (R.remaining input.old) text × ((L : List Request) → D.stands_for desk.old L → D.is_sound desk.new →
+        Ends precedence.now L text (Appends (W.contents output.old) (W.contents output.new)) result) }
 {
     match run_batch(alloc, desk, precedence, input, output) {
         Ok(0) => 0,
@@ -58,7 +61,7 @@ pub fn run<R: Read, W: Write, E: Write>(
     // There is a text, that of the input where it tells its bytes, of which this is the status and
     // all answers, or a first part of them, are written.
     ensures end { (text : List ℕ) × IsTold (R.remaining input.old) text
-        × Ends precedence.now text (Appends (W.contents output.old) (W.contents output.new)) result }
+        × Ends precedence.now [] text (Appends (W.contents output.old) (W.contents output.new)) result }
 {
     let mut desk = PlainDesk::new(alloc);
     let status = run_over(alloc, &mut desk, precedence, input, output, errors);

@@ -2,8 +2,8 @@
 
 ghost use Rattle.std.specs.Prelude.{◌≡◌};
 
+use csv_records::reading::RecordFault;
 use onix_message::agreement::StoreFault;
-use onix_message::records::RecordFault;
 use std::io::Write;
 use thiserror::Error;
 

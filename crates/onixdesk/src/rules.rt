@@ -1,17 +1,17 @@
 // The precedence table of the shop, from the file that `--rules` names.
 
-ghost use Rattle.std.specs.Prelude.{◌≡◌, ℕ, List, Err};
-ghost use Rattle.desk_batch.specs.Batch.{IsTold};
+ghost use Rattle.std.specs.Prelude.{◌≡◌, ◌≤◌, ℕ, List, Err, length};
+ghost use Rattle.csv_records.specs.RecordTexts.{limit};
+ghost use Rattle.csv_records.specs.Streams.{IsTold};
 ghost use Rattle.onixdesk.specs.RulesFile.{RulesFit, status_of};
 
 use crate::fault::{Fault, report};
+use csv_records::reading::LIMIT;
+use csv_records::streams::{InputFault, read_input};
 use price_rules::precedence::{Precedence, PrecedenceFault};
 use std::alloc::Global;
 use std::fs::File;
 use std::io::{Error, ErrorKind, Read, Write};
-
-/// The longest rules file, in bytes.
-const LIMIT: usize = 4_194_304;
 
 /// Why a rules file gives no precedence table.
 #[derive(Debug, Drop)]
@@ -25,11 +25,9 @@ pub enum RulesFault {
 
 // The table that these bytes are the text of.
 fn table_of(alloc: Global, bytes: &[u8]) -> Result<Precedence, RulesFault>
+    requires { length bytes.now ≤ limit }
     ensures { RulesFit bytes.now result }
 {
-    if bytes.len() > LIMIT {
-        return Err(RulesFault::Table(PrecedenceFault::NotToml));
-    }
     let Ok(text) = std::str::from_utf8(bytes) else {
         return Err(RulesFault::Table(PrecedenceFault::NotToml));
     };
@@ -39,8 +37,8 @@ fn table_of(alloc: Global, bytes: &[u8]) -> Result<Precedence, RulesFault>
     }
 }
 
-// Why a text was not read.
-fn unread(error: &Error) -> RulesFault
+// Why a file was not opened.
+fn unopened(error: &Error) -> RulesFault
     ensures { (text : List ℕ) → RulesFit text (Err result) }
 {
     match error.kind() {
@@ -50,15 +48,16 @@ fn unread(error: &Error) -> RulesFault
 }
 
 /// Reads the table that the text of a reader is. At most one byte past the limit is read.
-pub fn read_table<R: Read + Drop>(alloc: Global, reader: R) -> Result<Precedence, RulesFault>
+pub fn read_table<R: Read>(alloc: Global, reader: &mut R) -> Result<Precedence, RulesFault>
     // There is a text, that of the reader where it tells its bytes, of which this is the table or the fault.
-    ensures { (text : List ℕ) × IsTold (R.remaining reader) text × RulesFit text result }
+    ensures { (text : List ℕ) × IsTold (R.remaining reader.old) text × RulesFit text result }
 {
-    let mut bytes = Vec::new(alloc);
-    if let Err(error) = reader.take(LIMIT as u64 + 1).read_to_end(&mut bytes) {
-        return Err(unread(&error));
+    match read_input(alloc, reader, LIMIT) {
+        Ok(bytes) => table_of(alloc, bytes.as_slice()),
+        Err(InputFault::Read) => Err(RulesFault::Unreadable),
+        Err(InputFault::TooLarge) => Err(RulesFault::Table(PrecedenceFault::NotToml)),
+        Err(InputFault::Memory) => Err(RulesFault::Table(PrecedenceFault::Memory)),
     }
-    table_of(alloc, bytes.as_slice())
 }
 
 /// Reads the table in the file of this name.
@@ -67,8 +66,8 @@ pub fn open_table(rt: &HostRuntime, name: &str) -> Result<Precedence, RulesFault
     ensures { (text : List ℕ) × RulesFit text result }
 {
     match File::open(rt, name) {
-        Ok(file) => read_table(rt.alloc(), file),
-        Err(error) => Err(unread(&error)),
+        Ok(mut file) => read_table(rt.alloc(), &mut file),
+        Err(error) => Err(unopened(&error)),
     }
 }
 

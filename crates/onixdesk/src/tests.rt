@@ -14,10 +14,10 @@ use self::cases::rules_files::{RULES_TEXTS, RulesText};
 use self::cases::{Case, read_case, read_ruled_case};
 use self::inputs::{COMMAND_LINES, CommandLine, INPUTS, Input};
 use crate::run;
+use csv_records::reading::RecordReader;
 use desk_batch::answer_text::write_answer;
 use desk_batch::request_rows::read_requests;
 use onix_message::agreement::StoreFault;
-use onix_message::records::read_records;
 use onix_terms::items::Items;
 use price_rules::precedence::Precedence;
 use series_rules::answers::Answer;
@@ -82,8 +82,8 @@ fn expect_run(stop: &impl Abort, name: &str, ran: &Ran, output: &[u8], errors: &
 }
 
 fn requests_of(alloc: Global, text: &[u8]) -> Result<Items<Request>, Fail> {
-    let records = read_records(alloc, text)?;
-    Ok(read_requests(alloc, records)?)
+    let mut reader = RecordReader::new(alloc, text)?;
+    Ok(read_requests(alloc, &mut reader)?)
 }
 
 // The texts of the answers. A fault has none.

@@ -1,6 +1,5 @@
-use Rattle.std.proofs.Common.{[], inr}
 use Rattle.std.specs.Io.KnownBytes.{Appends}
-use Rattle.onixdesk.proofs.Parts.{written_part}
+use Rattle.onixdesk.proofs.Parts.{ends-by}
 use Rattle.onixdesk.proofs.batch.run_over.Goals as goal
 
 pub returns-in-Err-clause-end : goal.returns-in-Err-clause-end
@@ -8,10 +7,8 @@ returns-in-Err-clause-end g c =
     let ran = c.in-Err.ensures.run in (
       ran.0,
       ran.1,
-      λ stands sound. inr (
-        c.report.ensures,
-        written_part c.args.precedence.now ran.0
-            (Appends (g.W.Write.contents c.args.output.now) (g.W.Write.contents c.run_batch.new.writer))
-            (g.D.Desk.stands_for c.run_batch.new.desk) c.in-Err.fault (ran.2 [] stands sound),
-      ),
+      λ L stands sound.
+          ends-by c.args.precedence.now L ran.0
+          (Appends (g.W.Write.contents c.args.output.now) (g.W.Write.contents c.run_batch.new.writer))
+          (g.D.Desk.stands_for c.run_batch.new.desk) c.in-Err.fault c.report.result c.report.ensures (ran.2 L stands sound),
     )

@@ -1,5 +1,6 @@
 // Records and messages of a long text, beside `csv` alone on the same bytes.
 
+use crate::memory::peak;
 use crate::texts::messages;
 use crate::times::{print_ratio, used};
 use csv::{ByteRecord, ReaderBuilder};
@@ -59,6 +60,13 @@ pub fn report(rt: &HostRuntime) -> anyhow::Result<()> {
         "records and messages, to csv alone",
         end.saturating_sub(between),
         between.saturating_sub(start),
+    )?;
+    let most = peak(rt)?.saturating_mul(1_024);
+    print_ratio(
+        rt,
+        "memory at the peak, to the text",
+        most,
+        text.len() as u64,
     )?;
     Ok(())
 }

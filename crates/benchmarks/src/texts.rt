@@ -21,6 +21,16 @@ fn push_product(text: &mut String, message: u32, product: u32) -> Result<(), All
     Ok(())
 }
 
+// A message of 20 products.
+fn push_message(text: &mut String, message: u32) -> Result<(), AllocError> {
+    write!(text, "{OPENING},{message},1,20250301,,\n")?;
+    for product in 0..20u32 {
+        push_product(text, message, product)?;
+    }
+    text.push_str("EndMessage,181\n")?;
+    Ok(())
+}
+
 /// Messages of 20 products each, up to about that many bytes.
 pub fn messages(alloc: Global, bytes: usize) -> Result<String, AllocError> {
     let mut text = String::new(alloc);
@@ -28,11 +38,16 @@ pub fn messages(alloc: Global, bytes: usize) -> Result<String, AllocError> {
         if text.len() >= bytes {
             break;
         }
-        write!(text, "{OPENING},{message},1,20250301,,\n")?;
-        for product in 0..20u32 {
-            push_product(&mut text, message, product)?;
-        }
-        text.push_str("EndMessage,181\n")?;
+        push_message(&mut text, message)?;
+    }
+    Ok(text)
+}
+
+/// A batch of an agreement and 500 messages of 20 products each, in number order.
+pub fn greatest_batch(alloc: Global) -> Result<String, AllocError> {
+    let mut text = String::from_str(alloc, AGREEMENT)?;
+    for message in 0..500u32 {
+        push_message(&mut text, message + 1)?;
     }
     Ok(text)
 }

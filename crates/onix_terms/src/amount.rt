@@ -1,11 +1,13 @@
-ghost use Rattle.std.specs.Prelude.{◌≡◌, ◌<◌, ◌++◌, ◌∷◌, IfSome, OnOk, OnErr};
+ghost use Rattle.std.specs.Prelude.{◌≡◌, ◌<◌, ◌++◌, ◌∷◌, IfOk, IfSome, OnOk, OnErr};
 ghost use Rattle.std.specs.String.{string_bytes};
 ghost use Rattle.onix_terms.specs.Amount.{amount_from, amount_of, amount_text, thousandths_of, three_digits};
 
 use crate::Memory;
 use crate::ascii::text_of;
 use crate::digits::{read_digits, two_digits};
+use crate::text::Text;
 use itoa::Buffer;
+use std::alloc::Global;
 use std::marker::Model;
 
 /// An amount of money from 0 to 999,999,999.999, which contracts see as its thousandths.
@@ -65,6 +67,18 @@ impl Amount {
         ensures below { result < 1_000_000_000_000 }
     {
         self.thousandths
+    }
+
+    /// The text that `write` appends. Only want of memory refuses it.
+    pub fn text(self, alloc: Global) -> Result<Text, Memory>
+        ensures { IfOk result (λ t. t ≡ amount_text self) }
+    {
+        let mut buffer = Buffer::new();
+        let decimals = decimals_of(self.thousandths % 1000);
+        let mut text = Text::new(alloc);
+        text.push_str(buffer.format(self.thousandths / 1000))?;
+        text.push_str(text_of(&decimals))?;
+        Ok(text)
     }
 
     /// Appends the whole part without needless zeros, a point and three decimals. Only want of

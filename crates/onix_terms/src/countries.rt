@@ -121,12 +121,12 @@ pub fn read_world(text: &str) -> Result<bool, TermFault>
 pub fn countries_text(alloc: Global, countries: &[Country]) -> Result<Text, AllocError>
     ensures { IfOk result (λ t. t ≡ countries_text countries.now) }
 {
-    let mut text = String::new(alloc);
+    let mut text = Text::new(alloc);
     for (i, country) in countries.iter().enumerate() {
         if i > 0 {
-            text.push(' ')?;
+            text.push_str(" ")?;
         }
         text.push_str(country.as_str())?;
     }
-    Ok(Text::from_string(text))
+    Ok(text)
 }

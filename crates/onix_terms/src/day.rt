@@ -1,12 +1,14 @@
-ghost use Rattle.std.specs.Prelude.{◌≡◌, ◌↔◌, ◌<◌, ◌++◌, ◌+ℤ◌, ◌≤ℤ◌, ◌<ℤ◌, IsTrue, IsSome, IfSome, OnOk, OnErr, pos};
+ghost use Rattle.std.specs.Prelude.{◌≡◌, ◌↔◌, ◌<◌, ◌++◌, ◌+ℤ◌, ◌≤ℤ◌, ◌<ℤ◌, IsTrue, IsSome, IsOk, IfOk, IfSome, OnOk, OnErr, pos};
 ghost use Rattle.std.specs.String.{string_bytes};
 ghost use Rattle.onix_terms.specs.Day.{IsDayNumber, date_of, day_at, day_of, day_text, eight_digits};
 
 use crate::Memory;
 use crate::ascii::text_of;
 use crate::digits::{read_digits, two_digits};
+use crate::text::Text;
 use jiff::civil::Date;
 use jiff_core::civil;
+use std::alloc::Global;
 use std::marker::Model;
 
 /// A day from 1 January 0001 to 31 December 9999, which contracts see as its number: 0 for
@@ -58,6 +60,14 @@ impl Day {
         ensures range { IsDayNumber result }
     {
         self.number
+    }
+
+    /// The date as YYYYMMDD. It takes no memory.
+    pub fn text(self, alloc: Global) -> Result<Text, Memory>
+        ensures text { IfOk result (λ t. t ≡ day_text self) }
+        ensures inline { IsOk result }
+    {
+        Text::from_str(alloc, text_of(&eight_digits(date_of(self))))
     }
 
     /// Appends the date as YYYYMMDD. Only want of memory refuses it, and the `String` is then as

@@ -71,10 +71,7 @@ impl Fold {
     {
         self.effects.reserve(1)?;
         let effect = apply_had(&mut self.catalogue, had)?;
-        match self.effects.push(effect) {
-            Ok(()) => {}
-            Err(_) => unreachable!(),
-        }
+        self.effects.push_reserved(effect);
         self.next = number.value() + 1;
         Ok(())
     }

@@ -156,10 +156,7 @@ fn agreed(alloc: Global, kept: &mut Vec<Series>, a: &Agreement) -> Result<AgreeA
 }
 
 // Reads a delivery, by what its answer computes of the records.
-fn read_delivery(
-    alloc: Global,
-    records: &Records<'_>,
-) -> Result<(Header, Contents), MessageFault>
+fn read_delivery(alloc: Global, records: &Records<'_>) -> Result<(Header, Contents), MessageFault>
     ensures message { IfOk result (λ m. message_of records.now ≡ Some (m.0, m.1)) }
     ensures fault { IfErr result (λ e. IsComputedFault records.now e) }
 {

@@ -1,4 +1,5 @@
-use Rattle.std.proofs.Common.{List, take}
+use Rattle.std.proofs.Common.{◌≡◌, ◌≤◌, List, length, take}
+use Rattle.std.specs.Vec.{vec_capacity, vec_len}
 use Rattle.series_rules.specs.Faults.{HasFaultsOf}
 use Rattle.series_rules.specs.Runs.{AreAnswered, effective}
 use Rattle.series_rules.specs.declared.requests.Request.{Request}
@@ -8,6 +9,8 @@ abbrev pub invariant-loop-request : goal.invariant-loop-request
 invariant-loop-request g l = record {
   premise : g.D.Desk.is_sound l.desk → g.D.Desk.is_sound l.fn.desk;
   so_far : (L : List Request) → g.D.Desk.stands_for l.fn.desk L → g.D.Desk.is_sound l.desk →
-      AreAnswered l.precedence L (take l.request-index l.requests) l.outcomes × g.D.Desk.stands_for l.desk (effective L (take l.request-index l.requests) l.outcomes);
-  faults : HasFaultsOf g.D.Desk.may_give l.outcomes;
+      AreAnswered l.precedence L (take l.request-index l.requests) l.outcomes.items × g.D.Desk.stands_for l.desk (effective L (take l.request-index l.requests) l.outcomes.items);
+  counted : vec_len l.outcomes ≡ l.request-index;
+  room : length l.requests ≤ vec_capacity l.outcomes;
+  faults : HasFaultsOf g.D.Desk.may_give l.outcomes.items;
 }

@@ -16,7 +16,7 @@ use Rattle.series_rules.specs.Gaps.{gaps_of}
 use Rattle.series_rules.specs.Content.{SameContent}
 use Rattle.price_rules.specs.declared.precedence.Rule.{Rule}
 use Rattle.series_rules.specs.PriceAnswers.{calendar_answer, chosen_by, prices_of}
-use Rattle.series_rules.specs.Laws.{NextIsLeast, ByContentAlone, FrontOnlyGrows}
+use Rattle.series_rules.specs.Laws.{NextIsLeast, FrontIsExact, ByContentAlone, FrontOnlyGrows}
 use Rattle.series_rules.specs.Answers.{answer_to, delivery_answer_at, message_answer_by, delivery_answer_by, waive_answer_at, gaps_or_unknown, catalogue_or_unknown, agree_answer_by}
 use Rattle.series_rules.specs.declared.answers.Answer.TheVariants as answer
 use Rattle.series_rules.specs.declared.requests.Request.{Request}
@@ -26,7 +26,7 @@ use Rattle.series_rules.specs.declared.requests.Had.TheVariants.{Message, Waived
 use Rattle.series_rules.proofs.Apart.{agreements_are_apart, between_by_name, named_with}
 use Rattle.series_rules.proofs.Greatest.{report_same}
 use Rattle.series_rules.proofs.OfferLists.{same_offers}
-use Rattle.series_rules.proofs.Fronts.{front_is, front_same, kept_front}
+use Rattle.series_rules.proofs.Fronts.{front_is, front_same, front_unique, kept_front}
 
 -- the next number
 
@@ -45,6 +45,14 @@ next_is_least L a =
           some_within (front_of L a) (k - a.first) (first_at L a.name k) (omega arith) (ap (first_at L a.name) (sym place) ∙ is.each (k - a.first) (omega arith));
       lacks = is.ends;
     }
+
+-- the front
+
+pub front_is_exact : FrontIsExact
+front_is_exact = record {
+  is_front = λ L a. front_is L a.name a.first;
+  unique = λ L a hs is. front_unique (first_at L a.name) a.first hs (front_of L a) is (front_is L a.name a.first);
+}
 
 -- it only grows
 

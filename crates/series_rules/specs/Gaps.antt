@@ -1,6 +1,6 @@
 -- The gaps of a series.
 use Rattle.std.specs.Prelude.{◌≡◌, ◌+◌, ◌-◌, ◌<◌, ℕ, List, [], ◌∷◌, Option, Some, None, IsSome, max, bytes_eq, nat_eq, filter, length, is_none, is_some, nat_lt, if◌then◌else◌, ◌≤◌, ◌⊎◌}
-use Rattle.std.specs.List.{range_with_len}
+use Rattle.std.specs.List.{All, Contains, range_with_len}
 use Rattle.onix_message.specs.declared.agreement.Agreement.{Agreement}
 use Rattle.series_rules.specs.Agreements.{agreements_of}
 use Rattle.series_rules.specs.Firsts.{first_at, admitted}
@@ -88,10 +88,26 @@ abbrev pub AreRangesFrom : ℕ → List (ℕ × ℕ) → Type 0
 AreRangesFrom n [] = Unit {0}
 AreRangesFrom n (p ∷ ps) = (n ≤ p.0) × (p.0 ≤ p.1) × AreRangesFrom (p.1 + 2) ps
 
--- the report is true of what stands in a series: the first number that has nothing, the greatest that has something, and the numbers up to it that have nothing
-pub record IsGapReport (f : ℕ → Option Had) (report : GapReport) : Type 0 where
-  pub is_next : IsNext f report.first report.next
+-- numbers from one on, each above the one before it
+abbrev pub AreRisingFrom : ℕ → List ℕ → Type 0
+AreRisingFrom n [] = Unit {0}
+AreRisingFrom n (m ∷ ms) = (n ≤ m) × AreRisingFrom (m + 1) ms
+
+-- so many numbers from one on have something: a rising list has just these, and it is as long
+pub record AreHeld (f : ℕ → Option Had) (from held : ℕ) : Type 0 where
+  pub numbers : List ℕ
+  pub in_order : AreRisingFrom from numbers
+  pub all_had : (n : ℕ) → from ≤ n → IsSome (f n) → Contains numbers n
+  pub only_had : All (λ n. IsSome (f n)) numbers
+  pub counted : held ≡ length numbers
+
+-- the report is true of what stands in an agreed series: its name, its first number, the first number that has nothing, the greatest that has something, how many from the next on have something, and the numbers up to the greatest that have nothing
+pub record IsGapReport (f : ℕ → Option Had) (a : Agreement) (report : GapReport) : Type 0 where
+  pub of_series : report.series ≡ a.name
+  pub is_first : report.first ≡ a.first
+  pub is_next : IsNext f a.first report.next
   pub is_greatest : IsGreatest f report.greatest
-  pub in_order : AreRangesFrom report.first report.missing
-  pub all_lacking : (n : ℕ) → report.first ≤ n → IsUpTo n report.greatest → f n ≡ None → IsInRanges n report.missing
-  pub only_lacking : (n : ℕ) → IsInRanges n report.missing → (report.first ≤ n) × IsUpTo n report.greatest × (f n ≡ None)
+  pub are_held : AreHeld f report.next report.held
+  pub in_order : AreRangesFrom a.first report.missing
+  pub all_lacking : (n : ℕ) → a.first ≤ n → IsUpTo n report.greatest → f n ≡ None → IsInRanges n report.missing
+  pub only_lacking : (n : ℕ) → IsInRanges n report.missing → (a.first ≤ n) × IsUpTo n report.greatest × (f n ≡ None)

@@ -1,11 +1,17 @@
 // Laws of the definitions.
 
-ghost use Rattle.series_rules.specs.Laws.{NextIsLeast, ByContentAlone, FrontOnlyGrows, GapsAreTrue};
+ghost use Rattle.series_rules.specs.Laws.{NextIsLeast, FrontIsExact, ByContentAlone, FrontOnlyGrows, GapsAreTrue};
 ghost use Rattle.series_rules.specs.PriceLaws.{CalendarsAreTrue, ChoiceIsTrue, PricesAreTrue};
 
 /// The next number of a series is the least, from the agreed first on, that has nothing.
 pub fn next_is_least()
     ensures { NextIsLeast }
+{}
+
+/// The front of a series is what stands at its numbers from the agreed first on, up to the first
+/// that has nothing, and no other list is.
+pub fn front_is_exact()
+    ensures { FrontIsExact }
 {}
 
 /// Two lists of requests with the same agreements and the same at each number are answered the
@@ -19,8 +25,9 @@ pub fn front_only_grows()
     ensures { FrontOnlyGrows }
 {}
 
-/// The report on the gaps of a series names its first number that has nothing, its greatest that
-/// has something, and in ranges of which no two touch just the numbers up to it that have nothing.
+/// The report on the gaps of a series has its name and its first number, the first number that has
+/// nothing, how many from that on have something, the greatest of them, and in ranges of which no
+/// two touch just the numbers up to it that have nothing.
 pub fn gaps_are_true()
     ensures { GapsAreTrue }
 {}

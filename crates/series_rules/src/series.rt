@@ -208,14 +208,24 @@ impl Series {
         )
     }
 
-    /// Its catalogue, folded anew.
-    pub(crate) fn catalogue(&self, alloc: Global) -> Result<Catalogue, AllocError>
+    // Its catalogue, folded anew.
+    fn fold_anew(&self, alloc: Global) -> Result<Catalogue, AllocError>
         ensures { (hs : List Had) → IsFront (stands_at self.now.numbers) self.now.agreement.first hs → IfOk result (λ c. c ≡ after_all map.empty hs) }
     {
         let first = self.agreement.first;
         let mut fold = Fold::new(alloc, first);
         fold.go_on(&self.numbers, first)?;
         Ok(fold.catalogue)
+    }
+
+    /// Its catalogue: a copy of the kept one, which is folded anew only where memory ran out for it.
+    pub(crate) fn catalogue(&self, alloc: Global) -> Result<Catalogue, AllocError>
+        ensures { (hs : List Had) → IsFront (stands_at self.now.numbers) self.now.agreement.first hs → IfOk result (λ c. c ≡ after_all map.empty hs) }
+    {
+        if self.fold.is_whole(&self.numbers, self.agreement.first) {
+            return self.fold.catalogue.clone();
+        }
+        self.fold_anew(alloc)
     }
 
     /// The article's offers in its catalogue, in order of reference and place.
@@ -227,6 +237,6 @@ impl Series {
         if self.fold.is_whole(&self.numbers, self.agreement.first) {
             return self.fold.catalogue.offers_of(&name, isbn);
         }
-        self.catalogue(alloc)?.offers_of(&name, isbn)
+        self.fold_anew(alloc)?.offers_of(&name, isbn)
     }
 }

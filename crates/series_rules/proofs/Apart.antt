@@ -9,7 +9,7 @@ use Rattle.onix_terms.specs.declared.party.Party.{Party}
 use Rattle.onix_terms.specs.Plain.{option-decides}
 use Rattle.onix_message.specs.SameContents.{same_party, same_party-Decides}
 use Rattle.onix_message.specs.declared.agreement.Agreement.{Agreement}
-use Rattle.series_rules.specs.Agreements.{same_addressee, has_name, has_parties, named, between, clashes, with_agreement, agreements_of, AreApart}
+use Rattle.series_rules.specs.Agreements.{same_addressee, has_name, has_parties, named, between, clashes, with_agreement, agreements_of, AreDistinct}
 use Rattle.series_rules.specs.declared.requests.Request.{Request}
 use Rattle.series_rules.specs.declared.requests.Request.TheVariants.{Agree, Deliver, Waive, AskGaps, AskCatalogue, AskPrice, AskChoice, AskCalendar, Malformed}
 
@@ -69,55 +69,55 @@ found_more p q xs b a e was is_last passes = go (find p xs) refl
         let last = cond_some (p b) b a (sym (find_more p xs b None found) ∙ e) in
         find_more q xs b None (is_last last.1) ∙ ap (λ x. cond (q x) (Some x) None) last.1 ∙ ap (λ t. cond t (Some a) None) passes
 
-apart_more : (as' : List Agreement) (b : Agreement) → AreApart as' → named as' b.name ≡ None → between as' b.sender b.addressee ≡ None → AreApart (as' ++ b ∷ [])
-apart_more as' b apart no_name no_parties = record {
-  by_name = λ name a e. found_more (has_name name) (has_parties a.sender a.addressee) as' b a e (apart.by_name name a)
+distinct_more : (as' : List Agreement) (b : Agreement) → AreDistinct as' → named as' b.name ≡ None → between as' b.sender b.addressee ≡ None → AreDistinct (as' ++ b ∷ [])
+distinct_more as' b distinct no_name no_parties = record {
+  by_name = λ name a e. found_more (has_name name) (has_parties a.sender a.addressee) as' b a e (distinct.by_name name a)
       (λ same. ap (λ (x : Agreement). between as' x.sender x.addressee) (sym same) ∙ no_parties) (has_own_parties a);
-  by_parties = λ s d a e. found_more (has_parties s d) (has_name a.name) as' b a e (apart.by_parties s d a)
+  by_parties = λ s d a e. found_more (has_parties s d) (has_name a.name) as' b a e (distinct.by_parties s d a)
       (λ same. ap (λ (x : Agreement). named as' x.name) (sym same) ∙ no_name) (same_bytes a.name);
 }
 
-pub apart_with : (as' : List Agreement) (b : Agreement) → AreApart as' → AreApart (with_agreement as' b)
-apart_with as' b apart = go (named as' b.name) refl (between as' b.sender b.addressee) refl
+pub distinct_with : (as' : List Agreement) (b : Agreement) → AreDistinct as' → AreDistinct (with_agreement as' b)
+distinct_with as' b distinct = go (named as' b.name) refl (between as' b.sender b.addressee) refl
   where
-    go : (o : Option Agreement) → named as' b.name ≡ o → (u : Option Agreement) → between as' b.sender b.addressee ≡ u → AreApart (with_agreement as' b)
-    go (Some x) e u e' = rw e apart
-    go None e (Some x) e' = rw (e, e') apart
-    go None e None e' = rw (e, e') (apart_more as' b apart e e')
+    go : (o : Option Agreement) → named as' b.name ≡ o → (u : Option Agreement) → between as' b.sender b.addressee ≡ u → AreDistinct (with_agreement as' b)
+    go (Some x) e u e' = rw e distinct
+    go None e (Some x) e' = rw (e, e') distinct
+    go None e None e' = rw (e, e') (distinct_more as' b distinct e e')
 
 -- agreements that are found alike are apart alike
-pub apart_alike : (as' bs : List Agreement) → ((name : List ℕ) → named as' name ≡ named bs name) → ((s : Party) (d : Option Party) → between as' s d ≡ between bs s d) → AreApart bs → AreApart as'
-apart_alike as' bs same parties apart = record {
-  by_name = λ name a e. parties a.sender a.addressee ∙ apart.by_name name a (sym (same name) ∙ e);
-  by_parties = λ s d a e. same a.name ∙ apart.by_parties s d a (sym (parties s d) ∙ e);
+pub distinct_alike : (as' bs : List Agreement) → ((name : List ℕ) → named as' name ≡ named bs name) → ((s : Party) (d : Option Party) → between as' s d ≡ between bs s d) → AreDistinct bs → AreDistinct as'
+distinct_alike as' bs same parties distinct = record {
+  by_name = λ name a e. parties a.sender a.addressee ∙ distinct.by_name name a (sym (same name) ∙ e);
+  by_parties = λ s d a e. same a.name ∙ distinct.by_parties s d a (sym (parties s d) ∙ e);
 }
 
 -- the agreements that stand are apart
-pub agreements_are_apart : (L : List Request) → AreApart (agreements_of L)
-agreements_are_apart [] = record { by_name = λ name a e. absurd cc; by_parties = λ s d a e. absurd cc }
-agreements_are_apart (Agree b ∷ L) = apart_with (agreements_of L) b (agreements_are_apart L)
-agreements_are_apart (Deliver x ∷ L) = agreements_are_apart L
-agreements_are_apart (Waive x y ∷ L) = agreements_are_apart L
-agreements_are_apart (AskGaps x ∷ L) = agreements_are_apart L
-agreements_are_apart (AskCatalogue x ∷ L) = agreements_are_apart L
-agreements_are_apart (AskPrice x y ∷ L) = agreements_are_apart L
-agreements_are_apart (AskChoice x y ∷ L) = agreements_are_apart L
-agreements_are_apart (AskCalendar x1 x2 ∷ L) = agreements_are_apart L
-agreements_are_apart (Malformed x ∷ L) = agreements_are_apart L
+pub agreements_are_distinct : (L : List Request) → AreDistinct (agreements_of L)
+agreements_are_distinct [] = record { by_name = λ name a e. absurd cc; by_parties = λ s d a e. absurd cc }
+agreements_are_distinct (Agree b ∷ L) = distinct_with (agreements_of L) b (agreements_are_distinct L)
+agreements_are_distinct (Deliver x ∷ L) = agreements_are_distinct L
+agreements_are_distinct (Waive x y ∷ L) = agreements_are_distinct L
+agreements_are_distinct (AskGaps x ∷ L) = agreements_are_distinct L
+agreements_are_distinct (AskCatalogue x ∷ L) = agreements_are_distinct L
+agreements_are_distinct (AskPrice x y ∷ L) = agreements_are_distinct L
+agreements_are_distinct (AskChoice x y ∷ L) = agreements_are_distinct L
+agreements_are_distinct (AskCalendar x1 x2 ∷ L) = agreements_are_distinct L
+agreements_are_distinct (Malformed x ∷ L) = agreements_are_distinct L
 
 -- what one finds by its parties, the other finds too, where both find the same by each name
-found_too : (as' bs : List Agreement) → AreApart as' → AreApart bs → ((name : List ℕ) → named as' name ≡ named bs name) → (s : Party) (d : Option Party) (a : Agreement) → between as' s d ≡ Some a → between bs s d ≡ Some a
-found_too as' bs apart other same s d a e =
+found_too : (as' bs : List Agreement) → AreDistinct as' → AreDistinct bs → ((name : List ℕ) → named as' name ≡ named bs name) → (s : Party) (d : Option Party) (a : Agreement) → between as' s d ≡ Some a → between bs s d ≡ Some a
+found_too as' bs distinct other same s d a e =
     let parties = between_has_parties as' s d a e in
-    ap (λ p. between bs p d) (sym parties.0) ∙ ap (between bs a.sender) (sym parties.1) ∙ other.by_name a.name a (sym (same a.name) ∙ apart.by_parties s d a e)
+    ap (λ p. between bs p d) (sym parties.0) ∙ ap (between bs a.sender) (sym parties.1) ∙ other.by_name a.name a (sym (same a.name) ∙ distinct.by_parties s d a e)
 
 -- agreements that are the same by each name are the same by each sender and addressee
-pub between_by_name : (as' bs : List Agreement) → AreApart as' → AreApart bs → ((name : List ℕ) → named as' name ≡ named bs name) → (s : Party) (d : Option Party) → between as' s d ≡ between bs s d
-between_by_name as' bs apart other same s d = go (between as' s d) refl (between bs s d) refl
+pub between_by_name : (as' bs : List Agreement) → AreDistinct as' → AreDistinct bs → ((name : List ℕ) → named as' name ≡ named bs name) → (s : Party) (d : Option Party) → between as' s d ≡ between bs s d
+between_by_name as' bs distinct other same s d = go (between as' s d) refl (between bs s d) refl
   where
     go : (o : Option Agreement) → between as' s d ≡ o → (u : Option Agreement) → between bs s d ≡ u → o ≡ u
-    go (Some a) e u e' = sym (found_too as' bs apart other same s d a e) ∙ e'
-    go None e (Some a) e' = sym e ∙ found_too bs as' other apart (λ name. sym (same name)) s d a e'
+    go (Some a) e u e' = sym (found_too as' bs distinct other same s d a e) ∙ e'
+    go None e (Some a) e' = sym e ∙ found_too bs as' other distinct (λ name. sym (same name)) s d a e'
     go None e None e' = refl
 
 -- one more agreement, by look-ups

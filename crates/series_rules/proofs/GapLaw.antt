@@ -9,7 +9,7 @@ use Rattle.series_rules.specs.Firsts.{first_at}
 use Rattle.series_rules.specs.Gaps.{AreHeld, AreRangesFrom, AreRisingFrom, IsGreatest, IsInRanges, IsUpTo, greatest_of, having, lacking, numbers_up_to, ranges_of, with_number}
 use Rattle.series_rules.specs.Series.{next_of}
 use Rattle.series_rules.specs.Laws.{GapsAreTrue}
-use Rattle.series_rules.specs.declared.requests.Had.{Had}
+use Rattle.series_rules.specs.declared.requests.Standing.{Standing}
 use Rattle.series_rules.proofs.Greatest.{greatest_is}
 use Rattle.series_rules.proofs.LawProofs.{next_is_least}
 
@@ -105,7 +105,7 @@ picked_only p (suc len) from m h = go (λ g. picked_only p len (from + 1) m g) (
     go rest true e (inr g) = let r = rest g in let low : from + 1 ≤ m = r.0 in let high : m < from + 1 + len = r.1 in (omega arith, omega arith, r.2)
     go rest false e g = let r = rest g in let low : from + 1 ≤ m = r.0 in let high : m < from + 1 + len = r.1 in (omega arith, omega arith, r.2)
 
-none_is : (o : Option Had) → is_none o ≡ true → o ≡ None
+none_is : (o : Option Standing) → is_none o ≡ true → o ≡ None
 none_is None e = refl
 none_is (Some h) e = absurd cc
 
@@ -129,7 +129,7 @@ all_of P [] each = All-nil P
 all_of P (k ∷ ks) each = All-cons P k ks (each k (inl refl)) (all_of P ks (λ m h. each m (inr h)))
 
 -- the greatest number that has something is not below it
-not_above : (f : ℕ → Option Had) (g : Option ℕ) → IsGreatest f g → (n : ℕ) → IsSome (f n) → IsUpTo n g
+not_above : (f : ℕ → Option Standing) (g : Option ℕ) → IsGreatest f g → (n : ℕ) → IsSome (f n) → IsUpTo n g
 not_above f None is n some = let none = is n in absurd cc
 not_above f (Some g) is n some = go (cases_lt g n)
   where
@@ -137,23 +137,23 @@ not_above f (Some g) is n some = go (cases_lt g n)
     go (inl lt) = let none = is.1 n lt in absurd cc
     go (inr le) = le
 
-some_is : (o : Option Had) → is_some o ≡ true → IsSome o
+some_is : (o : Option Standing) → is_some o ≡ true → IsSome o
 some_is None e = absurd cc
 some_is (Some h) e = refl
 
-is_some_is : (o : Option Had) → IsSome o → is_some o ≡ true
+is_some_is : (o : Option Standing) → IsSome o → is_some o ≡ true
 is_some_is None s = absurd cc
 is_some_is (Some h) s = refl
 
-held_are : (f : ℕ → Option Had) (from : ℕ) (g : Option ℕ) → IsGreatest f g → AreHeld f from (having f from (numbers_up_to from g))
+held_are : (f : ℕ → Option Standing) (from : ℕ) (g : Option ℕ) → IsGreatest f g → AreHeld f from (having f from (numbers_up_to from g))
 held_are f from g is =
     let p = λ (n : ℕ). is_some (f n) in
     let len = numbers_up_to from g in
     record {
       numbers = filter p (range_with_len from len);
       in_order = picked_rises p len from;
-      all_had = λ n low some. contained (filter p (range_with_len from len)) n (is_picked p len from n low (up_to from n g low (not_above f g is n some)) (is_some_is (f n) some));
-      only_had = all_of (λ n. IsSome (f n)) (filter p (range_with_len from len)) (λ n h. let only = picked_only p len from n h in some_is (f n) only.2);
+      all_held = λ n low some. contained (filter p (range_with_len from len)) n (is_picked p len from n low (up_to from n g low (not_above f g is n some)) (is_some_is (f n) some));
+      only_held = all_of (λ n. IsSome (f n)) (filter p (range_with_len from len)) (λ n h. let only = picked_only p len from n h in some_is (f n) only.2);
       counted = refl;
     }
 

@@ -25,7 +25,7 @@ use Rattle.onix_message.specs.declared.agreement.Agreement.{Agreement}
 use Rattle.price_rules.specs.declared.offer.Offer.{Offer}
 use Rattle.series_rules.specs.Agreements.{agreements_of, named, between, has_name, has_parties}
 use Rattle.series_rules.specs.Offers.{with_names, by_name}
-use Rattle.series_rules.specs.Plain.{PlainStands, AreInOrder, kept_agreements, number_of_series, place_in_order, series_named, standing}
+use Rattle.series_rules.specs.Plain.{PlainStands, AreInOrder, kept_agreements, number_of_series, place_in_order, series_named, standing_of}
 use Rattle.series_rules.specs.declared.requests.Request.{Request}
 use Rattle.series_rules.specs.declared.series.Series.{Series}
 use Rattle.series_rules.proofs.Apart.{same_bytes, parties_are}
@@ -130,7 +130,7 @@ between_inserted kept i t none s d =
     ∙ find_inserted (has_parties s d) (kept_agreements kept) i t.agreement (λ passes. let own = parties_are s d t.agreement passes in ap (λ p. between (kept_agreements kept) p d) (sym own.0) ∙ ap (between (kept_agreements kept) t.agreement.sender) (sym own.1) ∙ none)
 
 -- a new series in any place has nothing
-pub insert_standing : (kept : List Series) (i : ℕ) (t : Series) → series_named kept t.agreement.name ≡ None → ((n : ℕ) → stands_at t.numbers n ≡ None) → (name : List ℕ) (n : ℕ) → standing (insert kept i t) name n ≡ standing kept name n
+pub insert_standing : (kept : List Series) (i : ℕ) (t : Series) → series_named kept t.agreement.name ≡ None → ((n : ℕ) → stands_at t.numbers n ≡ None) → (name : List ℕ) (n : ℕ) → standing_of (insert kept i t) name n ≡ standing_of kept name n
 insert_standing kept i t none nothing name n =
     ap (λ o. number_of_series o n) (find_inserted (λ s. has_name name s.agreement) kept i t (λ passes. ap (series_named kept) (sym ((bytes_eq-Decides t.agreement.name name).0 passes)) ∙ none))
     ∙ push_standing kept t nothing name n

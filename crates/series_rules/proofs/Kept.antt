@@ -10,8 +10,8 @@ use Rattle.std.proofs.lemmas.List.Quantifiers.{position-Some}
 use Rattle.std.proofs.lemmas.Slice.Eq.{bytes_eq-Decides}
 use Rattle.onix_terms.specs.declared.party.Party.{Party}
 use Rattle.onix_message.specs.declared.agreement.Agreement.{Agreement}
-use Rattle.series_rules.specs.Agreements.{named, between, has_name, has_parties, AreApart}
-use Rattle.series_rules.specs.Plain.{kept_agreements, series_named, number_of_series, standing}
+use Rattle.series_rules.specs.Agreements.{named, between, has_name, has_parties, AreDistinct}
+use Rattle.series_rules.specs.Plain.{kept_agreements, series_named, number_of_series, standing_of}
 use Rattle.series_rules.specs.KeptSeries.{stands_at}
 use Rattle.series_rules.specs.declared.series.Series.{Series}
 use Rattle.series_rules.proofs.Apart.{same_bytes}
@@ -84,10 +84,10 @@ first_passes p [] i s first = absurd first
 first_passes p (x ∷ xs) zero s first = ap p (sym first.1) ∙ first.0
 first_passes p (x ∷ xs) (suc i) s first = first_passes p xs i s first.1
 
-pub own_place : (kept : List Series) → AreApart (kept_agreements kept) → (from : Party) (to : Option Party) (i : ℕ) (s : Series) → FirstAt (λ x. has_parties from to x.agreement) kept i s → FirstAt (λ x. has_name s.agreement.name x.agreement) kept i s
-own_place kept apart from to i s first =
+pub own_place : (kept : List Series) → AreDistinct (kept_agreements kept) → (from : Party) (to : Option Party) (i : ℕ) (s : Series) → FirstAt (λ x. has_parties from to x.agreement) kept i s → FirstAt (λ x. has_name s.agreement.name x.agreement) kept i s
+own_place kept distinct from to i s first =
     let found = between_kept kept from to (Some s) (first_found (λ x. has_parties from to x.agreement) kept i s first) in
-    let by_name : named (kept_agreements kept) s.agreement.name ≡ Some s.agreement = apart.by_parties from to s.agreement found in
+    let by_name : named (kept_agreements kept) s.agreement.name ≡ Some s.agreement = distinct.by_parties from to s.agreement found in
     first_too (λ x. has_name s.agreement.name x.agreement) (λ x. has_parties from to x.agreement) kept i s first (same_bytes s.agreement.name)
     (λ y here. ap (has_parties from to) (found_is (series_named kept s.agreement.name) y s.agreement here (sym (found_agreement (has_name s.agreement.name) kept) ∙ by_name))
     ∙ first_passes (λ x. has_parties from to x.agreement) kept i s first)
@@ -105,18 +105,18 @@ set_agreements p [] i s t first same = absurd first
 set_agreements p (x ∷ xs) zero s t first same = ap (λ a. a ∷ kept_agreements xs) (same ∙ ap (λ (y : Series). y.agreement) (sym first.1))
 set_agreements p (x ∷ xs) (suc i) s t first same = ap (λ as'. x.agreement ∷ as') (set_agreements p xs i s t first.1 same)
 
-pub set_standing : (kept : List Series) (i : ℕ) (s t : Series) → FirstAt (λ x. has_name s.agreement.name x.agreement) kept i s → t.agreement ≡ s.agreement → (name : List ℕ) (n : ℕ) → standing (set kept i t) name n ≡ cond (bytes_eq s.agreement.name name) (stands_at t.numbers n) (standing kept name n)
+pub set_standing : (kept : List Series) (i : ℕ) (s t : Series) → FirstAt (λ x. has_name s.agreement.name x.agreement) kept i s → t.agreement ≡ s.agreement → (name : List ℕ) (n : ℕ) → standing_of (set kept i t) name n ≡ cond (bytes_eq s.agreement.name name) (stands_at t.numbers n) (standing_of kept name n)
 set_standing [] i s t first same name n = absurd first
 set_standing (x ∷ xs) zero s t first same name n =
     ap (λ a. number_of_series (cond (bytes_eq a.name name) (Some t) (series_named xs name)) n) same
     ∙ go (bytes_eq s.agreement.name name) refl
   where
-    go : (b : Bool) → bytes_eq s.agreement.name name ≡ b → number_of_series (cond b (Some t) (series_named xs name)) n ≡ cond b (stands_at t.numbers n) (standing (x ∷ xs) name n)
+    go : (b : Bool) → bytes_eq s.agreement.name name ≡ b → number_of_series (cond b (Some t) (series_named xs name)) n ≡ cond b (stands_at t.numbers n) (standing_of (x ∷ xs) name n)
     go true e = refl
     go false e = let no : bytes_eq x.agreement.name name ≡ false = ap (λ (y : Series). bytes_eq y.agreement.name name) first.1 ∙ e in rw no refl
 set_standing (x ∷ xs) (suc i) s t first same name n = go (set_standing xs i s t first.1 same name n) (bytes_eq x.agreement.name name) refl (bytes_eq s.agreement.name name) refl
   where
-    go : standing (set xs i t) name n ≡ cond (bytes_eq s.agreement.name name) (stands_at t.numbers n) (standing xs name n) → (b : Bool) → bytes_eq x.agreement.name name ≡ b → (d : Bool) → bytes_eq s.agreement.name name ≡ d → number_of_series (cond b (Some x) (series_named (set xs i t) name)) n ≡ cond d (stands_at t.numbers n) (number_of_series (cond b (Some x) (series_named xs name)) n)
+    go : standing_of (set xs i t) name n ≡ cond (bytes_eq s.agreement.name name) (stands_at t.numbers n) (standing_of xs name n) → (b : Bool) → bytes_eq x.agreement.name name ≡ b → (d : Bool) → bytes_eq s.agreement.name name ≡ d → number_of_series (cond b (Some x) (series_named (set xs i t) name)) n ≡ cond d (stands_at t.numbers n) (number_of_series (cond b (Some x) (series_named xs name)) n)
     go ih true e true e' =
         let own : x.agreement.name ≡ name = (bytes_eq-Decides x.agreement.name name).0 e in
         let other : s.agreement.name ≡ name = (bytes_eq-Decides s.agreement.name name).0 e' in
@@ -124,7 +124,7 @@ set_standing (x ∷ xs) (suc i) s t first same name n = go (set_standing xs i s 
         let no : bytes_eq x.agreement.name s.agreement.name ≡ false = first.0 in
         absurd cc
     go ih true e false e' = refl
-    go ih false e d e' = ih ∙ ap (λ b. cond b (stands_at t.numbers n) (standing xs name n)) e'
+    go ih false e d e' = ih ∙ ap (λ b. cond b (stands_at t.numbers n) (standing_of xs name n)) e'
 
 -- a new series at the end has nothing
 
@@ -132,7 +132,7 @@ pub push_agreements : (kept : List Series) (t : Series) → kept_agreements (kep
 push_agreements [] t = refl
 push_agreements (x ∷ xs) t = ap (λ as'. x.agreement ∷ as') (push_agreements xs t)
 
-pub push_standing : (kept : List Series) (t : Series) → ((n : ℕ) → stands_at t.numbers n ≡ None) → (name : List ℕ) (n : ℕ) → standing (kept ++ t ∷ []) name n ≡ standing kept name n
+pub push_standing : (kept : List Series) (t : Series) → ((n : ℕ) → stands_at t.numbers n ≡ None) → (name : List ℕ) (n : ℕ) → standing_of (kept ++ t ∷ []) name n ≡ standing_of kept name n
 push_standing kept t nothing name n =
     ap (λ o. number_of_series o n) (find-append (λ s. has_name name s.agreement) kept (t ∷ []))
     ∙ go (series_named kept name) (bytes_eq t.agreement.name name)

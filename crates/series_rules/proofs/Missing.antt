@@ -7,7 +7,7 @@ use Rattle.std.proofs.lemmas.Bool.Decides.{nat_tests}
 use Rattle.std.proofs.lemmas.List.Elements.{filter-append}
 use Rattle.series_rules.specs.Series.{IsFront}
 use Rattle.series_rules.specs.Gaps.{IsGreatest, numbers_up_to, lacking, having, with_number, ranges_of, range_below}
-use Rattle.series_rules.specs.declared.requests.Had.{Had}
+use Rattle.series_rules.specs.declared.requests.Standing.{Standing}
 use Rattle.series_rules.proofs.Walks.{Rest, rest_first, rest_gap, rest_over}
 
 -- ranges
@@ -75,25 +75,25 @@ range_split a e n low le =
     ∙ ap (λ m. range_with_len a (e - a) ++ range_with_len m ((n - e) + 1)) mid
     ∙ ap (λ xs. range_with_len a (e - a) ++ xs) (range_append e (n - e) 1 ∙ ap (λ m. range_with_len e (n - e) ++ m ∷ []) end)
 
-all_lack : (f : ℕ → Option Had) (d e : ℕ) → ((k : ℕ) → e ≤ k → k < e + d → f k ≡ None) → filter (λ n. is_none (f n)) (range_with_len e d) ≡ range_with_len e d
+all_lack : (f : ℕ → Option Standing) (d e : ℕ) → ((k : ℕ) → e ≤ k → k < e + d → f k ≡ None) → filter (λ n. is_none (f n)) (range_with_len e d) ≡ range_with_len e d
 all_lack f zero e none = refl
 all_lack f (suc d) e none =
     let here : f e ≡ None = none e (omega arith) (omega arith) in
     ap (λ o. cond (is_none o) (e ∷ lacking f (e + 1) d) (lacking f (e + 1) d)) here ∙ ap (λ xs. e ∷ xs) (all_lack f d (e + 1) (λ k le lt. none k (omega arith) (omega arith)))
 
-none_have : (f : ℕ → Option Had) (d e : ℕ) → ((k : ℕ) → e ≤ k → k < e + d → f k ≡ None) → filter (λ n. is_some (f n)) (range_with_len e d) ≡ []
+none_have : (f : ℕ → Option Standing) (d e : ℕ) → ((k : ℕ) → e ≤ k → k < e + d → f k ≡ None) → filter (λ n. is_some (f n)) (range_with_len e d) ≡ []
 none_have f zero e none = refl
 none_have f (suc d) e none =
     let here : f e ≡ None = none e (omega arith) (omega arith) in
     ap (λ o. cond (is_some o) (e ∷ filter (λ n. is_some (f n)) (range_with_len (e + 1) d)) (filter (λ n. is_some (f n)) (range_with_len (e + 1) d))) here ∙ none_have f d (e + 1) (λ k le lt. none k (omega arith) (omega arith))
 
-some_not_none : (o : Option Had) → IsSome o → is_none o ≡ false
+some_not_none : (o : Option Standing) → IsSome o → is_none o ≡ false
 some_not_none None s = absurd cc
 some_not_none (Some h) s = refl
 
 -- up to a number that has something, where nothing stands between
 
-lacking_more : (f : ℕ → Option Had) (a e n : ℕ) → a ≤ e → e ≤ n → ((k : ℕ) → e ≤ k → k < n → f k ≡ None) → IsSome (f n) → lacking f a (n + 1 - a) ≡ lacking f a (e - a) ++ range_with_len e (n - e)
+lacking_more : (f : ℕ → Option Standing) (a e n : ℕ) → a ≤ e → e ≤ n → ((k : ℕ) → e ≤ k → k < n → f k ≡ None) → IsSome (f n) → lacking f a (n + 1 - a) ≡ lacking f a (e - a) ++ range_with_len e (n - e)
 lacking_more f a e n low le none some =
     let p = λ (k : ℕ). is_none (f k) in
     let last : filter p (n ∷ []) ≡ [] = rw (some_not_none (f n) some) refl in
@@ -106,7 +106,7 @@ lacking_more f a e n low le none some =
     append_nothing [] = refl
     append_nothing (x ∷ xs) = ap (λ ys. x ∷ ys) (append_nothing xs)
 
-having_more : (f : ℕ → Option Had) (a e n : ℕ) → a ≤ e → e ≤ n → ((k : ℕ) → e ≤ k → k < n → f k ≡ None) → IsSome (f n) → having f a (n + 1 - a) ≡ having f a (e - a) + 1
+having_more : (f : ℕ → Option Standing) (a e n : ℕ) → a ≤ e → e ≤ n → ((k : ℕ) → e ≤ k → k < n → f k ≡ None) → IsSome (f n) → having f a (n + 1 - a) ≡ having f a (e - a) + 1
 having_more f a e n low le none some =
     let p = λ (k : ℕ). is_some (f k) in
     let last : filter p (n ∷ []) ≡ n ∷ [] = ap (λ b. cond b (n ∷ []) []) some in
@@ -125,7 +125,7 @@ under_append m e [] ys le under other = other
 under_append m e (x ∷ xs) ys le under other = (let lt : x + 1 < e = under.0 in omega arith, under_append m e xs ys le under.1 other)
 
 -- what is known of the numbers below `seen`
-pub record Seen (f : ℕ → Option Had) (from seen next held : ℕ) (missing : List (ℕ × ℕ)) : Type 0 where
+pub record Seen (f : ℕ → Option Standing) (from seen next held : ℕ) (missing : List (ℕ × ℕ)) : Type 0 where
   pub above : from ≤ next
   pub below : next ≤ seen
   pub each : (k : ℕ) → from ≤ k → k < next → IsSome (f k)
@@ -136,7 +136,7 @@ pub record Seen (f : ℕ → Option Had) (from seen next held : ℕ) (missing : 
   pub under : Under seen (lacking f from (seen - from))
   pub last : (seen ≡ from) ⊎ IsSome (f (seen - 1))
 
-pub seen_nothing : (f : ℕ → Option Had) (from : ℕ) → Seen f from from from 0 []
+pub seen_nothing : (f : ℕ → Option Standing) (from : ℕ) → Seen f from from from 0 []
 seen_nothing f from =
     let none : from - from ≡ 0 = omega arith in
     record {
@@ -151,10 +151,10 @@ seen_nothing f from =
       last = inl refl;
     }
 
-is_some_of : (o : Option Had) (h : Had) → o ≡ Some h → IsSome o
+is_some_of : (o : Option Standing) (h : Standing) → o ≡ Some h → IsSome o
 is_some_of o h e = subst IsSome (sym e) refl
 
-listed_more : (f : ℕ → Option Had) (from seen n : ℕ) (missing more : List (ℕ × ℕ)) → from ≤ seen → seen ≤ n → ((k : ℕ) → seen ≤ k → k < n → f k ≡ None) → IsSome (f n) → missing ≡ ranges_of (lacking f from (seen - from)) → Under seen (lacking f from (seen - from)) → more ≡ missing ++ range_below seen n → (more ≡ ranges_of (lacking f from (n + 1 - from))) × Under (n + 1) (lacking f from (n + 1 - from))
+listed_more : (f : ℕ → Option Standing) (from seen n : ℕ) (missing more : List (ℕ × ℕ)) → from ≤ seen → seen ≤ n → ((k : ℕ) → seen ≤ k → k < n → f k ≡ None) → IsSome (f n) → missing ≡ ranges_of (lacking f from (seen - from)) → Under seen (lacking f from (seen - from)) → more ≡ missing ++ range_below seen n → (more ≡ ranges_of (lacking f from (n + 1 - from))) × Under (n + 1) (lacking f from (n + 1 - from))
 listed_more f from seen n missing more low le none some listed under is =
     let all = lacking_more f from seen n low le none some in (
       is ∙ ap (λ ps. ps ++ range_below seen n) listed ∙ ap (λ ps. ranges_of (lacking f from (seen - from)) ++ ps) (run_below seen n le)
@@ -163,7 +163,7 @@ listed_more f from seen n missing more low le none some listed under is =
     )
 
 -- the next number is seen, and has something
-pub seen_next : (f : ℕ → Option Had) (from seen next held : ℕ) (missing more : List (ℕ × ℕ)) (x : ℕ × Had) (es : List (ℕ × Had)) → Seen f from seen next held missing → Rest f seen (x ∷ es) → x.0 ≡ next → more ≡ missing ++ range_below seen x.0 → Seen f from (x.0 + 1) (next + 1) held more
+pub seen_next : (f : ℕ → Option Standing) (from seen next held : ℕ) (missing more : List (ℕ × ℕ)) (x : ℕ × Standing) (es : List (ℕ × Standing)) → Seen f from seen next held missing → Rest f seen (x ∷ es) → x.0 ≡ next → more ≡ missing ++ range_below seen x.0 → Seen f from (x.0 + 1) (next + 1) held more
 seen_next f from seen next held missing more x es was rest here is =
     let low : from ≤ next = was.above in
     let low' : next ≤ seen = was.below in
@@ -189,7 +189,7 @@ seen_next f from seen next held missing more x es was rest here is =
     each_more k le (inr ge) less = let same : k ≡ x.0 = omega arith in rw same (is_some_of (f x.0) x.1 (rest_first f seen x es rest))
 
 -- a number after the first gap is seen
-pub seen_later : (f : ℕ → Option Had) (from seen next held : ℕ) (missing more : List (ℕ × ℕ)) (x : ℕ × Had) (es : List (ℕ × Had)) → Seen f from seen next held missing → Rest f seen (x ∷ es) → x.0 ≢ next → more ≡ missing ++ range_below seen x.0 → Seen f from (x.0 + 1) next (held + 1) more
+pub seen_later : (f : ℕ → Option Standing) (from seen next held : ℕ) (missing more : List (ℕ × ℕ)) (x : ℕ × Standing) (es : List (ℕ × Standing)) → Seen f from seen next held missing → Rest f seen (x ∷ es) → x.0 ≢ next → more ≡ missing ++ range_below seen x.0 → Seen f from (x.0 + 1) next (held + 1) more
 seen_later f from seen next held missing more x es was rest other is =
     let low : from ≤ next = was.above in
     let low' : next ≤ seen = was.below in
@@ -215,17 +215,17 @@ seen_later f from seen next held missing more x es was rest other is =
 
 -- all numbers that have something are seen
 
-some_or_none : (o : Option Had) → IsSome o → o ≡ None → ⊥
+some_or_none : (o : Option Standing) → IsSome o → o ≡ None → ⊥
 some_or_none None s e = cc
 some_or_none (Some h) s e = cc
 
-slice_get_none : (hs : List Had) (k : ℕ) → slice_get hs k ≡ None → length hs ≤ k
+slice_get_none : (hs : List Standing) (k : ℕ) → slice_get hs k ≡ None → length hs ≤ k
 slice_get_none [] k e = omega arith
 slice_get_none (h ∷ hs) zero e = absurd cc
 slice_get_none (h ∷ hs) (suc k) e = let ih = slice_get_none hs k e in omega arith
 
 -- the first number that has nothing ends the front
-next_ends : (f : ℕ → Option Had) (from next : ℕ) (hs : List Had) → IsFront f from hs → from ≤ next → ((k : ℕ) → from ≤ k → k < next → IsSome (f k)) → f next ≡ None → next ≡ from + length hs
+next_ends : (f : ℕ → Option Standing) (from next : ℕ) (hs : List Standing) → IsFront f from hs → from ≤ next → ((k : ℕ) → from ≤ k → k < next → IsSome (f k)) → f next ≡ None → next ≡ from + length hs
 next_ends f from next hs is above each none = go (cases_lt next (from + length hs)) (cases_lt (from + length hs) next)
   where
     go : (next < from + length hs) ⊎ (from + length hs ≤ next) → (from + length hs < next) ⊎ (next ≤ from + length hs) → next ≡ from + length hs
@@ -236,7 +236,7 @@ next_ends f from next hs is above each none = go (cases_lt next (from + length h
     go (inr le) (inl lt) = absurd (some_or_none (f (from + length hs)) (each (from + length hs) (omega arith) lt) is.ends)
     go (inr le) (inr ge) = omega arith
 
-seen_lacks : (f : ℕ → Option Had) (seen next : ℕ) → next ≤ seen → (next < seen → f next ≡ None) → Rest f seen [] → f next ≡ None
+seen_lacks : (f : ℕ → Option Standing) (seen next : ℕ) → next ≤ seen → (next < seen → f next ≡ None) → Rest f seen [] → f next ≡ None
 seen_lacks f seen next le lacks rest = go (cases_lt next seen)
   where
     go : (next < seen) ⊎ (seen ≤ next) → f next ≡ None
@@ -244,7 +244,7 @@ seen_lacks f seen next le lacks rest = go (cases_lt next seen)
     go (inr ge) = let same : next ≡ seen = omega arith in ap f same ∙ rest_over f seen seen rest (omega arith)
 
 -- nothing stands from `seen` on, so the greatest is the last before it
-up_to_seen : (f : ℕ → Option Had) (from seen : ℕ) (g : Option ℕ) → IsGreatest f g → Rest f seen [] → (seen ≡ from) ⊎ IsSome (f (seen - 1)) → (a : ℕ) → from ≤ a → a ≤ seen → numbers_up_to a g ≡ seen - a
+up_to_seen : (f : ℕ → Option Standing) (from seen : ℕ) (g : Option ℕ) → IsGreatest f g → Rest f seen [] → (seen ≡ from) ⊎ IsSome (f (seen - 1)) → (a : ℕ) → from ≤ a → a ≤ seen → numbers_up_to a g ≡ seen - a
 up_to_seen f from seen None is rest (inl start) a low le = omega arith
 up_to_seen f from seen None is rest (inr some) a low le = absurd (some_or_none (f (seen - 1)) some (is (seen - 1)))
 up_to_seen f from seen (Some m) is rest last a low le = go last (cases_lt m seen) (cases_lt m (seen - 1))
@@ -255,7 +255,7 @@ up_to_seen f from seen (Some m) is rest last a low le = go last (cases_lt m seen
     go (inr some) (inl lt) (inl less) = absurd (some_or_none (f (seen - 1)) some (is.1 (seen - 1) less))
     go (inr some) (inl lt) (inr ge) = omega arith
 
-pub seen_all : (f : ℕ → Option Had) (from seen next held : ℕ) (missing : List (ℕ × ℕ)) → Seen f from seen next held missing → Rest f seen [] → (hs : List Had) (g : Option ℕ) → IsFront f from hs → IsGreatest f g → (next ≡ from + length hs) × (held ≡ having f next (numbers_up_to next g)) × (missing ≡ ranges_of (lacking f from (numbers_up_to from g)))
+pub seen_all : (f : ℕ → Option Standing) (from seen next held : ℕ) (missing : List (ℕ × ℕ)) → Seen f from seen next held missing → Rest f seen [] → (hs : List Standing) (g : Option ℕ) → IsFront f from hs → IsGreatest f g → (next ≡ from + length hs) × (held ≡ having f next (numbers_up_to next g)) × (missing ≡ ranges_of (lacking f from (numbers_up_to from g)))
 seen_all f from seen next held missing was rest hs g is greatest =
     let low : from ≤ next = was.above in
     let low' : next ≤ seen = was.below in (

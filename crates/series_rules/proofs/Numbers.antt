@@ -7,14 +7,14 @@ use Rattle.std.proofs.lemmas.Bool.Decides.{nat_tests}
 use Rattle.series_rules.proofs.EqualContents.{same_contents_itself}
 use Rattle.onix_message.specs.declared.parts.Product.{Product}
 use Rattle.series_rules.specs.Answers.{answer_against, placed_answer}
-use Rattle.series_rules.specs.Plain.{with_had}
-use Rattle.series_rules.specs.declared.requests.Had.{Had}
-use Rattle.series_rules.specs.declared.requests.Had.TheVariants.{Message}
+use Rattle.series_rules.specs.Plain.{with_standing}
+use Rattle.series_rules.specs.declared.requests.Standing.{Standing}
+use Rattle.series_rules.specs.declared.requests.Standing.TheVariants.{Message}
 use Rattle.series_rules.proofs.OptionsOr.{or_none}
 use Rattle.series_rules.proofs.Walks.{at_test}
 
 -- what was put where nothing stood and then taken out again leaves what stood
-pub taken_back : (f g h : ℕ → Option Had) (n : ℕ) (x : Had) → f n ≡ None → ((k : ℕ) → g k ≡ cond (is_at (nat_cmp n) k) (Some x) (f k)) → ((k : ℕ) → h k ≡ cond (nat_eq n k) None (g k)) → (k : ℕ) → h k ≡ f k
+pub taken_back : (f g h : ℕ → Option Standing) (n : ℕ) (x : Standing) → f n ≡ None → ((k : ℕ) → g k ≡ cond (is_at (nat_cmp n) k) (Some x) (f k)) → ((k : ℕ) → h k ≡ cond (nat_eq n k) None (g k)) → (k : ℕ) → h k ≡ f k
 taken_back f g h n x none put taken k = go (nat_eq n k) refl
   where
     go : (b : Bool) → nat_eq n k ≡ b → h k ≡ f k
@@ -22,11 +22,11 @@ taken_back f g h n x none put taken k = go (nat_eq n k) refl
     go false e = taken k ∙ ap (λ b. cond b None (g k)) e ∙ put k ∙ ap (λ b. cond b (Some x) (f k)) (at_test n k ∙ e)
 
 -- it stands where nothing stood
-pub stands_there : (f : ℕ → Option Had) (n : ℕ) (x : Had) → f n ≡ None → with_had f n x n ≡ Some x
+pub stands_there : (f : ℕ → Option Standing) (n : ℕ) (x : Standing) → f n ≡ None → with_standing f n x n ≡ Some x
 stands_there f n x none = let same : nat_eq n n ≡ true = grind (arith, nat_tests) in rw (none, same) refl
 
 -- one more at a number that has something changes nothing
-pub stands_still : (f : ℕ → Option Had) (n : ℕ) (h x : Had) → f n ≡ Some h → (k : ℕ) → f k ≡ with_had f n x k
+pub stands_still : (f : ℕ → Option Standing) (n : ℕ) (h x : Standing) → f n ≡ Some h → (k : ℕ) → f k ≡ with_standing f n x k
 stands_still f n h x there k = go (nat_eq n k) refl
   where
     go : (b : Bool) → nat_eq n k ≡ b → f k ≡ option_or (f k) (cond b (Some x) None)
@@ -34,5 +34,5 @@ stands_still f n h x there k = go (nat_eq n k) refl
     go false e = sym (or_none (f k))
 
 -- a delivery is against itself where nothing stood
-pub against_itself : (hs : List Had) (s : List ℕ) (from n : ℕ) (c : List Product) (o : Option Had) → o ≡ Some (Message c) → answer_against hs s from n c o ≡ placed_answer hs s from n
+pub against_itself : (hs : List Standing) (s : List ℕ) (from n : ℕ) (c : List Product) (o : Option Standing) → o ≡ Some (Message c) → answer_against hs s from n c o ≡ placed_answer hs s from n
 against_itself hs s from n c o e = ap (answer_against hs s from n c) e ∙ rw (same_contents_itself c) refl

@@ -10,9 +10,9 @@ use Rattle.series_rules.specs.Firsts.{admitted, first_at, put_at}
 use Rattle.series_rules.specs.Content.{SameContent}
 use Rattle.series_rules.specs.declared.answers.Answer.{Answer}
 use Rattle.series_rules.specs.declared.requests.Request.{Request}
-use Rattle.series_rules.specs.declared.requests.Had.{Had}
+use Rattle.series_rules.specs.declared.requests.Standing.{Standing}
 
-or_none : (o : Option Had) → o ≡ option_or o None
+or_none : (o : Option Standing) → o ≡ option_or o None
 or_none None = refl
 or_none (Some h) = refl
 

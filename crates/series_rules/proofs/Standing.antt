@@ -18,21 +18,21 @@ use Rattle.series_rules.specs.Series.{front_of, next_of, IsFront, after_all}
 use Rattle.series_rules.specs.Gaps.{IsGreatest, greatest_of, report_by}
 use Rattle.series_rules.specs.declared.answers.GapReport.{GapReport}
 use Rattle.series_rules.proofs.Greatest.{greatest_is, greatest_same, report_by_same}
-use Rattle.series_rules.specs.Plain.{kept_agreements, place_in_order, series_named, standing, with_had, PlainStands}
+use Rattle.series_rules.specs.Plain.{kept_agreements, place_in_order, series_named, standing_of, with_standing, PlainStands}
 use Rattle.series_rules.specs.Answers.{same_agreement, agree_answer, agree_answer_by, answer_against, delivery_answer_at, message_answer_by, delivery_answer_by, delivery_answer, waived_by, waive_answer_at, waive_answer, gaps_answer, catalogue_answer}
 use Rattle.series_rules.specs.KeptSeries.{stands_at}
 use Rattle.series_rules.specs.declared.series.Series.{Series}
 use Rattle.series_rules.specs.declared.requests.Request.{Request}
 use Rattle.series_rules.specs.declared.requests.Request.TheVariants.{Agree, Deliver, Waive}
-use Rattle.series_rules.specs.declared.requests.Had.{Had}
-use Rattle.series_rules.specs.declared.requests.Had.TheVariants.{Message, Waived}
+use Rattle.series_rules.specs.declared.requests.Standing.{Standing}
+use Rattle.series_rules.specs.declared.requests.Standing.TheVariants.{Message, Waived}
 use Rattle.series_rules.specs.declared.answers.AgreeAnswer.{AgreeAnswer}
 use Rattle.series_rules.specs.declared.answers.AgreeAnswer.TheVariants.{Agreed, NameTaken, SeriesTaken}
 use Rattle.series_rules.specs.declared.answers.DeliveryAnswer.{DeliveryAnswer}
 use Rattle.series_rules.specs.declared.answers.DeliveryAnswer.TheVariants as delivery
 use Rattle.series_rules.specs.declared.answers.WaiveAnswer.{WaiveAnswer}
 use Rattle.series_rules.specs.declared.answers.WaiveAnswer.TheVariants as waiver
-use Rattle.series_rules.proofs.Apart.{agreements_are_apart, apart_alike, apart_with, between_by_name, named_with, named_has_name}
+use Rattle.series_rules.proofs.Apart.{agreements_are_distinct, distinct_alike, distinct_with, between_by_name, named_with, named_has_name}
 use Rattle.series_rules.proofs.Fronts.{front_is, is_front_same}
 use Rattle.series_rules.proofs.Kept.{FirstAt, first_found, own_place, named_kept, between_kept, set_agreements, set_standing}
 use Rattle.series_rules.proofs.OptionsOr.{or_none}
@@ -40,13 +40,13 @@ use Rattle.series_rules.proofs.InOrder.{named_inserted, between_inserted, insert
 
 -- the agreements found by their parties are the definition's
 pub parties_stand : (kept : List Series) (L : List Request) → PlainStands kept L → (s : Party) (d : Option Party) → between (kept_agreements kept) s d ≡ between (agreements_of L) s d
-parties_stand kept L stands = between_by_name (kept_agreements kept) (agreements_of L) stands.apart (agreements_are_apart L) stands.agreed
+parties_stand kept L stands = between_by_name (kept_agreements kept) (agreements_of L) stands.distinct (agreements_are_distinct L) stands.agreed
 
 -- a request that puts nothing anywhere and leaves the agreements
 pub stands_without : (kept : List Series) (L : List Request) (r : Request) → PlainStands kept L → agreements_of (r ∷ L) ≡ agreements_of L → admitted (agreements_of L) r ≡ None → PlainStands kept (r ∷ L)
 stands_without kept L r stands same nothing = record {
   agreed = λ name. stands.agreed name ∙ ap (λ as'. named as' name) (sym same);
-  apart = stands.apart;
+  distinct = stands.distinct;
   in_order = stands.in_order;
   firsts = λ s n. stands.firsts s n ∙ sym (or_none (first_at L s n)) ∙ ap (λ p. option_or (first_at L s n) (put_at p s n)) (sym nothing);
 }
@@ -88,7 +88,7 @@ agree_own kept L t stands none no_parties nothing =
       ap (agree_answer_by a None) (sym no_between) ∙ ap (λ o. agree_answer_by a o (between (agreements_of L) a.sender a.addressee)) (sym no_name),
       record {
         agreed = λ name. names name ∙ named_with as' (agreements_of L) a (free ∙ sym free') stands.agreed name;
-        apart = apart_alike (kept_agreements (insert kept at t)) (with_agreement as' a) names parties (apart_with as' a stands.apart);
+        distinct = distinct_alike (kept_agreements (insert kept at t)) (with_agreement as' a) names parties (distinct_with as' a stands.distinct);
         in_order = still_in_order kept t stands.in_order own;
         firsts = λ s n. insert_standing kept at t none nothing s n ∙ stands.firsts s n ∙ sym (or_none (first_at L s n));
       },
@@ -102,14 +102,14 @@ agree_new kept L a t stands none no_parties is nothing =
 -- a series whose numbers changed
 
 -- what stood under its own name
-own_standing : (kept : List Series) (i : ℕ) (s : Series) → FirstAt (λ x. has_name s.agreement.name x.agreement) kept i s → (n : ℕ) → standing kept s.agreement.name n ≡ stands_at s.numbers n
+own_standing : (kept : List Series) (i : ℕ) (s : Series) → FirstAt (λ x. has_name s.agreement.name x.agreement) kept i s → (n : ℕ) → standing_of kept s.agreement.name n ≡ stands_at s.numbers n
 own_standing kept i s first n = rw (first_found (λ x. has_name s.agreement.name x.agreement) kept i s first) refl
 
 -- its numbers are as before
 pub stands_again : (kept : List Series) (L : List Request) (i : ℕ) (s t : Series) → PlainStands kept L → FirstAt (λ x. has_name s.agreement.name x.agreement) kept i s → t.agreement ≡ s.agreement → ((n : ℕ) → stands_at t.numbers n ≡ stands_at s.numbers n) → PlainStands (set kept i t) L
 stands_again kept L i s t stands first same again = record {
   agreed = λ name. ap (λ as'. named as' name) agreements ∙ stands.agreed name;
-  apart = rw agreements stands.apart;
+  distinct = rw agreements stands.distinct;
   in_order = rw agreements stands.in_order;
   firsts = λ name n. set_standing kept i s t first same name n ∙ go name n (bytes_eq s.agreement.name name) refl ∙ stands.firsts name n;
 }
@@ -117,15 +117,15 @@ stands_again kept L i s t stands first same again = record {
     agreements : kept_agreements (set kept i t) ≡ kept_agreements kept
     agreements = set_agreements (λ x. has_name s.agreement.name x.agreement) kept i s t first same
 
-    go : (name : List ℕ) (n : ℕ) (b : Bool) → bytes_eq s.agreement.name name ≡ b → cond b (stands_at t.numbers n) (standing kept name n) ≡ standing kept name n
-    go name n true e = again n ∙ sym (own_standing kept i s first n) ∙ ap (λ x. standing kept x n) ((bytes_eq-Decides s.agreement.name name).0 e)
+    go : (name : List ℕ) (n : ℕ) (b : Bool) → bytes_eq s.agreement.name name ≡ b → cond b (stands_at t.numbers n) (standing_of kept name n) ≡ standing_of kept name n
+    go name n true e = again n ∙ sym (own_standing kept i s first n) ∙ ap (λ x. standing_of kept x n) ((bytes_eq-Decides s.agreement.name name).0 e)
     go name n false e = refl
 
 -- they have one more, which the request may put there
-pub stands_with : (kept : List Series) (L : List Request) (r : Request) (i : ℕ) (s t : Series) (n : ℕ) (h : Had) → PlainStands kept L → FirstAt (λ x. has_name s.agreement.name x.agreement) kept i s → t.agreement ≡ s.agreement → ((k : ℕ) → stands_at t.numbers k ≡ with_had (stands_at s.numbers) n h k) → agreements_of (r ∷ L) ≡ agreements_of L → admitted (agreements_of L) r ≡ Some (record { series = s.agreement.name; number = n; had = h }) → PlainStands (set kept i t) (r ∷ L)
+pub stands_with : (kept : List Series) (L : List Request) (r : Request) (i : ℕ) (s t : Series) (n : ℕ) (h : Standing) → PlainStands kept L → FirstAt (λ x. has_name s.agreement.name x.agreement) kept i s → t.agreement ≡ s.agreement → ((k : ℕ) → stands_at t.numbers k ≡ with_standing (stands_at s.numbers) n h k) → agreements_of (r ∷ L) ≡ agreements_of L → admitted (agreements_of L) r ≡ Some (record { series = s.agreement.name; number = n; standing = h }) → PlainStands (set kept i t) (r ∷ L)
 stands_with kept L r i s t n h stands first same more left adm = record {
   agreed = λ name. ap (λ as'. named as' name) agreements ∙ stands.agreed name ∙ ap (λ as'. named as' name) (sym left);
-  apart = rw agreements stands.apart;
+  distinct = rw agreements stands.distinct;
   in_order = rw agreements stands.in_order;
   firsts = λ name k. set_standing kept i s t first same name k ∙ go name k (bytes_eq s.agreement.name name) refl ∙ ap (λ p. option_or (first_at L name k) (put_at p name k)) (sym adm);
 }
@@ -133,9 +133,9 @@ stands_with kept L r i s t n h stands first same more left adm = record {
     agreements : kept_agreements (set kept i t) ≡ kept_agreements kept
     agreements = set_agreements (λ x. has_name s.agreement.name x.agreement) kept i s t first same
 
-    go : (name : List ℕ) (k : ℕ) (b : Bool) → bytes_eq s.agreement.name name ≡ b → cond b (stands_at t.numbers k) (standing kept name k) ≡ option_or (first_at L name k) (cond (bytes_eq s.agreement.name name && nat_eq n k) (Some h) None)
+    go : (name : List ℕ) (k : ℕ) (b : Bool) → bytes_eq s.agreement.name name ≡ b → cond b (stands_at t.numbers k) (standing_of kept name k) ≡ option_or (first_at L name k) (cond (bytes_eq s.agreement.name name && nat_eq n k) (Some h) None)
     go name k true e =
-        let there : stands_at s.numbers k ≡ first_at L name k = sym (own_standing kept i s first k) ∙ ap (λ x. standing kept x k) ((bytes_eq-Decides s.agreement.name name).0 e) ∙ stands.firsts name k in
+        let there : stands_at s.numbers k ≡ first_at L name k = sym (own_standing kept i s first k) ∙ ap (λ x. standing_of kept x k) ((bytes_eq-Decides s.agreement.name name).0 e) ∙ stands.firsts name k in
         more k ∙ ap (λ o. option_or o (cond (nat_eq n k) (Some h) None)) there ∙ ap (λ b. option_or (first_at L name k) (cond (b && nat_eq n k) (Some h) None)) (sym e)
     go name k false e = stands.firsts name k ∙ sym (or_none (first_at L name k)) ∙ ap (λ b. option_or (first_at L name k) (cond (b && nat_eq n k) (Some h) None)) (sym e)
 
@@ -182,12 +182,12 @@ delivered_before kept L records m n i s stands read number first lt =
       stands_without kept L (Deliver records) stands refl (admits L records m n s.agreement read number found ∙ nothing),
     )
 
-pub delivered_at : (kept : List Series) (L : List Request) (records : List (List (List ℕ))) (m : Header × List Product) (n i : ℕ) (s t : Series) (x : DeliveryAnswer) → PlainStands kept L → message_of records ≡ Some m → m.0.number ≡ Some n → FirstAt (λ x. has_parties m.0.sender m.0.addressee x.agreement) kept i s → s.agreement.first ≤ n → t.agreement ≡ s.agreement → ((k : ℕ) → stands_at t.numbers k ≡ with_had (stands_at s.numbers) n (Message m.1) k) → ((hs : List Had) → IsFront (stands_at t.numbers) s.agreement.first hs → x ≡ answer_against hs s.agreement.name s.agreement.first n m.1 (stands_at t.numbers n)) → (x ≡ delivery_answer L records) × PlainStands (set kept i t) (Deliver records ∷ L)
+pub delivered_at : (kept : List Series) (L : List Request) (records : List (List (List ℕ))) (m : Header × List Product) (n i : ℕ) (s t : Series) (x : DeliveryAnswer) → PlainStands kept L → message_of records ≡ Some m → m.0.number ≡ Some n → FirstAt (λ x. has_parties m.0.sender m.0.addressee x.agreement) kept i s → s.agreement.first ≤ n → t.agreement ≡ s.agreement → ((k : ℕ) → stands_at t.numbers k ≡ with_standing (stands_at s.numbers) n (Message m.1) k) → ((hs : List Standing) → IsFront (stands_at t.numbers) s.agreement.first hs → x ≡ answer_against hs s.agreement.name s.agreement.first n m.1 (stands_at t.numbers n)) → (x ≡ delivery_answer L records) × PlainStands (set kept i t) (Deliver records ∷ L)
 delivered_at kept L records m n i s t x stands read number parties le same more answer =
     let found = delivery_found kept L m i s stands parties in
     let low = not_below n s.agreement.first le in
-    let first = own_place kept stands.apart m.0.sender m.0.addressee i s parties in
-    let adm : admitted (agreements_of L) (Deliver records) ≡ Some (record { series = s.agreement.name; number = n; had = Message m.1 }) = admits L records m n s.agreement read number found ∙ ap (λ b. cond b None (Some (record { series = s.agreement.name; number = n; had = Message m.1 }))) low in
+    let first = own_place kept stands.distinct m.0.sender m.0.addressee i s parties in
+    let adm : admitted (agreements_of L) (Deliver records) ≡ Some (record { series = s.agreement.name; number = n; standing = Message m.1 }) = admits L records m n s.agreement read number found ∙ ap (λ b. cond b None (Some (record { series = s.agreement.name; number = n; standing = Message m.1 }))) low in
     let after = stands_with kept L (Deliver records) i s t n (Message m.1) stands first same more refl adm in
     let now : (k : ℕ) → stands_at t.numbers k ≡ first_at (Deliver records ∷ L) s.agreement.name k = λ k. stands_now kept i s t first same k ∙ after.firsts s.agreement.name k in
     let said = answer (front_of (Deliver records ∷ L) s.agreement) (is_front_same (stands_at t.numbers) (first_at (Deliver records ∷ L) s.agreement.name) now s.agreement.first _ (front_is (Deliver records ∷ L) s.agreement.name s.agreement.first)) in (
@@ -196,8 +196,8 @@ delivered_at kept L records m n i s t x stands read number parties le same more 
       after,
     )
   where
-    stands_now : (kept : List Series) (i : ℕ) (s t : Series) → FirstAt (λ x. has_name s.agreement.name x.agreement) kept i s → t.agreement ≡ s.agreement → (k : ℕ) → stands_at t.numbers k ≡ standing (set kept i t) s.agreement.name k
-    stands_now kept i s t first same k = sym (set_standing kept i s t first same s.agreement.name k ∙ ap (λ b. cond b (stands_at t.numbers k) (standing kept s.agreement.name k)) ((bytes_eq-Decides s.agreement.name s.agreement.name).1 refl))
+    stands_now : (kept : List Series) (i : ℕ) (s t : Series) → FirstAt (λ x. has_name s.agreement.name x.agreement) kept i s → t.agreement ≡ s.agreement → (k : ℕ) → stands_at t.numbers k ≡ standing_of (set kept i t) s.agreement.name k
+    stands_now kept i s t first same k = sym (set_standing kept i s t first same s.agreement.name k ∙ ap (λ b. cond b (stands_at t.numbers k) (standing_of kept s.agreement.name k)) ((bytes_eq-Decides s.agreement.name s.agreement.name).1 refl))
 
 -- waivers
 
@@ -221,12 +221,12 @@ waived_before kept L name n i s stands first lt =
     let low = is_below n s.agreement.first lt in
     (rw (found, low) refl, stands_without kept L (Waive name n) stands refl (rw (found, low) refl))
 
-pub waived_at : (kept : List Series) (L : List Request) (name : List ℕ) (n i : ℕ) (s t : Series) (x : WaiveAnswer) → PlainStands kept L → FirstAt (λ x. has_name name x.agreement) kept i s → s.agreement.first ≤ n → t.agreement ≡ s.agreement → ((k : ℕ) → stands_at t.numbers k ≡ with_had (stands_at s.numbers) n Waived k) → x ≡ waived_by (stands_at t.numbers n) → (x ≡ waive_answer L name n) × PlainStands (set kept i t) (Waive name n ∷ L)
+pub waived_at : (kept : List Series) (L : List Request) (name : List ℕ) (n i : ℕ) (s t : Series) (x : WaiveAnswer) → PlainStands kept L → FirstAt (λ x. has_name name x.agreement) kept i s → s.agreement.first ≤ n → t.agreement ≡ s.agreement → ((k : ℕ) → stands_at t.numbers k ≡ with_standing (stands_at s.numbers) n Waived k) → x ≡ waived_by (stands_at t.numbers n) → (x ≡ waive_answer L name n) × PlainStands (set kept i t) (Waive name n ∷ L)
 waived_at kept L name n i s t x stands place le same more answer =
     let found = waiver_found kept L name i s stands place in
     let low = not_below n s.agreement.first le in
     let first = named_place kept name i s place in
-    let adm : admitted (agreements_of L) (Waive name n) ≡ Some (record { series = s.agreement.name; number = n; had = Waived }) = rw (found, low) refl in
+    let adm : admitted (agreements_of L) (Waive name n) ≡ Some (record { series = s.agreement.name; number = n; standing = Waived }) = rw (found, low) refl in
     let after = stands_with kept L (Waive name n) i s t n Waived stands first same more refl adm in
     let there : stands_at t.numbers n ≡ first_at (Waive name n ∷ L) s.agreement.name n =
     more n ∙ ap (λ o. option_or o (cond (nat_eq n n) (Some Waived) None)) (series_stands kept L i s stands first n) ∙ own_put (first_at L s.agreement.name n) ∙ ap (λ p. option_or (first_at L s.agreement.name n) (put_at p s.agreement.name n)) (sym adm) in
@@ -234,7 +234,7 @@ waived_at kept L name n i s t x stands place le same more answer =
     ap (waive_answer_at (Waive name n ∷ L) n) found ∙ ap (λ b. cond b (waiver.BeforeFirst s.agreement.first) (waived_by (first_at (Waive name n ∷ L) s.agreement.name n))) low in
     (answer ∙ ap waived_by there ∙ sym unfolds, after)
   where
-    own_put : (o : Option Had) → option_or o (cond (nat_eq n n) (Some Waived) None) ≡ option_or o (cond (bytes_eq s.agreement.name s.agreement.name && nat_eq n n) (Some Waived) None)
+    own_put : (o : Option Standing) → option_or o (cond (nat_eq n n) (Some Waived) None) ≡ option_or o (cond (bytes_eq s.agreement.name s.agreement.name && nat_eq n n) (Some Waived) None)
     own_put o = ap (λ b. option_or o (cond (b && nat_eq n n) (Some Waived) None)) (sym ((bytes_eq-Decides s.agreement.name s.agreement.name).1 refl))
 
 -- questions
@@ -244,7 +244,7 @@ no_catalogue kept L name stands none =
     let found : named (agreements_of L) name ≡ None = sym (stands.agreed name) ∙ named_kept kept name None none in
     rw found refl
 
-pub catalogue_stands : (kept : List Series) (L : List Request) (name : List ℕ) (i : ℕ) (s : Series) (m : ByReference) → PlainStands kept L → FirstAt (λ x. has_name name x.agreement) kept i s → ((hs : List Had) → IsFront (stands_at s.numbers) s.agreement.first hs → m ≡ after_all map.empty hs) → Some m ≡ catalogue_answer L name
+pub catalogue_stands : (kept : List Series) (L : List Request) (name : List ℕ) (i : ℕ) (s : Series) (m : ByReference) → PlainStands kept L → FirstAt (λ x. has_name name x.agreement) kept i s → ((hs : List Standing) → IsFront (stands_at s.numbers) s.agreement.first hs → m ≡ after_all map.empty hs) → Some m ≡ catalogue_answer L name
 catalogue_stands kept L name i s m stands first folded =
     let found = waiver_found kept L name i s stands first in
     rw found (ap Some (folded (front_of L s.agreement) (kept_front_is kept L i s stands (named_place kept name i s first))))
@@ -254,7 +254,7 @@ no_gaps kept L name stands none =
     let found : named (agreements_of L) name ≡ None = sym (stands.agreed name) ∙ named_kept kept name None none in
     rw found refl
 
-pub gaps_stand : (kept : List Series) (L : List Request) (name : List ℕ) (i : ℕ) (s : Series) (report : GapReport) → PlainStands kept L → FirstAt (λ x. has_name name x.agreement) kept i s → ((hs : List Had) (greatest : Option ℕ) → IsFront (stands_at s.numbers) s.agreement.first hs → IsGreatest (stands_at s.numbers) greatest → report ≡ report_by s.agreement.name (stands_at s.numbers) s.agreement.first (s.agreement.first + length hs) greatest) → Some report ≡ gaps_answer L name
+pub gaps_stand : (kept : List Series) (L : List Request) (name : List ℕ) (i : ℕ) (s : Series) (report : GapReport) → PlainStands kept L → FirstAt (λ x. has_name name x.agreement) kept i s → ((hs : List Standing) (greatest : Option ℕ) → IsFront (stands_at s.numbers) s.agreement.first hs → IsGreatest (stands_at s.numbers) greatest → report ≡ report_by s.agreement.name (stands_at s.numbers) s.agreement.first (s.agreement.first + length hs) greatest) → Some report ≡ gaps_answer L name
 gaps_stand kept L name i s report stands first is =
     let found = waiver_found kept L name i s stands first in
     let own = named_place kept name i s first in

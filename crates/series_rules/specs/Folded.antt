@@ -3,19 +3,19 @@ use Rattle.std.specs.Prelude.{◌≡◌, ◌<◌, ◌+◌, ℕ, List, Option, So
 use Rattle.std.specs.FinMap as map
 use Rattle.series_rules.specs.Series.{after_all, kept_of}
 use Rattle.series_rules.specs.declared.fold.Fold.{Fold}
-use Rattle.series_rules.specs.declared.requests.Had.{Had}
+use Rattle.series_rules.specs.declared.requests.Standing.{Standing}
 
 -- what stands from that number on begins with hs
-abbrev pub BeginsWith : (ℕ → Option Had) → ℕ → List Had → Type 0
+abbrev pub BeginsWith : (ℕ → Option Standing) → ℕ → List Standing → Type 0
 BeginsWith f from hs = (k : ℕ) → k < length hs → f (from + k) ≡ slice_get hs k
 
 -- it is the fold of hs: the number after it, its catalogue, and what each did
-pub record IsFold (from : ℕ) (hs : List Had) (fold : Fold) : Type 0 where
+pub record IsFold (from : ℕ) (hs : List Standing) (fold : Fold) : Type 0 where
   pub next : fold.next ≡ from + length hs
   pub catalogue : fold.catalogue ≡ after_all map.empty hs
   pub counted : length fold.effects.items ≡ length hs
   pub counts : (k : ℕ) → k < length hs → slice_get fold.effects.items k ≡ Some (kept_of hs k)
 
 -- it is the fold of something with which what stands from that number on begins
-abbrev pub IsFolded : (ℕ → Option Had) → ℕ → Fold → Type 0
-IsFolded f from fold = (hs : List Had) × BeginsWith f from hs × IsFold from hs fold
+abbrev pub IsFolded : (ℕ → Option Standing) → ℕ → Fold → Type 0
+IsFolded f from fold = (hs : List Standing) × BeginsWith f from hs × IsFold from hs fold

@@ -5,11 +5,11 @@ ghost use Rattle.std.specs.BTreeMap.{get};
 ghost use Rattle.std.specs.Ordering.{nat_cmp};
 ghost use Rattle.series_rules.specs.Answers.{placed_answer};
 ghost use Rattle.series_rules.specs.Folded.{IsFold, IsFolded};
-ghost use Rattle.series_rules.specs.Series.{IsFront, after_had, effect_of_had};
-ghost use Rattle.series_rules.specs.declared.requests.Had.{Had};
+ghost use Rattle.series_rules.specs.Series.{IsFront, after_standing, effect_of_standing};
+ghost use Rattle.series_rules.specs.declared.requests.Standing.{Standing};
 
 use crate::answers::DeliveryAnswer;
-use crate::requests::Had;
+use crate::requests::Standing;
 use catalogue_rules::catalogue::Catalogue;
 use catalogue_rules::effect::Effect;
 use onix_terms::number::Number;
@@ -18,14 +18,14 @@ use std::alloc::{AllocError, Global};
 use std::collections::BTreeMap;
 
 // Applies one of what stands.
-fn apply_had(catalogue: &mut Catalogue, had: &Had) -> Result<Effect, AllocError>
-    ensures ok { OnOk result (catalogue.new ≡ after_had catalogue.old had.now) }
-    ensures effect { IfOk result (λ e. e ≡ effect_of_had catalogue.old had.now) }
+fn apply_standing(catalogue: &mut Catalogue, standing: &Standing) -> Result<Effect, AllocError>
+    ensures ok { OnOk result (catalogue.new ≡ after_standing catalogue.old standing.now) }
+    ensures effect { IfOk result (λ e. e ≡ effect_of_standing catalogue.old standing.now) }
     ensures err { OnErr result (catalogue.new ≡ catalogue.old) }
 {
-    match had {
-        Had::Message(contents) => catalogue.apply(contents),
-        Had::Waived => Ok(Effect::none()),
+    match standing {
+        Standing::Message(contents) => catalogue.apply(contents),
+        Standing::Waived => Ok(Effect::none()),
     }
 }
 
@@ -64,13 +64,13 @@ impl Fold {
     }
 
     // Applies what stands at the next number.
-    fn add(&mut self, number: Number, had: &Had) -> Result<(), AllocError>
+    fn add(&mut self, number: Number, standing: &Standing) -> Result<(), AllocError>
         requires { number ≡ self.old.next }
-        ensures ok { (from : ℕ) (hs : List Had) → IsFold from hs self.old → OnOk result (IsFold from (hs ++ had.now ∷ []) self.new) }
-        ensures err { (from : ℕ) (hs : List Had) → IsFold from hs self.old → OnErr result (IsFold from hs self.new) }
+        ensures ok { (from : ℕ) (hs : List Standing) → IsFold from hs self.old → OnOk result (IsFold from (hs ++ standing.now ∷ []) self.new) }
+        ensures err { (from : ℕ) (hs : List Standing) → IsFold from hs self.old → OnErr result (IsFold from hs self.new) }
     {
         self.effects.reserve(1)?;
-        let effect = apply_had(&mut self.catalogue, had)?;
+        let effect = apply_standing(&mut self.catalogue, standing)?;
         self.effects.push_reserved(effect);
         self.next = number.value() + 1;
         Ok(())
@@ -79,30 +79,30 @@ impl Fold {
     /// Goes on up to the first number that has nothing, or as far as memory goes.
     pub(crate) fn go_on(
         &mut self,
-        numbers: &BTreeMap<Number, Had>,
+        numbers: &BTreeMap<Number, Standing>,
         from: Number,
     ) -> Result<(), AllocError>
         requires { IsFolded (get nat_cmp numbers.now) from self.old }
         ensures folded { IsFolded (get nat_cmp numbers.now) from self.new }
-        ensures front { (hs : List Had) → IsFront (get nat_cmp numbers.now) from hs → OnOk result (IsFold from hs self.new) }
+        ensures front { (hs : List Standing) → IsFront (get nat_cmp numbers.now) from hs → OnOk result (IsFold from hs self.new) }
     {
         let start = start_of(self.next, from);
-        for (number, had) in numbers.range(start..) {
+        for (number, standing) in numbers.range(start..) {
             if number.value() < self.next {
                 continue;
             }
             if number.value() > self.next {
                 return Ok(());
             }
-            self.add(*number, had)?;
+            self.add(*number, standing)?;
         }
         Ok(())
     }
 
     /// Whether all is folded up to the first number that has nothing.
-    pub(crate) fn is_whole(&self, numbers: &BTreeMap<Number, Had>, from: Number) -> bool
+    pub(crate) fn is_whole(&self, numbers: &BTreeMap<Number, Standing>, from: Number) -> bool
         requires { IsFolded (get nat_cmp numbers.now) from self.now }
-        ensures { (hs : List Had) → IsFront (get nat_cmp numbers.now) from hs → IsTrue result → IsFold from hs self.now }
+        ensures { (hs : List Standing) → IsFront (get nat_cmp numbers.now) from hs → IsTrue result → IsFold from hs self.now }
     {
         match Number::from_value(self.next) {
             Some(next) => match numbers.get(&next) {
@@ -124,7 +124,7 @@ impl Fold {
     // What a delivery is answered whose contents stand at this number.
     fn answer(&self, series: SeriesName, from: Number, number: Number) -> DeliveryAnswer
         requires { from ≤ number }
-        ensures { (hs : List Had) → IsFold from hs self.now → result ≡ placed_answer hs series from number }
+        ensures { (hs : List Standing) → IsFold from hs self.now → result ≡ placed_answer hs series from number }
     {
         match self.effect_of(from, number) {
             Some(effect) => DeliveryAnswer::Applied {
@@ -144,7 +144,7 @@ impl Fold {
     /// fold that number it stays unfolded.
     pub(crate) fn place(
         &mut self,
-        numbers: &BTreeMap<Number, Had>,
+        numbers: &BTreeMap<Number, Standing>,
         series: SeriesName,
         from: Number,
         number: Number,
@@ -152,7 +152,7 @@ impl Fold {
         requires above { from ≤ number }
         requires folded { IsFolded (get nat_cmp numbers.now) from self.old }
         ensures folded { IsFolded (get nat_cmp numbers.now) from self.new }
-        ensures answer { (hs : List Had) → IsFront (get nat_cmp numbers.now) from hs → IfOk result (λ a. a ≡ placed_answer hs series from number) }
+        ensures answer { (hs : List Standing) → IsFront (get nat_cmp numbers.now) from hs → IfOk result (λ a. a ≡ placed_answer hs series from number) }
         ensures err { OnErr result (self.new.next ≤ number) }
     {
         match self.go_on(numbers, from) {

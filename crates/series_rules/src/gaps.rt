@@ -5,10 +5,10 @@ ghost use Rattle.std.specs.BTreeMap.{get};
 ghost use Rattle.std.specs.Ordering.{nat_cmp};
 ghost use Rattle.series_rules.specs.Gaps.{IsGreatest, range_below, report_by};
 ghost use Rattle.series_rules.specs.Series.{IsFront};
-ghost use Rattle.series_rules.specs.declared.requests.Had.{Had};
+ghost use Rattle.series_rules.specs.declared.requests.Standing.{Standing};
 
 use crate::answers::GapReport;
-use crate::requests::Had;
+use crate::requests::Standing;
 use onix_terms::items::Items;
 use onix_terms::number::Number;
 use onix_terms::series_name::SeriesName;
@@ -16,7 +16,7 @@ use std::alloc::{AllocError, Global};
 use std::collections::BTreeMap;
 
 // The greatest number that has something.
-fn greatest_number(numbers: &BTreeMap<Number, Had>) -> Option<Number>
+fn greatest_number(numbers: &BTreeMap<Number, Standing>) -> Option<Number>
     ensures { IsGreatest (get nat_cmp numbers.now) result }
 {
     match numbers.last_key_value() {
@@ -51,11 +51,11 @@ fn push_range(
 /// The report on the numbers of a series, in one walk over those that have something.
 pub(crate) fn gaps_in(
     alloc: Global,
-    numbers: &BTreeMap<Number, Had>,
+    numbers: &BTreeMap<Number, Standing>,
     series: SeriesName,
     first: Number,
 ) -> Result<GapReport, AllocError>
-    ensures { (hs : List Had) (greatest : Option ℕ) → IsFront (get nat_cmp numbers.now) first hs → IsGreatest (get nat_cmp numbers.now) greatest →
+    ensures { (hs : List Standing) (greatest : Option ℕ) → IsFront (get nat_cmp numbers.now) first hs → IsGreatest (get nat_cmp numbers.now) greatest →
         IfOk result (λ r. r ≡ report_by series (get nat_cmp numbers.now) first (first + length hs) greatest) }
 {
     let greatest = greatest_number(numbers);

@@ -7,8 +7,8 @@
 //! the trait `desk::Desk`.
 #![tactic(auto)]
 
+pub mod answering;
 pub mod answers;
-pub mod asking;
 pub mod desk;
 mod fold;
 mod gaps;
@@ -16,5 +16,5 @@ pub mod laws;
 pub mod plain;
 mod price_answers;
 pub mod requests;
+pub mod run;
 mod series;
-pub mod whole;

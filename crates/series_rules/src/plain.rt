@@ -6,15 +6,14 @@ ghost use Rattle.std.specs.Cmp.Lexicographic.{slice_cmp};
 ghost use Rattle.std.specs.Ordering.{is_lt, nat_cmp};
 ghost use Rattle.catalogue_rules.specs.Offers.{offers_in};
 ghost use Rattle.onix_message.specs.Message.{message_of};
-ghost use Rattle.onix_message.specs.SameContents.{same_party};
-ghost use Rattle.series_rules.specs.Agreements.{named, between, has_name, has_parties, same_addressee};
+ghost use Rattle.series_rules.specs.Agreements.{named, between, has_name, has_parties};
 ghost use Rattle.series_rules.specs.Answers.{same_agreement, agree_answer, delivery_answer, waive_answer, gaps_answer, catalogue_answer};
 ghost use Rattle.series_rules.specs.KeptSeries.{stands_at};
 ghost use Rattle.series_rules.specs.MessageFaults.{IsComputedFault};
 ghost use Rattle.series_rules.specs.Offers.{offers_after};
 ghost use Rattle.series_rules.specs.Plain.{PlainStands, kept_agreements, place_in_order};
 ghost use Rattle.series_rules.specs.Series.{IsFront, after_all};
-ghost use Rattle.series_rules.specs.declared.requests.Had.{Had};
+ghost use Rattle.series_rules.specs.declared.requests.Standing.{Standing};
 ghost use Rattle.series_rules.specs.declared.requests.Request.{Request};
 
 use crate::answers::{AgreeAnswer, DeliveryAnswer, GapReport, WaiveAnswer};
@@ -61,31 +60,10 @@ impl PlainDesk {
     {}
 }
 
-fn is_same_party(p: &Party, q: &Party) -> bool
-    ensures { result ≡ same_party p.now q.now }
-{
-    p.id_type.as_str() == q.id_type.as_str() && p.id_value.as_str() == q.id_value.as_str()
-}
-
-fn is_same_addressee(p: &Option<Party>, q: &Option<Party>) -> bool
-    ensures { result ≡ same_addressee p.now q.now }
-{
-    match p {
-        None => match q {
-            None => true,
-            Some(_) => false,
-        },
-        Some(p) => match q {
-            None => false,
-            Some(q) => is_same_party(p, q),
-        },
-    }
-}
-
 fn is_between(agreement: &Agreement, sender: &Party, addressee: &Option<Party>) -> bool
     ensures { result ≡ has_parties sender.now addressee.now agreement.now }
 {
-    is_same_party(&agreement.sender, sender) && is_same_addressee(&agreement.addressee, addressee)
+    agreement.sender == *sender && agreement.addressee == *addressee
 }
 
 fn is_named(agreement: &Agreement, name: &SeriesName) -> bool
@@ -97,9 +75,7 @@ fn is_named(agreement: &Agreement, name: &SeriesName) -> bool
 fn is_same_agreement(a: &Agreement, b: &Agreement) -> bool
     ensures { result ≡ same_agreement a.now b.now }
 {
-    is_named(a, &b.name)
-        && is_between(a, &b.sender, &b.addressee)
-        && a.first.value() == b.first.value()
+    a == b
 }
 
 // The place of the series of that name.
@@ -269,7 +245,7 @@ fn add_offers(
     series: &Series,
     isbn: &Isbn13,
 ) -> Result<(), AllocError>
-    ensures { (hs : List Had) → IsFront (stands_at series.now.numbers) series.now.agreement.first hs →
+    ensures { (hs : List Standing) → IsFront (stands_at series.now.numbers) series.now.agreement.first hs →
         OnOk result (offers.new ≡ offers.old ++ offers_in series.now.agreement.name (after_all map.empty hs) isbn.now) }
 {
     append(offers, series.offers_of(alloc, isbn)?)

@@ -9,14 +9,14 @@ ghost use Rattle.series_rules.specs.Answers.{answer_against, placed_answer, waiv
 ghost use Rattle.series_rules.specs.Folded.{IsFolded};
 ghost use Rattle.series_rules.specs.Gaps.{IsGreatest, report_by};
 ghost use Rattle.series_rules.specs.KeptSeries.{stands_at};
-ghost use Rattle.series_rules.specs.Plain.{with_had};
+ghost use Rattle.series_rules.specs.Plain.{with_standing};
 ghost use Rattle.series_rules.specs.Series.{IsFront, after_all};
-ghost use Rattle.series_rules.specs.declared.requests.Had.{Had};
+ghost use Rattle.series_rules.specs.declared.requests.Standing.{Standing};
 
 use crate::answers::{DeliveryAnswer, GapReport, WaiveAnswer};
 use crate::fold::Fold;
 use crate::gaps::gaps_in;
-use crate::requests::Had;
+use crate::requests::Standing;
 use catalogue_rules::catalogue::Catalogue;
 use onix_message::agreement::Agreement;
 use onix_message::parts::Contents;
@@ -34,7 +34,7 @@ use std::marker::Model;
 #[derive(Drop)]
 pub(crate) struct Series {
     agreement: Agreement,
-    numbers: BTreeMap<Number, Had>,
+    numbers: BTreeMap<Number, Standing>,
     fold: Fold,
 }
 
@@ -52,7 +52,7 @@ impl Model for Series {
 }
 
 // Takes out what stands at a number.
-fn take_out(numbers: &mut BTreeMap<Number, Had>, number: Number)
+fn take_out(numbers: &mut BTreeMap<Number, Standing>, number: Number)
     ensures { (n : ℕ) → get nat_cmp numbers.new n ≡ (if nat_eq number n then None else get nat_cmp numbers.old n) }
 {
     numbers.remove(&number);
@@ -60,7 +60,7 @@ fn take_out(numbers: &mut BTreeMap<Number, Had>, number: Number)
 
 // Puts contents at a number that has nothing.
 fn deliver_new(
-    numbers: &mut BTreeMap<Number, Had>,
+    numbers: &mut BTreeMap<Number, Standing>,
     fold: &mut Fold,
     series: SeriesName,
     from: Number,
@@ -71,11 +71,11 @@ fn deliver_new(
     requires absent { get nat_cmp numbers.old number ≡ None }
     requires folded { IsFolded (get nat_cmp numbers.old) from fold.old }
     ensures folded { IsFolded (get nat_cmp numbers.new) from fold.new }
-    ensures ok { OnOk result ((n : ℕ) → get nat_cmp numbers.new n ≡ with_had (get nat_cmp numbers.old) number (Had.Message contents) n) }
-    ensures answer { (hs : List Had) → IsFront (get nat_cmp numbers.new) from hs → IfOk result (λ a. a ≡ placed_answer hs series from number) }
+    ensures ok { OnOk result ((n : ℕ) → get nat_cmp numbers.new n ≡ with_standing (get nat_cmp numbers.old) number (Standing.Message contents) n) }
+    ensures answer { (hs : List Standing) → IsFront (get nat_cmp numbers.new) from hs → IfOk result (λ a. a ≡ placed_answer hs series from number) }
     ensures err { OnErr result ((n : ℕ) → get nat_cmp numbers.new n ≡ get nat_cmp numbers.old n) }
 {
-    numbers.insert(number, Had::Message(contents))?;
+    numbers.insert(number, Standing::Message(contents))?;
     match fold.place(numbers, series, from, number) {
         Ok(answer) => Ok(answer),
         Err(e) => {
@@ -87,7 +87,7 @@ fn deliver_new(
 
 // Puts contents at a number, unless something stands there, and gives the answer to the delivery.
 fn deliver_at(
-    numbers: &mut BTreeMap<Number, Had>,
+    numbers: &mut BTreeMap<Number, Standing>,
     fold: &mut Fold,
     series: SeriesName,
     from: Number,
@@ -97,17 +97,17 @@ fn deliver_at(
     requires above { from ≤ number }
     requires folded { IsFolded (get nat_cmp numbers.old) from fold.old }
     ensures folded { IsFolded (get nat_cmp numbers.new) from fold.new }
-    ensures ok { OnOk result ((n : ℕ) → get nat_cmp numbers.new n ≡ with_had (get nat_cmp numbers.old) number (Had.Message contents) n) }
-    ensures answer { (hs : List Had) → IsFront (get nat_cmp numbers.new) from hs → IfOk result (λ a.
+    ensures ok { OnOk result ((n : ℕ) → get nat_cmp numbers.new n ≡ with_standing (get nat_cmp numbers.old) number (Standing.Message contents) n) }
+    ensures answer { (hs : List Standing) → IsFront (get nat_cmp numbers.new) from hs → IfOk result (λ a.
         a ≡ answer_against hs series from number contents (get nat_cmp numbers.new number)) }
     ensures err { OnErr result ((n : ℕ) → get nat_cmp numbers.new n ≡ get nat_cmp numbers.old n) }
 {
     match numbers.get(&number) {
-        Some(Had::Waived) => {
+        Some(Standing::Waived) => {
             drop(contents);
             Ok(DeliveryAnswer::Waived { series, number })
         }
-        Some(Had::Message(other)) => {
+        Some(Standing::Message(other)) => {
             let is_same = other.is_same(&contents);
             drop(contents);
             if is_same {
@@ -121,17 +121,20 @@ fn deliver_at(
 }
 
 // Waives a number, unless something stands there, and gives the answer to the waiver.
-fn waive_at(numbers: &mut BTreeMap<Number, Had>, number: Number) -> Result<WaiveAnswer, AllocError>
+fn waive_at(
+    numbers: &mut BTreeMap<Number, Standing>,
+    number: Number,
+) -> Result<WaiveAnswer, AllocError>
     ensures folded { (from : ℕ) (fold : Fold) → IsFolded (get nat_cmp numbers.old) from fold → IsFolded (get nat_cmp numbers.new) from fold }
-    ensures ok { OnOk result ((n : ℕ) → get nat_cmp numbers.new n ≡ with_had (get nat_cmp numbers.old) number Had.Waived n) }
+    ensures ok { OnOk result ((n : ℕ) → get nat_cmp numbers.new n ≡ with_standing (get nat_cmp numbers.old) number Standing.Waived n) }
     ensures answer { IfOk result (λ a. a ≡ waived_by (get nat_cmp numbers.new number)) }
     ensures err { OnErr result ((n : ℕ) → get nat_cmp numbers.new n ≡ get nat_cmp numbers.old n) }
 {
     match numbers.get(&number) {
-        Some(Had::Waived) => Ok(WaiveAnswer::Waived),
-        Some(Had::Message(_)) => Ok(WaiveAnswer::Had),
+        Some(Standing::Waived) => Ok(WaiveAnswer::Waived),
+        Some(Standing::Message(_)) => Ok(WaiveAnswer::HasMessage),
         None => {
-            numbers.insert(number, Had::Waived)?;
+            numbers.insert(number, Standing::Waived)?;
             Ok(WaiveAnswer::Waived)
         }
     }
@@ -165,8 +168,8 @@ impl Series {
     ) -> Result<DeliveryAnswer, AllocError>
         requires { self.old.agreement.first ≤ number }
         ensures agreement { self.new.agreement ≡ self.old.agreement }
-        ensures ok { OnOk result ((n : ℕ) → stands_at self.new.numbers n ≡ with_had (stands_at self.old.numbers) number (Had.Message contents) n) }
-        ensures answer { (hs : List Had) → IsFront (stands_at self.new.numbers) self.old.agreement.first hs → IfOk result (λ a.
+        ensures ok { OnOk result ((n : ℕ) → stands_at self.new.numbers n ≡ with_standing (stands_at self.old.numbers) number (Standing.Message contents) n) }
+        ensures answer { (hs : List Standing) → IsFront (stands_at self.new.numbers) self.old.agreement.first hs → IfOk result (λ a.
             a ≡ answer_against hs self.old.agreement.name self.old.agreement.first number contents (stands_at self.new.numbers number)) }
         ensures err { OnErr result ((n : ℕ) → stands_at self.new.numbers n ≡ stands_at self.old.numbers n) }
     {
@@ -185,7 +188,7 @@ impl Series {
     /// Waives a number, unless something stands there, and gives the answer to the waiver.
     pub(crate) fn waive(&mut self, number: Number) -> Result<WaiveAnswer, AllocError>
         ensures agreement { self.new.agreement ≡ self.old.agreement }
-        ensures ok { OnOk result ((n : ℕ) → stands_at self.new.numbers n ≡ with_had (stands_at self.old.numbers) number Had.Waived n) }
+        ensures ok { OnOk result ((n : ℕ) → stands_at self.new.numbers n ≡ with_standing (stands_at self.old.numbers) number Standing.Waived n) }
         ensures answer { IfOk result (λ a. a ≡ waived_by (stands_at self.new.numbers number)) }
         ensures err { OnErr result ((n : ℕ) → stands_at self.new.numbers n ≡ stands_at self.old.numbers n) }
     {
@@ -197,7 +200,7 @@ impl Series {
 
     /// The report on its numbers.
     pub(crate) fn gaps(&self, alloc: Global) -> Result<GapReport, AllocError>
-        ensures { (hs : List Had) (greatest : Option ℕ) → IsFront (stands_at self.now.numbers) self.now.agreement.first hs → IsGreatest (stands_at self.now.numbers) greatest →
+        ensures { (hs : List Standing) (greatest : Option ℕ) → IsFront (stands_at self.now.numbers) self.now.agreement.first hs → IsGreatest (stands_at self.now.numbers) greatest →
             IfOk result (λ r. r ≡ report_by self.now.agreement.name (stands_at self.now.numbers) self.now.agreement.first (self.now.agreement.first + length hs) greatest) }
     {
         gaps_in(
@@ -210,7 +213,7 @@ impl Series {
 
     // Its catalogue, folded anew.
     fn fold_anew(&self, alloc: Global) -> Result<Catalogue, AllocError>
-        ensures { (hs : List Had) → IsFront (stands_at self.now.numbers) self.now.agreement.first hs → IfOk result (λ c. c ≡ after_all map.empty hs) }
+        ensures { (hs : List Standing) → IsFront (stands_at self.now.numbers) self.now.agreement.first hs → IfOk result (λ c. c ≡ after_all map.empty hs) }
     {
         let first = self.agreement.first;
         let mut fold = Fold::new(alloc, first);
@@ -220,7 +223,7 @@ impl Series {
 
     /// Its catalogue: a copy of the kept one, which is folded anew only where memory ran out for it.
     pub(crate) fn catalogue(&self, alloc: Global) -> Result<Catalogue, AllocError>
-        ensures { (hs : List Had) → IsFront (stands_at self.now.numbers) self.now.agreement.first hs → IfOk result (λ c. c ≡ after_all map.empty hs) }
+        ensures { (hs : List Standing) → IsFront (stands_at self.now.numbers) self.now.agreement.first hs → IfOk result (λ c. c ≡ after_all map.empty hs) }
     {
         if self.fold.is_whole(&self.numbers, self.agreement.first) {
             return self.fold.catalogue.clone();
@@ -230,7 +233,7 @@ impl Series {
 
     /// The article's offers in its catalogue, in order of reference and place.
     pub(crate) fn offers_of(&self, alloc: Global, isbn: &Isbn13) -> Result<Items<Offer>, AllocError>
-        ensures { (hs : List Had) → IsFront (stands_at self.now.numbers) self.now.agreement.first hs → IfOk result (λ offers.
+        ensures { (hs : List Standing) → IsFront (stands_at self.now.numbers) self.now.agreement.first hs → IfOk result (λ offers.
             offers ≡ offers_in self.now.agreement.name (after_all map.empty hs) isbn.now) }
     {
         let name = self.agreement.name;

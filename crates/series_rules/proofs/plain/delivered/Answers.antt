@@ -37,4 +37,4 @@ returns-in_err-answer-clause-err c = λ L stands.
     let place = first_in (λ s. has_parties m.0.sender m.0.addressee s.agreement) kept c.deref.result.now c.in-Some-place_between.at c.index_mut-series.result.now c.deref.ensures.value c.in-Some-place_between.ensures c.index_mut-series.ensures.value in
     on_fault c.from_residual.result _
     (stands_again kept L c.in-Some-place_between.at c.index_mut-series.result.now c.deliver.new.self stands
-    (own_place kept stands.apart m.0.sender m.0.addressee c.in-Some-place_between.at c.index_mut-series.result.now place) c.deliver.ensures.agreement c.in_err-answer.ensures.err)
+    (own_place kept stands.distinct m.0.sender m.0.addressee c.in-Some-place_between.at c.index_mut-series.result.now place) c.deliver.ensures.agreement c.in_err-answer.ensures.err)

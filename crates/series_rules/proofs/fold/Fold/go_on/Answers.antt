@@ -19,22 +19,22 @@ loop-number-preserved c =
     let f = get nat_cmp c.args.numbers.now in
     let w = c.loop-number.invariant.walk in
     let was = c.loop-number.invariant.folded in
-    let walk : Rest f w.0 ((c.in-Some.number.now, c.in-Some.had.now) ∷ c.next.new.self) = subst (Rest f w.0) c.in-Some.ensures.steps w.2 in
+    let walk : Rest f w.0 ((c.in-Some.number.now, c.in-Some.standing.now) ∷ c.next.new.self) = subst (Rest f w.0) c.in-Some.ensures.steps w.2 in
     let next = was.2.next in
     let place : c.args.from + length was.0 ≡ c.in-Some.number.now = omega arith in
     let now = c.in_ok-add.ensures.ok c.args.from was.0 was.2 in
-    let longer = last_length was.0 c.in-Some.had.now in
+    let longer = last_length was.0 c.in-Some.standing.now in
     let next_now = now.next in
     record {
       walk = (c.in-Some.number.now + 1, omega arith, rest_more f w.0 _ _ walk);
-      folded = (was.0 ++ c.in-Some.had.now ∷ [], begins_more f c.args.from was.0 c.in-Some.had.now was.1 (ap f place ∙ rest_first f w.0 _ _ walk), now);
+      folded = (was.0 ++ c.in-Some.standing.now ∷ [], begins_more f c.args.from was.0 c.in-Some.standing.now was.1 (ap f place ∙ rest_first f w.0 _ _ walk), now);
     }
 
 pub returns-then-value-self-2-clause-front : goal.returns-then-value-self-2-clause-front
 returns-then-value-self-2-clause-front c = λ hs is.
     let f = get nat_cmp c.args.numbers.now in
     let w = c.loop-number.invariant.walk in
-    let walk : Rest f w.0 ((c.in-Some.number.now, c.in-Some.had.now) ∷ c.next.new.self) = subst (Rest f w.0) c.in-Some.ensures.steps w.2 in
+    let walk : Rest f w.0 ((c.in-Some.number.now, c.in-Some.standing.now) ∷ c.next.new.self) = subst (Rest f w.0) c.in-Some.ensures.steps w.2 in
     front_folded f c.args.from c.loop-number.self c.loop-number.invariant.folded (rest_gap f w.0 _ _ walk c.loop-number.self.next w.1 (omega arith)) hs is
 
 pub add-requires : goal.add-requires

@@ -2,11 +2,11 @@
 
 ghost use Rattle.std.specs.Prelude.{◌≡◌, ◌∷◌, List, IfOk, OnErr};
 ghost use Rattle.series_rules.specs.Faults.{HasFaultsOf};
-ghost use Rattle.series_rules.specs.Runs.{AreAnswered, effective};
+ghost use Rattle.series_rules.specs.Runs.{AreAnswered, without_faulted};
 ghost use Rattle.series_rules.specs.declared.requests.Request.{Request};
 
+use crate::answering::answer;
 use crate::answers::Answer;
-use crate::asking::answer;
 use crate::desk::Desk;
 use crate::requests::Request;
 use onix_message::agreement::StoreFault;
@@ -26,7 +26,7 @@ pub fn ask_all<D: Desk>(
 ) -> Result<Items<Result<Answer, StoreFault>>, AllocError>
     ensures premise { D.is_sound desk.new → D.is_sound desk.old }
     ensures answers { (L : List Request) → D.stands_for desk.old L → D.is_sound desk.new → IfOk result (λ outcomes.
-        AreAnswered precedence.now L requests.now outcomes × D.stands_for desk.new (effective L requests.now outcomes)) }
+        AreAnswered precedence.now L requests.now outcomes × D.stands_for desk.new (without_faulted L requests.now outcomes)) }
     ensures fault { IfOk result (HasFaultsOf D.may_give) }
     ensures err { OnErr result (desk.new ≡ desk.old) }
 {

@@ -1,7 +1,7 @@
 use Rattle.std.proofs.Common.{refl}
 use Rattle.series_rules.specs.declared.requests.Request.TheVariants.{AskPrice, AskChoice, AskCalendar, AskGaps, AskCatalogue}
 use Rattle.series_rules.proofs.Questions.{asked, content_left}
-use Rattle.series_rules.proofs.asking.answer.Goals as goal
+use Rattle.series_rules.proofs.answering.answer.Goals as goal
 
 pub returns-in-AskPrice-clause-ok : goal.returns-in-AskPrice-clause-ok
 returns-in-AskPrice-clause-ok g c = λ L stands sound.

@@ -23,10 +23,11 @@ use Rattle.series_rules.specs.declared.requests.Request.{Request}
 use Rattle.series_rules.specs.declared.requests.Request.TheVariants.{Agree, Deliver, Waive, AskPrice, AskChoice, AskCalendar, AskGaps, AskCatalogue, Malformed}
 use Rattle.series_rules.specs.declared.requests.Standing.{Standing}
 use Rattle.series_rules.specs.declared.requests.Standing.TheVariants.{Message, Waived}
-use Rattle.series_rules.proofs.Apart.{agreements_are_distinct, between_by_name, named_with}
-use Rattle.series_rules.proofs.Greatest.{report_same}
-use Rattle.series_rules.proofs.OfferLists.{same_offers}
-use Rattle.series_rules.proofs.Fronts.{front_is, front_same, front_unique, kept_front}
+use Rattle.series_rules.specs.AgreementLemmas.{agreements_are_distinct, between_by_name, named_with}
+use Rattle.series_rules.specs.GapLemmas.{report_same}
+use Rattle.series_rules.specs.OfferLemmas.{same_offers}
+use Rattle.series_rules.specs.FirstLemmas.{first_again}
+use Rattle.series_rules.specs.FrontLemmas.{front_is, front_same, front_unique, kept_front}
 
 -- the next number
 
@@ -64,9 +65,6 @@ named_stays L (Agree b) s a e =
     ]
 named_stays L _ s a e = e
 
-first_stays : (L : List Request) (r : Request) (s : List ℕ) (n : ℕ) (h : Standing) → first_at L s n ≡ Some h → first_at (r ∷ L) s n ≡ Some h
-first_stays L r s n h e = ap (λ o. option_or o (put_at (admitted (agreements_of L) r) s n)) e
-
 grows_onto : (g : ℕ → Option Standing) (n : ℕ) (rest rest' : List Standing) → ((more : List Standing) × (rest' ≡ rest ++ more)) → (o : Option Standing) → ((h : Standing) → o ≡ Some h → g n ≡ Some h) → (more : List Standing) × (in_front_of (g n) rest' ≡ in_front_of o rest ++ more)
 grows_onto g n rest rest' ih None ext = (in_front_of (g n) rest', refl)
 grows_onto g n rest rest' ih (Some h) ext = (ih.0, ap (λ o. in_front_of o rest') (ext h refl) ∙ ap (λ hs. h ∷ hs) ih.1)
@@ -79,7 +77,7 @@ without_gap_grows (suc most) (suc most') f g le ext n =
 
 pub front_only_grows : FrontOnlyGrows
 front_only_grows L r s a e =
-    let grown = without_gap_grows (length L) (length (r ∷ L)) (first_at L a.name) (first_at (r ∷ L) a.name) (omega arith) (first_stays L r a.name) a.first in (
+    let grown = without_gap_grows (length L) (length (r ∷ L)) (first_at L a.name) (first_at (r ∷ L) a.name) (omega arith) (first_again L r a.name) a.first in (
       named_stays L r s a e,
       grown,
       λ n le lt. ap (λ hs. kept_of hs (n - a.first)) grown.1 ∙ kept_front (front_of L a) grown.0 (n - a.first) (omega arith),

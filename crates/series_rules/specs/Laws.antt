@@ -1,7 +1,7 @@
 -- Laws of the definitions.
 use Rattle.std.specs.Prelude.{◌≡◌, ◌<◌, ◌≤◌, ◌++◌, ℕ, List, ◌∷◌, Some}
 use Rattle.onix_message.specs.declared.agreement.Agreement.{Agreement}
-use Rattle.series_rules.specs.Agreements.{agreements_of, named}
+use Rattle.series_rules.specs.Agreements.{AreDistinct, agreements_of, named}
 use Rattle.series_rules.specs.Firsts.{first_at}
 use Rattle.series_rules.specs.Series.{front_of, next_of, kept_at, IsFront, IsNext}
 use Rattle.series_rules.specs.Gaps.{IsGapReport, gaps_of}
@@ -10,6 +10,10 @@ use Rattle.series_rules.specs.Answers.{answer_to}
 use Rattle.price_rules.specs.declared.precedence.Rule.{Rule}
 use Rattle.series_rules.specs.declared.requests.Request.{Request}
 use Rattle.series_rules.specs.declared.requests.Standing.{Standing}
+
+-- the agreements that stand are distinct by their names, and by their senders and addressees
+abbrev pub AgreementsAreDistinct : Type 0
+AgreementsAreDistinct = (L : List Request) → AreDistinct (agreements_of L)
 
 -- the next number of a series is the least, from the agreed first on, that nothing stands at
 abbrev pub NextIsLeast : Type 0

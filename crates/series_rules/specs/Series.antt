@@ -20,6 +20,10 @@ abbrev pub without_gap : ℕ → (ℕ → Option Standing) → ℕ → List Stan
 without_gap zero f n = []
 without_gap (suc most) f n = in_front_of (f n) (without_gap most f (n + 1))
 
+-- what stands from that number on begins with hs
+abbrev pub BeginsWith : (ℕ → Option Standing) → ℕ → List Standing → Type 0
+BeginsWith f from hs = (k : ℕ) → k < length hs → f (from + k) ≡ slice_get hs k
+
 -- hs is what stands from that number on, up to the first number that has nothing
 pub record IsFront (f : ℕ → Option Standing) (from : ℕ) (hs : List Standing) : Type 0 where
   pub each : (k : ℕ) → k < length hs → f (from + k) ≡ slice_get hs k

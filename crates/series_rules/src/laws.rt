@@ -1,7 +1,14 @@
 // Laws of the definitions.
 
-ghost use Rattle.series_rules.specs.Laws.{NextIsLeast, FrontIsExact, ByContentAlone, FrontOnlyGrows, GapsAreTrue};
+ghost use Rattle.series_rules.specs.Laws.{AgreementsAreDistinct, NextIsLeast, FrontIsExact, ByContentAlone, FrontOnlyGrows, GapsAreTrue};
 ghost use Rattle.series_rules.specs.PriceLaws.{CalendarsAreTrue, ChoiceIsTrue, PricesAreTrue};
+
+use price_rules::laws::{calendar_is_exact, choice_is_exact, current_is_exact};
+
+/// No two agreements that stand share a name, nor a sender and addressee.
+pub fn agreements_are_distinct()
+    ensures { AgreementsAreDistinct }
+{}
 
 /// The next number of a series is the least, from the agreed first on, that has nothing.
 pub fn next_is_least()
@@ -35,16 +42,22 @@ pub fn gaps_are_true()
 /// An answer about prices has the offers in their order, each with its current price.
 pub fn prices_are_true()
     ensures { PricesAreTrue }
-{}
+{
+    current_is_exact();
+}
 
 /// An answer about a choice has the offer that the shop chooses, with its rule and its price. It
 /// has none exactly where no rule takes an offer.
 pub fn choice_is_true()
     ensures { ChoiceIsTrue }
-{}
+{
+    choice_is_exact();
+}
 
 /// A question about a calendar is refused exactly where its range is bad. Else its answer has the
 /// offers in their order, each with its calendar.
 pub fn calendars_are_true()
     ensures { CalendarsAreTrue }
-{}
+{
+    calendar_is_exact();
+}

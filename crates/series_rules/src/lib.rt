@@ -9,12 +9,9 @@
 
 pub mod answering;
 pub mod answers;
+pub mod delivery;
 pub mod desk;
-mod fold;
-mod gaps;
 pub mod laws;
-pub mod plain;
 mod price_answers;
 pub mod requests;
 pub mod run;
-mod series;

@@ -221,7 +221,7 @@ impl Series {
         Ok(fold.catalogue)
     }
 
-    /// Its catalogue: a copy of the kept one, which is folded anew only where memory ran out for it.
+    /// Its catalogue: a copy of the kept one where nothing is left to fold.
     pub(crate) fn catalogue(&self, alloc: Global) -> Result<Catalogue, AllocError>
         ensures { (hs : List Standing) → IsFront (stands_at self.now.numbers) self.now.agreement.first hs → IfOk result (λ c. c ≡ after_all map.empty hs) }
     {
@@ -240,6 +240,7 @@ impl Series {
         if self.fold.is_whole(&self.numbers, self.agreement.first) {
             return self.fold.catalogue.offers_of(&name, isbn);
         }
-        self.fold_anew(alloc)?.offers_of(&name, isbn)
+        let catalogue = self.fold_anew(alloc)?;
+        catalogue.offers_of(&name, isbn)
     }
 }

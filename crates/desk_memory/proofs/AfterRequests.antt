@@ -33,6 +33,7 @@ use Rattle.series_rules.specs.declared.answers.DeliveryAnswer.TheVariants as del
 use Rattle.series_rules.specs.declared.answers.WaiveAnswer.{WaiveAnswer}
 use Rattle.series_rules.specs.declared.answers.WaiveAnswer.TheVariants as waiver
 use Rattle.series_rules.specs.AgreementLemmas.{agreements_are_distinct, distinct_alike, distinct_with, between_by_name, named_with, named_has_name}
+use Rattle.series_rules.specs.FirstLemmas.{first_left}
 use Rattle.series_rules.specs.FrontLemmas.{front_is, is_front_same}
 use Rattle.desk_memory.proofs.Kept.{FirstAt, first_found, own_place, named_kept, between_kept, set_agreements, set_standing}
 use Rattle.desk_memory.proofs.OptionsOr.{or_none}
@@ -48,7 +49,7 @@ stands_without kept L r stands same nothing = record {
   agreed = λ name. stands.agreed name ∙ ap (λ as'. named as' name) (sym same);
   distinct = stands.distinct;
   in_order = stands.in_order;
-  firsts = λ s n. stands.firsts s n ∙ sym (or_none (first_at L s n)) ∙ ap (λ p. option_or (first_at L s n) (put_at p s n)) (sym nothing);
+  firsts = λ s n. stands.firsts s n ∙ sym (first_left L r nothing s n);
 }
 
 -- agreements

@@ -3,10 +3,10 @@
 ghost use Rattle.std.specs.Prelude.{◌≡◌, ◌≤◌, ◌+◌, ◌-◌, ◌++◌, ◌∷◌, [], ℕ, List, IfOk, IsTrue, OnOk, OnErr, option_copied, slice_get};
 ghost use Rattle.std.specs.BTreeMap.{get};
 ghost use Rattle.std.specs.Ordering.{nat_cmp};
-ghost use Rattle.series_rules.specs.Answers.{placed_answer};
 ghost use Rattle.desk_memory.specs.Folded.{IsFold, IsFolded};
-ghost use Rattle.series_rules.specs.Series.{IsFront, after_standing, effect_of_standing};
+ghost use Rattle.series_rules.specs.Answers.{placed_answer};
 ghost use Rattle.series_rules.specs.declared.requests.Standing.{Standing};
+ghost use Rattle.series_rules.specs.Series.{IsFront, after_standing, effect_of_standing};
 
 use catalogue_rules::catalogue::Catalogue;
 use catalogue_rules::effect::Effect;

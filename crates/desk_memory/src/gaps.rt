@@ -3,9 +3,9 @@
 ghost use Rattle.std.specs.Prelude.{◌≡◌, ◌+◌, ◌<◌, ◌++◌, ℕ, List, IfOk, OnOk, Option, length};
 ghost use Rattle.std.specs.BTreeMap.{get};
 ghost use Rattle.std.specs.Ordering.{nat_cmp};
+ghost use Rattle.series_rules.specs.declared.requests.Standing.{Standing};
 ghost use Rattle.series_rules.specs.Gaps.{IsGreatest, range_below, report_by};
 ghost use Rattle.series_rules.specs.Series.{IsFront};
-ghost use Rattle.series_rules.specs.declared.requests.Standing.{Standing};
 
 use onix_terms::items::Items;
 use onix_terms::number::Number;

@@ -5,13 +5,13 @@ ghost use Rattle.std.specs.BTreeMap.{get};
 ghost use Rattle.std.specs.FinMap as map;
 ghost use Rattle.std.specs.Ordering.{nat_cmp};
 ghost use Rattle.catalogue_rules.specs.Offers.{offers_in};
-ghost use Rattle.series_rules.specs.Answers.{answer_against, placed_answer, waived_by};
 ghost use Rattle.desk_memory.specs.Folded.{IsFolded};
-ghost use Rattle.series_rules.specs.Gaps.{IsGreatest, report_by};
 ghost use Rattle.desk_memory.specs.KeptSeries.{stands_at};
 ghost use Rattle.desk_memory.specs.Stands.{with_standing};
-ghost use Rattle.series_rules.specs.Series.{IsFront, after_all};
+ghost use Rattle.series_rules.specs.Answers.{answer_against, placed_answer, waived_by};
 ghost use Rattle.series_rules.specs.declared.requests.Standing.{Standing};
+ghost use Rattle.series_rules.specs.Gaps.{IsGreatest, report_by};
+ghost use Rattle.series_rules.specs.Series.{IsFront, after_all};
 
 use crate::fold::Fold;
 use crate::gaps::gaps_in;

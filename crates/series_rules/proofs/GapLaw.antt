@@ -6,7 +6,7 @@ use Rattle.std.proofs.lemmas.List.Elements.{All-cons, All-nil, Contains-append_l
 use Rattle.std.proofs.lemmas.Bool.{cases_lt}
 use Rattle.std.proofs.lemmas.Bool.Decides.{nat_tests}
 use Rattle.series_rules.specs.Firsts.{first_at}
-use Rattle.series_rules.specs.Gaps.{AreHeld, AreRangesFrom, AreRisingFrom, IsGreatest, IsInRanges, IsUpTo, greatest_of, having, lacking, numbers_up_to, ranges_of, with_number}
+use Rattle.series_rules.specs.Gaps.{IsHeldCount, AreRangesFrom, AreRisingFrom, IsGreatest, IsInRanges, IsUpTo, greatest_of, having, lacking, numbers_up_to, ranges_of, with_number}
 use Rattle.series_rules.specs.Series.{next_of}
 use Rattle.series_rules.specs.Laws.{GapsAreTrue}
 use Rattle.series_rules.specs.declared.requests.Standing.{Standing}
@@ -145,8 +145,8 @@ is_some_is : (o : Option Standing) → IsSome o → is_some o ≡ true
 is_some_is None s = absurd cc
 is_some_is (Some h) s = refl
 
-held_are : (f : ℕ → Option Standing) (from : ℕ) (g : Option ℕ) → IsGreatest f g → AreHeld f from (having f from (numbers_up_to from g))
-held_are f from g is =
+held_is : (f : ℕ → Option Standing) (from : ℕ) (g : Option ℕ) → IsGreatest f g → IsHeldCount f from (having f from (numbers_up_to from g))
+held_is f from g is =
     let p = λ (n : ℕ). is_some (f n) in
     let len = numbers_up_to from g in
     record {
@@ -168,7 +168,7 @@ gaps_are_true L a =
       is_first = refl;
       is_next = next_is_least L a;
       is_greatest = greatest_is L a.name;
-      are_held = held_are f (next_of L a) g (greatest_is L a.name);
+      is_held = held_is f (next_of L a) g (greatest_is L a.name);
       in_order = ranges_rise (lacking f a.first len) a.first (picked_rises p len a.first);
       all_lacking = λ n low is none. all_in_ranges (lacking f a.first len) a.first n (picked_rises p len a.first) (is_picked p len a.first n low (up_to a.first n g low is) (ap is_none none));
       only_lacking = λ n h. let is = picked_only p len a.first n (only_in_ranges (lacking f a.first len) n h) in (is.0, up_to_only a.first n g is.0 is.1, none_is (f n) is.2);

@@ -93,8 +93,8 @@ abbrev pub AreRisingFrom : ℕ → List ℕ → Type 0
 AreRisingFrom n [] = Unit {0}
 AreRisingFrom n (m ∷ ms) = (n ≤ m) × AreRisingFrom (m + 1) ms
 
--- so many numbers from one on have something: a rising list has just these, and it is as long
-pub record AreHeld (f : ℕ → Option Standing) (from held : ℕ) : Type 0 where
+-- it is how many numbers from one on have something: a rising list has just these, and is as long
+pub record IsHeldCount (f : ℕ → Option Standing) (from held : ℕ) : Type 0 where
   pub numbers : List ℕ
   pub in_order : AreRisingFrom from numbers
   pub all_held : (n : ℕ) → from ≤ n → IsSome (f n) → Contains numbers n
@@ -107,7 +107,7 @@ pub record IsGapReport (f : ℕ → Option Standing) (a : Agreement) (report : G
   pub is_first : report.first ≡ a.first
   pub is_next : IsNext f a.first report.next
   pub is_greatest : IsGreatest f report.greatest
-  pub are_held : AreHeld f report.next report.held
+  pub is_held : IsHeldCount f report.next report.held
   pub in_order : AreRangesFrom a.first report.missing
   pub all_lacking : (n : ℕ) → a.first ≤ n → IsUpTo n report.greatest → f n ≡ None → IsInRanges n report.missing
   pub only_lacking : (n : ℕ) → IsInRanges n report.missing → (a.first ≤ n) × IsUpTo n report.greatest × (f n ≡ None)

@@ -3,7 +3,7 @@ use Rattle.std.proofs.Common.{◌≡◌, ℕ, List, [], ◌∷◌, Option, Some,
 use Rattle.std.specs.BTreeMap as tree
 use Rattle.std.specs.BTreeMap.{BTreeMap, is_at}
 use Rattle.std.specs.FinMap as fin
-use Rattle.std.specs.FinMap.{FinMap, find, get-from_entries, get-insert, get-remove, get-empty, len-remove, empty_of_len, same_map, slice_cmp-IsAntisymmetric, nat_cmp-IsAntisymmetric}
+use Rattle.std.specs.FinMap.{FinMap, find, from_entries, get-from_entries, get-insert, get-remove, get-empty, len-remove, empty_of_len, same_map, slice_cmp-IsAntisymmetric, nat_cmp-IsAntisymmetric}
 use Rattle.std.specs.Map.{lookup}
 use Rattle.std.specs.Str.{bytes_eq}
 use Rattle.std.specs.String.{string_bytes, string_cmp}
@@ -12,7 +12,7 @@ use Rattle.std.specs.declared.cmp.Ordering.{Ordering}
 use Rattle.std.specs.declared.cmp.Ordering.TheVariants.{Less, Equal, Greater}
 use Rattle.std.specs.Cmp.Lexicographic.{slice_cmp}
 use Rattle.std.specs.Bool.{Decides}
-use Rattle.std.specs.List.{Contains}
+use Rattle.std.specs.List.{AllZip, Contains}
 use Rattle.std.proofs.lemmas.Bool.{cases_lt}
 use Rattle.std.proofs.lemmas.Cmp.{nat_list_cmp_total, eq_by_cmp_equiv}
 use Rattle.std.proofs.lemmas.List.Elements.{Contains-append_left, Contains-append_right, Contains-append_cases, Contains-push, Contains-push_cases}
@@ -36,6 +36,16 @@ get-map_of es q = get-from_entries nat_list_cmp_total (by_bytes es) q ∙ find_b
 
 turned : (k q : List ℕ) → bytes_eq k q ≡ eq_by_cmp (slice_cmp nat_cmp) q k
 turned k q = sym (is_eq-slice_cmp k q) ∙ (eq_by_cmp_equiv nat_list_cmp_total).symm k q
+
+-- a copy of the tree makes the same map
+pub map_of-clone : {X : Type 0} (es fs : List (String Global × X)) → AllZip (λ p q. (string_bytes q.0 ≡ string_bytes p.0) × (q.1 ≡ p.1)) es fs → map_of fs ≡ map_of es
+map_of-clone {X} es fs all = ap (from_entries {R = slice_cmp nat_cmp}) (copied es fs all)
+  where
+    copied : (es fs : List (String Global × X)) → AllZip (λ p q. (string_bytes q.0 ≡ string_bytes p.0) × (q.1 ≡ p.1)) es fs → by_bytes fs ≡ by_bytes es
+    copied [] [] all = refl
+    copied [] (f ∷ fs) all = absurd all
+    copied (e ∷ es) [] all = absurd all
+    copied (e ∷ es) (f ∷ fs) all = λ i. (all.0.0 i, all.0.1 i) ∷ copied es fs all.1 i
 
 -- an entry put into the tree is put into the map
 pub insert-map_of : (k : List ℕ) {X : Type 0} (m n : BTreeMap (String Global) X) (v : X)

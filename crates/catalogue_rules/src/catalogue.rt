@@ -46,6 +46,18 @@ impl Model for Catalogue {
     ghost invariant = { λ c. EachHas HasFewDetails (map_of c.records.entries) };
 }
 
+impl Clone for Catalogue {
+    ghost is_clone = { λ x y. y ≡ x };
+
+    /// The same records again, in one walk.
+    fn clone(&self) -> Result<Catalogue, AllocError> {
+        Ok(Catalogue {
+            alloc: self.alloc,
+            records: self.records.clone()?,
+        })
+    }
+}
+
 impl Catalogue {
     /// A catalogue without records. It takes no memory.
     pub fn new(alloc: Global) -> Catalogue

@@ -12,6 +12,14 @@ pub struct Entry {
     pub supplies: Items<ProductSupply>,
 }
 
+impl Clone for Entry {
+    ghost is_clone = { λ x y. y ≡ x };
+
+    fn clone(&self) -> Result<Entry, AllocError> {
+        Entry::copy_of(&self.ids, &self.supplies)
+    }
+}
+
 impl Entry {
     /// An entry with copies of these.
     pub(crate) fn copy_of(

@@ -11,26 +11,27 @@ use Rattle.onix_message.specs.declared.parts.Product.{Product}
 use Rattle.onix_message.specs.declared.agreement.Agreement.{Agreement}
 use Rattle.series_rules.specs.Agreements.{agreements_of, named, between, clashes, has_name}
 use Rattle.series_rules.specs.Firsts.{first_at, put_at, admitted, admitted_at, admitted_number, admitted_message}
-use Rattle.series_rules.specs.Series.{in_front_of, unbroken, front_of, kept_of, after_all, catalogue_of}
+use Rattle.series_rules.specs.Series.{in_front_of, without_gap, front_of, kept_of, after_all, catalogue_of}
 use Rattle.series_rules.specs.Gaps.{gaps_of}
 use Rattle.series_rules.specs.Content.{SameContent}
 use Rattle.price_rules.specs.declared.precedence.Rule.{Rule}
 use Rattle.series_rules.specs.PriceAnswers.{calendar_answer, chosen_by, prices_of}
-use Rattle.series_rules.specs.Laws.{NextIsLeast, ByContentAlone, FrontOnlyGrows}
+use Rattle.series_rules.specs.Laws.{NextIsLeast, FrontIsExact, ByContentAlone, FrontOnlyGrows}
 use Rattle.series_rules.specs.Answers.{answer_to, delivery_answer_at, message_answer_by, delivery_answer_by, waive_answer_at, gaps_or_unknown, catalogue_or_unknown, agree_answer_by}
 use Rattle.series_rules.specs.declared.answers.Answer.TheVariants as answer
 use Rattle.series_rules.specs.declared.requests.Request.{Request}
 use Rattle.series_rules.specs.declared.requests.Request.TheVariants.{Agree, Deliver, Waive, AskPrice, AskChoice, AskCalendar, AskGaps, AskCatalogue, Malformed}
-use Rattle.series_rules.specs.declared.requests.Had.{Had}
-use Rattle.series_rules.specs.declared.requests.Had.TheVariants.{Message, Waived}
-use Rattle.series_rules.proofs.Apart.{agreements_are_apart, between_by_name, named_with}
-use Rattle.series_rules.proofs.Greatest.{report_same}
-use Rattle.series_rules.proofs.OfferLists.{same_offers}
-use Rattle.series_rules.proofs.Fronts.{front_is, front_same, kept_front}
+use Rattle.series_rules.specs.declared.requests.Standing.{Standing}
+use Rattle.series_rules.specs.declared.requests.Standing.TheVariants.{Message, Waived}
+use Rattle.series_rules.specs.AgreementLemmas.{agreements_are_distinct, between_by_name, named_with}
+use Rattle.series_rules.specs.GapLemmas.{report_same}
+use Rattle.series_rules.specs.OfferLemmas.{same_offers}
+use Rattle.series_rules.specs.FirstLemmas.{first_again}
+use Rattle.series_rules.specs.FrontLemmas.{front_is, front_same, front_unique, kept_front}
 
 -- the next number
 
-some_within : (hs : List Had) (k : ℕ) (o : Option Had) → k < length hs → o ≡ slice_get hs k → IsSome o
+some_within : (hs : List Standing) (k : ℕ) (o : Option Standing) → k < length hs → o ≡ slice_get hs k → IsSome o
 some_within [] k o lt e = absurd (omega arith)
 some_within (h ∷ hs) zero o lt e = subst IsSome (sym e) refl
 some_within (h ∷ hs) (suc k) o lt e = some_within hs k o (omega arith) e
@@ -46,6 +47,14 @@ next_is_least L a =
       lacks = is.ends;
     }
 
+-- the front
+
+pub front_is_exact : FrontIsExact
+front_is_exact = record {
+  is_front = λ L a. front_is L a.name a.first;
+  unique = λ L a hs is. front_unique (first_at L a.name) a.first hs (front_of L a) is (front_is L a.name a.first);
+}
+
 -- it only grows
 
 pub named_stays : (L : List Request) (r : Request) (s : List ℕ) (a : Agreement) → named (agreements_of L) s ≡ Some a → named (agreements_of (r ∷ L)) s ≡ Some a
@@ -56,22 +65,19 @@ named_stays L (Agree b) s a e =
     ]
 named_stays L _ s a e = e
 
-first_stays : (L : List Request) (r : Request) (s : List ℕ) (n : ℕ) (h : Had) → first_at L s n ≡ Some h → first_at (r ∷ L) s n ≡ Some h
-first_stays L r s n h e = ap (λ o. option_or o (put_at (admitted (agreements_of L) r) s n)) e
-
-grows_onto : (g : ℕ → Option Had) (n : ℕ) (rest rest' : List Had) → ((more : List Had) × (rest' ≡ rest ++ more)) → (o : Option Had) → ((h : Had) → o ≡ Some h → g n ≡ Some h) → (more : List Had) × (in_front_of (g n) rest' ≡ in_front_of o rest ++ more)
+grows_onto : (g : ℕ → Option Standing) (n : ℕ) (rest rest' : List Standing) → ((more : List Standing) × (rest' ≡ rest ++ more)) → (o : Option Standing) → ((h : Standing) → o ≡ Some h → g n ≡ Some h) → (more : List Standing) × (in_front_of (g n) rest' ≡ in_front_of o rest ++ more)
 grows_onto g n rest rest' ih None ext = (in_front_of (g n) rest', refl)
 grows_onto g n rest rest' ih (Some h) ext = (ih.0, ap (λ o. in_front_of o rest') (ext h refl) ∙ ap (λ hs. h ∷ hs) ih.1)
 
-unbroken_grows : (most most' : ℕ) (f g : ℕ → Option Had) → most ≤ most' → ((n : ℕ) (h : Had) → f n ≡ Some h → g n ≡ Some h) → (n : ℕ) → (more : List Had) × (unbroken most' g n ≡ unbroken most f n ++ more)
-unbroken_grows zero most' f g le ext n = (unbroken most' g n, refl)
-unbroken_grows (suc most) zero f g le ext n = absurd (omega arith)
-unbroken_grows (suc most) (suc most') f g le ext n =
-    grows_onto g n (unbroken most f (n + 1)) (unbroken most' g (n + 1)) (unbroken_grows most most' f g (omega arith) ext (n + 1)) (f n) (ext n)
+without_gap_grows : (most most' : ℕ) (f g : ℕ → Option Standing) → most ≤ most' → ((n : ℕ) (h : Standing) → f n ≡ Some h → g n ≡ Some h) → (n : ℕ) → (more : List Standing) × (without_gap most' g n ≡ without_gap most f n ++ more)
+without_gap_grows zero most' f g le ext n = (without_gap most' g n, refl)
+without_gap_grows (suc most) zero f g le ext n = absurd (omega arith)
+without_gap_grows (suc most) (suc most') f g le ext n =
+    grows_onto g n (without_gap most f (n + 1)) (without_gap most' g (n + 1)) (without_gap_grows most most' f g (omega arith) ext (n + 1)) (f n) (ext n)
 
 pub front_only_grows : FrontOnlyGrows
 front_only_grows L r s a e =
-    let grown = unbroken_grows (length L) (length (r ∷ L)) (first_at L a.name) (first_at (r ∷ L) a.name) (omega arith) (first_stays L r a.name) a.first in (
+    let grown = without_gap_grows (length L) (length (r ∷ L)) (first_at L a.name) (first_at (r ∷ L) a.name) (omega arith) (first_again L r a.name) a.first in (
       named_stays L r s a e,
       grown,
       λ n le lt. ap (λ hs. kept_of hs (n - a.first)) grown.1 ∙ kept_front (front_of L a) grown.0 (n - a.first) (omega arith),
@@ -80,7 +86,7 @@ front_only_grows L r s a e =
 -- by content alone
 
 parties_same : (L M : List Request) → SameContent L M → (s : Party) (d : Option Party) → between (agreements_of L) s d ≡ between (agreements_of M) s d
-parties_same L M same = between_by_name (agreements_of L) (agreements_of M) (agreements_are_apart L) (agreements_are_apart M) same.agreements
+parties_same L M same = between_by_name (agreements_of L) (agreements_of M) (agreements_are_distinct L) (agreements_are_distinct M) same.agreements
 
 agreements_more : (L M : List Request) (r : Request) → SameContent L M → (name : List ℕ) → named (agreements_of (r ∷ L)) name ≡ named (agreements_of (r ∷ M)) name
 agreements_more L M (Agree b) same =

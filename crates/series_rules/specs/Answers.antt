@@ -15,8 +15,8 @@ use Rattle.series_rules.specs.Offers.{offers_after}
 use Rattle.series_rules.specs.PriceAnswers.{calendar_answer, chosen_by, prices_of}
 use Rattle.price_rules.specs.declared.precedence.Rule.{Rule}
 use Rattle.series_rules.specs.declared.requests.Request.TheVariants.{Agree, Deliver, Waive, AskPrice, AskChoice, AskCalendar, AskGaps, AskCatalogue, Malformed}
-use Rattle.series_rules.specs.declared.requests.Had.{Had}
-use Rattle.series_rules.specs.declared.requests.Had.TheVariants as had
+use Rattle.series_rules.specs.declared.requests.Standing.{Standing}
+use Rattle.series_rules.specs.declared.requests.Standing.TheVariants as standing
 use Rattle.series_rules.specs.declared.answers.AgreeAnswer.{AgreeAnswer}
 use Rattle.series_rules.specs.declared.answers.AgreeAnswer.TheVariants.{Agreed, NameTaken, SeriesTaken}
 use Rattle.series_rules.specs.declared.answers.DeliveryAnswer.{DeliveryAnswer}
@@ -42,15 +42,15 @@ abbrev pub agree_answer : List Request → Agreement → AgreeAnswer
 agree_answer L a = agree_answer_by a (named (agreements_of L) a.name) (between (agreements_of L) a.sender a.addressee)
 
 -- what a delivery is answered whose contents stand at number n, where hs stands from the first number on without a gap
-abbrev pub placed_answer : List Had → List ℕ → ℕ → ℕ → DeliveryAnswer
+abbrev pub placed_answer : List Standing → List ℕ → ℕ → ℕ → DeliveryAnswer
 placed_answer hs series from n =
     if nat_lt n (from + length hs) then delivery.Applied series n (kept_of hs (n - from)) else delivery.Held series n (from + length hs)
 
 -- the same, by what stands at the number
-abbrev pub answer_against : List Had → List ℕ → ℕ → ℕ → List Product → Option Had → DeliveryAnswer
+abbrev pub answer_against : List Standing → List ℕ → ℕ → ℕ → List Product → Option Standing → DeliveryAnswer
 answer_against hs series from n c None = placed_answer hs series from n
-answer_against hs series from n c (Some had.Waived) = delivery.Waived series n
-answer_against hs series from n c (Some (had.Message other)) =
+answer_against hs series from n c (Some standing.Waived) = delivery.Waived series n
+answer_against hs series from n c (Some (standing.Message other)) =
     if same_contents other c then placed_answer hs series from n else delivery.OtherContents series n
 
 -- what a delivery with a number is answered, by the agreement of its parties. L is the list with the delivery
@@ -74,10 +74,10 @@ abbrev pub delivery_answer : List Request → List (List (List ℕ)) → Deliver
 delivery_answer L records = delivery_answer_by (Deliver records ∷ L) (agreements_of L) (bad_row records) (message_of records)
 
 -- what a waiver is answered, by what stands at its number
-abbrev pub waived_by : Option Had → WaiveAnswer
+abbrev pub waived_by : Option Standing → WaiveAnswer
 waived_by None = waiver.Waived
-waived_by (Some had.Waived) = waiver.Waived
-waived_by (Some (had.Message c)) = waiver.Had
+waived_by (Some standing.Waived) = waiver.Waived
+waived_by (Some (standing.Message c)) = waiver.HasMessage
 
 -- the same, by the agreement of its name. L is the list with the waiver
 abbrev pub waive_answer_at : List Request → ℕ → Option Agreement → WaiveAnswer

@@ -1,17 +1,17 @@
 -- The gaps of a series.
 use Rattle.std.specs.Prelude.{◌≡◌, ◌+◌, ◌-◌, ◌<◌, ℕ, List, [], ◌∷◌, Option, Some, None, IsSome, max, bytes_eq, nat_eq, filter, length, is_none, is_some, nat_lt, if◌then◌else◌, ◌≤◌, ◌⊎◌}
-use Rattle.std.specs.List.{range_with_len}
+use Rattle.std.specs.List.{All, Contains, range_with_len}
 use Rattle.onix_message.specs.declared.agreement.Agreement.{Agreement}
 use Rattle.series_rules.specs.Agreements.{agreements_of}
 use Rattle.series_rules.specs.Firsts.{first_at, admitted}
 use Rattle.series_rules.specs.Series.{next_of, IsNext}
 use Rattle.series_rules.specs.declared.requests.Request.{Request}
-use Rattle.series_rules.specs.declared.requests.First.{First}
-use Rattle.series_rules.specs.declared.requests.Had.{Had}
+use Rattle.series_rules.specs.Firsts.{Placement}
+use Rattle.series_rules.specs.declared.requests.Standing.{Standing}
 use Rattle.series_rules.specs.declared.answers.GapReport.{GapReport}
 
 -- the number that it puts something at, where that is in the series
-abbrev pub number_in : Option First → List ℕ → Option ℕ
+abbrev pub number_in : Option Placement → List ℕ → Option ℕ
 number_in None series = None
 number_in (Some f) series = if bytes_eq f.series series then Some f.number else None
 
@@ -27,7 +27,7 @@ greatest_of [] series = None
 greatest_of (r ∷ L) series = greater_of (greatest_of L series) (number_in (admitted (agreements_of L) r) series)
 
 -- it is the greatest number that has something, or nothing has
-abbrev pub IsGreatest : (ℕ → Option Had) → Option ℕ → Type 0
+abbrev pub IsGreatest : (ℕ → Option Standing) → Option ℕ → Type 0
 IsGreatest f None = (n : ℕ) → f n ≡ None
 IsGreatest f (Some g) = IsSome (f g) × ((n : ℕ) → g < n → f n ≡ None)
 
@@ -37,11 +37,11 @@ numbers_up_to from None = 0
 numbers_up_to from (Some g) = g + 1 - from
 
 -- those of so many numbers, from one on, that have nothing
-abbrev pub lacking : (ℕ → Option Had) → ℕ → ℕ → List ℕ
+abbrev pub lacking : (ℕ → Option Standing) → ℕ → ℕ → List ℕ
 lacking f from len = filter (λ n. is_none (f n)) (range_with_len from len)
 
 -- how many of so many numbers, from one on, have something
-abbrev pub having : (ℕ → Option Had) → ℕ → ℕ → ℕ
+abbrev pub having : (ℕ → Option Standing) → ℕ → ℕ → ℕ
 having f from len = length (filter (λ n. is_some (f n)) (range_with_len from len))
 
 -- ranges with one more number before them, which may touch the first of them
@@ -55,7 +55,7 @@ ranges_of [] = []
 ranges_of (n ∷ ns) = with_number n (ranges_of ns)
 
 -- the report on what stands in a series, by its first number, the first number that has nothing and the greatest that has something
-abbrev pub report_by : List ℕ → (ℕ → Option Had) → ℕ → ℕ → Option ℕ → GapReport
+abbrev pub report_by : List ℕ → (ℕ → Option Standing) → ℕ → ℕ → Option ℕ → GapReport
 report_by series f from after greatest = record {
   series = series;
   first = from;
@@ -88,10 +88,26 @@ abbrev pub AreRangesFrom : ℕ → List (ℕ × ℕ) → Type 0
 AreRangesFrom n [] = Unit {0}
 AreRangesFrom n (p ∷ ps) = (n ≤ p.0) × (p.0 ≤ p.1) × AreRangesFrom (p.1 + 2) ps
 
--- the report is true of what stands in a series: the first number that has nothing, the greatest that has something, and the numbers up to it that have nothing
-pub record IsGapReport (f : ℕ → Option Had) (report : GapReport) : Type 0 where
-  pub is_next : IsNext f report.first report.next
+-- numbers from one on, each above the one before it
+abbrev pub AreRisingFrom : ℕ → List ℕ → Type 0
+AreRisingFrom n [] = Unit {0}
+AreRisingFrom n (m ∷ ms) = (n ≤ m) × AreRisingFrom (m + 1) ms
+
+-- it is how many numbers from one on have something: a rising list has just these, and is as long
+pub record IsHeldCount (f : ℕ → Option Standing) (from held : ℕ) : Type 0 where
+  pub numbers : List ℕ
+  pub in_order : AreRisingFrom from numbers
+  pub all_held : (n : ℕ) → from ≤ n → IsSome (f n) → Contains numbers n
+  pub only_held : All (λ n. IsSome (f n)) numbers
+  pub counted : held ≡ length numbers
+
+-- the report is true of what stands in an agreed series: its name, its first number, the first number that has nothing, the greatest that has something, how many from the next on have something, and the numbers up to the greatest that have nothing
+pub record IsGapReport (f : ℕ → Option Standing) (a : Agreement) (report : GapReport) : Type 0 where
+  pub of_series : report.series ≡ a.name
+  pub is_first : report.first ≡ a.first
+  pub is_next : IsNext f a.first report.next
   pub is_greatest : IsGreatest f report.greatest
-  pub in_order : AreRangesFrom report.first report.missing
-  pub all_lacking : (n : ℕ) → report.first ≤ n → IsUpTo n report.greatest → f n ≡ None → IsInRanges n report.missing
-  pub only_lacking : (n : ℕ) → IsInRanges n report.missing → (report.first ≤ n) × IsUpTo n report.greatest × (f n ≡ None)
+  pub is_held : IsHeldCount f report.next report.held
+  pub in_order : AreRangesFrom a.first report.missing
+  pub all_lacking : (n : ℕ) → a.first ≤ n → IsUpTo n report.greatest → f n ≡ None → IsInRanges n report.missing
+  pub only_lacking : (n : ℕ) → IsInRanges n report.missing → (a.first ≤ n) × IsUpTo n report.greatest × (f n ≡ None)

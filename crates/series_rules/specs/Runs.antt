@@ -15,8 +15,8 @@ AreAnswered rules L [] (o ∷ outcomes) = ⊥
 AreAnswered rules L (r ∷ rs) [] = ⊥
 
 -- L and then those requests that were answered without a fault
-abbrev pub effective : List Request → List Request → List (Result Answer StoreFault) → List Request
-effective L (r ∷ rs) (Ok a ∷ outcomes) = effective (r ∷ L) rs outcomes
-effective L (r ∷ rs) (Err f ∷ outcomes) = effective L rs outcomes
-effective L [] outcomes = L
-effective L (r ∷ rs) [] = L
+abbrev pub without_faulted : List Request → List Request → List (Result Answer StoreFault) → List Request
+without_faulted L (r ∷ rs) (Ok a ∷ outcomes) = without_faulted (r ∷ L) rs outcomes
+without_faulted L (r ∷ rs) (Err f ∷ outcomes) = without_faulted L rs outcomes
+without_faulted L [] outcomes = L
+without_faulted L (r ∷ rs) [] = L

@@ -1,11 +1,24 @@
 // Laws of the definitions.
 
-ghost use Rattle.series_rules.specs.Laws.{NextIsLeast, ByContentAlone, FrontOnlyGrows, GapsAreTrue};
+ghost use Rattle.series_rules.specs.Laws.{AgreementsAreDistinct, NextIsLeast, FrontIsExact, ByContentAlone, FrontOnlyGrows, GapsAreTrue};
 ghost use Rattle.series_rules.specs.PriceLaws.{CalendarsAreTrue, ChoiceIsTrue, PricesAreTrue};
+
+use price_rules::laws::{calendar_is_exact, choice_is_exact, current_is_exact};
+
+/// No two agreements that stand share a name, nor a sender and addressee.
+pub fn agreements_are_distinct()
+    ensures { AgreementsAreDistinct }
+{}
 
 /// The next number of a series is the least, from the agreed first on, that has nothing.
 pub fn next_is_least()
     ensures { NextIsLeast }
+{}
+
+/// The front of a series is what stands at its numbers from the agreed first on, up to the first
+/// that has nothing, and no other list is.
+pub fn front_is_exact()
+    ensures { FrontIsExact }
 {}
 
 /// Two lists of requests with the same agreements and the same at each number are answered the
@@ -19,8 +32,9 @@ pub fn front_only_grows()
     ensures { FrontOnlyGrows }
 {}
 
-/// The report on the gaps of a series names its first number that has nothing, its greatest that
-/// has something, and in ranges of which no two touch just the numbers up to it that have nothing.
+/// The report on the gaps of a series has its name and its first number, the first number that has
+/// nothing, how many from that on have something, the greatest of them, and in ranges of which no
+/// two touch just the numbers up to it that have nothing.
 pub fn gaps_are_true()
     ensures { GapsAreTrue }
 {}
@@ -28,16 +42,22 @@ pub fn gaps_are_true()
 /// An answer about prices has the offers in their order, each with its current price.
 pub fn prices_are_true()
     ensures { PricesAreTrue }
-{}
+{
+    current_is_exact();
+}
 
 /// An answer about a choice has the offer that the shop chooses, with its rule and its price. It
 /// has none exactly where no rule takes an offer.
 pub fn choice_is_true()
     ensures { ChoiceIsTrue }
-{}
+{
+    choice_is_exact();
+}
 
 /// A question about a calendar is refused exactly where its range is bad. Else its answer has the
 /// offers in their order, each with its calendar.
 pub fn calendars_are_true()
     ensures { CalendarsAreTrue }
-{}
+{
+    calendar_is_exact();
+}

@@ -4,17 +4,15 @@
 //! The definitions are in `specs/`: `Agreements` (which agreements stand), `Firsts` (what stands
 //! at each number), `Series` (a series up to its first gap), `Answers` (the answer to each
 //! request) and `Content` (what two lists of requests have in common). Code meets them through
-//! the trait `desk::Desk`.
+//! the trait `desk::Desk`. What a desk's proof needs of them stands beside them, in
+//! `AgreementLemmas`, `FirstLemmas`, `FrontLemmas`, `GapLemmas` and `OfferLemmas`.
 #![tactic(auto)]
 
+pub mod answering;
 pub mod answers;
-pub mod asking;
+pub mod delivery;
 pub mod desk;
-mod fold;
-mod gaps;
 pub mod laws;
-pub mod plain;
 mod price_answers;
 pub mod requests;
-mod series;
-pub mod whole;
+pub mod run;

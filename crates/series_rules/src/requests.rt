@@ -1,4 +1,4 @@
-// Requests, and what they put at the numbers of a series.
+// Requests, and what stands at the numbers of a series.
 
 use csv_records::buffer::RecordBuffer;
 use onix_message::agreement::Agreement;
@@ -33,15 +33,9 @@ pub enum Request {
 
 /// What stands at a number of a series.
 #[derive(Debug, Drop)]
-pub enum Had {
+pub enum Standing {
+    /// The contents of a message.
     Message(Contents),
+    /// The mark that the number will never come.
     Waived,
-}
-
-/// What a request puts at a number of a series.
-#[derive(Debug, Drop)]
-pub struct First {
-    pub series: SeriesName,
-    pub number: Number,
-    pub had: Had,
 }

@@ -1,0 +1,11 @@
+pub mod Walks
+pub mod EqualContents
+pub mod OptionsOr
+pub mod Numbers
+pub mod Kept
+pub mod InOrder
+pub mod AfterRequests
+pub mod LastKey
+pub mod Missing
+pub mod Folds
+pub mod Folding

@@ -1,0 +1,3 @@
+pub mod KeptSeries
+pub mod Folded
+pub mod Stands

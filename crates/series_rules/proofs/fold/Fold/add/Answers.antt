@@ -1,8 +1,0 @@
-use Rattle.std.proofs.Common.{◌++◌, ◌∷◌, [], ap, ◌∙◌, arith}
-use Rattle.series_rules.proofs.Folding.{fold_more}
-use Rattle.series_rules.proofs.fold.Fold.add.Goals as goal
-
-pub returns-clause-ok : goal.returns-clause-ok
-returns-clause-ok c = λ from hs is.
-    fold_more from hs c.args.had.now c.args.self.now _ is (omega arith) c.in_ok-effect.ensures.ok
-    (c.in-Ok.ensures.items ∙ ap (λ es. es ++ c.in_ok-effect.effect ∷ []) c.reserve.ensures.items ∙ ap (λ e. c.args.self.now.effects.items ++ e ∷ []) c.in_ok-effect.ensures.effect)

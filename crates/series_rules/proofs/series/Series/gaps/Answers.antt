@@ -1,4 +1,0 @@
-use Rattle.series_rules.proofs.series.Series.gaps.Goals as goal
-
-pub returns : goal.returns
-returns c = rw (← c.self.view_is) c.gaps_in.ensures

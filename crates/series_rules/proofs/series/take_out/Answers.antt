@@ -1,6 +1,0 @@
-use Rattle.std.proofs.Common.{rules}
-use Rattle.series_rules.proofs.Walks.{at_test}
-use Rattle.series_rules.proofs.series.take_out.Goals as goal
-
-pub returns : goal.returns
-returns c = λ n. rw (← at_test c.args.number n) (search rules)

@@ -1,0 +1,130 @@
+-- Lemmas on agreements: no two share a name, nor a sender and addressee.
+use Rattle.std.proofs.Common.{◌≡◌, ℕ, Bool, true, false, List, [], ◌∷◌, ◌++◌, Option, Some, None, refl, sym, ap, ◌∙◌, cond, ◌&&◌}
+use Rattle.std.specs.Prelude.{bytes_eq, find}
+use Rattle.std.specs.Option.{option_or}
+use Rattle.std.proofs.lemmas.Slice.Eq.{bytes_eq-Decides}
+use Rattle.std.proofs.lemmas.List.Folds.{find-append}
+use Rattle.std.proofs.lemmas.Option.{cond_some}
+use Rattle.onix_terms.specs.declared.party.Party.{Party}
+use Rattle.onix_terms.specs.Plain.{option-decides}
+use Rattle.onix_message.specs.SameContents.{same_party, same_party-Decides}
+use Rattle.onix_message.specs.declared.agreement.Agreement.{Agreement}
+use Rattle.series_rules.specs.Agreements.{same_addressee, has_name, has_parties, named, between, clashes, with_agreement, agreements_of, AreDistinct}
+use Rattle.series_rules.specs.declared.requests.Request.{Request}
+use Rattle.series_rules.specs.declared.requests.Request.TheVariants.{Agree, Deliver, Waive, AskGaps, AskCatalogue, AskPrice, AskChoice, AskCalendar, Malformed}
+
+pub same_bytes : (xs : List ℕ) → bytes_eq xs xs ≡ true
+same_bytes xs = (bytes_eq-Decides xs xs).1 refl
+
+both : (a b : Bool) → (a && b) ≡ true → (a ≡ true) × (b ≡ true)
+both true b e = (refl, e)
+both false b e = absurd cc
+
+party_is : (p q : Party) → same_party p q ≡ true → p ≡ q
+party_is p q e = (same_party-Decides p q).0 e
+
+addressee_is : (p q : Option Party) → same_addressee p q ≡ true → p ≡ q
+addressee_is p q e = (option-decides same_party-Decides p q).0 e
+
+pub same_party_itself : (p : Party) → same_party p p ≡ true
+same_party_itself p = (same_party-Decides p p).1 refl
+
+pub same_addressee_itself : (p : Option Party) → same_addressee p p ≡ true
+same_addressee_itself p = (option-decides same_party-Decides p p).1 refl
+
+has_own_parties : (a : Agreement) → has_parties a.sender a.addressee a ≡ true
+has_own_parties a = rw (same_party_itself a.sender, same_addressee_itself a.addressee) refl
+
+-- what is found passes the test
+found_passes : (p : Agreement → Bool) (xs : List Agreement) (a : Agreement) → find p xs ≡ Some a → p a ≡ true
+found_passes p [] a e = absurd cc
+found_passes p (x ∷ xs) a e = go (λ rest. found_passes p xs a rest) (p x) refl e
+  where
+    go : (find p xs ≡ Some a → p a ≡ true) → (b : Bool) → p x ≡ b → cond b (Some x) (find p xs) ≡ Some a → p a ≡ true
+    go ih true t e = let same : x ≡ a = cc in ap p (sym same) ∙ t
+    go ih false t e = ih e
+
+pub named_has_name : (as' : List Agreement) (name : List ℕ) (a : Agreement) → named as' name ≡ Some a → a.name ≡ name
+named_has_name as' name a e = (bytes_eq-Decides a.name name).0 (found_passes (has_name name) as' a e)
+
+pub parties_are : (s : Party) (d : Option Party) (a : Agreement) → has_parties s d a ≡ true → (a.sender ≡ s) × (a.addressee ≡ d)
+parties_are s d a e = let parts = both (same_party a.sender s) (same_addressee a.addressee d) e in (party_is a.sender s parts.0, addressee_is a.addressee d parts.1)
+
+pub between_has_parties : (as' : List Agreement) (s : Party) (d : Option Party) (a : Agreement) → between as' s d ≡ Some a → (a.sender ≡ s) × (a.addressee ≡ d)
+between_has_parties as' s d a e = parties_are s d a (found_passes (has_parties s d) as' a e)
+
+-- one more at the end
+find_more : (p : Agreement → Bool) (xs : List Agreement) (b : Agreement) (o : Option Agreement) → find p xs ≡ o → find p (xs ++ b ∷ []) ≡ option_or o (cond (p b) (Some b) None)
+find_more p xs b o e = find-append p xs (b ∷ []) ∙ ap (λ x. option_or x (cond (p b) (Some b) None)) e
+
+-- what is found in a list with one more was found before, or is the last where nothing was found before
+found_more : (p q : Agreement → Bool) (xs : List Agreement) (b a : Agreement) → find p (xs ++ b ∷ []) ≡ Some a → (find p xs ≡ Some a → find q xs ≡ Some a) → (b ≡ a → find q xs ≡ None) → q a ≡ true → find q (xs ++ b ∷ []) ≡ Some a
+found_more p q xs b a e was is_last passes = go (find p xs) refl
+  where
+    go : (o : Option Agreement) → find p xs ≡ o → find q (xs ++ b ∷ []) ≡ Some a
+    go (Some x) found =
+        let same : Some x ≡ Some a = sym (find_more p xs b (Some x) found) ∙ e in
+        find_more q xs b (Some a) (was (found ∙ same))
+    go None found =
+        let last = cond_some (p b) b a (sym (find_more p xs b None found) ∙ e) in
+        find_more q xs b None (is_last last.1) ∙ ap (λ x. cond (q x) (Some x) None) last.1 ∙ ap (λ t. cond t (Some a) None) passes
+
+distinct_more : (as' : List Agreement) (b : Agreement) → AreDistinct as' → named as' b.name ≡ None → between as' b.sender b.addressee ≡ None → AreDistinct (as' ++ b ∷ [])
+distinct_more as' b distinct no_name no_parties = record {
+  by_name = λ name a e. found_more (has_name name) (has_parties a.sender a.addressee) as' b a e (distinct.by_name name a)
+      (λ same. ap (λ (x : Agreement). between as' x.sender x.addressee) (sym same) ∙ no_parties) (has_own_parties a);
+  by_parties = λ s d a e. found_more (has_parties s d) (has_name a.name) as' b a e (distinct.by_parties s d a)
+      (λ same. ap (λ (x : Agreement). named as' x.name) (sym same) ∙ no_name) (same_bytes a.name);
+}
+
+pub distinct_with : (as' : List Agreement) (b : Agreement) → AreDistinct as' → AreDistinct (with_agreement as' b)
+distinct_with as' b distinct = go (named as' b.name) refl (between as' b.sender b.addressee) refl
+  where
+    go : (o : Option Agreement) → named as' b.name ≡ o → (u : Option Agreement) → between as' b.sender b.addressee ≡ u → AreDistinct (with_agreement as' b)
+    go (Some x) e u e' = rw e distinct
+    go None e (Some x) e' = rw (e, e') distinct
+    go None e None e' = rw (e, e') (distinct_more as' b distinct e e')
+
+-- agreements that are found alike are apart alike
+pub distinct_alike : (as' bs : List Agreement) → ((name : List ℕ) → named as' name ≡ named bs name) → ((s : Party) (d : Option Party) → between as' s d ≡ between bs s d) → AreDistinct bs → AreDistinct as'
+distinct_alike as' bs same parties distinct = record {
+  by_name = λ name a e. parties a.sender a.addressee ∙ distinct.by_name name a (sym (same name) ∙ e);
+  by_parties = λ s d a e. same a.name ∙ distinct.by_parties s d a (sym (parties s d) ∙ e);
+}
+
+-- the agreements that stand are apart
+pub agreements_are_distinct : (L : List Request) → AreDistinct (agreements_of L)
+agreements_are_distinct [] = record { by_name = λ name a e. absurd cc; by_parties = λ s d a e. absurd cc }
+agreements_are_distinct (Agree b ∷ L) = distinct_with (agreements_of L) b (agreements_are_distinct L)
+agreements_are_distinct (Deliver x ∷ L) = agreements_are_distinct L
+agreements_are_distinct (Waive x y ∷ L) = agreements_are_distinct L
+agreements_are_distinct (AskGaps x ∷ L) = agreements_are_distinct L
+agreements_are_distinct (AskCatalogue x ∷ L) = agreements_are_distinct L
+agreements_are_distinct (AskPrice x y ∷ L) = agreements_are_distinct L
+agreements_are_distinct (AskChoice x y ∷ L) = agreements_are_distinct L
+agreements_are_distinct (AskCalendar x1 x2 ∷ L) = agreements_are_distinct L
+agreements_are_distinct (Malformed x ∷ L) = agreements_are_distinct L
+
+-- what one finds by its parties, the other finds too, where both find the same by each name
+found_too : (as' bs : List Agreement) → AreDistinct as' → AreDistinct bs → ((name : List ℕ) → named as' name ≡ named bs name) → (s : Party) (d : Option Party) (a : Agreement) → between as' s d ≡ Some a → between bs s d ≡ Some a
+found_too as' bs distinct other same s d a e =
+    let parties = between_has_parties as' s d a e in
+    ap (λ p. between bs p d) (sym parties.0) ∙ ap (between bs a.sender) (sym parties.1) ∙ other.by_name a.name a (sym (same a.name) ∙ distinct.by_parties s d a e)
+
+-- agreements that are the same by each name are the same by each sender and addressee
+pub between_by_name : (as' bs : List Agreement) → AreDistinct as' → AreDistinct bs → ((name : List ℕ) → named as' name ≡ named bs name) → (s : Party) (d : Option Party) → between as' s d ≡ between bs s d
+between_by_name as' bs distinct other same s d = go (between as' s d) refl (between bs s d) refl
+  where
+    go : (o : Option Agreement) → between as' s d ≡ o → (u : Option Agreement) → between bs s d ≡ u → o ≡ u
+    go (Some a) e u e' = sym (found_too as' bs distinct other same s d a e) ∙ e'
+    go None e (Some a) e' = sym e ∙ found_too bs as' other distinct (λ name. sym (same name)) s d a e'
+    go None e None e' = refl
+
+-- one more agreement, by look-ups
+pub named_with : (as' bs : List Agreement) (b : Agreement) → clashes as' b ≡ clashes bs b → ((name : List ℕ) → named as' name ≡ named bs name) → (name : List ℕ) → named (with_agreement as' b) name ≡ named (with_agreement bs b) name
+named_with as' bs b clash same name =
+    ap (λ t. named (cond t as' (as' ++ b ∷ [])) name) clash
+    ∙ elim (clashes bs b) as (λ t. named (cond t as' (as' ++ b ∷ [])) name ≡ named (cond t bs (bs ++ b ∷ [])) name) [
+      | true ↦ same name
+      | false ↦ find-append (has_name name) as' (b ∷ []) ∙ ap (λ o. option_or o (find (has_name name) (b ∷ []))) (same name) ∙ sym (find-append (has_name name) bs (b ∷ []))
+    ]

@@ -9,6 +9,7 @@ pub mod Pairs
 pub mod TenFields
 pub mod Nests
 pub mod Explained
+pub mod EndedFronts
 pub mod OneText
 pub mod TermLaws
 pub mod CleanTexts

@@ -1,5 +1,5 @@
 -- The grammar of messages: which records are a message, with which header and contents; and which a message may begin with.
-use Rattle.std.specs.Prelude.{ℕ, List, [], ◌∷◌, ◌≡◌, ◌≤◌, ◌+◌, ◌⊎◌, ◌==◌, ⊤, Bool, true, false, suc, Some, map, take, length}
+use Rattle.std.specs.Prelude.{ℕ, List, [], ◌∷◌, ◌++◌, ◌≡◌, ◌≤◌, ◌+◌, ◌⊎◌, ◌==◌, ⊤, Bool, true, false, suc, Some, map, take, length}
 use Rattle.std.specs.List.{AllByRecursion}
 use Rattle.onix_message.specs.Nest.{SuppliesHaveDetails, rows_after}
 use Rattle.onix_message.specs.OpeningRow.{opening_of}
@@ -74,6 +74,10 @@ pub record BeginsMessage (records : List (List (List ℕ))) : Type 0 where
   pub reads : map (row_of opening) rest ≡ map Some rows
   pub order : KeepsOrder (message_row opening ∷ rows)
   pub counts : CountsAfter 1 rows
+
+-- the last of these rows is an EndMessage
+abbrev pub EndsMessage : List Row → Type 0
+EndsMessage rows = (before : List Row) × (count : ℕ) × (rows ≡ before ++ row.EndMessage count ∷ [])
 
 -- a front: no record, or records that a message may begin with
 abbrev pub IsFront : List (List (List ℕ)) → Type 0

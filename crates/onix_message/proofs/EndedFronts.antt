@@ -1,5 +1,5 @@
 -- A front is a message exactly where its last row is an EndMessage.
-use Rattle.std.proofs.Common.{◌≡◌, ◌++◌, ◌∷◌, ◌∙◌, ◌+◌, [], ℕ, List, Some, sym, ap, arith, length, map}
+use Rattle.std.proofs.Common.{◌≡◌, ◌∙◌, ◌+◌, ℕ, List, Some, sym, ap, arith, length, map}
 use Rattle.std.specs.Prelude.{◌↔◌}
 use Rattle.std.proofs.lemmas.Option.{same_Some}
 use Rattle.onix_message.specs.Grammar.{BeginsMessage, EndsMessage, IsMessage}
@@ -8,7 +8,6 @@ use Rattle.onix_message.specs.Nest.{content_rows, rows_after}
 use Rattle.onix_message.specs.OpeningRow.{opening_of}
 use Rattle.onix_message.specs.Row.{message_row, row_of}
 use Rattle.onix_message.specs.declared.parts.Product.{Product}
-use Rattle.onix_message.specs.declared.row.Opening.{Opening}
 use Rattle.onix_message.specs.declared.row.Row.{Row}
 use Rattle.onix_message.specs.declared.row.Row.TheVariants as row
 use Rattle.onix_message.proofs.Bare.{all-bare}

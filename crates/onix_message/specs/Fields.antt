@@ -18,6 +18,11 @@ abbrev pub optional : {A : Type 0} → (List ℕ → Option A) → List ℕ → 
 optional term [] = Some None
 optional term (b ∷ bs) = option_map Some (term (b ∷ bs))
 
+-- a term, or the default if the text is empty
+abbrev pub or_default : {A : Type 0} → (List ℕ → Option A) → Option A → List ℕ → Option A
+or_default term default [] = default
+or_default term default (b ∷ bs) = term (b ∷ bs)
+
 -- an identifier's type and its value, which is not empty
 abbrev pub party_of : List ℕ → List ℕ → Option Party
 party_of id_type id_value = do

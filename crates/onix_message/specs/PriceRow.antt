@@ -6,17 +6,12 @@ use Rattle.onix_terms.specs.Day.{day_of}
 use Rattle.onix_terms.specs.Options.{◌>>=◌}
 use Rattle.onix_terms.specs.Quantity.{quantity_of}
 use Rattle.onix_terms.specs.Territory.{territory_of}
-use Rattle.onix_message.specs.Fields.{optional}
+use Rattle.onix_message.specs.Fields.{optional, or_default}
 use Rattle.onix_message.specs.declared.parts.Header.{Header}
 use Rattle.onix_message.specs.declared.parts.Price.{Price}
 use Rattle.onix_message.specs.declared.row.Form.{Form}
 use Rattle.onix_message.specs.declared.row.Form.TheVariants as form
 use Rattle.onix_message.specs.declared.row.Opening.{Opening}
-
--- a term, or the default of the header, if there is one
-abbrev pub or_default : {A : Type 0} → (List ℕ → Option A) → Option A → List ℕ → Option A
-or_default term default [] = default
-or_default term default (b ∷ bs) = term (b ∷ bs)
 
 -- a quantity; the empty text is 1
 abbrev pub quantity_or_one : List ℕ → Option ℕ

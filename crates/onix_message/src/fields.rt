@@ -9,8 +9,8 @@ ghost use Rattle.onix_terms.specs.Options.{nonempty};
 ghost use Rattle.onix_terms.specs.Territory.{territory_of};
 
 use crate::row::RowFault;
+use crate::term::read_term;
 use csv_records::record::Record;
-use onix_terms::code::Code2;
 use onix_terms::party::Party;
 use onix_terms::territory::{TermFault, Territory};
 use onix_terms::text::Text;
@@ -65,34 +65,11 @@ pub(crate) fn read_filled(alloc: Global, text: &str) -> Result<Text, RowFault>
     Ok(Text::from_str(alloc, text)?)
 }
 
-pub(crate) fn read_code(text: &str) -> Result<Code2, RowFault>
-    ensures { Gives result (code2_of text.now) }
-{
-    let Some(code) = Code2::read(text) else {
-        return Err(RowFault::Wrong);
-    };
-    Ok(code)
-}
-
-pub(crate) fn read_optional_code(text: &str) -> Result<Option<Code2>, RowFault>
-    ensures { Gives result (optional code2_of text.now) }
-{
-    if text.is_empty() {
-        return Ok(None);
-    }
-    let Some(code) = Code2::read(text) else {
-        return Err(RowFault::Wrong);
-    };
-    Ok(Some(code))
-}
-
 /// A party by the type and the value of its identifier.
 pub fn read_party(alloc: Global, id_type: &str, id_value: &str) -> Result<Party, RowFault>
     ensures { Gives result (party_of id_type.now id_value.now) }
 {
-    let Some(id_type) = Code2::read(id_type) else {
-        return Err(RowFault::Wrong);
-    };
+    let id_type = read_term(id_type)?;
     let id_value = read_filled(alloc, id_value)?;
     Ok(Party { id_type, id_value })
 }

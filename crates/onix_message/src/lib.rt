@@ -23,3 +23,4 @@ pub mod row;
 mod rows;
 mod steps;
 mod supply;
+mod term;

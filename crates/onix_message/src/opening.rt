@@ -8,9 +8,10 @@ ghost use Rattle.onix_terms.specs.Code.{currency_of};
 ghost use Rattle.onix_terms.specs.Digits.{digits_of};
 ghost use Rattle.onix_terms.specs.Number.{number_of};
 
-use crate::fields::{read_fields, read_optional_code, read_optional_party, read_party};
+use crate::fields::{read_fields, read_optional_party, read_party};
 use crate::parts::Header;
 use crate::row::{Form, Opening, RowFault};
+use crate::term::read_optional;
 use csv_records::record::Record;
 use onix_terms::code::Currency;
 use onix_terms::digits::read_digits;
@@ -28,42 +29,6 @@ fn read_form(text: &str) -> Result<Form, RowFault>
         return Ok(Form::Two);
     }
     Err(RowFault::Wrong)
-}
-
-fn read_optional_number(text: &str) -> Result<Option<Number>, RowFault>
-    ensures { Gives result (optional number_of text.now) }
-{
-    if text.is_empty() {
-        return Ok(None);
-    }
-    let Some(number) = Number::read(text) else {
-        return Err(RowFault::Wrong);
-    };
-    Ok(Some(number))
-}
-
-fn read_optional_digits(text: &str) -> Result<Option<u32>, RowFault>
-    ensures { Gives result (optional digits_of text.now) }
-{
-    if text.is_empty() {
-        return Ok(None);
-    }
-    let Some(number) = read_digits(text) else {
-        return Err(RowFault::Wrong);
-    };
-    Ok(Some(number))
-}
-
-fn read_optional_currency(text: &str) -> Result<Option<Currency>, RowFault>
-    ensures { Gives result (optional currency_of text.now) }
-{
-    if text.is_empty() {
-        return Ok(None);
-    }
-    let Some(currency) = Currency::read(text) else {
-        return Err(RowFault::Wrong);
-    };
-    Ok(Some(currency))
 }
 
 #[tactic(auto, unfolding(crate::specs::OpeningRow::opening_from))]
@@ -85,10 +50,10 @@ fn make_opening(
         number.now repeat.now sent.now price_type.now currency.now) }
 {
     let form = read_form(version)?;
-    let number = read_optional_number(number)?;
-    let repeat = read_optional_digits(repeat)?;
-    let default_type = read_optional_code(price_type)?;
-    let default_currency = read_optional_currency(currency)?;
+    let number = read_optional(number)?;
+    let repeat = read_optional(repeat)?;
+    let default_type = read_optional(price_type)?;
+    let default_currency = read_optional(currency)?;
     let sent = Text::from_str(alloc, sent)?;
     let sender = read_party(alloc, sender_type, sender_value)?;
     let addressee = read_optional_party(alloc, to_type, to_value)?;

@@ -3,68 +3,18 @@
 ghost use Rattle.std.specs.Prelude.{◌≡◌, map};
 ghost use Rattle.onix_message.specs.Fields.{optional};
 ghost use Rattle.onix_message.specs.Gives.{Gives};
-ghost use Rattle.onix_message.specs.PriceRow.{minimum_of, or_default, price_from, price_of, quantity_or_one};
+ghost use Rattle.onix_message.specs.PriceRow.{minimum_of, price_from, price_of, quantity_or_one};
 ghost use Rattle.onix_terms.specs.Amount.{amount_of};
 ghost use Rattle.onix_terms.specs.Code.{code2_of, currency_of};
 ghost use Rattle.onix_terms.specs.Day.{day_of};
 ghost use Rattle.onix_terms.specs.Quantity.{quantity_from};
 
-use crate::fields::{read_code, read_territory};
+use crate::fields::read_territory;
 use crate::parts::{Header, Price};
 use crate::row::{Form, Opening, RowFault};
-use onix_terms::amount::Amount;
-use onix_terms::code::{Code2, Currency};
-use onix_terms::day::Day;
+use crate::term::{read_optional, read_or_default, read_term};
 use onix_terms::quantity::Quantity;
 use std::alloc::Global;
-
-fn read_code_or(default: Option<Code2>, text: &str) -> Result<Code2, RowFault>
-    ensures { Gives result (or_default code2_of default text.now) }
-{
-    if !text.is_empty() {
-        return read_code(text);
-    }
-    match default {
-        Some(code) => Ok(code),
-        None => Err(RowFault::Wrong),
-    }
-}
-
-fn read_currency_or(default: Option<Currency>, text: &str) -> Result<Currency, RowFault>
-    ensures { Gives result (or_default currency_of default text.now) }
-{
-    if !text.is_empty() {
-        let Some(currency) = Currency::read(text) else {
-            return Err(RowFault::Wrong);
-        };
-        return Ok(currency);
-    }
-    match default {
-        Some(currency) => Ok(currency),
-        None => Err(RowFault::Wrong),
-    }
-}
-
-fn read_amount(text: &str) -> Result<Amount, RowFault>
-    ensures { Gives result (amount_of text.now) }
-{
-    let Some(amount) = Amount::read(text) else {
-        return Err(RowFault::Wrong);
-    };
-    Ok(amount)
-}
-
-fn read_optional_day(text: &str) -> Result<Option<Day>, RowFault>
-    ensures { Gives result (optional day_of text.now) }
-{
-    if text.is_empty() {
-        return Ok(None);
-    }
-    let Some(day) = Day::read(text) else {
-        return Err(RowFault::Wrong);
-    };
-    Ok(Some(day))
-}
 
 fn one_copy() -> Result<Quantity, RowFault>
     ensures { Gives result (quantity_from 1) }
@@ -81,10 +31,7 @@ fn read_quantity_or_one(text: &str) -> Result<Quantity, RowFault>
     if text.is_empty() {
         return one_copy();
     }
-    let Some(quantity) = Quantity::read(text) else {
-        return Err(RowFault::Wrong);
-    };
-    Ok(quantity)
+    read_term(text)
 }
 
 fn read_minimum(form: Form, fields: &[&str]) -> Result<Quantity, RowFault>
@@ -122,11 +69,11 @@ fn make_price(
         (price_from header.now minimum price_type.now amount.now currency.now included.now
         regions.now excluded.now from.now until.now) }
 {
-    let price_type = read_code_or(header.default_type, price_type)?;
-    let amount = read_amount(amount)?;
-    let currency = read_currency_or(header.default_currency, currency)?;
-    let from = read_optional_day(from)?;
-    let until = read_optional_day(until)?;
+    let price_type = read_or_default(header.default_type, price_type)?;
+    let amount = read_term(amount)?;
+    let currency = read_or_default(header.default_currency, currency)?;
+    let from = read_optional(from)?;
+    let until = read_optional(until)?;
     let territory = read_territory(alloc, included, regions, excluded)?;
     Ok(Price {
         price_type,

@@ -4,10 +4,10 @@ ghost use Rattle.std.specs.Prelude.{◌≡◌, map};
 ghost use Rattle.onix_message.specs.Gives.{Gives};
 ghost use Rattle.onix_message.specs.ProductRow.{identifier_of, pairs_of, product_of};
 
-use crate::fields::{read_code, read_filled};
+use crate::fields::read_filled;
 use crate::parts::{Product, ProductIdentifier};
 use crate::row::RowFault;
-use onix_terms::code::Code2;
+use crate::term::read_term;
 use onix_terms::items::Items;
 use std::alloc::Global;
 
@@ -18,9 +18,7 @@ fn read_identifier(
 ) -> Result<ProductIdentifier, RowFault>
     ensures { Gives result (identifier_of id_type.now id_value.now) }
 {
-    let Some(id_type) = Code2::read(id_type) else {
-        return Err(RowFault::Wrong);
-    };
+    let id_type = read_term(id_type)?;
     let id_value = read_filled(alloc, id_value)?;
     Ok(ProductIdentifier { id_type, id_value })
 }
@@ -52,7 +50,7 @@ pub(crate) fn read_product(alloc: Global, fields: &[&str]) -> Result<Product, Ro
     if pairs.is_empty() {
         return Err(RowFault::Wrong);
     }
-    let notification = read_code(notification)?;
+    let notification = read_term(notification)?;
     let reference = read_filled(alloc, reference)?;
     let ids = read_pairs(alloc, pairs)?;
     Ok(Product {

@@ -10,8 +10,8 @@ use crate::price::read_price;
 use crate::product::read_product;
 use crate::row::{Opening, Row, RowFault};
 use crate::supply::{read_detail, read_supply};
+use crate::term::read_term;
 use csv_records::record::Record;
-use onix_terms::digits::read_digits;
 use std::alloc::Global;
 
 fn read_end(fields: &[&str]) -> Result<u32, RowFault>
@@ -20,10 +20,7 @@ fn read_end(fields: &[&str]) -> Result<u32, RowFault>
     let [count] = fields else {
         return Err(RowFault::Wrong);
     };
-    let Some(count) = read_digits(count) else {
-        return Err(RowFault::Wrong);
-    };
-    Ok(count)
+    read_term(count)
 }
 
 // The row that the fields after a name make, in a message that begins so.

@@ -4,11 +4,10 @@ ghost use Rattle.std.specs.Prelude.{◌≡◌, map};
 ghost use Rattle.onix_message.specs.Gives.{Gives};
 ghost use Rattle.onix_message.specs.SupplyRow.{detail_from, detail_of, supplier_name, supply_of};
 
-use crate::fields::{
-    read_code, read_filled, read_optional_code, read_optional_party, read_territory,
-};
+use crate::fields::{read_filled, read_optional_party, read_territory};
 use crate::parts::{ProductSupply, Supplier, SupplyDetail};
 use crate::row::RowFault;
+use crate::term::{read_optional, read_term};
 use onix_terms::items::Items;
 use onix_terms::party::Party;
 use onix_terms::text::Text;
@@ -48,9 +47,9 @@ fn make_detail(
     ensures { Gives result
         (detail_from role.now id_type.now id_value.now name.now availability.now unpriced.now) }
 {
-    let role = read_code(role)?;
-    let availability = read_code(availability)?;
-    let unpriced = read_optional_code(unpriced)?;
+    let role = read_term(role)?;
+    let availability = read_term(availability)?;
+    let unpriced = read_optional(unpriced)?;
     let party = read_optional_party(alloc, id_type, id_value)?;
     let name = read_supplier_name(alloc, &party, name)?;
     Ok(SupplyDetail {

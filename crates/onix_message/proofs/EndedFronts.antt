@@ -3,16 +3,16 @@ use Rattle.std.proofs.Common.{◌≡◌, ◌∙◌, ◌+◌, ℕ, List, Some, sy
 use Rattle.std.specs.Prelude.{◌↔◌}
 use Rattle.std.proofs.lemmas.Option.{same_Some}
 use Rattle.onix_message.specs.Grammar.{BeginsMessage, EndsMessage, IsMessage}
-use Rattle.onix_message.specs.Message.{nest}
-use Rattle.onix_message.specs.Nest.{content_rows, rows_after}
-use Rattle.onix_message.specs.OpeningRow.{opening_of}
+use Rattle.onix_message.specs.Message.{parts_of}
+use Rattle.onix_message.specs.PartRows.{content_rows, rows_after}
+use Rattle.onix_message.specs.Opening.{opening_of}
 use Rattle.onix_message.specs.Row.{message_row, row_of}
 use Rattle.onix_message.specs.declared.parts.Product.{Product}
 use Rattle.onix_message.specs.declared.row.Row.{Row}
 use Rattle.onix_message.specs.declared.row.Row.TheVariants as row
 use Rattle.onix_message.proofs.Bare.{all-bare}
 use Rattle.onix_message.proofs.Fronts.{Reads, cons-parts, is-message, same-map}
-use Rattle.onix_message.proofs.Nests.{rows-rebuilt}
+use Rattle.onix_message.proofs.RowParts.{rows-rebuilt}
 use Rattle.onix_message.proofs.Orders.{last-push, last_of}
 
 begun : (records : List (List (List ℕ))) (b : BeginsMessage records) → Reads b.opening b.rest b.rows
@@ -28,7 +28,7 @@ ended-message records b (before, count, e) =
     let reads = begun records b in
     let last : last_of (message_row o) b.rows ≡ row.EndMessage count = ap (λ (t : List Row). last_of (message_row o) t) e ∙ last-push (message_row o) before (row.EndMessage count) in
     let r = rows-rebuilt o.header b.rows count (all-bare o b.rest b.rows reads.reads) reads.order last in
-    ((nest b.rows).products, is-message records b.first b.rest o (nest b.rows).products count b.split b.header (rw (← r.0) reads) r.1)
+    ((parts_of b.rows).products, is-message records b.first b.rest o (parts_of b.rows).products count b.split b.header (rw (← r.0) reads) r.1)
 
 -- the rows of a message are those of its contents, and the end
 message-ended : (records : List (List (List ℕ))) (b : BeginsMessage records) (c : List Product) → IsMessage records b.opening.header c → EndsMessage b.rows

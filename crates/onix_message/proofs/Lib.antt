@@ -7,7 +7,7 @@ pub mod RowFaults
 pub mod CleanFields
 pub mod Pairs
 pub mod TenFields
-pub mod Nests
+pub mod RowParts
 pub mod Explained
 pub mod EndedFronts
 pub mod OneText

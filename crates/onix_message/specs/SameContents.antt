@@ -2,12 +2,12 @@
 use Rattle.std.specs.Prelude.{◌≡◌, List, Bool}
 use Rattle.std.specs.Bool.{Decides}
 use Rattle.std.specs.Cmp.Lexicographic.{pointwise}
-use Rattle.onix_message.specs.contracts.parts.ProductPartialEq.TheImpl as products
-use Rattle.onix_message.specs.contracts.plain.ProductPlain.TheImpl.Laws as product_laws
-use Rattle.onix_message.specs.declared.parts.Product.{Product}
 use Rattle.onix_terms.specs.contracts.party.PartyPartialEq.TheImpl as parties
 use Rattle.onix_terms.specs.contracts.plain.PartyPlain.TheImpl.Laws as party_laws
 use Rattle.onix_terms.specs.declared.party.Party.{Party}
+use Rattle.onix_message.specs.contracts.parts.ProductPartialEq.TheImpl as products
+use Rattle.onix_message.specs.contracts.plain.ProductPlain.TheImpl.Laws as product_laws
+use Rattle.onix_message.specs.declared.parts.Product.{Product}
 
 -- the same type and value
 abbrev pub same_party : Party → Party → Bool

@@ -1,8 +1,8 @@
 // The fields of a record, and those that several rows have.
 
-ghost use Rattle.std.specs.Prelude.{◌≡◌, IsErrOf, OnOk, length, map, nat_le, not, true, false};
+ghost use Rattle.std.specs.Prelude.{◌≡◌, ◌++◌, ◌∷◌, [], IsErrOf, OnOk, length, map, nat_le, not, true, false};
 ghost use Rattle.std.specs.List.{list_all};
-ghost use Rattle.onix_message.specs.Fields.{is_clean, is_control, optional, optional_party, party_of};
+ghost use Rattle.onix_message.specs.Fields.{is_clean, is_control, optional, optional_party, party_of, party_fields, territory_fields};
 ghost use Rattle.onix_message.specs.Gives.{Gives};
 ghost use Rattle.onix_terms.specs.Code.{code2_of};
 ghost use Rattle.onix_terms.specs.Options.{nonempty};
@@ -10,11 +10,13 @@ ghost use Rattle.onix_terms.specs.Territory.{territory_of};
 
 use crate::row::RowFault;
 use crate::term::read_term;
+use csv_records::fields::FieldBuffer;
 use csv_records::record::Record;
+use onix_terms::countries::countries_text;
 use onix_terms::party::Party;
 use onix_terms::territory::{TermFault, Territory};
 use onix_terms::text::Text;
-use std::alloc::Global;
+use std::alloc::{AllocError, Global};
 
 // Whether a byte is a control character.
 fn is_control_byte(byte: u8) -> bool
@@ -101,4 +103,33 @@ pub(crate) fn read_territory(
         Err(TermFault::NotATerm) => Err(RowFault::Wrong),
         Err(TermFault::Memory) => Err(RowFault::Memory),
     }
+}
+
+// Appends the two fields of a party, both empty where there is none.
+pub(crate) fn push_party(fields: &mut FieldBuffer, party: &Option<Party>) -> Result<(), AllocError>
+    ensures { OnOk result (fields.new ≡ fields.old ++ party_fields party.now) }
+{
+    match party {
+        Some(party) => {
+            fields.push(party.id_type.as_str())?;
+            fields.push(party.id_value.as_str())
+        }
+        None => {
+            fields.push("")?;
+            fields.push("")
+        }
+    }
+}
+
+// Appends the three fields of a territory.
+pub(crate) fn push_territory(
+    alloc: Global,
+    fields: &mut FieldBuffer,
+    territory: &Territory,
+) -> Result<(), AllocError>
+    ensures { OnOk result (fields.new ≡ fields.old ++ territory_fields territory.now) }
+{
+    fields.push(countries_text(alloc, territory.included.as_slice())?.as_str())?;
+    fields.push(if territory.world { "WORLD" } else { "" })?;
+    fields.push(countries_text(alloc, territory.excluded.as_slice())?.as_str())
 }

@@ -27,7 +27,7 @@ pub fn messages()
 /// The row that is computed of records is the one at which they stop being a front, and no
 /// other is.
 pub fn bad_rows()
-    ensures computed { (records : List (List (List ℕ))) (place : ℕ) → IsBadRow records place → place ≡ bad_row records }
+    ensures computed { (records : List (List (List ℕ))) (number : ℕ) → IsBadRow records number → number ≡ bad_row records }
     ensures meant { (records : List (List (List ℕ))) → IsBadRow records (bad_row records) }
 {}
 

@@ -3,7 +3,7 @@
 ghost use Rattle.std.specs.Prelude.{◌≡◌, map};
 ghost use Rattle.onix_message.specs.Fields.{optional};
 ghost use Rattle.onix_message.specs.Gives.{Gives};
-ghost use Rattle.onix_message.specs.OpeningRow.{form_of, opening_fields, opening_from, opening_of};
+ghost use Rattle.onix_message.specs.Opening.{form_of, opening_fields, opening_from, opening_of};
 ghost use Rattle.onix_terms.specs.Code.{currency_of};
 ghost use Rattle.onix_terms.specs.Digits.{digits_of};
 ghost use Rattle.onix_terms.specs.Number.{number_of};
@@ -31,7 +31,7 @@ fn read_form(text: &str) -> Result<Form, RowFault>
     Err(RowFault::Wrong)
 }
 
-#[tactic(auto, unfolding(crate::specs::OpeningRow::opening_from))]
+#[tactic(auto, unfolding(crate::specs::Opening::opening_from))]
 fn make_opening(
     alloc: Global,
     version: &str,
@@ -72,7 +72,7 @@ fn make_opening(
 }
 
 // What the fields after the name say.
-#[tactic(auto, unfolding(crate::specs::OpeningRow::opening_fields))]
+#[tactic(auto, unfolding(crate::specs::Opening::opening_fields))]
 pub(crate) fn read_opening_fields(alloc: Global, fields: &[&str]) -> Result<Opening, RowFault>
     ensures { Gives result (opening_fields (map (λ f. f.now) fields.now)) }
 {
@@ -107,7 +107,7 @@ pub(crate) fn read_opening_fields(alloc: Global, fields: &[&str]) -> Result<Open
 }
 
 // What a message says that begins with this record. The list takes the record's fields.
-#[tactic(auto, unfolding(crate::specs::OpeningRow::opening_of))]
+#[tactic(auto, unfolding(crate::specs::Opening::opening_of))]
 pub(crate) fn read_opening<'a>(
     alloc: Global,
     from: &Record<'a>,

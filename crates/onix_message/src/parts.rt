@@ -101,7 +101,7 @@ impl Contents {
     ghost use Rattle.std.specs.Prelude.{◌≡◌, ◌≤◌, ◌↔◌, All, IsTrue, length};
     ghost use Rattle.onix_message.specs.ContentsText.{IsContents};
     ghost use Rattle.onix_message.specs.DetailCount.{detail_count};
-    ghost use Rattle.onix_message.specs.Nest.{content_rows};
+    ghost use Rattle.onix_message.specs.PartRows.{content_rows};
     ghost use Rattle.onix_message.specs.SameContents.{same_contents};
 
     // The contents of a message that was read.

@@ -1,20 +1,26 @@
-// The row of a price.
+// A price: its row, and its record.
 
-ghost use Rattle.std.specs.Prelude.{◌≡◌, map};
+ghost use Rattle.std.specs.Prelude.{◌≡◌, ◌++◌, ◌∷◌, [], OnOk, OnErr, map};
+ghost use Rattle.onix_terms.specs.Amount.{amount_text};
 ghost use Rattle.onix_message.specs.Fields.{optional};
 ghost use Rattle.onix_message.specs.Gives.{Gives};
-ghost use Rattle.onix_message.specs.PriceRow.{minimum_of, price_from, price_of, quantity_or_one};
+ghost use Rattle.onix_message.specs.Price.{day_field, minimum_of, price_from, price_of, quantity_or_one, minimum_fields, price_record};
 ghost use Rattle.onix_terms.specs.Amount.{amount_of};
 ghost use Rattle.onix_terms.specs.Code.{code2_of, currency_of};
 ghost use Rattle.onix_terms.specs.Day.{day_of};
 ghost use Rattle.onix_terms.specs.Quantity.{quantity_from};
 
-use crate::fields::read_territory;
+use crate::fields::{push_territory, read_territory};
 use crate::parts::{Header, Price};
 use crate::row::{Form, Opening, RowFault};
 use crate::term::{read_optional, read_or_default, read_term};
+use csv_records::buffer::RecordBuffer;
+use csv_records::fields::FieldBuffer;
+use itoa::Buffer;
+use onix_terms::amount::Amount;
+use onix_terms::day::Day;
 use onix_terms::quantity::Quantity;
-use std::alloc::Global;
+use std::alloc::{AllocError, Global};
 
 fn one_copy() -> Result<Quantity, RowFault>
     ensures { Gives result (quantity_from 1) }
@@ -51,7 +57,7 @@ fn read_minimum(form: Form, fields: &[&str]) -> Result<Quantity, RowFault>
     }
 }
 
-#[tactic(auto, unfolding(crate::specs::PriceRow::price_from))]
+#[tactic(auto, unfolding(crate::specs::Price::price_from))]
 fn make_price(
     alloc: Global,
     header: &Header,
@@ -86,7 +92,7 @@ fn make_price(
     })
 }
 
-#[tactic(auto, unfolding(crate::specs::PriceRow::price_of))]
+#[tactic(auto, unfolding(crate::specs::Price::price_of))]
 pub(crate) fn read_price(
     alloc: Global,
     opening: &Opening,
@@ -122,4 +128,64 @@ pub(crate) fn read_price(
         from,
         until,
     )
+}
+
+fn push_amount(alloc: Global, fields: &mut FieldBuffer, amount: Amount) -> Result<(), AllocError>
+    ensures { OnOk result (fields.new ≡ fields.old ++ amount_text amount ∷ []) }
+{
+    let mut text = String::new(alloc);
+    amount.write(&mut text)?;
+    fields.push(text.as_str())
+}
+
+fn push_day(alloc: Global, fields: &mut FieldBuffer, day: Option<Day>) -> Result<(), AllocError>
+    ensures { OnOk result (fields.new ≡ fields.old ++ day_field day ∷ []) }
+{
+    let mut text = String::new(alloc);
+    if let Some(day) = day {
+        day.write(&mut text)?;
+    }
+    fields.push(text.as_str())
+}
+
+// The minimum order quantity, where it is above 1.
+fn push_minimum(fields: &mut FieldBuffer, minimum: Quantity) -> Result<(), AllocError>
+    ensures { OnOk result (fields.new ≡ fields.old ++ minimum_fields minimum) }
+{
+    let minimum = minimum.value();
+    if minimum > 1 {
+        let mut buffer = Buffer::new();
+        fields.push(buffer.format(minimum))?;
+    }
+    Ok(())
+}
+
+// Puts the fields of a price's record in place of what the list held.
+fn fill_price(alloc: Global, fields: &mut FieldBuffer, price: &Price) -> Result<(), AllocError>
+    ensures { OnOk result (fields.new ≡ price_record price.now) }
+{
+    fields.clear();
+    fields.push("Price")?;
+    fields.push(price.price_type.as_str())?;
+    push_amount(alloc, fields, price.amount)?;
+    fields.push(price.currency.as_str())?;
+    push_territory(alloc, fields, &price.territory)?;
+    push_day(alloc, fields, price.from)?;
+    push_day(alloc, fields, price.until)?;
+    push_minimum(fields, price.minimum)
+}
+
+// Appends the record of a price, or leaves the records as they were. The list takes the record's
+// fields, as in each of these calls.
+pub(crate) fn append_price(
+    alloc: Global,
+    fields: &mut FieldBuffer,
+    records: &mut RecordBuffer,
+    price: &Price,
+) -> Result<(), AllocError>
+    ensures ok { OnOk result (records.new ≡ records.old ++ price_record price.now ∷ []) }
+    ensures err { OnErr result (records.new ≡ records.old) }
+{
+    fill_price(alloc, fields, price)?;
+    records.push(&fields.as_record())
 }

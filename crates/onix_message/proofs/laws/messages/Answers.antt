@@ -1,7 +1,7 @@
 use Rattle.onix_message.proofs.EndedFronts.{ended-fronts}
 use Rattle.onix_message.proofs.Explained.{computed-none}
 use Rattle.onix_message.proofs.Fronts.{fronts}
-use Rattle.onix_message.proofs.Nests.{message-computed, message-meant}
+use Rattle.onix_message.proofs.RowParts.{message-computed, message-meant}
 use Rattle.onix_message.proofs.laws.messages.Goals as goal
 
 pub returns : goal.returns

@@ -1,12 +1,13 @@
--- The row Price.
-use Rattle.std.specs.Prelude.{ℕ, List, [], ◌∷◌, Option, Some, None}
-use Rattle.onix_terms.specs.Amount.{amount_of}
+-- A price: the row Price, as it is read and as it is written.
+use Rattle.std.specs.Prelude.{ℕ, List, [], ◌∷◌, Option, Some, None, ℤ, ◌++◌, if◌then◌else◌, decimal, nat_lt, codes}
+use Rattle.std.specs.Option.{option_map_or}
+use Rattle.onix_terms.specs.Amount.{amount_of, amount_text}
 use Rattle.onix_terms.specs.Code.{code2_of, currency_of}
-use Rattle.onix_terms.specs.Day.{day_of}
 use Rattle.onix_terms.specs.Options.{◌>>=◌}
 use Rattle.onix_terms.specs.Quantity.{quantity_of}
 use Rattle.onix_terms.specs.Territory.{territory_of}
-use Rattle.onix_message.specs.Fields.{optional, or_default}
+use Rattle.onix_terms.specs.Day.{day_of, day_text}
+use Rattle.onix_message.specs.Fields.{optional, or_default, territory_fields}
 use Rattle.onix_message.specs.declared.parts.Header.{Header}
 use Rattle.onix_message.specs.declared.parts.Price.{Price}
 use Rattle.onix_message.specs.declared.row.Form.{Form}
@@ -41,3 +42,15 @@ price_of o (price_type ∷ amount ∷ currency ∷ included ∷ regions ∷ excl
   m ← minimum_of o.form more
   price_from o.header m price_type amount currency included regions excluded from until
 price_of o _ = None
+
+-- a day, or the empty text
+abbrev pub day_field : Option ℤ → List ℕ
+day_field day = option_map_or day_text day []
+
+-- the minimum order quantity, where it is above 1
+abbrev pub minimum_fields : ℕ → List (List ℕ)
+minimum_fields m = if nat_lt 1 m then decimal m ∷ [] else []
+
+-- a price's row, with all defaults filled in
+abbrev pub price_record : Price → List (List ℕ)
+price_record p = codes "Price" ∷ p.price_type ∷ amount_text p.amount ∷ p.currency ∷ (territory_fields p.territory ++ (day_field p.from ∷ day_field p.until ∷ minimum_fields p.minimum))

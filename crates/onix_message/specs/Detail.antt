@@ -1,19 +1,12 @@
--- The rows ProductSupply and SupplyDetail.
-use Rattle.std.specs.Prelude.{ℕ, List, [], ◌∷◌, Option, Some, None}
+-- A detail of a supply: the row SupplyDetail, as it is read and as it is written, and the records of a detail.
+use Rattle.std.specs.Prelude.{ℕ, List, [], ◌∷◌, Option, Some, None, codes, map, ◌++◌}
+use Rattle.std.specs.Option.{unwrap_or}
 use Rattle.onix_terms.specs.Code.{code2_of}
 use Rattle.onix_terms.specs.Options.{◌>>=◌, nonempty}
-use Rattle.onix_terms.specs.Territory.{territory_of}
-use Rattle.onix_message.specs.Fields.{optional, optional_party}
 use Rattle.onix_terms.specs.declared.party.Party.{Party}
-use Rattle.onix_message.specs.declared.parts.ProductSupply.{ProductSupply}
+use Rattle.onix_message.specs.Fields.{optional, optional_party, party_fields}
+use Rattle.onix_message.specs.Price.{price_record}
 use Rattle.onix_message.specs.declared.parts.SupplyDetail.{SupplyDetail}
-
--- a market
-abbrev pub supply_of : List (List ℕ) → Option ProductSupply
-supply_of (included ∷ regions ∷ excluded ∷ []) = do
-  t ← territory_of included regions excluded
-  Some (record { market = t; details = [] })
-supply_of _ = None
 
 -- a supplier has a party or a name
 abbrev pub supplier_name : Option Party → List ℕ → Option (List ℕ)
@@ -34,3 +27,11 @@ detail_from role id_type id_value name availability unpriced = do
 unfoldable pub detail_of : List (List ℕ) → Option SupplyDetail
 detail_of (role ∷ id_type ∷ id_value ∷ name ∷ availability ∷ unpriced ∷ []) = detail_from role id_type id_value name availability unpriced
 detail_of _ = None
+
+-- a detail's row
+abbrev pub detail_record : SupplyDetail → List (List ℕ)
+detail_record d = codes "SupplyDetail" ∷ d.supplier.role ∷ (party_fields d.supplier.party ++ (d.supplier.name ∷ d.availability ∷ unwrap_or d.unpriced [] ∷ []))
+
+-- a detail's record and those of its prices
+unfoldable pub detail_records : SupplyDetail → List (List (List ℕ))
+detail_records d = detail_record d ∷ map price_record d.prices

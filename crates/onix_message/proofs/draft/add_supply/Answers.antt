@@ -1,11 +1,11 @@
 use Rattle.std.proofs.Common.{rules, ◌∷◌, [], ◌∙◌, ◌++◌, ap, sym, List, append_assoc}
 use Rattle.std.specs.List.{flat_map}
-use Rattle.onix_message.specs.Nest.{product_rows}
+use Rattle.onix_message.specs.PartRows.{product_rows}
 use Rattle.onix_message.specs.declared.row.Row.{Row}
 use Rattle.onix_message.specs.declared.row.Row.TheVariants as row
-use Rattle.onix_message.specs.Draft.{part_rows}
+use Rattle.onix_message.specs.private.Draft.{part_rows}
 use Rattle.onix_message.proofs.RowLists.{bare-supply, supply-next}
-use Rattle.onix_message.proofs.steps.add_supply.Goals as goal
+use Rattle.onix_message.proofs.draft.add_supply.Goals as goal
 
 pub returns-in-Ok-clause-added : goal.returns-in-Ok-clause-added
 returns-in-Ok-clause-added c =

@@ -1,7 +1,7 @@
 use Rattle.std.proofs.Common.{List, [], ◌++◌, ◌≡◌, ◌∙◌, ap, refl, true, false}
 use Rattle.std.specs.List.{flat_map}
-use Rattle.onix_message.specs.Draft.{AllowsProduct, RefusesProduct, RefusesSupply, allows}
-use Rattle.onix_message.specs.Nest.{product_rows}
+use Rattle.onix_message.specs.private.Draft.{AllowsProduct, RefusesProduct, RefusesSupply, allows}
+use Rattle.onix_message.specs.PartRows.{product_rows}
 use Rattle.onix_message.specs.declared.draft.Part.{Part}
 use Rattle.onix_message.specs.declared.draft.Part.TheVariants as part
 use Rattle.onix_message.specs.declared.draft.StepFault.{StepFault}
@@ -9,7 +9,7 @@ use Rattle.onix_message.specs.declared.draft.StepFault.TheVariants as fault
 use Rattle.onix_message.specs.declared.parts.ProductSupply.{ProductSupply}
 use Rattle.onix_message.specs.declared.row.Row.{Row}
 use Rattle.onix_message.specs.declared.row.Row.TheVariants as row
-use Rattle.onix_message.proofs.steps.close_to_products.Goals as goal
+use Rattle.onix_message.proofs.draft.close_to_products.Goals as goal
 
 some-supply : ProductSupply
 some-supply = record { market = record { included = []; world = false; excluded = [] }; details = [] }

@@ -6,9 +6,9 @@ use Rattle.std.proofs.lemmas.Bool.{and_from, and_parts, eq-eqb, eqb-true}
 use Rattle.std.proofs.lemmas.List.{append-nil}
 use Rattle.std.proofs.lemmas.Option.{cond_some}
 use Rattle.onix_message.specs.Grammar.{IsMessage, KeepsOrder, may_follow}
-use Rattle.onix_message.specs.Message.{Gathered, ends, front_rows, message_after, message_of, nest, with_detail, with_price, with_product, with_supply}
-use Rattle.onix_message.specs.Nest.{HasDetails, SuppliesHaveDetails, content_rows, detail_rows, product_rows, rows_after, supply_rows}
-use Rattle.onix_message.specs.OpeningRow.{opening_of}
+use Rattle.onix_message.specs.Message.{PartLists, ends, front_rows, message_after, message_of, parts_of, with_detail, with_price, with_product, with_supply}
+use Rattle.onix_message.specs.PartRows.{HasDetails, SuppliesHaveDetails, content_rows, detail_rows, product_rows, rows_after, supply_rows}
+use Rattle.onix_message.specs.Opening.{opening_of}
 use Rattle.onix_message.specs.Row.{message_row}
 use Rattle.onix_message.specs.declared.parts.Header.{Header}
 use Rattle.onix_message.specs.declared.parts.Price.{Price}
@@ -28,67 +28,67 @@ use Rattle.onix_terms.specs.Options.{◌>>=◌}
 
 -- the same parts, with these prices, details, supplies or products
 
-abbrev set_prices : Gathered → List Price → Gathered
+abbrev set_prices : PartLists → List Price → PartLists
 set_prices g ps = record { products = g.products; supplies = g.supplies; details = g.details; prices = ps }
 
-abbrev set_details : Gathered → List SupplyDetail → Gathered
+abbrev set_details : PartLists → List SupplyDetail → PartLists
 set_details g ds = record { products = g.products; supplies = g.supplies; details = ds; prices = [] }
 
-abbrev set_supplies : Gathered → List ProductSupply → Gathered
+abbrev set_supplies : PartLists → List ProductSupply → PartLists
 set_supplies g ss = record { products = g.products; supplies = ss; details = []; prices = [] }
 
-abbrev set_products : List Product → Gathered
+abbrev set_products : List Product → PartLists
 set_products ps = record { products = ps; supplies = []; details = []; prices = [] }
 
-prices-nest : (ps : List Price) (rows : List Row) → nest (map row.Price ps ++ rows) ≡ set_prices (nest rows) (ps ++ (nest rows).prices)
-unfolding nest
-prices-nest [] rows = refl
-prices-nest (p ∷ ps) rows = ap (with_price p) (prices-nest ps rows)
+prices-made : (ps : List Price) (rows : List Row) → parts_of (map row.Price ps ++ rows) ≡ set_prices (parts_of rows) (ps ++ (parts_of rows).prices)
+unfolding parts_of
+prices-made [] rows = refl
+prices-made (p ∷ ps) rows = ap (with_price p) (prices-made ps rows)
 
-details-nest : (ds : List SupplyDetail) (rows : List Row) → (nest rows).prices ≡ []
-    → nest (flat_map detail_rows ds ++ rows) ≡ set_details (nest rows) (ds ++ (nest rows).details)
-unfolding nest
-details-nest [] rows e = ap (set_prices (nest rows)) e
-details-nest (d ∷ ds) rows e =
+details-made : (ds : List SupplyDetail) (rows : List Row) → (parts_of rows).prices ≡ []
+    → parts_of (flat_map detail_rows ds ++ rows) ≡ set_details (parts_of rows) (ds ++ (parts_of rows).details)
+unfolding parts_of
+details-made [] rows e = ap (set_prices (parts_of rows)) e
+details-made (d ∷ ds) rows e =
     let rest = flat_map detail_rows ds ++ rows in
     let a : (map row.Price d.prices ++ flat_map detail_rows ds) ++ rows ≡ map row.Price d.prices ++ rest = append_assoc (map row.Price d.prices) (flat_map detail_rows ds) rows in
     let own : SupplyDetail = record d { prices = [] } in
-    ap (λ (t : List Row). with_detail own (nest t)) a
-    ∙ ap (with_detail own) (prices-nest d.prices rest)
-    ∙ ap (λ (g : Gathered). with_detail own (set_prices g (d.prices ++ g.prices))) (details-nest ds rows e)
-    ∙ ap (λ (ps : List Price). with_detail own (set_prices (set_details (nest rows) (ds ++ (nest rows).details)) ps)) (append-nil d.prices)
+    ap (λ (t : List Row). with_detail own (parts_of t)) a
+    ∙ ap (with_detail own) (prices-made d.prices rest)
+    ∙ ap (λ (g : PartLists). with_detail own (set_prices g (d.prices ++ g.prices))) (details-made ds rows e)
+    ∙ ap (λ (ps : List Price). with_detail own (set_prices (set_details (parts_of rows) (ds ++ (parts_of rows).details)) ps)) (append-nil d.prices)
 
-supplies-nest : (ss : List ProductSupply) (rows : List Row) → (nest rows).prices ≡ [] → (nest rows).details ≡ []
-    → nest (flat_map supply_rows ss ++ rows) ≡ set_supplies (nest rows) (ss ++ (nest rows).supplies)
-unfolding nest
-supplies-nest [] rows e f = ap (set_prices (nest rows)) e ∙ ap (set_details (nest rows)) f
-supplies-nest (s ∷ ss) rows e f =
+supplies-made : (ss : List ProductSupply) (rows : List Row) → (parts_of rows).prices ≡ [] → (parts_of rows).details ≡ []
+    → parts_of (flat_map supply_rows ss ++ rows) ≡ set_supplies (parts_of rows) (ss ++ (parts_of rows).supplies)
+unfolding parts_of
+supplies-made [] rows e f = ap (set_prices (parts_of rows)) e ∙ ap (set_details (parts_of rows)) f
+supplies-made (s ∷ ss) rows e f =
     let rest = flat_map supply_rows ss ++ rows in
     let a : (flat_map detail_rows s.details ++ flat_map supply_rows ss) ++ rows ≡ flat_map detail_rows s.details ++ rest = append_assoc (flat_map detail_rows s.details) (flat_map supply_rows ss) rows in
     let own : ProductSupply = record s { details = [] } in
-    let h = supplies-nest ss rows e f in
-    ap (λ (t : List Row). with_supply own (nest t)) a
-    ∙ ap (with_supply own) (details-nest s.details rest (ap (λ (g : Gathered). g.prices) h))
-    ∙ ap (λ (g : Gathered). with_supply own (set_details g (s.details ++ g.details))) h
-    ∙ ap (λ (ds : List SupplyDetail). with_supply own (set_details (set_supplies (nest rows) (ss ++ (nest rows).supplies)) ds)) (append-nil s.details)
+    let h = supplies-made ss rows e f in
+    ap (λ (t : List Row). with_supply own (parts_of t)) a
+    ∙ ap (with_supply own) (details-made s.details rest (ap (λ (g : PartLists). g.prices) h))
+    ∙ ap (λ (g : PartLists). with_supply own (set_details g (s.details ++ g.details))) h
+    ∙ ap (λ (ds : List SupplyDetail). with_supply own (set_details (set_supplies (parts_of rows) (ss ++ (parts_of rows).supplies)) ds)) (append-nil s.details)
 
-products-nest : (ps : List Product) (rows : List Row) → (nest rows).prices ≡ [] → (nest rows).details ≡ [] → (nest rows).supplies ≡ []
-    → nest (flat_map product_rows ps ++ rows) ≡ set_products (ps ++ (nest rows).products)
-unfolding nest
-products-nest [] rows e f g = ap (set_prices (nest rows)) e ∙ ap (set_details (nest rows)) f ∙ ap (set_supplies (nest rows)) g
-products-nest (p ∷ ps) rows e f g =
+products-made : (ps : List Product) (rows : List Row) → (parts_of rows).prices ≡ [] → (parts_of rows).details ≡ [] → (parts_of rows).supplies ≡ []
+    → parts_of (flat_map product_rows ps ++ rows) ≡ set_products (ps ++ (parts_of rows).products)
+unfolding parts_of
+products-made [] rows e f g = ap (set_prices (parts_of rows)) e ∙ ap (set_details (parts_of rows)) f ∙ ap (set_supplies (parts_of rows)) g
+products-made (p ∷ ps) rows e f g =
     let rest = flat_map product_rows ps ++ rows in
     let a : (flat_map supply_rows p.supplies ++ flat_map product_rows ps) ++ rows ≡ flat_map supply_rows p.supplies ++ rest = append_assoc (flat_map supply_rows p.supplies) (flat_map product_rows ps) rows in
     let own : Product = record p { supplies = [] } in
-    let h = products-nest ps rows e f g in
-    ap (λ (t : List Row). with_product own (nest t)) a
-    ∙ ap (with_product own) (supplies-nest p.supplies rest (ap (λ (k : Gathered). k.prices) h) (ap (λ (k : Gathered). k.details) h))
-    ∙ ap (λ (k : Gathered). with_product own (set_supplies k (p.supplies ++ k.supplies))) h
-    ∙ ap (λ (ss : List ProductSupply). with_product own (set_supplies (set_products (ps ++ (nest rows).products)) ss)) (append-nil p.supplies)
+    let h = products-made ps rows e f g in
+    ap (λ (t : List Row). with_product own (parts_of t)) a
+    ∙ ap (with_product own) (supplies-made p.supplies rest (ap (λ (k : PartLists). k.prices) h) (ap (λ (k : PartLists). k.details) h))
+    ∙ ap (λ (k : PartLists). with_product own (set_supplies k (p.supplies ++ k.supplies))) h
+    ∙ ap (λ (ss : List ProductSupply). with_product own (set_supplies (set_products (ps ++ (parts_of rows).products)) ss)) (append-nil p.supplies)
 
-contents-nest : (c : List Product) (n : ℕ) → (nest (content_rows c ++ row.EndMessage n ∷ [])).products ≡ c
-unfolding nest
-contents-nest c n = ap (λ (g : Gathered). g.products) (products-nest c (row.EndMessage n ∷ []) refl refl refl) ∙ append-nil c
+contents-made : (c : List Product) (n : ℕ) → (parts_of (content_rows c ++ row.EndMessage n ∷ [])).products ≡ c
+unfolding parts_of
+contents-made c n = ap (λ (g : PartLists). g.products) (products-made c (row.EndMessage n ∷ []) refl refl refl) ∙ append-nil c
 
 ends-cons : (x r : Row) (rows : List Row) → ends x (r ∷ rows) ≡ ends r rows
 ends-cons (row.Message h) r rows = refl
@@ -125,20 +125,20 @@ message-computed records h c m =
     let test : ((length (rows_after c) == length m.rest) && ends (message_row o) (rows_after c)) ≡ true = and_from _ _ (eq-eqb (length (rows_after c)) (length m.rest) l) (ends-last (message_row o) (rows_after c) (1 + length (content_rows c)) last) in
     ap message_of m.split
     ∙ ap (λ (t : Option Opening). t >>= (λ (x : Opening). message_after x m.rest)) m.header
-    ∙ ap (λ (t : List Row). if (length t == length m.rest) && ends (message_row o) t then Some (h, (nest t).products) else None) rows
-    ∙ ap (λ (t : Bool). if t then Some (h, (nest (rows_after c)).products) else None) test
-    ∙ ap (λ (ps : List Product). Some (h, ps)) (contents-nest c (1 + length (content_rows c)))
+    ∙ ap (λ (t : List Row). if (length t == length m.rest) && ends (message_row o) t then Some (h, (parts_of t).products) else None) rows
+    ∙ ap (λ (t : Bool). if t then Some (h, (parts_of (rows_after c)).products) else None) test
+    ∙ ap (λ (ps : List Product). Some (h, ps)) (contents-made c (1 + length (content_rows c)))
 
 -- Rows that keep the order are those of the parts that they make.
 
-flatten : Gathered → List Row
+flatten : PartLists → List Row
 flatten g = map row.Price g.prices ++ (flat_map detail_rows g.details ++ (flat_map supply_rows g.supplies ++ flat_map product_rows g.products))
 
 -- these rows are those of the parts that they make, with an end, and each supply has a detail
 record Rebuilt (rows : List Row) (n : ℕ) : Type 0 where
-  same : rows ≡ flatten (nest rows) ++ row.EndMessage n ∷ []
-  supplies : AllByRecursion HasDetails (nest rows).supplies
-  products : AllByRecursion SuppliesHaveDetails (nest rows).products
+  same : rows ≡ flatten (parts_of rows) ++ row.EndMessage n ∷ []
+  supplies : AllByRecursion HasDetails (parts_of rows).supplies
+  products : AllByRecursion SuppliesHaveDetails (parts_of rows).products
 
 no-message : (a : Row) (h : Header) → may_follow a (row.Message h) ≡ false
 no-message (row.Message g) h = refl
@@ -157,13 +157,13 @@ no-more n (row.Price p) = refl
 no-more n (row.EndMessage m) = refl
 
 more-price : (p : Price) (rows : List Row) (n : ℕ) → Rebuilt rows n → Rebuilt (row.Price p ∷ rows) n
-unfolding nest flatten
+unfolding parts_of flatten
 more-price p rows n r = record { same = ap (λ (t : List Row). row.Price p ∷ t) r.same; supplies = r.supplies; products = r.products }
 
 more-detail : (d : SupplyDetail) (rows : List Row) (n : ℕ) → d.prices ≡ [] → Rebuilt rows n → Rebuilt (row.SupplyDetail d ∷ rows) n
-unfolding nest flatten
+unfolding parts_of flatten
 more-detail d rows n bare r =
-    let g = nest rows in
+    let g = parts_of rows in
     let own : row.SupplyDetail d ≡ row.SupplyDetail (record d { prices = [] }) = ap (λ (ps : List Price). row.SupplyDetail (record d { prices = ps })) bare in
     let above = flat_map supply_rows g.supplies ++ flat_map product_rows g.products in
     record {
@@ -175,10 +175,10 @@ more-detail d rows n bare r =
       products = r.products;
     }
 
-more-supply : (s : ProductSupply) (rows : List Row) (n : ℕ) → s.details ≡ [] → (nest rows).prices ≡ [] → (nest rows).details ≢ [] → Rebuilt rows n → Rebuilt (row.ProductSupply s ∷ rows) n
-unfolding nest flatten
+more-supply : (s : ProductSupply) (rows : List Row) (n : ℕ) → s.details ≡ [] → (parts_of rows).prices ≡ [] → (parts_of rows).details ≢ [] → Rebuilt rows n → Rebuilt (row.ProductSupply s ∷ rows) n
+unfolding parts_of flatten
 more-supply s rows n bare none some r =
-    let g = nest rows in
+    let g = parts_of rows in
     let own : row.ProductSupply s ≡ row.ProductSupply (record s { details = [] }) = ap (λ (ds : List SupplyDetail). row.ProductSupply (record s { details = ds })) bare in
     let rest = flat_map detail_rows g.details ++ (flat_map supply_rows g.supplies ++ flat_map product_rows g.products) in
     record {
@@ -191,10 +191,10 @@ more-supply s rows n bare none some r =
       products = r.products;
     }
 
-more-product : (p : Product) (rows : List Row) (n : ℕ) → p.supplies ≡ [] → (nest rows).prices ≡ [] → (nest rows).details ≡ [] → Rebuilt rows n → Rebuilt (row.Product p ∷ rows) n
-unfolding nest flatten
+more-product : (p : Product) (rows : List Row) (n : ℕ) → p.supplies ≡ [] → (parts_of rows).prices ≡ [] → (parts_of rows).details ≡ [] → Rebuilt rows n → Rebuilt (row.Product p ∷ rows) n
+unfolding parts_of flatten
 more-product p rows n bare none nil r =
-    let g = nest rows in
+    let g = parts_of rows in
     let own : row.Product p ≡ row.Product (record p { supplies = [] }) = ap (λ (ss : List ProductSupply). row.Product (record p { supplies = ss })) bare in
     let rest = flat_map supply_rows g.supplies ++ flat_map product_rows g.products in
     record {
@@ -208,8 +208,8 @@ more-product p rows n bare none nil r =
     }
 
 -- nothing that may come after a product is a price or a detail
-no-detail : (p : Product) (y : Row) (rows : List Row) → may_follow (row.Product p) y ≡ true → ((nest (y ∷ rows)).prices ≡ []) × ((nest (y ∷ rows)).details ≡ [])
-unfolding nest
+no-detail : (p : Product) (y : Row) (rows : List Row) → may_follow (row.Product p) y ≡ true → ((parts_of (y ∷ rows)).prices ≡ []) × ((parts_of (y ∷ rows)).details ≡ [])
+unfolding parts_of
 no-detail p (row.Message h) rows m = cc m
 no-detail p (row.Product q) rows m = (refl, refl)
 no-detail p (row.ProductSupply s) rows m = (refl, refl)
@@ -218,8 +218,8 @@ no-detail p (row.Price q) rows m = cc m
 no-detail p (row.EndMessage n) rows m = (refl, refl)
 
 -- what comes after a supply is a detail
-some-detail : (s : ProductSupply) (y : Row) (rows : List Row) → may_follow (row.ProductSupply s) y ≡ true → ((nest (y ∷ rows)).prices ≡ []) × ((nest (y ∷ rows)).details ≢ [])
-unfolding nest
+some-detail : (s : ProductSupply) (y : Row) (rows : List Row) → may_follow (row.ProductSupply s) y ≡ true → ((parts_of (y ∷ rows)).prices ≡ []) × ((parts_of (y ∷ rows)).details ≢ [])
+unfolding parts_of
 some-detail s (row.Message h) rows m = cc m
 some-detail s (row.Product q) rows m = cc m
 some-detail s (row.ProductSupply t) rows m = cc m
@@ -228,7 +228,7 @@ some-detail s (row.Price q) rows m = cc m
 some-detail s (row.EndMessage n) rows m = cc m
 
 at-end : (m n : ℕ) → row.EndMessage m ≡ row.EndMessage n → Rebuilt (row.EndMessage m ∷ []) n
-unfolding nest flatten
+unfolding parts_of flatten
 at-end m n e = record { same = ap (λ (x : Row). x ∷ []) e; supplies = tt; products = tt }
 
 rebuilds : (a x : Row) (rows : List Row) (n : ℕ) → AllBare (x ∷ rows) → may_follow a x ≡ true → KeepsOrder (x ∷ rows) → last_of x rows ≡ row.EndMessage n → Rebuilt (x ∷ rows) n
@@ -251,8 +251,8 @@ rebuilds a (row.Price p) (y ∷ rows) n bare m order last =
     more-price p (y ∷ rows) n (rebuilds (row.Price p) y rows n bare.1 order.0 order.1 last)
 
 -- the parts that the rows after a header make stand in no other but the products
-no-parts-left : (h : Header) (x : Row) (rows : List Row) → may_follow (row.Message h) x ≡ true → ((nest (x ∷ rows)).prices ≡ []) × ((nest (x ∷ rows)).details ≡ []) × ((nest (x ∷ rows)).supplies ≡ [])
-unfolding nest
+no-parts-left : (h : Header) (x : Row) (rows : List Row) → may_follow (row.Message h) x ≡ true → ((parts_of (x ∷ rows)).prices ≡ []) × ((parts_of (x ∷ rows)).details ≡ []) × ((parts_of (x ∷ rows)).supplies ≡ [])
+unfolding parts_of
 no-parts-left h (row.Message g) rows m = cc m
 no-parts-left h (row.Product p) rows m = (refl, refl, refl)
 no-parts-left h (row.ProductSupply s) rows m = cc m
@@ -262,13 +262,13 @@ no-parts-left h (row.EndMessage n) rows m = (refl, refl, refl)
 
 -- the rows after a header that end in an end
 pub rows-rebuilt : (h : Header) (rows : List Row) (n : ℕ) → AllBare rows → KeepsOrder (row.Message h ∷ rows) → last_of (row.Message h) rows ≡ row.EndMessage n
-    → (rows ≡ flat_map product_rows (nest rows).products ++ row.EndMessage n ∷ []) × AllByRecursion SuppliesHaveDetails (nest rows).products
+    → (rows ≡ flat_map product_rows (parts_of rows).products ++ row.EndMessage n ∷ []) × AllByRecursion SuppliesHaveDetails (parts_of rows).products
 unfolding flatten
 rows-rebuilt h [] n bare order last = cc last
 rows-rebuilt h (x ∷ rows) n bare order last =
     let r = rebuilds (row.Message h) x rows n bare order.0 order.1 last in
     let p = no-parts-left h x rows order.0 in
-    let g = nest (x ∷ rows) in (
+    let g = parts_of (x ∷ rows) in (
       r.same
           ∙ ap (λ (ps : List Price). (map row.Price ps ++ (flat_map detail_rows g.details ++ (flat_map supply_rows g.supplies ++ flat_map product_rows g.products))) ++ row.EndMessage n ∷ []) p.0
           ∙ ap (λ (ds : List SupplyDetail). (flat_map detail_rows ds ++ (flat_map supply_rows g.supplies ++ flat_map product_rows g.products)) ++ row.EndMessage n ∷ []) p.1
@@ -283,13 +283,13 @@ after-meant : (first : List (List ℕ)) (rest : List (List (List ℕ))) (o : Ope
 unfolding message_after
 after-meant first rest o h c opens e =
     let rows = front_rows o (message_row o) 1 rest in
-    let (test, same) = cond_some ((length rows == length rest) && ends (message_row o) rows) (o.header, (nest rows).products) (h, c) e in
+    let (test, same) = cond_some ((length rows == length rest) && ends (message_row o) rows) (o.header, (parts_of rows).products) (h, c) e in
     let p = and_parts _ _ test in
     let reads = computed-reads o rest (eqb-true (length rows) (length rest) p.0) in
     let (n, last) = last-ends (message_row o) rows p.1 in
     let r = rows-rebuilt o.header rows n (all-bare o rest rows reads.reads) reads.order last in
-    let both = pair-parts o.header h (nest rows).products c same in
-    let m = is-message (first ∷ rest) first rest o (nest rows).products n refl opens (rw (← r.0) reads) r.1 in
+    let both = pair-parts o.header h (parts_of rows).products c same in
+    let m = is-message (first ∷ rest) first rest o (parts_of rows).products n refl opens (rw (← r.0) reads) r.1 in
     rw (← both.0, ← both.1) m
 
 -- and what is computed is what a message says

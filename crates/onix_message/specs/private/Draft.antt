@@ -1,8 +1,8 @@
--- The part of a message that was read so far.
+-- The part of a message that was read so far, and how a row is added: what private functions say to one another.
 use Rattle.std.specs.Prelude.{ℕ, List, [], ◌∷◌, ◌++◌, ◌≡◌, Bool, true, false, ⊤, Some}
 use Rattle.std.specs.List.{AllByRecursion, flat_map}
 use Rattle.onix_message.specs.Grammar.{is_counted, may_follow}
-use Rattle.onix_message.specs.Nest.{SuppliesHaveDetails, detail_rows, product_rows, supply_rows}
+use Rattle.onix_message.specs.PartRows.{SuppliesHaveDetails, detail_rows, product_rows, supply_rows}
 use Rattle.onix_message.specs.Row.{row_of}
 use Rattle.onix_message.specs.declared.draft.Draft.{Draft}
 use Rattle.onix_message.specs.declared.draft.Part.{Part}
@@ -57,6 +57,13 @@ DraftHasDetails d = AllByRecursion SuppliesHaveDetails d.products × PartHasDeta
 abbrev pub has_ended : Part → Bool
 has_ended (part.Ended n) = true
 has_ended _ = false
+
+-- a row as a record gives it, with nothing below it
+abbrev pub IsBare : Row → Type 0
+IsBare (row.Product p) = p.supplies ≡ []
+IsBare (row.ProductSupply s) = s.details ≡ []
+IsBare (row.SupplyDetail d) = d.prices ≡ []
+IsBare _ = ⊤
 
 -- one row was added
 pub record Adds (old : Draft) (r : Row) (new : Draft) : Type 0 where

@@ -2,7 +2,7 @@ use Rattle.std.proofs.Common.{refl}
 use Rattle.onix_message.specs.declared.row.Row.TheVariants as row
 use Rattle.onix_message.specs.Row.{message_row}
 use Rattle.onix_message.proofs.RowFaults.{fault-row}
-use Rattle.onix_message.proofs.rows.read_named.Goals as goal
+use Rattle.onix_message.proofs.row.read_named.Goals as goal
 
 pub returns-in-Ok : goal.returns-in-Ok
 returns-in-Ok c = rw (← c.if-eq.ensures, c.in-Ok.ensures) refl

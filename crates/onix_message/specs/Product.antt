@@ -1,7 +1,9 @@
--- The row Product.
-use Rattle.std.specs.Prelude.{ℕ, List, [], ◌∷◌, Option, Some, None}
+-- A product: the row Product, as it is read and as it is written, and the records of products.
+use Rattle.std.specs.Prelude.{ℕ, List, [], ◌∷◌, Option, Some, None, codes}
+use Rattle.std.specs.List.{flat_map}
 use Rattle.onix_terms.specs.Code.{code2_of}
 use Rattle.onix_terms.specs.Options.{◌>>=◌, nonempty}
+use Rattle.onix_message.specs.Supply.{supplies_records}
 use Rattle.onix_message.specs.declared.parts.Product.{Product}
 use Rattle.onix_message.specs.declared.parts.ProductIdentifier.{ProductIdentifier}
 
@@ -29,3 +31,19 @@ product_of (reference ∷ notification ∷ kind ∷ pairs) = do
   ids ← pairs_of (kind ∷ pairs)
   Some (record { reference = r; notification = n; ids = ids; supplies = [] })
 product_of _ = None
+
+-- an identifier's type and value
+abbrev pub identifier_fields : ProductIdentifier → List (List ℕ)
+identifier_fields i = i.id_type ∷ i.id_value ∷ []
+
+-- a product's row, as it is written
+abbrev pub product_record : Product → List (List ℕ)
+product_record p = codes "Product" ∷ p.reference ∷ p.notification ∷ flat_map identifier_fields p.ids
+
+-- a product's record and those of its supplies
+unfoldable pub product_records : Product → List (List (List ℕ))
+product_records p = product_record p ∷ supplies_records p.supplies
+
+-- the records of contents
+unfoldable pub content_records : List Product → List (List (List ℕ))
+content_records products = flat_map product_records products

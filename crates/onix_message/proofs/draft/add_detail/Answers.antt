@@ -1,12 +1,12 @@
 use Rattle.std.proofs.Common.{rules, ◌++◌, ◌∷◌, ◌∙◌, [], ap, sym, List}
 use Rattle.std.specs.List.{flat_map}
-use Rattle.onix_message.specs.Draft.{allows, part_rows}
-use Rattle.onix_message.specs.Nest.{product_rows}
+use Rattle.onix_message.specs.private.Draft.{allows, part_rows}
+use Rattle.onix_message.specs.PartRows.{product_rows}
 use Rattle.onix_message.specs.declared.draft.Part.{Part}
 use Rattle.onix_message.specs.declared.row.Row.{Row}
 use Rattle.onix_message.specs.declared.row.Row.TheVariants as row
 use Rattle.onix_message.proofs.RowLists.{detail-next, detail-rows}
-use Rattle.onix_message.proofs.steps.add_detail.Goals as goal
+use Rattle.onix_message.proofs.draft.add_detail.Goals as goal
 
 pub returns-in-InSupply-clause-added : goal.returns-in-InSupply-clause-added
 returns-in-InSupply-clause-added c =

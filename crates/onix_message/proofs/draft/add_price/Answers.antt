@@ -1,11 +1,11 @@
 use Rattle.std.proofs.Common.{rules, ◌++◌, ◌∷◌, ◌∙◌, [], ap, sym}
 use Rattle.std.specs.List.{flat_map}
-use Rattle.onix_message.specs.Draft.{allows, part_rows}
-use Rattle.onix_message.specs.Nest.{product_rows}
+use Rattle.onix_message.specs.private.Draft.{allows, part_rows}
+use Rattle.onix_message.specs.PartRows.{product_rows}
 use Rattle.onix_message.specs.declared.draft.Part.{Part}
 use Rattle.onix_message.specs.declared.row.Row.TheVariants as row
 use Rattle.onix_message.proofs.RowLists.{price-next, price-rows}
-use Rattle.onix_message.proofs.steps.add_price.Goals as goal
+use Rattle.onix_message.proofs.draft.add_price.Goals as goal
 
 pub returns-in-Ok-clause-added : goal.returns-in-Ok-clause-added
 returns-in-Ok-clause-added c =

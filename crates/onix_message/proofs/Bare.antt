@@ -5,11 +5,13 @@ use Rattle.std.specs.List.{list_all}
 use Rattle.std.specs.Str.{bytes_eq}
 use Rattle.std.proofs.lemmas.Option.{same_Some}
 use Rattle.onix_message.specs.Fields.{is_clean, optional, optional_party}
-use Rattle.onix_message.specs.OpeningRow.{opening_fields}
-use Rattle.onix_message.specs.PriceRow.{price_of}
-use Rattle.onix_message.specs.ProductRow.{pairs_of, product_of}
-use Rattle.onix_message.specs.Row.{IsBare, end_of, message_row, named_row, row_of}
-use Rattle.onix_message.specs.SupplyRow.{detail_of, supplier_name, supply_of}
+use Rattle.onix_message.specs.Opening.{opening_fields}
+use Rattle.onix_message.specs.Price.{price_of}
+use Rattle.onix_message.specs.Product.{pairs_of, product_of}
+use Rattle.onix_message.specs.Row.{end_of, message_row, named_row, row_of}
+use Rattle.onix_message.specs.private.Draft.{IsBare}
+use Rattle.onix_message.specs.Detail.{detail_of, supplier_name}
+use Rattle.onix_message.specs.Supply.{supply_of}
 use Rattle.onix_message.specs.declared.parts.Product.{Product}
 use Rattle.onix_message.specs.declared.parts.ProductSupply.{ProductSupply}
 use Rattle.onix_message.specs.declared.parts.SupplyDetail.{SupplyDetail}

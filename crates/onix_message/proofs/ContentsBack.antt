@@ -5,9 +5,9 @@ use Rattle.std.proofs.lemmas.List.{length-map, map-append}
 use Rattle.onix_message.specs.ContentsText.{IsContents, end_record, framed, plain_opening}
 use Rattle.onix_message.specs.Grammar.{IsMessage}
 use Rattle.onix_message.specs.Message.{message_of}
-use Rattle.onix_message.specs.Nest.{SuppliesHaveDetails, content_rows, detail_rows, product_rows, rows_after, supply_rows}
+use Rattle.onix_message.specs.PartRows.{SuppliesHaveDetails, content_rows, detail_rows, product_rows, rows_after, supply_rows}
 use Rattle.onix_message.specs.Row.{row_of}
-use Rattle.onix_message.specs.RowRecords.{content_records}
+use Rattle.onix_message.specs.Product.{content_records}
 use Rattle.onix_message.specs.declared.parts.Header.{Header}
 use Rattle.onix_message.specs.declared.parts.Price.{Price}
 use Rattle.onix_message.specs.declared.parts.Product.{Product}
@@ -18,7 +18,7 @@ use Rattle.onix_message.specs.declared.row.Opening.{Opening}
 use Rattle.onix_message.specs.declared.row.Row.{Row}
 use Rattle.onix_message.specs.declared.row.Row.TheVariants as row
 use Rattle.onix_message.proofs.Fronts.{cons-parts, reads-length}
-use Rattle.onix_message.proofs.Nests.{message-meant}
+use Rattle.onix_message.proofs.RowParts.{message-meant}
 use Rattle.onix_message.proofs.OneText.{content-record-rows, record_of}
 use Rattle.onix_message.proofs.RowTexts.{HasCodes, IsContent, end-back, opening-codes, plain, plain-opens, plain_header, row-back}
 use Rattle.onix_message.proofs.TermLaws.{TermLaws}

@@ -4,7 +4,7 @@ use Rattle.onix_message.specs.Grammar.{IsMessage}
 use Rattle.onix_message.specs.Message.{message_of}
 use Rattle.onix_message.specs.declared.parts.Header.{Header}
 use Rattle.onix_message.specs.declared.parts.Product.{Product}
-use Rattle.onix_message.proofs.Nests.{message-meant}
+use Rattle.onix_message.proofs.RowParts.{message-meant}
 
 none-computed : (m : Option (Header × List Product)) → ((h : Header) (c : List Product) → m ≡ Some (h, c) → ⊥) → m ≡ None
 none-computed None never = refl

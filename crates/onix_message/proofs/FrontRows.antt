@@ -7,7 +7,7 @@ use Rattle.std.proofs.lemmas.List.{length-take-le}
 use Rattle.std.proofs.lemmas.Option.{cond_some}
 use Rattle.onix_message.specs.Grammar.{CountsAfter, IsBadRow, IsFront, KeepsOrder, is_counted, may_follow}
 use Rattle.onix_message.specs.Message.{bad_row, front_rows, next_row}
-use Rattle.onix_message.specs.OpeningRow.{opening_of}
+use Rattle.onix_message.specs.Opening.{opening_of}
 use Rattle.onix_message.specs.Row.{message_row, row_of}
 use Rattle.onix_message.specs.declared.row.Opening.{Opening}
 use Rattle.onix_message.specs.declared.row.Row.{Row}
@@ -185,7 +185,7 @@ opening-cases (Some x) f g = g x refl
 
 -- the records stop being a front at the row that is computed
 pub bad-meant : (records : List Record) → IsBadRow records (bad_row records)
-bad-meant [] = rw bad-nil (record { some = 0; at = refl; prefix = omega arith; front = inl refl; longest = λ n small front. small })
+bad-meant [] = rw bad-nil (record { before = 0; at = refl; prefix = omega arith; front = inl refl; longest = λ n small front. small })
 bad-meant (first ∷ rest) = opening-cases (opening_of first) wrong good
   where
     never : (n : ℕ) → opening_of first ≡ None → IsFront (take n (first ∷ rest)) → n ≤ 0
@@ -197,7 +197,7 @@ bad-meant (first ∷ rest) = opening-cases (opening_of first) wrong good
         gone p q = cc (e, p, q)
 
     wrong : opening_of first ≡ None → IsBadRow (first ∷ rest) (bad_row (first ∷ rest))
-    wrong e = rw (bad-none first rest e) (record { some = 0; at = refl; prefix = omega arith; front = inl refl; longest = λ n small front. never n e front })
+    wrong e = rw (bad-none first rest e) (record { before = 0; at = refl; prefix = omega arith; front = inl refl; longest = λ n small front. never n e front })
 
     longest : (o : Opening) → opening_of first ≡ Some o → (n : ℕ) → n ≤ length (first ∷ rest) → IsFront (take n (first ∷ rest)) → n ≤ suc (length (front_after o rest))
     longest o h zero small front = omega arith
@@ -216,7 +216,7 @@ bad-meant (first ∷ rest) = opening-cases (opening_of first) wrong good
         let small = follows-length o (message_row o) 1 rest rows f in
         let l : length (take (length rows) rest) ≡ length rows = length-take-le (length rows) rest small in
         rw (bad-some first rest o h) (record {
-          some = suc (length rows);
+          before = suc (length rows);
           at = omega arith;
           prefix = omega (arith, small);
           front = inr (reads-begun (first ∷ take (length rows) rest) first (take (length rows) rest) o rows refl h (follows-are-read o (take (length rows) rest) rows (follows-take o (message_row o) 1 rest rows f) (sym l)));
@@ -226,8 +226,8 @@ bad-meant (first ∷ rest) = opening-cases (opening_of first) wrong good
 -- a list of records has one bad row
 pub one-bad : (records : List Record) (p q : ℕ) → IsBadRow records p → IsBadRow records q → p ≡ q
 one-bad records p q b d =
-    let l = d.longest b.some b.prefix b.front in
-    let m = b.longest d.some d.prefix d.front in
+    let l = d.longest b.before b.prefix b.front in
+    let m = b.longest d.before d.prefix d.front in
     let x = b.at in
     let y = d.at in
     omega (arith, l, m, x, y)

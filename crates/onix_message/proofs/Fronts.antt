@@ -5,10 +5,10 @@ use Rattle.std.proofs.Math.Seq.{take-append_seam, take-append-add}
 use Rattle.std.proofs.lemmas.Bool.{cases_lt, eqb-true}
 use Rattle.std.specs.List.{AllByRecursion, flat_map}
 use Rattle.std.proofs.lemmas.Option.{same_Some}
-use Rattle.onix_message.specs.Draft.{DraftHasDetails, Stops, Takes, allows, draft_rows, has_ended, part_rows}
+use Rattle.onix_message.specs.private.Draft.{DraftHasDetails, Stops, Takes, allows, draft_rows, has_ended, part_rows}
 use Rattle.onix_message.specs.Grammar.{BeginsMessage, CountsAfter, IsBadRow, IsFront, IsMessage, KeepsOrder, is_counted, may_follow}
-use Rattle.onix_message.specs.Nest.{SuppliesHaveDetails, content_rows, product_rows, rows_after}
-use Rattle.onix_message.specs.OpeningRow.{opening_of}
+use Rattle.onix_message.specs.PartRows.{SuppliesHaveDetails, content_rows, product_rows, rows_after}
+use Rattle.onix_message.specs.Opening.{opening_of}
 use Rattle.onix_message.specs.Row.{message_row, row_of}
 use Rattle.onix_message.specs.declared.draft.Draft.{Draft}
 use Rattle.onix_message.specs.declared.draft.Part.{Part}
@@ -156,7 +156,7 @@ IsNoMessage records = (h : Header) (c : List Product) → IsMessage records h c 
 
 -- where and why records stop being a message
 abbrev pub Breaks : List Record → ℕ → Type 0
-Breaks records place = IsNoMessage records × IsBadRow records place
+Breaks records number = IsNoMessage records × IsBadRow records number
 
 least : (n k : ℕ) → (k < n → ⊥) → n ≤ k
 least n k never = elim (cases_lt k n) [ inl less ↦ absurd (never less) | inr small ↦ small ]
@@ -165,11 +165,11 @@ never-cons : {A : Type 0} (xs ys : List A) (y : A) → xs ≡ y ∷ ys → xs �
 never-cons xs ys y e none = cc (sym e ∙ none)
 
 -- where a front can't go on, the records are no message
-stops-at : (records : List Record) (first : Record) (rest : List Record) (o : Opening) (done : List Record) (r : Record) (more : List Record) (rows : List Row) (place : ℕ)
+stops-at : (records : List Record) (first : Record) (rest : List Record) (o : Opening) (done : List Record) (r : Record) (more : List Record) (rows : List Row) (number : ℕ)
     → records ≡ first ∷ rest → opening_of first ≡ Some o → rest ≡ done ++ r ∷ more → Reads o done rows
     → ((x : Row) → row_of o r ≡ Some x → is_counted x (length done + 1) ≡ true → may_follow (last_of (message_row o) rows) x ≡ true → length done < 19999 → ⊥)
-    → place ≡ length done + 2 → Breaks records place
-stops-at records first rest o done r more rows place split header whole f never at =
+    → number ≡ length done + 2 → Breaks records number
+stops-at records first rest o done r more rows number split header whole f never at =
     let none : (tail : List Record) (all : List Record) → all ≡ first ∷ (done ++ r ∷ tail) → BeginsMessage all → ⊥ = λ tail all e b.
     let (others, w) = begun-reads all first (done ++ r ∷ tail) o e header b in
     let (x, reads, counted, follows, less) = front-next o done r tail rows others f w in
@@ -182,7 +182,7 @@ stops-at records first rest o done r more rows place split header whole f never 
     ap (take n) all ∙ ap (λ (k : ℕ). take k (first ∷ (done ++ r ∷ more))) e ∙ ap (λ (t : List Record). first ∷ t) (take-append-add done (r ∷ more) (suc m)) in (
       (λ g c m. none more records all (message-begins records g c m)),
       record {
-        some = suc (length done);
+        before = suc (length done);
         at = omega arith;
         prefix = rw all (omega (arith, l));
         front = inr (reads-begun (take (suc (length done)) records) first done o rows (ap (take (suc (length done))) all ∙ ap (λ (t : List Record). first ∷ t) (take-append_seam done (r ∷ more))) header f);
@@ -200,7 +200,7 @@ stops-first : (r : Record) (more : List Record) → opening_of r ≡ None → Br
 stops-first r more wrong = (
   (λ h c m. below (r ∷ more) more refl (message-begins (r ∷ more) h c m)),
   record {
-    some = 0;
+    before = 0;
     at = refl;
     prefix = omega arith;
     front = inl refl;
@@ -219,14 +219,14 @@ stops-first r more wrong = (
 stops-empty : Breaks [] 1
 stops-empty = (
   (λ h c m. cc m.split),
-  record { some = 0; at = refl; prefix = omega arith; front = inl refl; longest = λ n small front. small },
+  record { before = 0; at = refl; prefix = omega arith; front = inl refl; longest = λ n small front. small },
 )
 
 -- a front that doesn't end in an end
-stops-after : (records : List Record) (first : Record) (rest : List Record) (o : Opening) (rows : List Row) (place : ℕ)
+stops-after : (records : List Record) (first : Record) (rest : List Record) (o : Opening) (rows : List Row) (number : ℕ)
     → records ≡ first ∷ rest → opening_of first ≡ Some o → Reads o rest rows → ((n : ℕ) → last_of (message_row o) rows ≡ row.EndMessage n → ⊥)
-    → place ≡ length rest + 2 → Breaks records place
-stops-after records first rest o rows place split header f never at =
+    → number ≡ length rest + 2 → Breaks records number
+stops-after records first rest o rows number split header f never at =
     let size : length records ≡ length rest + 1 = rw split (omega arith) in (
       (λ g c m.
           let p = cons-parts _ _ _ _ (sym split ∙ m.split) in
@@ -235,7 +235,7 @@ stops-after records first rest o rows place split header f never at =
           let e = same-map rows (rows_after c) (sym f.reads ∙ reads) in
           never (1 + length (content_rows c)) (ap (λ (t : List Row). last_of (message_row o) t) e ∙ last-push (message_row o) (content_rows c) (row.EndMessage (1 + length (content_rows c))))),
       record {
-        some = length records;
+        before = length records;
         at = omega (arith, size);
         prefix = omega arith;
         front = inr (reads-begun (take (length records) records) first rest o rows (take_all (length records) records (omega arith) ∙ split) header f);
@@ -307,11 +307,11 @@ part-of : (rest : List Record) (i : ℕ) (r : Record) → r ≡ get_or rest i r 
 part-of rest i r at less =
     sym (take-append-drop i rest) ∙ ap (λ (t : List Record). take i rest ++ t) (drop_more rest i r less ∙ ap (λ (x : Record). x ∷ drop (i + 1) rest) (sym at))
 
-pub stops-in : (records : List Record) (first : Record) (rest : List Record) (o : Opening) (i : ℕ) (r : Record) (d : Draft) (place : ℕ) → records ≡ first ∷ rest → opening_of first ≡ Some o
-    → r ≡ get_or rest i r → i < length rest → Holds o (take i rest) d → Stops o d r (i + 1) steps.OutOfOrder → place ≡ i + 2 → Breaks records place
-stops-in records first rest o i r d place split header at less s stop p =
+pub stops-in : (records : List Record) (first : Record) (rest : List Record) (o : Opening) (i : ℕ) (r : Record) (d : Draft) (number : ℕ) → records ≡ first ∷ rest → opening_of first ≡ Some o
+    → r ≡ get_or rest i r → i < length rest → Holds o (take i rest) d → Stops o d r (i + 1) steps.OutOfOrder → number ≡ i + 2 → Breaks records number
+stops-in records first rest o i r d number split header at less s stop p =
     let l : length (take i rest) ≡ i = length-take-le i rest (omega arith) in
-    stops-at records first rest o (take i rest) r (drop (i + 1) rest) (draft_rows d) place split header (part-of rest i r at less) s.front
+    stops-at records first rest o (take i rest) r (drop (i + 1) rest) (draft_rows d) number split header (part-of rest i r at less) s.front
     (λ x reads counted follows small. stop x reads (rw l at counted) (s.next x ∙ follows))
     (omega (arith, l))
 
@@ -343,11 +343,11 @@ its-end (part.Ended n) e = (n, refl)
 pub no-end : (p : Part) → has_ended p ≡ false → (n : ℕ) → p ≡ part.Ended n → ⊥
 no-end p e n is = cc (sym e ∙ ap has_ended is)
 
-pub stops-end : (records : List Record) (first : Record) (rest : List Record) (o : Opening) (k : ℕ) (d : Draft) (place : ℕ) → records ≡ first ∷ rest → opening_of first ≡ Some o
-    → Holds o (take k rest) d → k ≡ length rest → ((n : ℕ) → d.part ≡ part.Ended n → ⊥) → place ≡ k + 2 → Breaks records place
-stops-end records first rest o k d place split header s e never p =
+pub stops-end : (records : List Record) (first : Record) (rest : List Record) (o : Opening) (k : ℕ) (d : Draft) (number : ℕ) → records ≡ first ∷ rest → opening_of first ≡ Some o
+    → Holds o (take k rest) d → k ≡ length rest → ((n : ℕ) → d.part ≡ part.Ended n → ⊥) → number ≡ k + 2 → Breaks records number
+stops-end records first rest o k d number split header s e never p =
     let front = subst (λ (t : List Record). Reads o t (draft_rows d)) (take_all k rest (omega arith)) s.front in
-    stops-after records first rest o (draft_rows d) place split header front
+    stops-after records first rest o (draft_rows d) number split header front
     (λ n last. let (y, allowed) = some-next d.part never in cc (sym (s.next y) ∙ allowed, ap (λ (a : Row). may_follow a y) last, ends n y))
     (omega arith)
   where

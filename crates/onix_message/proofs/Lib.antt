@@ -7,8 +7,9 @@ pub mod RowFaults
 pub mod CleanFields
 pub mod Pairs
 pub mod TenFields
-pub mod Nests
+pub mod RowParts
 pub mod Explained
+pub mod EndedFronts
 pub mod OneText
 pub mod TermLaws
 pub mod CleanTexts

@@ -9,9 +9,12 @@ use Rattle.std.proofs.lemmas.Option.{same_Some}
 use Rattle.csv.specs.Reading.{strip_bom}
 use Rattle.onix_message.specs.ContentsText.{IsContents, contents_text, end_record, framed, plain_opening}
 use Rattle.onix_message.specs.Grammar.{IsMessage}
-use Rattle.onix_message.specs.Nest.{content_rows, detail_rows, product_rows, supply_rows}
+use Rattle.onix_message.specs.PartRows.{content_rows, detail_rows, product_rows, supply_rows}
 use Rattle.csv_records.specs.RecordTexts.{AllFilled, records_of, records_text}
-use Rattle.onix_message.specs.RowRecords.{content_records, detail_record, detail_records, price_record, product_record, product_records, supplies_records, supply_record, supply_records}
+use Rattle.onix_message.specs.Detail.{detail_record, detail_records}
+use Rattle.onix_message.specs.Price.{price_record}
+use Rattle.onix_message.specs.Product.{content_records, product_record, product_records}
+use Rattle.onix_message.specs.Supply.{supplies_records, supply_record, supply_records}
 use Rattle.onix_message.specs.declared.parts.Header.{Header}
 use Rattle.onix_message.specs.declared.parts.Price.{Price}
 use Rattle.onix_message.specs.declared.parts.Product.{Product}
@@ -19,7 +22,7 @@ use Rattle.onix_message.specs.declared.parts.ProductSupply.{ProductSupply}
 use Rattle.onix_message.specs.declared.parts.SupplyDetail.{SupplyDetail}
 use Rattle.onix_message.specs.declared.row.Row.{Row}
 use Rattle.onix_message.specs.declared.row.Row.TheVariants as row
-use Rattle.onix_message.proofs.Nests.{message-computed}
+use Rattle.onix_message.proofs.RowParts.{message-computed}
 
 -- what the law of one text of records says
 pub record RecordLaw : Type 0 where

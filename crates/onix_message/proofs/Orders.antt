@@ -3,7 +3,7 @@ use Rattle.std.proofs.Common.{◌≡◌, ◌≢◌, ◌++◌, ◌∷◌, ◌+◌
 use Rattle.std.specs.List.{AllByRecursion, flat_map}
 use Rattle.std.proofs.lemmas.Bool.{eq-eqb}
 use Rattle.onix_message.specs.Grammar.{CountsAfter, KeepsOrder, is_counted, may_follow}
-use Rattle.onix_message.specs.Nest.{HasDetails, SuppliesHaveDetails, detail_rows, product_rows, supply_rows}
+use Rattle.onix_message.specs.PartRows.{HasDetails, SuppliesHaveDetails, detail_rows, product_rows, supply_rows}
 use Rattle.onix_message.specs.declared.parts.Header.{Header}
 use Rattle.onix_message.specs.declared.parts.Price.{Price}
 use Rattle.onix_message.specs.declared.parts.Product.{Product}

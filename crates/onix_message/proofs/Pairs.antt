@@ -4,7 +4,7 @@ use Rattle.std.specs.Prelude.{◌==◌}
 use Rattle.std.proofs.Math.Seq.{take-length}
 use Rattle.std.proofs.lemmas.List.{append-nil}
 use Rattle.onix_terms.specs.Options.{◌>>=◌}
-use Rattle.onix_message.specs.ProductRow.{identifier_of, pairs_of}
+use Rattle.onix_message.specs.Product.{identifier_of, pairs_of}
 use Rattle.onix_message.specs.declared.parts.ProductIdentifier.{ProductIdentifier}
 
 -- with those that were read, the rest makes all

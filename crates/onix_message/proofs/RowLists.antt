@@ -2,8 +2,8 @@
 use Rattle.std.proofs.Common.{◌≡◌, ◌++◌, ◌∷◌, ◌∙◌, ◌≤◌, [], List, refl, sym, ap, append_assoc, arith, length, length-append, map, false}
 use Rattle.std.specs.List.{flat_map}
 use Rattle.onix_message.specs.Grammar.{may_follow}
-use Rattle.onix_message.specs.Nest.{detail_rows, product_rows, supply_rows}
-use Rattle.onix_message.specs.Draft.{allows}
+use Rattle.onix_message.specs.PartRows.{detail_rows, product_rows, supply_rows}
+use Rattle.onix_message.specs.private.Draft.{allows}
 use Rattle.onix_message.specs.declared.draft.Part.{Part}
 use Rattle.onix_message.specs.declared.draft.Part.TheVariants as part
 use Rattle.onix_message.specs.declared.parts.Header.{Header}

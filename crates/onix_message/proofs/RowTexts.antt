@@ -18,13 +18,18 @@ use Rattle.onix_terms.specs.Territory.{countries_text, territory_of, world_text}
 use Rattle.onix_terms.specs.declared.party.Party.{Party}
 use Rattle.onix_terms.specs.declared.territory.Territory.{Territory}
 use Rattle.onix_message.specs.ContentsText.{end_record, plain_opening}
-use Rattle.onix_message.specs.Fields.{is_clean, optional, optional_party, party_of}
-use Rattle.onix_message.specs.OpeningRow.{form_of, opening_fields, opening_from, opening_of}
-use Rattle.onix_message.specs.PriceRow.{minimum_of, or_default, price_from, price_of, quantity_or_one}
-use Rattle.onix_message.specs.ProductRow.{identifier_of, pairs_of, product_of}
+use Rattle.onix_message.specs.Fields.{is_clean, optional, optional_party, party_of, or_default}
+use Rattle.onix_message.specs.Opening.{form_of, opening_fields, opening_from, opening_of}
+use Rattle.onix_message.specs.Price.{minimum_of, price_from, price_of, quantity_or_one}
+use Rattle.onix_message.specs.Product.{identifier_of, pairs_of, product_of}
 use Rattle.onix_message.specs.Row.{end_of, message_row, named_row, row_of}
-use Rattle.onix_message.specs.RowRecords.{day_field, detail_record, identifier_fields, minimum_fields, party_fields, price_record, product_record, supply_record, territory_fields}
-use Rattle.onix_message.specs.SupplyRow.{detail_of, supplier_name, supply_of}
+use Rattle.onix_message.specs.Detail.{detail_record}
+use Rattle.onix_message.specs.Fields.{party_fields, territory_fields}
+use Rattle.onix_message.specs.Price.{day_field, minimum_fields, price_record}
+use Rattle.onix_message.specs.Product.{identifier_fields, product_record}
+use Rattle.onix_message.specs.Supply.{supply_record}
+use Rattle.onix_message.specs.Detail.{detail_of, supplier_name}
+use Rattle.onix_message.specs.Supply.{supply_of}
 use Rattle.onix_message.specs.declared.parts.Header.{Header}
 use Rattle.onix_message.specs.declared.parts.Price.{Price}
 use Rattle.onix_message.specs.declared.parts.Product.{Product}

@@ -1,8 +1,8 @@
 -- The one text of contents.
 use Rattle.std.specs.Prelude.{ℕ, List, [], ◌∷◌, ◌++◌, codes, decimal, length}
-use Rattle.onix_message.specs.Grammar.{IsMessage}
 use Rattle.csv_records.specs.RecordTexts.{records_text}
-use Rattle.onix_message.specs.RowRecords.{content_records}
+use Rattle.onix_message.specs.Grammar.{IsMessage}
+use Rattle.onix_message.specs.Product.{content_records}
 use Rattle.onix_message.specs.declared.parts.Header.{Header}
 use Rattle.onix_message.specs.declared.parts.Product.{Product}
 

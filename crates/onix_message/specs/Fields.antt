@@ -3,7 +3,9 @@ use Rattle.std.specs.Prelude.{ℕ, List, [], ◌∷◌, Bool, Option, Some, None
 use Rattle.std.specs.List.{list_all}
 use Rattle.onix_terms.specs.Code.{code2_of}
 use Rattle.onix_terms.specs.Options.{◌>>=◌, nonempty}
+use Rattle.onix_terms.specs.Territory.{countries_text, world_text}
 use Rattle.onix_terms.specs.declared.party.Party.{Party}
+use Rattle.onix_terms.specs.declared.territory.Territory.{Territory}
 
 -- a byte below the space, or the delete: in UTF-8 each stands for the character of its number, and for nothing else
 abbrev pub is_control : ℕ → Bool
@@ -18,6 +20,11 @@ abbrev pub optional : {A : Type 0} → (List ℕ → Option A) → List ℕ → 
 optional term [] = Some None
 optional term (b ∷ bs) = option_map Some (term (b ∷ bs))
 
+-- a term, or the default if the text is empty
+abbrev pub or_default : {A : Type 0} → (List ℕ → Option A) → Option A → List ℕ → Option A
+or_default term default [] = default
+or_default term default (b ∷ bs) = term (b ∷ bs)
+
 -- an identifier's type and its value, which is not empty
 abbrev pub party_of : List ℕ → List ℕ → Option Party
 party_of id_type id_value = do
@@ -29,3 +36,14 @@ party_of id_type id_value = do
 abbrev pub optional_party : List ℕ → List ℕ → Option (Option Party)
 optional_party [] [] = Some None
 optional_party id_type id_value = option_map Some (party_of id_type id_value)
+
+-- How they are written.
+
+-- a party's type and value, both empty where there is none
+abbrev pub party_fields : Option Party → List (List ℕ)
+party_fields None = [] ∷ [] ∷ []
+party_fields (Some p) = p.id_type ∷ p.id_value ∷ []
+
+-- CountriesIncluded, RegionsIncluded and CountriesExcluded
+abbrev pub territory_fields : Territory → List (List ℕ)
+territory_fields t = countries_text t.included ∷ world_text t.world ∷ countries_text t.excluded ∷ []

@@ -1,8 +1,8 @@
 -- The grammar of messages: which records are a message, with which header and contents; and which a message may begin with.
-use Rattle.std.specs.Prelude.{ℕ, List, [], ◌∷◌, ◌≡◌, ◌≤◌, ◌+◌, ◌⊎◌, ◌==◌, ⊤, Bool, true, false, suc, Some, map, take, length}
+use Rattle.std.specs.Prelude.{ℕ, List, [], ◌∷◌, ◌++◌, ◌≡◌, ◌≤◌, ◌+◌, ◌⊎◌, ◌==◌, ⊤, Bool, true, false, suc, Some, map, take, length}
 use Rattle.std.specs.List.{AllByRecursion}
-use Rattle.onix_message.specs.Nest.{SuppliesHaveDetails, rows_after}
-use Rattle.onix_message.specs.OpeningRow.{opening_of}
+use Rattle.onix_message.specs.PartRows.{SuppliesHaveDetails, rows_after}
+use Rattle.onix_message.specs.Opening.{opening_of}
 use Rattle.onix_message.specs.Row.{message_row, row_of}
 use Rattle.onix_message.specs.declared.parts.Header.{Header}
 use Rattle.onix_message.specs.declared.parts.Product.{Product}
@@ -15,7 +15,7 @@ use Rattle.onix_message.specs.declared.row.Row.TheVariants as row
 abbrev pub most_records : ℕ
 most_records = 20000
 
--- these records are a message with this header and these contents: the first is its Message row, and each later one, read by itself, is the row that the contents have at its place
+-- these records are a message with this header and these contents: the first is its Message row, and each later one, read by itself, is the row that the contents have there
 pub record IsMessage (records : List (List (List ℕ))) (h : Header) (c : List Product) : Type 0 where
   pub within : length records ≤ most_records
   pub first : List (List ℕ)
@@ -75,14 +75,18 @@ pub record BeginsMessage (records : List (List (List ℕ))) : Type 0 where
   pub order : KeepsOrder (message_row opening ∷ rows)
   pub counts : CountsAfter 1 rows
 
+-- the last of these rows is an EndMessage
+abbrev pub EndsMessage : List Row → Type 0
+EndsMessage rows = (before : List Row) × (count : ℕ) × (rows ≡ before ++ row.EndMessage count ∷ [])
+
 -- a front: no record, or records that a message may begin with
 abbrev pub IsFront : List (List (List ℕ)) → Type 0
 IsFront records = (records ≡ []) ⊎ BeginsMessage records
 
--- the row at which a list of records stops being a front: one more than the length of its longest prefix that is one
-pub record IsBadRow (records : List (List (List ℕ))) (place : ℕ) : Type 0 where
-  pub some : ℕ
-  pub at : place ≡ some + 1
-  pub prefix : some ≤ length records
-  pub front : IsFront (take some records)
-  pub longest : (n : ℕ) → n ≤ length records → IsFront (take n records) → n ≤ some
+-- the number of the row at which a list of records stops being a front: one more than the length of its longest prefix that is one
+pub record IsBadRow (records : List (List (List ℕ))) (number : ℕ) : Type 0 where
+  pub before : ℕ
+  pub at : number ≡ before + 1
+  pub prefix : before ≤ length records
+  pub front : IsFront (take before records)
+  pub longest : (n : ℕ) → n ≤ length records → IsFront (take n records) → n ≤ before

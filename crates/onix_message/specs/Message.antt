@@ -1,9 +1,9 @@
 -- What a list of records says as a message, computed; the laws of messages tie it to the grammar.
-use Rattle.std.specs.Prelude.{ℕ, List, [], ◌∷◌, ◌≡◌, ◌+◌, ◌==◌, ◌&&◌, ⊤, Bool, true, false, suc, Option, Some, None, if◌then◌else◌, length, nat_lt}
+use Rattle.std.specs.Prelude.{ℕ, List, [], ◌∷◌, ◌+◌, ◌==◌, ◌&&◌, ⊤, Bool, true, false, suc, Option, Some, None, if◌then◌else◌, length, nat_lt}
 use Rattle.std.specs.Option.{option_map_or}
 use Rattle.onix_terms.specs.Options.{◌>>=◌}
 use Rattle.onix_message.specs.Grammar.{IsBadRow, IsMessage, is_counted, may_follow, most_records}
-use Rattle.onix_message.specs.OpeningRow.{opening_of}
+use Rattle.onix_message.specs.Opening.{opening_of}
 use Rattle.onix_message.specs.Row.{message_row, row_of}
 use Rattle.onix_message.specs.declared.message.MessageFault.{MessageFault}
 use Rattle.onix_message.specs.declared.message.MessageFault.TheVariants as fault
@@ -28,43 +28,43 @@ front_rows o last before [] = []
 front_rows o last before (r ∷ records) = option_map_or (λ x. x ∷ front_rows o x (suc before) records) (next_row o last before r) []
 
 -- the parts that rows make, of each kind those that stand in no other
-pub record Gathered : Type 0 where
+pub record PartLists : Type 0 where
   pub products : List Product
   pub supplies : List ProductSupply
   pub details : List SupplyDetail
   pub prices : List Price
 
 -- no parts
-abbrev pub nothing : Gathered
-nothing = record { products = []; supplies = []; details = []; prices = [] }
+abbrev pub no_parts : PartLists
+no_parts = record { products = []; supplies = []; details = []; prices = [] }
 
 -- Each part takes those after it that belong to it.
 
 -- a product takes supplies
-abbrev pub with_product : Product → Gathered → Gathered
+abbrev pub with_product : Product → PartLists → PartLists
 with_product p g = record { products = record p { supplies = g.supplies } ∷ g.products; supplies = []; details = []; prices = [] }
 
 -- a supply takes details
-abbrev pub with_supply : ProductSupply → Gathered → Gathered
+abbrev pub with_supply : ProductSupply → PartLists → PartLists
 with_supply s g = record { products = g.products; supplies = record s { details = g.details } ∷ g.supplies; details = []; prices = [] }
 
 -- a detail takes prices
-abbrev pub with_detail : SupplyDetail → Gathered → Gathered
+abbrev pub with_detail : SupplyDetail → PartLists → PartLists
 with_detail d g = record { products = g.products; supplies = g.supplies; details = record d { prices = g.prices } ∷ g.details; prices = [] }
 
--- a price takes nothing
-abbrev pub with_price : Price → Gathered → Gathered
+-- a price takes no_parts
+abbrev pub with_price : Price → PartLists → PartLists
 with_price p g = record { products = g.products; supplies = g.supplies; details = g.details; prices = p ∷ g.prices }
 
 -- rows from the last to the first: each takes the parts after it that belong to it
-unfoldable pub nest : List Row → Gathered
-nest [] = nothing
-nest (row.Message h ∷ rows) = nest rows
-nest (row.Product p ∷ rows) = with_product p (nest rows)
-nest (row.ProductSupply s ∷ rows) = with_supply s (nest rows)
-nest (row.SupplyDetail d ∷ rows) = with_detail d (nest rows)
-nest (row.Price p ∷ rows) = with_price p (nest rows)
-nest (row.EndMessage n ∷ rows) = nothing
+unfoldable pub parts_of : List Row → PartLists
+parts_of [] = no_parts
+parts_of (row.Message h ∷ rows) = parts_of rows
+parts_of (row.Product p ∷ rows) = with_product p (parts_of rows)
+parts_of (row.ProductSupply s ∷ rows) = with_supply s (parts_of rows)
+parts_of (row.SupplyDetail d ∷ rows) = with_detail d (parts_of rows)
+parts_of (row.Price p ∷ rows) = with_price p (parts_of rows)
+parts_of (row.EndMessage n ∷ rows) = no_parts
 
 -- whether the last of a row and those after it is an end
 abbrev pub ends : Row → List Row → Bool
@@ -76,7 +76,7 @@ ends first (r ∷ rows) = ends r rows
 unfoldable pub message_after : Opening → List (List (List ℕ)) → Option (Header × List Product)
 message_after o rest =
     let rows = front_rows o (message_row o) 1 rest in
-    if (length rows == length rest) && ends (message_row o) rows then Some (o.header, (nest rows).products) else None
+    if (length rows == length rest) && ends (message_row o) rows then Some (o.header, (parts_of rows).products) else None
 
 -- the header and the contents of the message that records are
 unfoldable pub message_of : List (List (List ℕ)) → Option (Header × List Product)

@@ -1,13 +1,14 @@
 -- One record of a message, and the row that it is.
-use Rattle.std.specs.Prelude.{ℕ, List, [], ◌∷◌, ◌≡◌, Option, None, ⊤, if◌then◌else◌, option_map, codes}
+use Rattle.std.specs.Prelude.{ℕ, List, [], ◌∷◌, Option, None, if◌then◌else◌, option_map, codes}
 use Rattle.std.specs.List.{list_all}
 use Rattle.std.specs.Str.{bytes_eq}
 use Rattle.onix_terms.specs.Digits.{digits_of}
 use Rattle.onix_message.specs.Fields.{is_clean}
-use Rattle.onix_message.specs.OpeningRow.{opening_fields}
-use Rattle.onix_message.specs.PriceRow.{price_of}
-use Rattle.onix_message.specs.ProductRow.{product_of}
-use Rattle.onix_message.specs.SupplyRow.{detail_of, supply_of}
+use Rattle.onix_message.specs.Opening.{opening_fields}
+use Rattle.onix_message.specs.Price.{price_of}
+use Rattle.onix_message.specs.Product.{product_of}
+use Rattle.onix_message.specs.Detail.{detail_of}
+use Rattle.onix_message.specs.Supply.{supply_of}
 use Rattle.onix_message.specs.declared.row.Opening.{Opening}
 use Rattle.onix_message.specs.declared.row.Row.{Row}
 use Rattle.onix_message.specs.declared.row.Row.TheVariants as row
@@ -36,10 +37,3 @@ named_row o name fields =
 unfoldable pub row_of : Opening → List (List ℕ) → Option Row
 row_of o [] = None
 row_of o (name ∷ fields) = if list_all is_clean (name ∷ fields) then named_row o name fields else None
-
--- a row as a record gives it, with nothing below it
-abbrev pub IsBare : Row → Type 0
-IsBare (row.Product p) = p.supplies ≡ []
-IsBare (row.ProductSupply s) = s.details ≡ []
-IsBare (row.SupplyDetail d) = d.prices ≡ []
-IsBare _ = ⊤

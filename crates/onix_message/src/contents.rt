@@ -6,13 +6,13 @@ ghost use Rattle.std.specs.String.{string_bytes};
 ghost use Rattle.csv_records.specs.RecordTexts.{records_of};
 ghost use Rattle.onix_message.specs.ContentsText.{IsContents, contents_text, framed, plain_opening};
 ghost use Rattle.onix_message.specs.Grammar.{IsMessage};
-ghost use Rattle.onix_message.specs.RowRecords.{content_records};
+ghost use Rattle.onix_message.specs.Product.{content_records};
 ghost use Rattle.onix_message.specs.declared.parts.Header.{Header};
 ghost use Rattle.onix_message.specs.declared.parts.Product.{Product};
 
 use crate::message::{MessageFault, read_message};
-use crate::part_records::append_product;
 use crate::parts::{Contents, Product};
+use crate::product::append_product;
 use csv_records::buffer::RecordBuffer;
 use csv_records::fields::FieldBuffer;
 use csv_records::laws::one_text;
@@ -43,7 +43,7 @@ impl From<AllocError> for ContentsFault {
     }
 }
 
-#[tactic(auto, unfolding(crate::specs::RowRecords::content_records))]
+#[tactic(auto, unfolding(crate::specs::Product::content_records))]
 fn records_of_contents(alloc: Global, products: &[Product]) -> Result<RecordBuffer, AllocError>
     ensures { IfOk result (λ records. records ≡ content_records products.now) }
 {

@@ -1,20 +1,22 @@
 // The fields of a record, and those that several rows have.
 
-ghost use Rattle.std.specs.Prelude.{◌≡◌, IsErrOf, OnOk, length, map, nat_le, not, true, false};
+ghost use Rattle.std.specs.Prelude.{◌≡◌, ◌++◌, ◌∷◌, [], IsErrOf, OnOk, length, map, nat_le, not, true, false};
 ghost use Rattle.std.specs.List.{list_all};
-ghost use Rattle.onix_message.specs.Fields.{is_clean, is_control, optional, optional_party, party_of};
+ghost use Rattle.onix_message.specs.Fields.{is_clean, is_control, optional, optional_party, party_of, party_fields, territory_fields};
 ghost use Rattle.onix_message.specs.Gives.{Gives};
 ghost use Rattle.onix_terms.specs.Code.{code2_of};
 ghost use Rattle.onix_terms.specs.Options.{nonempty};
 ghost use Rattle.onix_terms.specs.Territory.{territory_of};
 
 use crate::row::RowFault;
+use crate::term::read_term;
+use csv_records::fields::FieldBuffer;
 use csv_records::record::Record;
-use onix_terms::code::Code2;
+use onix_terms::countries::countries_text;
 use onix_terms::party::Party;
 use onix_terms::territory::{TermFault, Territory};
 use onix_terms::text::Text;
-use std::alloc::Global;
+use std::alloc::{AllocError, Global};
 
 // Whether a byte is a control character.
 fn is_control_byte(byte: u8) -> bool
@@ -70,34 +72,11 @@ pub(crate) fn read_filled(alloc: Global, text: &str) -> Result<Text, RowFault>
     Ok(Text::from_str(alloc, text)?)
 }
 
-pub(crate) fn read_code(text: &str) -> Result<Code2, RowFault>
-    ensures { Gives result (code2_of text.now) }
-{
-    let Some(code) = Code2::read(text) else {
-        return Err(RowFault::Wrong);
-    };
-    Ok(code)
-}
-
-pub(crate) fn read_optional_code(text: &str) -> Result<Option<Code2>, RowFault>
-    ensures { Gives result (optional code2_of text.now) }
-{
-    if text.is_empty() {
-        return Ok(None);
-    }
-    let Some(code) = Code2::read(text) else {
-        return Err(RowFault::Wrong);
-    };
-    Ok(Some(code))
-}
-
 /// A party by the type and the value of its identifier.
 pub fn read_party(alloc: Global, id_type: &str, id_value: &str) -> Result<Party, RowFault>
     ensures { Gives result (party_of id_type.now id_value.now) }
 {
-    let Some(id_type) = Code2::read(id_type) else {
-        return Err(RowFault::Wrong);
-    };
+    let id_type = read_term(id_type)?;
     let id_value = read_filled(alloc, id_value)?;
     Ok(Party { id_type, id_value })
 }
@@ -129,4 +108,33 @@ pub(crate) fn read_territory(
         Err(TermFault::NotATerm) => Err(RowFault::Wrong),
         Err(TermFault::Memory) => Err(RowFault::Memory),
     }
+}
+
+// Appends the two fields of a party, both empty where there is none.
+pub(crate) fn push_party(fields: &mut FieldBuffer, party: &Option<Party>) -> Result<(), AllocError>
+    ensures { OnOk result (fields.new ≡ fields.old ++ party_fields party.now) }
+{
+    match party {
+        Some(party) => {
+            fields.push(party.id_type.as_str())?;
+            fields.push(party.id_value.as_str())
+        }
+        None => {
+            fields.push("")?;
+            fields.push("")
+        }
+    }
+}
+
+// Appends the three fields of a territory.
+pub(crate) fn push_territory(
+    alloc: Global,
+    fields: &mut FieldBuffer,
+    territory: &Territory,
+) -> Result<(), AllocError>
+    ensures { OnOk result (fields.new ≡ fields.old ++ territory_fields territory.now) }
+{
+    fields.push(countries_text(alloc, territory.included.as_slice())?.as_str())?;
+    fields.push(if territory.world { "WORLD" } else { "" })?;
+    fields.push(countries_text(alloc, territory.excluded.as_slice())?.as_str())
 }

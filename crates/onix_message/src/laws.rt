@@ -1,8 +1,8 @@
 // Laws: facts about the definitions alone. Each is the contract of a function that does nothing.
 
-ghost use Rattle.std.specs.Prelude.{◌≡◌, ℕ, List, None, Some, true};
+ghost use Rattle.std.specs.Prelude.{◌≡◌, ◌↔◌, ℕ, List, None, Some, true};
 ghost use Rattle.onix_message.specs.ContentsText.{IsContents, contents_text};
-ghost use Rattle.onix_message.specs.Grammar.{IsBadRow, IsFront, IsMessage};
+ghost use Rattle.onix_message.specs.Grammar.{BeginsMessage, EndsMessage, IsBadRow, IsFront, IsMessage};
 ghost use Rattle.onix_message.specs.Message.{bad_row, message_of};
 ghost use Rattle.onix_message.specs.SameContents.{same_contents};
 ghost use Rattle.onix_message.specs.declared.parts.Header.{Header};
@@ -14,18 +14,20 @@ use onix_terms::laws::{
 };
 
 /// The message that is computed of records is the one that they are by the grammar: there is
-/// no other, and where none is computed they are none.
+/// no other, and where none is computed they are none. A message is a front, and of the fronts
+/// just those are messages whose last row is an `EndMessage`.
 pub fn messages()
     ensures computed { (records : List (List (List ℕ))) (h : Header) (c : List Product) → IsMessage records h c → message_of records ≡ Some (h, c) }
     ensures meant { (records : List (List (List ℕ))) (h : Header) (c : List Product) → message_of records ≡ Some (h, c) → IsMessage records h c }
     ensures none { (records : List (List (List ℕ))) → ((h : Header) (c : List Product) → IsMessage records h c → ⊥) → message_of records ≡ None }
     ensures fronts { (records : List (List (List ℕ))) (h : Header) (c : List Product) → IsMessage records h c → IsFront records }
+    ensures ended { (records : List (List (List ℕ))) (b : BeginsMessage records) → EndsMessage b.rows ↔ ((c : List Product) × IsMessage records b.opening.header c) }
 {}
 
 /// The row that is computed of records is the one at which they stop being a front, and no
 /// other is.
 pub fn bad_rows()
-    ensures computed { (records : List (List (List ℕ))) (place : ℕ) → IsBadRow records place → place ≡ bad_row records }
+    ensures computed { (records : List (List (List ℕ))) (number : ℕ) → IsBadRow records number → number ≡ bad_row records }
     ensures meant { (records : List (List (List ℕ))) → IsBadRow records (bad_row records) }
 {}
 

@@ -1,14 +1,16 @@
 //! ONIX messages as CSV: the message that records are, and the one text of contents. It stands on
 //! `csv_records` for records and on `onix_terms` for the values of fields.
 //!
-//! `specs/Grammar.antt` says which records are a message: `specs/Row.antt` and the files of the
-//! rows say what one record is, `specs/Nest.antt` which rows contents have. `specs/Message.antt`
-//! computes the same, and `laws` ties both. `specs/RowRecords.antt` and `specs/ContentsText.antt`
-//! say how contents are written.
+//! `specs/Grammar.antt` says which records are a message: `specs/Row.antt` says what row a record is,
+//! and a file for each thing (`Opening`, `Product`, `Supply`, `Detail`, `Price`) what its fields say
+//! and how it is written; `specs/PartRows.antt` says which rows contents have. `specs/Message.antt`
+//! computes the same, and `laws` ties both. `specs/ContentsText.antt` has the text of contents.
+//! `specs/private/` is what private functions say to one another.
 #![tactic(auto)]
 
 pub mod agreement;
 pub mod contents;
+mod detail;
 mod draft;
 pub mod fields;
 pub mod laws;
@@ -18,8 +20,7 @@ pub mod part_records;
 pub mod parts;
 mod plain;
 mod price;
-mod product;
+pub mod product;
 pub mod row;
-mod rows;
-mod steps;
-mod supply;
+pub mod supply;
+mod term;

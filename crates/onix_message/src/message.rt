@@ -1,21 +1,19 @@
 // Messages: a header and contents, read from records.
 
 ghost use Rattle.std.specs.Prelude.{◌≡◌, ◌∷◌, IfOk, IfErr, Some, true, false};
-ghost use Rattle.onix_message.specs.Draft.{Adds, DraftHasDetails, Refuses, Stops, Takes, has_ended};
+ghost use Rattle.onix_message.specs.private.Draft.{Adds, DraftHasDetails, Refuses, Stops, Takes, has_ended};
 ghost use Rattle.onix_message.specs.ContentsText.{IsContents};
 ghost use Rattle.onix_message.specs.Grammar.{IsMessage, is_counted};
 ghost use Rattle.onix_message.specs.Message.{Explains};
-ghost use Rattle.onix_message.specs.OpeningRow.{opening_of};
-ghost use Rattle.onix_message.specs.Row.{IsBare};
+ghost use Rattle.onix_message.specs.Opening.{opening_of};
+ghost use Rattle.onix_message.specs.private.Draft.{IsBare};
 ghost use Rattle.onix_message.specs.declared.message.MessageFault.TheVariants.{Malformed};
 
-use crate::draft::{Draft, Part, StepFault};
+use crate::draft::{Draft, Part, StepFault, add_row};
 use crate::laws::contents_of_messages;
 use crate::opening::read_opening;
 use crate::parts::{Contents, Header};
-use crate::row::{Opening, Row, RowFault};
-use crate::rows::read_row;
-use crate::steps::add_row;
+use crate::row::{Opening, Row, RowFault, read_row};
 use csv_records::record::Record;
 use csv_records::records::Records;
 use onix_terms::items::Items;

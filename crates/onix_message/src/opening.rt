@@ -3,14 +3,15 @@
 ghost use Rattle.std.specs.Prelude.{◌≡◌, map};
 ghost use Rattle.onix_message.specs.Fields.{optional};
 ghost use Rattle.onix_message.specs.Gives.{Gives};
-ghost use Rattle.onix_message.specs.OpeningRow.{form_of, opening_fields, opening_from, opening_of};
+ghost use Rattle.onix_message.specs.Opening.{form_of, opening_fields, opening_from, opening_of};
 ghost use Rattle.onix_terms.specs.Code.{currency_of};
 ghost use Rattle.onix_terms.specs.Digits.{digits_of};
 ghost use Rattle.onix_terms.specs.Number.{number_of};
 
-use crate::fields::{read_fields, read_optional_code, read_optional_party, read_party};
+use crate::fields::{read_fields, read_optional_party, read_party};
 use crate::parts::Header;
 use crate::row::{Form, Opening, RowFault};
+use crate::term::read_optional;
 use csv_records::record::Record;
 use onix_terms::code::Currency;
 use onix_terms::digits::read_digits;
@@ -30,43 +31,7 @@ fn read_form(text: &str) -> Result<Form, RowFault>
     Err(RowFault::Wrong)
 }
 
-fn read_optional_number(text: &str) -> Result<Option<Number>, RowFault>
-    ensures { Gives result (optional number_of text.now) }
-{
-    if text.is_empty() {
-        return Ok(None);
-    }
-    let Some(number) = Number::read(text) else {
-        return Err(RowFault::Wrong);
-    };
-    Ok(Some(number))
-}
-
-fn read_optional_digits(text: &str) -> Result<Option<u32>, RowFault>
-    ensures { Gives result (optional digits_of text.now) }
-{
-    if text.is_empty() {
-        return Ok(None);
-    }
-    let Some(number) = read_digits(text) else {
-        return Err(RowFault::Wrong);
-    };
-    Ok(Some(number))
-}
-
-fn read_optional_currency(text: &str) -> Result<Option<Currency>, RowFault>
-    ensures { Gives result (optional currency_of text.now) }
-{
-    if text.is_empty() {
-        return Ok(None);
-    }
-    let Some(currency) = Currency::read(text) else {
-        return Err(RowFault::Wrong);
-    };
-    Ok(Some(currency))
-}
-
-#[tactic(auto, unfolding(crate::specs::OpeningRow::opening_from))]
+#[tactic(auto, unfolding(crate::specs::Opening::opening_from))]
 fn make_opening(
     alloc: Global,
     version: &str,
@@ -85,10 +50,10 @@ fn make_opening(
         number.now repeat.now sent.now price_type.now currency.now) }
 {
     let form = read_form(version)?;
-    let number = read_optional_number(number)?;
-    let repeat = read_optional_digits(repeat)?;
-    let default_type = read_optional_code(price_type)?;
-    let default_currency = read_optional_currency(currency)?;
+    let number = read_optional(number)?;
+    let repeat = read_optional(repeat)?;
+    let default_type = read_optional(price_type)?;
+    let default_currency = read_optional(currency)?;
     let sent = Text::from_str(alloc, sent)?;
     let sender = read_party(alloc, sender_type, sender_value)?;
     let addressee = read_optional_party(alloc, to_type, to_value)?;
@@ -107,7 +72,7 @@ fn make_opening(
 }
 
 // What the fields after the name say.
-#[tactic(auto, unfolding(crate::specs::OpeningRow::opening_fields))]
+#[tactic(auto, unfolding(crate::specs::Opening::opening_fields))]
 pub(crate) fn read_opening_fields(alloc: Global, fields: &[&str]) -> Result<Opening, RowFault>
     ensures { Gives result (opening_fields (map (λ f. f.now) fields.now)) }
 {
@@ -142,7 +107,7 @@ pub(crate) fn read_opening_fields(alloc: Global, fields: &[&str]) -> Result<Open
 }
 
 // What a message says that begins with this record. The list takes the record's fields.
-#[tactic(auto, unfolding(crate::specs::OpeningRow::opening_of))]
+#[tactic(auto, unfolding(crate::specs::Opening::opening_of))]
 pub(crate) fn read_opening<'a>(
     alloc: Global,
     from: &Record<'a>,

@@ -25,14 +25,14 @@ pub struct Header {
 }
 
 /// An identifier of a product, by its type of code list 5.
-#[derive(Debug, Drop, PartialEq, Eq)]
+#[derive(Clone, Debug, Drop, PartialEq, Eq)]
 pub struct ProductIdentifier {
     pub id_type: Code2,
     pub id_value: Text,
 }
 
 /// Who supplies a product, by an identifier, a name or both.
-#[derive(Debug, Drop, PartialEq, Eq)]
+#[derive(Clone, Debug, Drop, PartialEq, Eq)]
 pub struct Supplier {
     pub role: Code2,
     pub party: Option<Party>,
@@ -40,7 +40,7 @@ pub struct Supplier {
 }
 
 /// A price of a type and a currency, from a number of copies on, where and when it holds.
-#[derive(Debug, Drop, PartialEq, Eq)]
+#[derive(Clone, Debug, Drop, PartialEq, Eq)]
 pub struct Price {
     pub price_type: Code2,
     pub amount: Amount,
@@ -54,7 +54,7 @@ pub struct Price {
 }
 
 /// One supplier's availability of a product, and its prices.
-#[derive(Debug, Drop, PartialEq, Eq)]
+#[derive(Clone, Debug, Drop, PartialEq, Eq)]
 pub struct SupplyDetail {
     pub supplier: Supplier,
     pub availability: Code2,
@@ -63,14 +63,14 @@ pub struct SupplyDetail {
 }
 
 /// The supply of a product to a market.
-#[derive(Debug, Drop, PartialEq, Eq)]
+#[derive(Clone, Debug, Drop, PartialEq, Eq)]
 pub struct ProductSupply {
     pub market: Territory,
     pub details: Items<SupplyDetail>,
 }
 
 /// One product of a message.
-#[derive(Debug, Drop, PartialEq, Eq)]
+#[derive(Clone, Debug, Drop, PartialEq, Eq)]
 pub struct Product {
     pub reference: Text,
     pub notification: Code2,
@@ -101,7 +101,7 @@ impl Contents {
     ghost use Rattle.std.specs.Prelude.{◌≡◌, ◌≤◌, ◌↔◌, All, IsTrue, length};
     ghost use Rattle.onix_message.specs.ContentsText.{IsContents};
     ghost use Rattle.onix_message.specs.DetailCount.{detail_count};
-    ghost use Rattle.onix_message.specs.Nest.{content_rows};
+    ghost use Rattle.onix_message.specs.PartRows.{content_rows};
     ghost use Rattle.onix_message.specs.SameContents.{same_contents};
 
     // The contents of a message that was read.

@@ -1,70 +1,26 @@
-// The row of a price.
+// A price: its row, and its record.
 
-ghost use Rattle.std.specs.Prelude.{◌≡◌, map};
+ghost use Rattle.std.specs.Prelude.{◌≡◌, ◌++◌, ◌∷◌, [], OnOk, OnErr, map};
+ghost use Rattle.onix_terms.specs.Amount.{amount_text};
 ghost use Rattle.onix_message.specs.Fields.{optional};
 ghost use Rattle.onix_message.specs.Gives.{Gives};
-ghost use Rattle.onix_message.specs.PriceRow.{minimum_of, or_default, price_from, price_of, quantity_or_one};
+ghost use Rattle.onix_message.specs.Price.{day_field, minimum_of, price_from, price_of, quantity_or_one, minimum_fields, price_record};
 ghost use Rattle.onix_terms.specs.Amount.{amount_of};
 ghost use Rattle.onix_terms.specs.Code.{code2_of, currency_of};
 ghost use Rattle.onix_terms.specs.Day.{day_of};
 ghost use Rattle.onix_terms.specs.Quantity.{quantity_from};
 
-use crate::fields::{read_code, read_territory};
+use crate::fields::{push_territory, read_territory};
 use crate::parts::{Header, Price};
 use crate::row::{Form, Opening, RowFault};
+use crate::term::{read_optional, read_or_default, read_term};
+use csv_records::buffer::RecordBuffer;
+use csv_records::fields::FieldBuffer;
+use itoa::Buffer;
 use onix_terms::amount::Amount;
-use onix_terms::code::{Code2, Currency};
 use onix_terms::day::Day;
 use onix_terms::quantity::Quantity;
-use std::alloc::Global;
-
-fn read_code_or(default: Option<Code2>, text: &str) -> Result<Code2, RowFault>
-    ensures { Gives result (or_default code2_of default text.now) }
-{
-    if !text.is_empty() {
-        return read_code(text);
-    }
-    match default {
-        Some(code) => Ok(code),
-        None => Err(RowFault::Wrong),
-    }
-}
-
-fn read_currency_or(default: Option<Currency>, text: &str) -> Result<Currency, RowFault>
-    ensures { Gives result (or_default currency_of default text.now) }
-{
-    if !text.is_empty() {
-        let Some(currency) = Currency::read(text) else {
-            return Err(RowFault::Wrong);
-        };
-        return Ok(currency);
-    }
-    match default {
-        Some(currency) => Ok(currency),
-        None => Err(RowFault::Wrong),
-    }
-}
-
-fn read_amount(text: &str) -> Result<Amount, RowFault>
-    ensures { Gives result (amount_of text.now) }
-{
-    let Some(amount) = Amount::read(text) else {
-        return Err(RowFault::Wrong);
-    };
-    Ok(amount)
-}
-
-fn read_optional_day(text: &str) -> Result<Option<Day>, RowFault>
-    ensures { Gives result (optional day_of text.now) }
-{
-    if text.is_empty() {
-        return Ok(None);
-    }
-    let Some(day) = Day::read(text) else {
-        return Err(RowFault::Wrong);
-    };
-    Ok(Some(day))
-}
+use std::alloc::{AllocError, Global};
 
 fn one_copy() -> Result<Quantity, RowFault>
     ensures { Gives result (quantity_from 1) }
@@ -81,10 +37,7 @@ fn read_quantity_or_one(text: &str) -> Result<Quantity, RowFault>
     if text.is_empty() {
         return one_copy();
     }
-    let Some(quantity) = Quantity::read(text) else {
-        return Err(RowFault::Wrong);
-    };
-    Ok(quantity)
+    read_term(text)
 }
 
 fn read_minimum(form: Form, fields: &[&str]) -> Result<Quantity, RowFault>
@@ -104,7 +57,7 @@ fn read_minimum(form: Form, fields: &[&str]) -> Result<Quantity, RowFault>
     }
 }
 
-#[tactic(auto, unfolding(crate::specs::PriceRow::price_from))]
+#[tactic(auto, unfolding(crate::specs::Price::price_from))]
 fn make_price(
     alloc: Global,
     header: &Header,
@@ -122,11 +75,11 @@ fn make_price(
         (price_from header.now minimum price_type.now amount.now currency.now included.now
         regions.now excluded.now from.now until.now) }
 {
-    let price_type = read_code_or(header.default_type, price_type)?;
-    let amount = read_amount(amount)?;
-    let currency = read_currency_or(header.default_currency, currency)?;
-    let from = read_optional_day(from)?;
-    let until = read_optional_day(until)?;
+    let price_type = read_or_default(header.default_type, price_type)?;
+    let amount = read_term(amount)?;
+    let currency = read_or_default(header.default_currency, currency)?;
+    let from = read_optional(from)?;
+    let until = read_optional(until)?;
     let territory = read_territory(alloc, included, regions, excluded)?;
     Ok(Price {
         price_type,
@@ -139,7 +92,7 @@ fn make_price(
     })
 }
 
-#[tactic(auto, unfolding(crate::specs::PriceRow::price_of))]
+#[tactic(auto, unfolding(crate::specs::Price::price_of))]
 pub(crate) fn read_price(
     alloc: Global,
     opening: &Opening,
@@ -175,4 +128,64 @@ pub(crate) fn read_price(
         from,
         until,
     )
+}
+
+fn push_amount(alloc: Global, fields: &mut FieldBuffer, amount: Amount) -> Result<(), AllocError>
+    ensures { OnOk result (fields.new ≡ fields.old ++ amount_text amount ∷ []) }
+{
+    let mut text = String::new(alloc);
+    amount.write(&mut text)?;
+    fields.push(text.as_str())
+}
+
+fn push_day(alloc: Global, fields: &mut FieldBuffer, day: Option<Day>) -> Result<(), AllocError>
+    ensures { OnOk result (fields.new ≡ fields.old ++ day_field day ∷ []) }
+{
+    let mut text = String::new(alloc);
+    if let Some(day) = day {
+        day.write(&mut text)?;
+    }
+    fields.push(text.as_str())
+}
+
+// The minimum order quantity, where it is above 1.
+fn push_minimum(fields: &mut FieldBuffer, minimum: Quantity) -> Result<(), AllocError>
+    ensures { OnOk result (fields.new ≡ fields.old ++ minimum_fields minimum) }
+{
+    let minimum = minimum.value();
+    if minimum > 1 {
+        let mut buffer = Buffer::new();
+        fields.push(buffer.format(minimum))?;
+    }
+    Ok(())
+}
+
+// Puts the fields of a price's record in place of what the list held.
+fn fill_price(alloc: Global, fields: &mut FieldBuffer, price: &Price) -> Result<(), AllocError>
+    ensures { OnOk result (fields.new ≡ price_record price.now) }
+{
+    fields.clear();
+    fields.push("Price")?;
+    fields.push(price.price_type.as_str())?;
+    push_amount(alloc, fields, price.amount)?;
+    fields.push(price.currency.as_str())?;
+    push_territory(alloc, fields, &price.territory)?;
+    push_day(alloc, fields, price.from)?;
+    push_day(alloc, fields, price.until)?;
+    push_minimum(fields, price.minimum)
+}
+
+// Appends the record of a price, or leaves the records as they were. The list takes the record's
+// fields, as in each of these calls.
+pub(crate) fn append_price(
+    alloc: Global,
+    fields: &mut FieldBuffer,
+    records: &mut RecordBuffer,
+    price: &Price,
+) -> Result<(), AllocError>
+    ensures ok { OnOk result (records.new ≡ records.old ++ price_record price.now ∷ []) }
+    ensures err { OnErr result (records.new ≡ records.old) }
+{
+    fill_price(alloc, fields, price)?;
+    records.push(&fields.as_record())
 }

@@ -1,18 +1,17 @@
-// The rows of a supply and of its details.
+// The supply of a product to a market: its row, and its records.
 
-ghost use Rattle.std.specs.Prelude.{◌≡◌, map};
+ghost use Rattle.std.specs.Prelude.{◌≡◌, ◌++◌, ◌∷◌, [], OnOk, OnErr, map};
+ghost use Rattle.onix_message.specs.Supply.{supplies_records, supply_of, supply_record, supply_records};
 ghost use Rattle.onix_message.specs.Gives.{Gives};
-ghost use Rattle.onix_message.specs.SupplyRow.{detail_from, detail_of, supplier_name, supply_of};
 
-use crate::fields::{
-    read_code, read_filled, read_optional_code, read_optional_party, read_territory,
-};
-use crate::parts::{ProductSupply, Supplier, SupplyDetail};
+use crate::detail::append_detail;
+use crate::fields::{push_territory, read_territory};
+use crate::parts::ProductSupply;
 use crate::row::RowFault;
+use csv_records::buffer::RecordBuffer;
+use csv_records::fields::FieldBuffer;
 use onix_terms::items::Items;
-use onix_terms::party::Party;
-use onix_terms::text::Text;
-use std::alloc::Global;
+use std::alloc::{AllocError, Global};
 
 pub(crate) fn read_supply(alloc: Global, fields: &[&str]) -> Result<ProductSupply, RowFault>
     ensures { Gives result (supply_of (map (λ f. f.now) fields.now)) }
@@ -27,46 +26,62 @@ pub(crate) fn read_supply(alloc: Global, fields: &[&str]) -> Result<ProductSuppl
     })
 }
 
-fn read_supplier_name(alloc: Global, party: &Option<Party>, name: &str) -> Result<Text, RowFault>
-    ensures { Gives result (supplier_name party.now name.now) }
-{
-    match party {
-        Some(_) => Ok(Text::from_str(alloc, name)?),
-        None => read_filled(alloc, name),
-    }
-}
-
-fn make_detail(
+// Puts the fields of a supply's own record in place of what the list held.
+fn fill_supply(
     alloc: Global,
-    role: &str,
-    id_type: &str,
-    id_value: &str,
-    name: &str,
-    availability: &str,
-    unpriced: &str,
-) -> Result<SupplyDetail, RowFault>
-    ensures { Gives result
-        (detail_from role.now id_type.now id_value.now name.now availability.now unpriced.now) }
+    fields: &mut FieldBuffer,
+    supply: &ProductSupply,
+) -> Result<(), AllocError>
+    ensures { OnOk result (fields.new ≡ supply_record supply.now) }
 {
-    let role = read_code(role)?;
-    let availability = read_code(availability)?;
-    let unpriced = read_optional_code(unpriced)?;
-    let party = read_optional_party(alloc, id_type, id_value)?;
-    let name = read_supplier_name(alloc, &party, name)?;
-    Ok(SupplyDetail {
-        supplier: Supplier { role, party, name },
-        availability,
-        unpriced,
-        prices: Items::new(alloc),
-    })
+    fields.clear();
+    fields.push("ProductSupply")?;
+    push_territory(alloc, fields, &supply.market)
 }
 
-#[tactic(auto, unfolding(crate::specs::SupplyRow::detail_of))]
-pub(crate) fn read_detail(alloc: Global, fields: &[&str]) -> Result<SupplyDetail, RowFault>
-    ensures { Gives result (detail_of (map (λ f. f.now) fields.now)) }
+// Appends the records of a supply: its own, and those of its details. Without memory for them the
+// records stay as they were.
+#[tactic(auto, unfolding(crate::specs::Supply::supply_records))]
+fn append_supply(
+    alloc: Global,
+    fields: &mut FieldBuffer,
+    records: &mut RecordBuffer,
+    supply: &ProductSupply,
+) -> Result<(), AllocError>
+    ensures ok { OnOk result (records.new ≡ records.old ++ supply_records supply.now) }
+    ensures err { OnErr result (records.new ≡ records.old) }
 {
-    let [role, id_type, id_value, name, availability, unpriced] = fields else {
-        return Err(RowFault::Wrong);
-    };
-    make_detail(alloc, role, id_type, id_value, name, availability, unpriced)
+    let count = records.len();
+    fill_supply(alloc, fields, supply)?;
+    records.push(&fields.as_record())?;
+    for detail in supply.details.as_slice() {
+        let Ok(()) = append_detail(alloc, fields, records, detail) else {
+            records.truncate(count);
+            return Err(AllocError);
+        };
+    }
+    Ok(())
+}
+
+/// Appends the records of a product's supplies: those of each supply and its details. Without
+/// memory for them the records stay as they were. The list of fields is used for each record in
+/// turn, and what it holds is lost.
+#[tactic(auto, unfolding(crate::specs::Supply::supplies_records))]
+pub fn append_supplies(
+    alloc: Global,
+    fields: &mut FieldBuffer,
+    records: &mut RecordBuffer,
+    supplies: &[ProductSupply],
+) -> Result<(), AllocError>
+    ensures ok { OnOk result (records.new ≡ records.old ++ supplies_records supplies.now) }
+    ensures err { OnErr result (records.new ≡ records.old) }
+{
+    let count = records.len();
+    for supply in supplies {
+        let Ok(()) = append_supply(alloc, fields, records, supply) else {
+            records.truncate(count);
+            return Err(AllocError);
+        };
+    }
+    Ok(())
 }

@@ -1,5 +1,5 @@
 -- What the tests of days, numbers and options tell.
-use Rattle.std.proofs.Common.{◌≡◌, ◌↔◌, ℕ, ◌<◌, ℤ, ◌≤ℤ◌, Option, Bool, true, false, not, nat_eq, IsTrue, sym, refl, arith}
+use Rattle.std.proofs.Common.{◌≡◌, ◌↔◌, ℕ, ◌<◌, ◌≤◌, ℤ, ◌≤ℤ◌, Option, Bool, true, false, not, nat_eq, IsTrue, sym, refl, arith}
 use Rattle.std.specs.Option.{option_eq}
 use Rattle.std.specs.Ordering.{int_cmp, int_eq, nat_cmp, is_le, is_lt}
 use Rattle.std.proofs.lemmas.Bool.Decides.{Decides-eqb, Decides-int_eq, nat_tests}
@@ -8,6 +8,9 @@ use Rattle.onix_terms.specs.Plain.{option-decides}
 
 pub day_le_is : (a b : ℤ) (r : Bool) → r ≡ is_le (int_cmp a b) → IsTrue r ↔ (a ≤ℤ b)
 day_le_is a b r e = (λ h. grind (arith, ints), λ h. grind (arith, ints))
+
+pub number_le_is : (a b : ℕ) (r : Bool) → r ≡ is_le (nat_cmp a b) → IsTrue r ↔ (a ≤ b)
+number_le_is a b r e = (λ h. grind (arith, nat_tests), λ h. grind (arith, nat_tests))
 
 pub number_lt_is : (a b : ℕ) (r : Bool) → r ≡ is_lt (nat_cmp a b) → IsTrue r ↔ (a < b)
 number_lt_is a b r e = (λ h. grind (arith, nat_tests), λ h. grind (arith, nat_tests))

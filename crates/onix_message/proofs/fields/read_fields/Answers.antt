@@ -1,4 +1,4 @@
-use Rattle.std.proofs.Common.{◌∙◌, sym, true, false}
+use Rattle.std.proofs.Common.{true, false}
 use Rattle.onix_message.proofs.CleanFields.{record-clean, record-long}
 use Rattle.onix_message.proofs.fields.read_fields.Goals as goal
 

@@ -6,6 +6,6 @@ use Rattle.onix_message.proofs.laws.bad_rows.Goals as goal
 
 pub returns : goal.returns
 returns c = record {
-  computed = λ (records : List (List (List ℕ))) (place : ℕ) (b : IsBadRow records place). one-bad records place (bad_row records) b (bad-meant records);
+  computed = λ (records : List (List (List ℕ))) (number : ℕ) (b : IsBadRow records number). one-bad records number (bad_row records) b (bad-meant records);
   meant = bad-meant;
 }

@@ -1,5 +1,5 @@
 use Rattle.std.proofs.Common.{ℕ, ◌≡◌, false, refl}
-use Rattle.onix_message.specs.Draft.{has_ended}
+use Rattle.onix_message.specs.private.Draft.{has_ended}
 use Rattle.onix_message.specs.declared.draft.Part.{Part}
 use Rattle.onix_message.specs.declared.draft.Part.TheVariants as part
 use Rattle.onix_message.proofs.message.has_ended.Goals as goal

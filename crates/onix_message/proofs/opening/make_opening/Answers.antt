@@ -1,6 +1,6 @@
 use Rattle.std.proofs.Common.{refl, arith}
 use Rattle.std.proofs.lemmas.Grind.{common_steps}
-use Rattle.onix_message.specs.OpeningRow.{opening_from}
+use Rattle.onix_message.specs.Opening.{opening_from}
 use Rattle.onix_message.proofs.opening.make_opening.Goals as goal
 
 pub returns-in_err-default_type : goal.returns-in_err-default_type

@@ -1,5 +1,5 @@
 use Rattle.std.proofs.Common.{[]}
-use Rattle.onix_message.specs.OpeningRow.{opening_fields}
+use Rattle.onix_message.specs.Opening.{opening_fields}
 use Rattle.onix_message.proofs.TenFields.{ten-are}
 use Rattle.onix_message.proofs.opening.read_opening_fields.Goals as goal
 

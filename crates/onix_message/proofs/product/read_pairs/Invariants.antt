@@ -1,5 +1,5 @@
 use Rattle.std.proofs.Common.{length, map}
-use Rattle.onix_message.specs.ProductRow.{pairs_of}
+use Rattle.onix_message.specs.Product.{pairs_of}
 use Rattle.onix_message.proofs.Pairs.{Completes}
 use Rattle.onix_message.proofs.product.read_pairs.Given as goal
 

@@ -1,6 +1,6 @@
 use Rattle.std.proofs.Common.{arith}
 use Rattle.std.proofs.lemmas.Grind.{common_steps}
-use Rattle.onix_message.specs.ProductRow.{product_of}
+use Rattle.onix_message.specs.Product.{product_of}
 use Rattle.onix_message.proofs.product.read_product.Goals as goal
 
 pub returns-in_err-ids : goal.returns-in_err-ids

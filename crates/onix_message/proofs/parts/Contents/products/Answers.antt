@@ -4,7 +4,7 @@ use Rattle.onix_message.proofs.DetailCounts.{details-within}
 use Rattle.onix_message.proofs.OneText.{contents-few}
 use Rattle.onix_message.proofs.RowLists.{length-products}
 use Rattle.onix_message.specs.DetailCount.{detail_count}
-use Rattle.onix_message.specs.Nest.{content_rows}
+use Rattle.onix_message.specs.PartRows.{content_rows}
 use Rattle.onix_message.specs.declared.parts.Product.{Product}
 use Rattle.onix_message.proofs.parts.Contents.products.Goals as goal
 

@@ -4,7 +4,7 @@ use crate::memory::peak;
 use crate::texts::greatest_batch;
 use desk_batch::batch::run_batch;
 use price_rules::precedence::Precedence;
-use series_rules::plain::PlainDesk;
+use desk_memory::desk::MemoryDesk;
 use std::fs::{self, File};
 
 /// Writes the text of a batch of 500 messages of 20 products with prices into the file of this
@@ -20,7 +20,7 @@ pub fn report(rt: &HostRuntime, name: &str) -> anyhow::Result<()> {
     let alloc = rt.alloc();
     let mut input = File::open(rt, name)?;
     let mut output = Vec::new(alloc);
-    let mut desk = PlainDesk::new(alloc);
+    let mut desk = MemoryDesk::new(alloc);
     let precedence = Precedence::none(alloc);
     match run_batch(alloc, &mut desk, &precedence, &mut input, &mut output) {
         Ok(0) => {}

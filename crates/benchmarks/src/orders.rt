@@ -4,7 +4,7 @@ use crate::texts::small_messages;
 use crate::times::{print_ratio, used};
 use desk_batch::batch::run_batch;
 use price_rules::precedence::Precedence;
-use series_rules::plain::PlainDesk;
+use desk_memory::desk::MemoryDesk;
 
 // The time of a batch of so many messages, in microseconds.
 fn time_of(rt: &HostRuntime, count: u32, is_reversed: bool) -> anyhow::Result<u64> {
@@ -12,7 +12,7 @@ fn time_of(rt: &HostRuntime, count: u32, is_reversed: bool) -> anyhow::Result<u6
     let text = small_messages(alloc, count, is_reversed)?;
     let mut input = text.as_bytes();
     let mut output = Vec::new(alloc);
-    let mut desk = PlainDesk::new(alloc);
+    let mut desk = MemoryDesk::new(alloc);
     let precedence = Precedence::none(alloc);
     let start = used(rt)?;
     match run_batch(alloc, &mut desk, &precedence, &mut input, &mut output) {

@@ -6,10 +6,10 @@ use desk_batch::batch::run_batch;
 use onix_terms::series_name::SeriesName;
 use price_rules::precedence::Precedence;
 use series_rules::desk::Desk;
-use series_rules::plain::PlainDesk;
+use desk_memory::desk::MemoryDesk;
 
 // The time of a batch, in microseconds.
-fn time_of(rt: &HostRuntime, desk: &mut PlainDesk, text: &str) -> anyhow::Result<u64> {
+fn time_of(rt: &HostRuntime, desk: &mut MemoryDesk, text: &str) -> anyhow::Result<u64> {
     let alloc = rt.alloc();
     let mut input = text.as_bytes();
     let mut output = Vec::new(alloc);
@@ -24,7 +24,7 @@ fn time_of(rt: &HostRuntime, desk: &mut PlainDesk, text: &str) -> anyhow::Result
 }
 
 // The time of one fold of the series from nothing, in microseconds.
-fn time_of_fold(rt: &HostRuntime, desk: &mut PlainDesk) -> anyhow::Result<u64> {
+fn time_of_fold(rt: &HostRuntime, desk: &mut MemoryDesk) -> anyhow::Result<u64> {
     let Some(series) = SeriesName::read("north") else {
         anyhow::bail!("the series has no name");
     };
@@ -41,7 +41,7 @@ fn time_of_fold(rt: &HostRuntime, desk: &mut PlainDesk) -> anyhow::Result<u64> {
 /// catalogue question and to one fold of the series from nothing.
 pub fn report(rt: &HostRuntime) -> anyhow::Result<()> {
     let alloc = rt.alloc();
-    let mut desk = PlainDesk::new(alloc);
+    let mut desk = MemoryDesk::new(alloc);
     time_of(rt, &mut desk, large_catalogue(alloc)?.as_str())?;
     let questions = repeated(alloc, "AskPrice,9780000000042,20250301,GB,GBP,02\n", 100)?;
     let prices = time_of(rt, &mut desk, questions.as_str())?;

@@ -15,7 +15,7 @@ use csv_records::streams::{InputFault, WriteFault, read_input, write_whole};
 use onix_message::agreement::StoreFault;
 use onix_terms::items::Items;
 use price_rules::precedence::Precedence;
-use series_rules::asking::answer;
+use series_rules::answering::answer;
 use series_rules::desk::Desk;
 use series_rules::requests::Request;
 use std::alloc::Global;

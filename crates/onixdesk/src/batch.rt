@@ -10,7 +10,7 @@ use crate::fault::{Fault, report};
 use desk_batch::batch::{BatchFault, run_batch};
 use price_rules::precedence::Precedence;
 use series_rules::desk::Desk;
-use series_rules::plain::PlainDesk;
+use desk_memory::desk::MemoryDesk;
 use std::alloc::Global;
 use std::io::{Read, Write};
 
@@ -63,7 +63,7 @@ pub fn run<R: Read, W: Write, E: Write>(
     ensures end { (text : List ℕ) × IsTold (R.remaining input.old) text
         × Ends precedence.now [] text (Appends (W.contents output.old) (W.contents output.new)) result }
 {
-    let mut desk = PlainDesk::new(alloc);
+    let mut desk = MemoryDesk::new(alloc);
     let status = run_over(alloc, &mut desk, precedence, input, output, errors);
     desk.is_always_sound();
     status

@@ -21,9 +21,9 @@ use onix_message::agreement::StoreFault;
 use onix_terms::items::Items;
 use price_rules::precedence::Precedence;
 use series_rules::answers::Answer;
-use series_rules::plain::PlainDesk;
+use desk_memory::desk::MemoryDesk;
 use series_rules::requests::Request;
-use series_rules::whole::ask_all;
+use series_rules::run::ask_all;
 use std::alloc::{AllocError, Global};
 use std::fmt::Debug;
 use std::fs;
@@ -101,7 +101,7 @@ fn texts_of(alloc: Global, outcomes: &[Result<Answer, StoreFault>]) -> Result<Ve
 // goes on after storage faults.
 fn answered(alloc: Global, precedence: &Precedence, text: &[u8]) -> Result<Vec<u8>, Fail> {
     let requests = requests_of(alloc, text)?;
-    let mut desk = PlainDesk::new(alloc);
+    let mut desk = MemoryDesk::new(alloc);
     let outcomes = ask_all(alloc, &mut desk, precedence, requests.as_slice())?;
     texts_of(alloc, outcomes.as_slice())
 }

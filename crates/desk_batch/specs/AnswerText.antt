@@ -59,7 +59,7 @@ delivery_fields (delivery.Held series n next) = codes "held" ∷ series ∷ deci
 abbrev pub waiver_fields : List ℕ → ℕ → WaiveAnswer → List (List ℕ)
 waiver_fields series n waiver.UnknownSeries = unknown_fields
 waiver_fields series n (waiver.BeforeFirst first) = before_first_fields series n first
-waiver_fields series n waiver.Had = codes "refused" ∷ codes "had" ∷ series ∷ decimal n ∷ []
+waiver_fields series n waiver.HasMessage = codes "refused" ∷ codes "had" ∷ series ∷ decimal n ∷ []
 waiver_fields series n waiver.Waived = codes "waived" ∷ series ∷ decimal n ∷ []
 
 -- the records of an answer

@@ -174,7 +174,7 @@ fn fill_waiver(
     match answer {
         WaiveAnswer::UnknownSeries => fill_refusal(out, "unknown-series"),
         WaiveAnswer::BeforeFirst { first } => fill_before_first(out, series, number, *first),
-        WaiveAnswer::Had => fill_numbered(out, &["refused", "had"], series, number),
+        WaiveAnswer::HasMessage => fill_numbered(out, &["refused", "had"], series, number),
         WaiveAnswer::Waived => fill_numbered(out, &["waived"], series, number),
     }
 }

@@ -133,19 +133,16 @@ pub(crate) fn read_price(
 fn push_amount(alloc: Global, fields: &mut FieldBuffer, amount: Amount) -> Result<(), AllocError>
     ensures { OnOk result (fields.new ≡ fields.old ++ amount_text amount ∷ []) }
 {
-    let mut text = String::new(alloc);
-    amount.write(&mut text)?;
-    fields.push(text.as_str())
+    fields.push(amount.text(alloc)?.as_str())
 }
 
 fn push_day(alloc: Global, fields: &mut FieldBuffer, day: Option<Day>) -> Result<(), AllocError>
     ensures { OnOk result (fields.new ≡ fields.old ++ day_field day ∷ []) }
 {
-    let mut text = String::new(alloc);
-    if let Some(day) = day {
-        day.write(&mut text)?;
+    match day {
+        Some(day) => fields.push(day.text(alloc)?.as_str()),
+        None => fields.push(""),
     }
-    fields.push(text.as_str())
 }
 
 // The minimum order quantity, where it is above 1.

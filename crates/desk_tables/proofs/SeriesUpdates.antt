@@ -1,0 +1,120 @@
+-- What UPDATE of the next number of a series does.
+use Rattle.std.proofs.Common.{◌≡◌, ℕ, ◌≤◌, pos, List, [], ◌∷◌, length, map, filter, drop, Bool, true, false, ◌&&◌, Ok, arith, refl, sym, ap, subst, ◌∙◌, inl, inr}
+use Rattle.std.specs.List.{AllByRecursion, list_all}
+use Rattle.std.specs.List.Sorted.{IsPermutation}
+use Rattle.std.specs.Str.{bytes_eq}
+use Rattle.std.proofs.lemmas.Bool.{cases_Bool}
+use Rattle.std.proofs.lemmas.List.{length-map}
+use Rattle.std.proofs.lemmas.List.Sorted.{length_permutation}
+use Rattle.sqlite_value.specs.declared.value.Value.{Value}
+use Rattle.sqlite_value.specs.declared.value.Value.TheVariants.{Int, Text}
+use Rattle.sqlite_value.specs.Keys.{joined}
+use Rattle.sqlite_value.specs.Order.{Row}
+use Rattle.sqlite_trees.specs.Tree.{Trees, rowid}
+use Rattle.sqlite_trees.specs.View.{is_int}
+use Rattle.sqlite_sql.specs.Term.{Term, col, eval_all, holds}
+use Rattle.sqlite_schema.specs.Names.{same_name}
+use Rattle.sqlite_schema.specs.declared.schema.Keys.TheVariants.{Enforced}
+use Rattle.sqlite_rules.specs.declared.error.Rowids.TheVariants.{Given}
+use Rattle.sqlite_rules.specs.Action as action
+use Rattle.sqlite_rules.specs.Cast.{cast_row}
+use Rattle.sqlite_rules.specs.Edit.{Edit, edit_of, taken_by, id_in}
+use Rattle.sqlite_rules.specs.Lists.{Has}
+use Rattle.sqlite_rules.proofs.ListLemmas.{all_has, has_filtered}
+use Rattle.sqlite_rules.proofs.TableLemmas.{int_is}
+use Rattle.sqlite.specs.State.{State, Executes}
+use Rattle.sqlite.proofs.Callers.{runs_as, one_step}
+use Rattle.desk_tables.specs.declared.series.SeriesRow.{SeriesRow}
+use Rattle.desk_tables.specs.Schema.{desk_schema, series_table}
+use Rattle.desk_tables.specs.Statements.{set_next_text, equals}
+use Rattle.desk_tables.specs.Rows.{DeskRows, Holds, Stands, IsAddressee, series_columns, is_named, next_set, with_next}
+use Rattle.desk_tables.proofs.CastLemmas.{cast_integer, cast_number}
+use Rattle.desk_tables.proofs.EqualLemmas.{text_equal}
+use Rattle.desk_tables.proofs.HoldsLemmas.{KeepsOthers, changed_series}
+use Rattle.desk_tables.proofs.KeyLemmas.{named_once}
+use Rattle.desk_tables.proofs.Readings.{few_stay}
+use Rattle.desk_tables.proofs.Replaces.{stands_changed, none_changed}
+use Rattle.desk_tables.proofs.Selects.{typed}
+use Rattle.desk_tables.proofs.StatementTexts.{set_next_is}
+use Rattle.desk_tables.proofs.Updates.{updates}
+
+-- no key asks for more where a row is replaced, or none
+unforced_none : action.works desk_schema Enforced 0 2 [] [] ≡ []
+unfolding joined same_name
+unforced_none = refl
+
+unforced : (olds : List Row) (new : Row) → action.works desk_schema Enforced 0 2 olds (new ∷ []) ≡ []
+unforced olds new = refl
+
+module _ (name : List ℕ) (next : ℕ) where
+  abbrev test : Row → Bool
+  test r = list_all (holds ((Text name ∷ Int (pos next) ∷ []) ∷ r ∷ [])) (equals 1 0 ∷ [])
+
+  abbrev project : List Term
+  project = col 1 0 ∷ col 1 0 ∷ col 1 1 ∷ col 1 2 ∷ col 1 3 ∷ col 1 4 ∷ col 1 5 ∷ col 1 6 ∷ col 0 1 ∷ []
+
+  abbrev makes : Row → Row
+  makes r = eval_all project ((Text name ∷ Int (pos next) ∷ []) ∷ r ∷ [])
+
+  abbrev remake : Row → Row
+  remake r = cast_row (series_table 2) (drop 1 (makes r))
+
+  abbrev changed : SeriesRow → SeriesRow
+  changed r = record r { next = next }
+
+  tests : (v : Value) (r : SeriesRow) → test (v ∷ series_columns r) ≡ is_named name r
+  tests v r = rw (text_equal r.agreement.name name) (and_true (bytes_eq r.agreement.name name))
+    where
+      and_true : (b : Bool) → (b && true) ≡ b
+      and_true true = refl
+      and_true false = refl
+
+  remakes : (v : Value) (r : SeriesRow) → drop 1 (remake (v ∷ series_columns r)) ≡ series_columns (changed r)
+  remakes v r = rw (cast_number r.agreement.first, cast_number next) refl
+
+  remade_id : (r : Row) → is_int (rowid r) ≡ true → rowid (remake r) ≡ Int (id_in (rowid r))
+  remade_id r int = rw (int_is (rowid r) int) (cast_integer (id_in (rowid r)))
+
+  told_changed : (rows : List SeriesRow) → AllByRecursion (λ (r : SeriesRow). IsAddressee r.agreement.addressee) rows → AllByRecursion (λ (r : SeriesRow). IsAddressee r.agreement.addressee) (map (next_set name next) rows)
+  told_changed [] told = tt
+  told_changed (r ∷ rows) told = elim (cases_Bool (is_named name r)) [
+    | inl here ↦ rw here (told.0, told_changed rows told.1)
+    | inr misses ↦ rw misses (told.0, told_changed rows told.1)
+  ]
+
+  -- one row at most is written again
+  written : (old new : Trees) (rows : List SeriesRow) (ordered : List Row) → Stands series_columns rows (old 2) → length (filter (is_named name) rows) ≤ 1 → IsPermutation (filter test (old 2)) ordered
+      → action.Writes desk_schema Enforced old (edit_of old (series_table 2) (map (λ (r : Row). id_in (rowid (makes r))) ordered) Given 1 (map makes ordered)) (Ok new)
+      → KeepsOthers 2 old new × Stands series_columns (map (next_set name next) rows) (new 2)
+  written old new rows [] h few same wrote =
+      let made = one_step desk_schema Enforced old new (edit_of old (series_table 2) [] Given 1 []) unforced_none wrote in
+      let none : filter test (old 2) ≡ [] = no_rows_left (filter test (old 2)) same in
+      let typed_none : map series_columns (filter (is_named name) rows) ≡ [] =
+      sym (typed series_columns (is_named name) series_columns test (drop 1) tests (λ v x. refl) rows (old 2) h.shaped.1 h.are) ∙ ap (map (drop 1)) none in
+      (made.tables, subst (Stands series_columns (map (next_set name next) rows)) (sym made.rows) (subst (λ l. Stands series_columns l (old 2)) (sym (none_changed (is_named name) changed rows (no_typed _ typed_none))) h))
+    where
+      no_rows_left : (rows : List Row) → IsPermutation rows [] → rows ≡ []
+      no_rows_left [] same = refl
+      no_rows_left (r ∷ rows) same = absurd (omega (arith, length_permutation (r ∷ rows) [] same))
+
+      no_typed : (xs : List SeriesRow) → map series_columns xs ≡ [] → xs ≡ []
+      no_typed [] e = refl
+      no_typed (x ∷ xs) e = absurd (cc)
+  written old new rows (r ∷ []) h few same wrote =
+      let edit : Edit = edit_of old (series_table 2) (id_in (rowid (makes r)) ∷ []) Given 1 (makes r ∷ []) in
+      let made = one_step desk_schema Enforced old new edit (unforced (taken_by old edit) (remake r)) wrote in
+      let one : filter test (old 2) ≡ r ∷ [] = sym (few_stay (filter test (old 2)) (r ∷ []) (omega (arith, length_permutation (filter test (old 2)) (r ∷ []) same)) same) in
+      let there : Has (filter test (old 2)) r = subst (λ l. Has l r) (sym one) (inl refl) in
+      let int = all_has _ (old 2) r h.shaped.1 (has_filtered test (old 2) r there).0 in
+      (made.tables, subst (Stands series_columns (map (next_set name next) rows)) (sym made.rows) (stands_changed series_columns (is_named name) changed test remake rows (old 2) r tests remakes h one (remade_id r int)))
+  written old new rows (r ∷ s ∷ more) h few same wrote =
+      let counted : length (filter test (old 2)) ≡ length (filter (is_named name) rows) =
+      sym (length-map (filter test (old 2)) (drop 1)) ∙ ap length (typed series_columns (is_named name) series_columns test (drop 1) tests (λ v x. refl) rows (old 2) h.shaped.1 h.are) ∙ length-map (filter (is_named name) rows) series_columns in
+      absurd (omega (arith, length_permutation (filter test (old 2)) (r ∷ s ∷ more) same, counted, few))
+
+  pub sets_next : (old new : State) (count : ℕ) (rows : DeskRows) → Holds old.now rows → Executes set_next_text (Text name ∷ Int (pos next) ∷ []) old new (Ok count) → Holds new.now (with_next name next rows)
+  sets_next old new count rows h ran =
+      let w = runs_as set_next_text (Text name ∷ Int (pos next) ∷ []) old new desk_schema h.schema _ set_next_is.0 set_next_is.1 count ran in
+      let done = updates 1 _ 2 _ _ _ _ refl (λ t. refl) (equals 1 0 ∷ []) project (Text name ∷ Int (pos next) ∷ []) _ old new count h.schema w in
+      let put = written old.now.trees new.now.trees rows.series done.ordered h.series (named_once old.now rows h name) done.same done.wrote in
+      changed_series old.now new.now rows (map (next_set name next) rows.series) h done.schema done.sound put.0 put.1 (told_changed rows.series h.addressees)

@@ -1,0 +1,26 @@
+//! The tables in which a desk keeps its agreements, deliveries and catalogues: their schema, and
+//! the statements over typed rows.
+//!
+//! It stands on `onix_terms` and `onix_message` for what a row holds, and on `sqlite` for the
+//! tables. The definitions are in `specs/`: `Schema` has the tables as SQL text and as the schema
+//! that the text means, `Rows` the typed rows, what it is for a database to hold them, the look-ups
+//! and the changes, `Statements` what each statement means, `Transactions` what a transaction
+//! does. A contract names the rows before a call and says the answer and the rows after it.
+#![tactic(auto)]
+
+pub mod applied;
+mod articles;
+mod columns;
+mod creation;
+mod fault;
+mod held;
+mod offers;
+mod prices;
+mod records;
+pub mod rows;
+pub mod series;
+pub mod tables;
+#[cfg(test)]
+mod tests;
+pub mod work;
+mod written;

@@ -3,12 +3,11 @@ use Rattle.std.proofs.Common.{◌≡◌, ℕ, List, [], Bool, true, false, if◌
 use Rattle.sqlite_value.specs.Order.{Row}
 use Rattle.sqlite_trees.specs.Tree.{Trees}
 use Rattle.sqlite_schema.specs.declared.command.Command.{Command}
-use Rattle.sqlite_schema.specs.declared.command.Command.TheVariants.{Commit, Release}
 use Rattle.sqlite.specs.Listing.{understood}
 use Rattle.sqlite.specs.Effect.{Database}
 use Rattle.sqlite.specs.Clock.{timed}
-use Rattle.sqlite.specs.State.{State, Survives, Executes, CommitsBy, KeepsCommit, IsUnchanged, Runs, Writes, Shows, Shown, ShowsRows}
-use Rattle.sqlite.proofs.Callers.{IsPlain, command_of, runs_as}
+use Rattle.sqlite.specs.State.{State, Survives, Executes, CommitsBy, KeepsCommit, IsUnchanged, Writes, Shows, Shown, ShowsRows, mode_of}
+use Rattle.sqlite.proofs.Callers.{IsPlain, command_of, statement_of, runs_as}
 use Rattle.sqlite.proofs.StateLemmas.{survives_weaker}
 use Rattle.onix_message.specs.declared.agreement.StoreFault.{StoreFault}
 use Rattle.onix_message.specs.declared.agreement.StoreFault.TheVariants.{Unusable}
@@ -17,15 +16,20 @@ use Rattle.desk_tables.specs.Rows.{DeskRows, Holds}
 use Rattle.sqlite_schema.specs.declared.command.Returning.{Returning}
 use Rattle.desk_tables.proofs.Control.{kept_itself, survives_itself}
 use Rattle.desk_tables.proofs.Returned.{wrote_by}
+use Rattle.desk_tables.proofs.RowWrites.{writes_rows, no_commit, no_release, rows_written, keeps_schema}
 use Rattle.desk_tables.proofs.StatementTexts.{returning_of, formats_of}
 use Rattle.desk_tables.specs.Transactions.{RunsIn, ReadsIn, Works, IsForeign, NoTrees}
 
-module _ (sql : List ℕ) (command : Command) (is : command_of (understood desk_schema sql) ≡ command) (plain : IsPlain (understood desk_schema sql))
-    (no_commit : ¬ (command ≡ Commit)) (no_release : (name : List ℕ) → ¬ (command ≡ Release name))
-    (writes : (old new : State) (text : List ℕ) (params : Row) (count : ℕ) → Runs old new None command text params count → Writes old new None command text params count) where
+module _ (sql : List ℕ) (command : Command) (is : command_of (understood desk_schema sql) ≡ command) (plain : IsPlain (understood desk_schema sql)) (rows : writes_rows command ≡ true) where
+  wrote : (params : Row) (old new : State) (count : ℕ) → old.now.schema ≡ desk_schema → Executes sql params old new (Ok count) → Writes old new None command (statement_of sql (understood desk_schema sql)) params count
+  wrote params old new count has h = rows_written command rows old new _ params count (runs_as sql params old new desk_schema has command is plain count h)
+
   shows_inside : (params : Row) (old new : State) (count : ℕ) → old.now.schema ≡ desk_schema → IsTrue old.in_transaction → Executes sql params old new (Ok count) → Shows old new new.now old.committed true
-  shows_inside params old new count has inside h =
-      let w = writes old new _ params count (runs_as sql params old new desk_schema has command is plain count h) in subst (λ b. Shows old new new.now (if b then old.committed else new.now) b) inside w.shown
+  shows_inside params old new count has inside h = subst (λ b. Shows old new new.now (if b then old.committed else new.now) b) inside (wrote params old new count has h).shown
+
+  schema_inside : (params : Row) (old new : State) (count : ℕ) → old.now.schema ≡ desk_schema → Executes sql params old new (Ok count) → new.now.schema ≡ desk_schema
+  schema_inside params old new count has h =
+      let w = wrote params old new count has h in keeps_schema old.step_limit (mode_of old) params old.now _ None w.tally new.now command rows w.changed ∙ has
 
   commits_nothing : (params : Row) (old : State) (db : Trees) → old.now.schema ≡ desk_schema → IsTrue old.in_transaction → CommitsBy sql params old db → NoTrees db
   unfolding CommitsBy
@@ -33,7 +37,7 @@ module _ (sql : List ℕ) (command : Command) (is : command_of (understood desk_
       let known = sym h.1.is ∙ ap (λ s. understood s sql) has in
       let same : h.0.command ≡ command = ap command_of known ∙ is in
       elim h.2 [
-        | inl ends ↦ elim ends.0 [ inl e ↦ no_commit (sym same ∙ e) | inr e ↦ no_release e.0 (sym same ∙ e.2) ]
+        | inl ends ↦ elim ends.0 [ inl e ↦ no_commit command rows (sym same ∙ e) | inr e ↦ no_release command rows e.0 (sym same ∙ e.2) ]
         | inr wrote ↦ absurd (let x = wrote.0 in cc)
       ]
 
@@ -48,7 +52,8 @@ module _ (sql : List ℕ) (command : Command) (is : command_of (understood desk_
     refused = λ s. absurd (let x = unspent s in cc);
     inside = ran.inside;
     gives = λ clean rows h. gives rows h (ran.ran clean);
-    goes_on = λ clean has. let shown = shows_inside params old new count has ran.inside (ran.ran clean) in (shown.mode, shown.is_open);
+    goes_on = λ clean has.
+        let shown = shows_inside params old new count has ran.inside (ran.ran clean) in (shown.mode, shown.is_open, schema_inside params old new count has (ran.ran clean));
     kept = λ clean has. let shown = shows_inside params old new count has ran.inside (ran.ran clean) in record { was_open = λ _. shown.was_open; committed = λ _. shown.committed_is };
     survives = survives_inside params old new (Ok count) ran;
   }
@@ -84,7 +89,8 @@ module _ (sql : List ℕ) (plain : IsPlain (understood desk_schema sql)) where
     refused = λ s. absurd (let x = unspent s in cc);
     inside = ran.inside;
     gives = λ clean rows h. let shown = ran.shown clean in (gives rows h shown, subst (λ (d : Database). Holds d rows) (sym (unchanged params old new (rows_of got) h.schema shown).0.now_is) h);
-    goes_on = λ clean has. let same = unchanged params old new (rows_of got) has (ran.shown clean) in (same.0.mode ∙ ran.inside, same.0.is_open);
+    goes_on = λ clean has.
+        let same = unchanged params old new (rows_of got) has (ran.shown clean) in (same.0.mode ∙ ran.inside, same.0.is_open, ap (λ (d : Database). d.schema) same.0.now_is ∙ has);
     kept = λ clean has. kept_by params old new (rows_of got) has (ran.shown clean);
     survives = survives_weaker old new NoTrees (IsForeign old) (λ _ db none. absurd none) ran.survives;
   }
@@ -116,10 +122,15 @@ reads_err Answer change sql params old new was now rows_of e ran spent unspent =
 
 -- a write with RETURNING
 module _ (sql : List ℕ) (command : Command) (what : Returning) (is : command_of (understood desk_schema sql) ≡ command) (returns : returning_of (understood desk_schema sql) ≡ Some what)
-    (untimed : formats_of (understood desk_schema sql) ≡ []) where
+    (untimed : formats_of (understood desk_schema sql) ≡ []) (rows : writes_rows command ≡ true) where
   shows_written : (params : Row) (old new : State) (got : List Row) → old.now.schema ≡ desk_schema → IsTrue old.in_transaction → Shown sql params old new got → Shows old new new.now old.committed true
   shows_written params old new got has inside h =
       let wrote = wrote_by sql command what params old new got is returns untimed has h in subst (λ b. Shows old new new.now (if b then old.committed else new.now) b) inside wrote.2.shown
+
+  schema_written : (params : Row) (old new : State) (got : List Row) → old.now.schema ≡ desk_schema → Shown sql params old new got → new.now.schema ≡ desk_schema
+  schema_written params old new got has h =
+      let wrote = wrote_by sql command what params old new got is returns untimed has h in
+      keeps_schema old.step_limit (mode_of old) params old.now wrote.0 (Some what) wrote.2.tally new.now command rows wrote.2.changed ∙ has
 
   pub takes_ok : {A V : Type 0} (Answer : DeskRows → A → Type 0) (change : DeskRows → DeskRows) (params : Row) (old new : State) (was now : Bool) (rows_of : V → List Row) (got : V) (a : A) → ReadsIn sql params old new rows_of (Ok got) → now ≡ false
       → (IsTrue was → ◌≡◌ {A = Result V StoreFault} (Ok got) (Err Unusable))
@@ -129,7 +140,8 @@ module _ (sql : List ℕ) (command : Command) (what : Returning) (is : command_o
     refused = λ s. absurd (let x = unspent s in cc);
     inside = ran.inside;
     gives = λ clean rows h. gives rows h (ran.shown clean);
-    goes_on = λ clean has. let shown = shows_written params old new (rows_of got) has ran.inside (ran.shown clean) in (shown.mode, shown.is_open);
+    goes_on = λ clean has.
+        let shown = shows_written params old new (rows_of got) has ran.inside (ran.shown clean) in (shown.mode, shown.is_open, schema_written params old new (rows_of got) has (ran.shown clean));
     kept = λ clean has. let shown = shows_written params old new (rows_of got) has ran.inside (ran.shown clean) in record { was_open = λ _. shown.was_open; committed = λ _. shown.committed_is };
     survives = survives_weaker old new NoTrees (IsForeign old) (λ _ db none. absurd none) ran.survives;
   }

@@ -5,6 +5,7 @@ pub mod HoldsLemmas
 pub mod Inserts
 pub mod CastLemmas
 pub mod HeldLemmas
+pub mod RowWrites
 pub mod Control
 pub mod Calls
 pub mod Selects

@@ -38,10 +38,6 @@ price_params row p1 p2 p3 p4 p5 p6 p7 p8 p9 p10 p11 p12 = λ t. p1 t ∷ p2 t �
 pub minimum_params : (row : MinimumRow) {a b c d e : Value} → a ≡ Text row.series → b ≡ Text row.reference → c ≡ Int (pos row.place) → d ≡ Int (pos row.price_place) → e ≡ Int (pos row.minimum) → (a ∷ b ∷ c ∷ d ∷ e ∷ []) ≡ minimum_columns row
 minimum_params row p1 p2 p3 p4 p5 = λ t. p1 t ∷ p2 t ∷ p3 t ∷ p4 t ∷ p5 t ∷ []
 
-pub price_schema : (old new : State) (row : PriceRow) (count : ℕ) → old.now.schema ≡ desk_schema → Executes put_price_text (price_columns row) old new (Ok count) → new.now.schema ≡ desk_schema
-price_schema old new row count has ran =
-    (inserts 7 _ 15 _ _ _ _ refl (λ olds new. refl) put_price_text (price_columns row) _ 13 (Null ∷ price_columns row) put_price_is.0 put_price_is.1 refl old new count has ran).schema
-
 pub puts_price : (old new : State) (row : PriceRow) (count : ℕ) (rows : DeskRows) → Holds old.now rows → Executes put_price_text (price_columns row) old new (Ok count) → Holds new.now (with_price row rows)
 puts_price old new row count rows h ran =
     let made = inserts 7 _ 15 _ _ _ _ refl (λ olds new. refl) put_price_text (price_columns row) _ 13 (Null ∷ price_columns row) put_price_is.0 put_price_is.1 refl old new count h.schema ran in

@@ -24,17 +24,17 @@ works_unrun {A} Answer change s was e spent = record {
   survives = survives_itself s _;
 }
 
--- two statements in turn, of which the first leaves the schema
+-- two statements in turn
 pub works_both : {A B : Type 0} (f f′ : DeskRows → DeskRows) (old mid new : State) (was between now : Bool) (x : B) (result : Result A StoreFault) → Works NoAnswer f old mid was between (Ok x)
-    → (HasCleanDisk mid → old.now.schema ≡ desk_schema → mid.now.schema ≡ desk_schema) → Works NoAnswer f′ mid new between now result → Works NoAnswer (λ rows. f′ (f rows)) old new was now result
-works_both {A} f f′ old mid new was between now x result first keeps second = record {
+    → Works NoAnswer f′ mid new between now result → Works NoAnswer (λ rows. f′ (f rows)) old new was now result
+works_both {A} f f′ old mid new was between now x result first second = record {
   spent = second.spent;
   refused = λ s. absurd (let e = first.refused s in cc);
   inside = inside result;
   gives = λ clean rows h. second.gives clean (f rows) (first.gives (early clean) rows h).1;
-  goes_on = λ clean has. second.goes_on clean (keeps (early clean) has);
-  kept = λ clean has. kept_then (first.kept (early clean) has) (second.kept clean (keeps (early clean) has));
-  survives = survives_then old mid new (IsForeign old) (IsForeign mid) (IsForeign old) (λ _ db foreign. foreign) (λ clean db foreign has. foreign (keeps (early clean) has)) first.survives second.survives;
+  goes_on = λ clean has. second.goes_on clean (first.goes_on (early clean) has).2;
+  kept = λ clean has. kept_then (first.kept (early clean) has) (second.kept clean (first.goes_on (early clean) has).2);
+  survives = survives_then old mid new (IsForeign old) (IsForeign mid) (IsForeign old) (λ _ db foreign. foreign) (λ clean db foreign has. foreign (first.goes_on (early clean) has).2) first.survives second.survives;
 }
   where
     early : HasCleanDisk new → HasCleanDisk mid
@@ -55,16 +55,16 @@ price_with row above = ap (λ b. λ rows. if b then with_minimum (minimum_row ro
 
 -- two queries in turn, whose answers make one
 pub reads_then : {A B : Type 0} (First : DeskRows → A → Type 0) (Second Both : DeskRows → B → Type 0) (old mid new : State) (was between now : Bool) (a : A) (result : Result B StoreFault) → Works First (λ rows. rows) old mid was between (Ok a)
-    → (HasCleanDisk mid → old.now.schema ≡ desk_schema → mid.now.schema ≡ desk_schema) → Works Second (λ rows. rows) mid new between now result → ((rows : DeskRows) (b : B) → First rows a → Second rows b → Both rows b)
+    → Works Second (λ rows. rows) mid new between now result → ((rows : DeskRows) (b : B) → First rows a → Second rows b → Both rows b)
     → Works Both (λ rows. rows) old new was now result
-reads_then {A} {B} First Second Both old mid new was between now a result first keeps second join = record {
+reads_then {A} {B} First Second Both old mid new was between now a result first second join = record {
   spent = second.spent;
   refused = λ s. absurd (let e = first.refused s in cc);
   inside = inside result;
   gives = λ clean rows h. let one = first.gives (early clean) rows h in both rows one.0 result (second.gives clean rows one.1);
-  goes_on = λ clean has. second.goes_on clean (keeps (early clean) has);
-  kept = λ clean has. kept_then (first.kept (early clean) has) (second.kept clean (keeps (early clean) has));
-  survives = survives_then old mid new (IsForeign old) (IsForeign mid) (IsForeign old) (λ _ db foreign. foreign) (λ clean db foreign has. foreign (keeps (early clean) has)) first.survives second.survives;
+  goes_on = λ clean has. second.goes_on clean (first.goes_on (early clean) has).2;
+  kept = λ clean has. kept_then (first.kept (early clean) has) (second.kept clean (first.goes_on (early clean) has).2);
+  survives = survives_then old mid new (IsForeign old) (IsForeign mid) (IsForeign old) (λ _ db foreign. foreign) (λ clean db foreign has. foreign (first.goes_on (early clean) has).2) first.survives second.survives;
 }
   where
     early : HasCleanDisk new → HasCleanDisk mid

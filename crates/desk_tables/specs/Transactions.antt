@@ -91,7 +91,7 @@ pub record Works {A : Type 0} (Answer : DeskRows → A → Type 0) (change : Des
   pub refused : IsTrue was → result ≡ Err Unusable
   pub inside : OnOk result (IsTrue old.in_transaction)
   pub gives : HasCleanDisk new → (rows : DeskRows) → Holds old.now rows → IfOk result (λ a. Answer rows a × Holds new.now (change rows))
-  pub goes_on : HasCleanDisk new → old.now.schema ≡ desk_schema → OnOk result (IsTrue new.in_transaction × IsTrue new.is_open)
+  pub goes_on : HasCleanDisk new → old.now.schema ≡ desk_schema → OnOk result (IsTrue new.in_transaction × IsTrue new.is_open × (new.now.schema ≡ desk_schema))
   -- nothing is committed: a crash leaves what it could leave before
   pub kept : HasCleanDisk new → old.now.schema ≡ desk_schema → KeepsCommit old new
   pub survives : Survives old new (IsForeign old)

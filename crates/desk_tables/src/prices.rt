@@ -1,9 +1,7 @@
 // The tables `price` and `price_minimum`: the prices of each offer, and the minimums above 1.
 
-ghost use Rattle.std.specs.Prelude.{◌≡◌, Err, IfOk, IsTrue, OnOk, Some, map, position};
+ghost use Rattle.std.specs.Prelude.{◌≡◌, Err, IfOk, IsTrue, Some, map, position};
 ghost use Rattle.sqlite.specs.Held.{state};
-ghost use Rattle.sqlite.specs.State.{HasCleanDisk};
-ghost use Rattle.desk_tables.specs.Schema.{desk_schema};
 ghost use Rattle.desk_tables.specs.Transactions.{Works, NoAnswer};
 ghost use Rattle.desk_tables.specs.RecordRows.{price_row, minimum_row, minimum_columns};
 ghost use Rattle.desk_tables.specs.RecordAnswers.{five_columns, is_minimum_at, minimum_at, read_priced, AreMinimums, ArePricesWith, ArePricesInOrder};
@@ -152,8 +150,6 @@ impl<S: Alter> Work<'_, S> {
         ensures untouched { IsTrue self.old.spent → (result ≡ Err StoreFault.Unusable) × (self.new.tables.now ≡ self.old.tables.now) }
         ensures works { Works NoAnswer (with_price (record (price_row row.now) { included = included.now; excluded = excluded.now }))
             (state S.Store self.old.tables.now.connection) (state S.Store self.new.tables.now.connection) self.old.spent self.new.spent result }
-        ensures schema { HasCleanDisk (state S.Store self.new.tables.now.connection) → (state S.Store self.old.tables.now.connection).now.schema ≡ desk_schema
-            → OnOk result ((state S.Store self.new.tables.now.connection).now.schema ≡ desk_schema) }
     {
         match self.run(
             "INSERT INTO price (series, reference, place, price_place, price_type, amount, currency, included, world, excluded, from_day, until_day) VALUES (?1, ?2, ?3, ?4, ?5, ?6, ?7, ?8, ?9, ?10, ?11, ?12)",
@@ -242,8 +238,6 @@ impl<S: Alter> Work<'_, S> {
         ensures untouched { IsTrue self.old.spent → (result ≡ Err StoreFault.Unusable) × (self.new.tables.now ≡ self.old.tables.now) }
         ensures works { Works (λ rows minimums. AreMinimums series.now rows minimums.items) unchanged
             (state S.Store self.old.tables.now.connection) (state S.Store self.new.tables.now.connection) self.old.spent self.new.spent result }
-        ensures schema { HasCleanDisk (state S.Store self.new.tables.now.connection) → (state S.Store self.old.tables.now.connection).now.schema ≡ desk_schema
-            → OnOk result ((state S.Store self.new.tables.now.connection).now.schema ≡ desk_schema) }
     {
         let rows = match self.rows(
             "SELECT series, reference, place, price_place, minimum FROM price_minimum WHERE series = ?1 ORDER BY reference, place, price_place",

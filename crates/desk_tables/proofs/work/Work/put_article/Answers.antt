@@ -1,3 +1,4 @@
+use Rattle.std.proofs.Common.{refl}
 use Rattle.sqlite.specs.Held.{state}
 use Rattle.desk_tables.specs.RecordRows.{article_columns}
 use Rattle.desk_tables.specs.RecordChanges.{with_article}
@@ -14,7 +15,7 @@ returns-in-Ok-clause-works g c =
     let new = state g.S.Store c.run.new.self.tables.now.connection in
     let row = c.args.row.now in
     let ran = c.in-Ok.ensures in
-    works_ok put_article_text _ put_article_is.0 put_article_is.1 (λ e. cc) (λ name e. cc) (λ old new text params count r. r) NoAnswer (with_article row) (article_columns row) old new c.args.self.now.spent c.run.new.self.spent c.in-Ok.field-0 tt
+    works_ok put_article_text _ put_article_is.0 put_article_is.1 refl NoAnswer (with_article row) (article_columns row) old new c.args.self.now.spent c.run.new.self.spent c.in-Ok.field-0 tt
     (rw (c.params-to_sql.ensures, c.params-to_sql-2.ensures, c.params-to_sql-3.ensures, c.params-to_sql-4.ensures, c.params-to_sql-5.ensures, c.as_str.ensures.text, c.as_str-2.ensures, c.as_str-3.ensures.text, c.as_str-4.ensures) at ran.runs) ran.spent (λ s. (ran.refused s).0)
     (λ rows h x. (tt, puts_article old new row c.in-Ok.field-0 rows h x))
 
@@ -24,5 +25,5 @@ returns-in-Err-clause-works g c =
     let new = state g.S.Store c.run.new.self.tables.now.connection in
     let row = c.args.row.now in
     let ran = c.in-Err.ensures in
-    works_err put_article_text _ put_article_is.0 put_article_is.1 (λ e. cc) (λ name e. cc) (λ old new text params count r. r) NoAnswer (with_article row) (article_columns row) old new c.args.self.now.spent c.run.new.self.spent c.in-Err.fault
+    works_err put_article_text _ put_article_is.0 put_article_is.1 refl NoAnswer (with_article row) (article_columns row) old new c.args.self.now.spent c.run.new.self.spent c.in-Err.fault
     (rw (c.params-to_sql.ensures, c.params-to_sql-2.ensures, c.params-to_sql-3.ensures, c.params-to_sql-4.ensures, c.params-to_sql-5.ensures, c.as_str.ensures.text, c.as_str-2.ensures, c.as_str-3.ensures.text, c.as_str-4.ensures) at ran.runs) ran.spent (λ s. (ran.refused s).0)

@@ -1,3 +1,4 @@
+use Rattle.std.proofs.Common.{refl}
 use Rattle.sqlite.specs.Held.{state}
 use Rattle.desk_tables.specs.Rows.{HeldRow, with_held}
 use Rattle.desk_tables.specs.Statements.{put_held_text}
@@ -13,7 +14,7 @@ returns-in-Ok-clause-works g c =
     let new = state g.S.Store c.run.new.self.tables.now.connection in
     let row : HeldRow = record { series = c.args.series.now; number = c.args.number; contents = c.args.contents.now } in
     let ran = c.in-Ok.ensures in
-    works_ok put_held_text _ put_held_is.0 put_held_is.1 (λ e. cc) (λ name e. cc) (λ old new text params count r. r) NoAnswer (with_held row) (put_held_params row) old new c.args.self.now.spent c.run.new.self.spent c.in-Ok.field-0 tt
+    works_ok put_held_text _ put_held_is.0 put_held_is.1 refl NoAnswer (with_held row) (put_held_params row) old new c.args.self.now.spent c.run.new.self.spent c.in-Ok.field-0 tt
     (rw (c.params-to_sql.ensures, c.params-to_sql-2.ensures, c.params-to_sql-3.ensures, c.as_str.ensures.text, c.value.ensures.value) at ran.runs) ran.spent (λ s. (ran.refused s).0)
     (λ rows h x. (tt, puts_held old new row c.in-Ok.field-0 rows h x))
 
@@ -23,5 +24,5 @@ returns-in-Err-clause-works g c =
     let new = state g.S.Store c.run.new.self.tables.now.connection in
     let row : HeldRow = record { series = c.args.series.now; number = c.args.number; contents = c.args.contents.now } in
     let ran = c.in-Err.ensures in
-    works_err put_held_text _ put_held_is.0 put_held_is.1 (λ e. cc) (λ name e. cc) (λ old new text params count r. r) NoAnswer (with_held row) (put_held_params row) old new c.args.self.now.spent c.run.new.self.spent c.in-Err.fault
+    works_err put_held_text _ put_held_is.0 put_held_is.1 refl NoAnswer (with_held row) (put_held_params row) old new c.args.self.now.spent c.run.new.self.spent c.in-Err.fault
     (rw (c.params-to_sql.ensures, c.params-to_sql-2.ensures, c.params-to_sql-3.ensures, c.as_str.ensures.text, c.value.ensures.value) at ran.runs) ran.spent (λ s. (ran.refused s).0)

@@ -1,4 +1,4 @@
-use Rattle.std.proofs.Common.{Ok, Err, ap, subst, ◌∙◌}
+use Rattle.std.proofs.Common.{Ok, Err, ap, subst, ◌∙◌, refl}
 use Rattle.sqlite_value.specs.declared.value.Value.TheVariants.{Int, Text}
 use Rattle.sqlite_value.specs.Order.{Row}
 use Rattle.sqlite.specs.Held.{state}
@@ -24,7 +24,7 @@ returns-in-Ok-clause-works g c =
     (ap bound_value c.params-to_sql-3.ensures)
     (ap bound_value c.params-to_sql-4.ensures)
     (ap bound_value c.params-to_sql-5.ensures ∙ ap (λ n. Int (pos n)) c.value.ensures.value) in
-    works_ok put_minimum_text _ put_minimum_is.0 put_minimum_is.1 (λ e. cc) (λ name e. cc) (λ old new text params count r. r) NoAnswer (with_minimum row) (minimum_columns row) old new c.args.self.now.spent c.run.new.self.spent c.in-Ok.field-0 tt
+    works_ok put_minimum_text _ put_minimum_is.0 put_minimum_is.1 refl NoAnswer (with_minimum row) (minimum_columns row) old new c.args.self.now.spent c.run.new.self.spent c.in-Ok.field-0 tt
     (subst (λ (p : Row). RunsIn put_minimum_text p old new (Ok c.in-Ok.field-0)) params ran.runs) ran.spent (λ s. (ran.refused s).0)
     (λ rows h x. (tt, puts_minimum old new row c.in-Ok.field-0 rows h x))
 
@@ -39,5 +39,5 @@ returns-in-Err-clause-works g c =
     (ap bound_value c.params-to_sql-3.ensures)
     (ap bound_value c.params-to_sql-4.ensures)
     (ap bound_value c.params-to_sql-5.ensures ∙ ap (λ n. Int (pos n)) c.value.ensures.value) in
-    works_err put_minimum_text _ put_minimum_is.0 put_minimum_is.1 (λ e. cc) (λ name e. cc) (λ old new text params count r. r) NoAnswer (with_minimum row) (minimum_columns row) old new c.args.self.now.spent c.run.new.self.spent c.in-Err.fault
+    works_err put_minimum_text _ put_minimum_is.0 put_minimum_is.1 refl NoAnswer (with_minimum row) (minimum_columns row) old new c.args.self.now.spent c.run.new.self.spent c.in-Err.fault
     (subst (λ (p : Row). RunsIn put_minimum_text p old new (Err c.in-Err.fault)) params ran.runs) ran.spent (λ s. (ran.refused s).0)

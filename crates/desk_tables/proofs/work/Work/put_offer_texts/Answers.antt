@@ -1,4 +1,4 @@
-use Rattle.std.proofs.Common.{Ok, Err, ap, subst, ◌∙◌}
+use Rattle.std.proofs.Common.{Ok, Err, ap, subst, ◌∙◌, refl}
 use Rattle.sqlite_value.specs.declared.value.Value.TheVariants.{Text}
 use Rattle.sqlite_value.specs.Order.{Row}
 use Rattle.sqlite.specs.Held.{state}
@@ -23,7 +23,7 @@ returns-in-Ok-clause-works g c =
     (ap bound_value c.params-to_sql-8.ensures ∙ ap (λ t. Text t) c.as_str-3.ensures.text) (ap bound_value c.params-to_sql-9.ensures ∙ ap (λ t. Text t) c.party_type.ensures)
     (ap bound_value c.params-to_sql-10.ensures ∙ ap (λ t. Text t) c.party_value.ensures) (ap bound_value c.params-to_sql-11.ensures ∙ ap (λ t. Text t) c.as_str-4.ensures)
     (ap bound_value c.params-to_sql-12.ensures ∙ ap (λ t. Text t) c.as_str-5.ensures.text) (ap bound_value c.params-to_sql-13.ensures ∙ ap (λ t. Text t) c.code_or_empty.ensures) in
-    works_ok put_offer_text _ put_offer_is.0 put_offer_is.1 (λ e. cc) (λ name e. cc) (λ old new text params count r. r) NoAnswer (with_offer row) (offer_columns row) old new c.args.self.now.spent c.run.new.self.spent c.in-Ok.field-0 tt
+    works_ok put_offer_text _ put_offer_is.0 put_offer_is.1 refl NoAnswer (with_offer row) (offer_columns row) old new c.args.self.now.spent c.run.new.self.spent c.in-Ok.field-0 tt
     (subst (λ (p : Row). RunsIn put_offer_text p old new (Ok c.in-Ok.field-0)) params ran.runs) ran.spent (λ s. (ran.refused s).0)
     (λ rows h x. (tt, puts_offer old new row c.in-Ok.field-0 rows h x))
 
@@ -38,5 +38,5 @@ returns-in-Err-clause-works g c =
     (ap bound_value c.params-to_sql-8.ensures ∙ ap (λ t. Text t) c.as_str-3.ensures.text) (ap bound_value c.params-to_sql-9.ensures ∙ ap (λ t. Text t) c.party_type.ensures)
     (ap bound_value c.params-to_sql-10.ensures ∙ ap (λ t. Text t) c.party_value.ensures) (ap bound_value c.params-to_sql-11.ensures ∙ ap (λ t. Text t) c.as_str-4.ensures)
     (ap bound_value c.params-to_sql-12.ensures ∙ ap (λ t. Text t) c.as_str-5.ensures.text) (ap bound_value c.params-to_sql-13.ensures ∙ ap (λ t. Text t) c.code_or_empty.ensures) in
-    works_err put_offer_text _ put_offer_is.0 put_offer_is.1 (λ e. cc) (λ name e. cc) (λ old new text params count r. r) NoAnswer (with_offer row) (offer_columns row) old new c.args.self.now.spent c.run.new.self.spent c.in-Err.fault
+    works_err put_offer_text _ put_offer_is.0 put_offer_is.1 refl NoAnswer (with_offer row) (offer_columns row) old new c.args.self.now.spent c.run.new.self.spent c.in-Err.fault
     (subst (λ (p : Row). RunsIn put_offer_text p old new (Err c.in-Err.fault)) params ran.runs) ran.spent (λ s. (ran.refused s).0)

@@ -19,4 +19,4 @@ returns-then-value-gt1-clause-works g c =
     let first = subst (λ (p : PriceRow). Works NoAnswer (with_price p) old mid c.args.self.now.spent c.put_price_texts.new.self.spent (Ok c.in_default.field-0)) same c.in_default.ensures.works in
     subst (λ (f : DeskRows → DeskRows). Works NoAnswer f old new c.args.self.now.spent c.put_minimum.new.self.spent c.put_minimum.result) (price_with row above)
     (works_both (with_price (price_row row)) (with_minimum (minimum_row row)) old mid new c.args.self.now.spent c.put_price_texts.new.self.spent c.put_minimum.new.self.spent c.in_default.field-0 c.put_minimum.result first
-    (λ clean has. c.in_default.ensures.schema clean has) c.put_minimum.ensures.works)
+    c.put_minimum.ensures.works)

@@ -1,4 +1,4 @@
-use Rattle.std.proofs.Common.{[], ◌∷◌, pos}
+use Rattle.std.proofs.Common.{[], ◌∷◌, pos, refl}
 use Rattle.sqlite_value.specs.declared.value.Value.TheVariants.{Int, Text}
 use Rattle.sqlite_value.specs.Order.{Row}
 use Rattle.sqlite.specs.Held.{state}
@@ -16,7 +16,7 @@ returns-in-Ok-clause-works g c =
     let new = state g.S.Store c.run.new.self.tables.now.connection in
     let params : Row = Text c.args.series.now ∷ Int (pos c.args.next) ∷ [] in
     let ran = c.in-Ok.ensures in
-    works_ok set_next_text _ set_next_is.0 set_next_is.1 (λ e. cc) (λ name e. cc) (λ old new text params count r. r) NoAnswer (with_next c.args.series.now c.args.next) params old new c.args.self.now.spent c.run.new.self.spent c.in-Ok.field-0 tt
+    works_ok set_next_text _ set_next_is.0 set_next_is.1 refl NoAnswer (with_next c.args.series.now c.args.next) params old new c.args.self.now.spent c.run.new.self.spent c.in-Ok.field-0 tt
     (rw (c.params-to_sql.ensures, c.params-to_sql-2.ensures, c.as_str.ensures.text) at ran.runs) ran.spent (λ s. (ran.refused s).0)
     (λ rows h x. (tt, sets_next c.args.series.now c.args.next old new c.in-Ok.field-0 rows h x))
 
@@ -26,5 +26,5 @@ returns-in-Err-clause-works g c =
     let new = state g.S.Store c.run.new.self.tables.now.connection in
     let params : Row = Text c.args.series.now ∷ Int (pos c.args.next) ∷ [] in
     let ran = c.in-Err.ensures in
-    works_err set_next_text _ set_next_is.0 set_next_is.1 (λ e. cc) (λ name e. cc) (λ old new text params count r. r) NoAnswer (with_next c.args.series.now c.args.next) params old new c.args.self.now.spent c.run.new.self.spent c.in-Err.fault
+    works_err set_next_text _ set_next_is.0 set_next_is.1 refl NoAnswer (with_next c.args.series.now c.args.next) params old new c.args.self.now.spent c.run.new.self.spent c.in-Err.fault
     (rw (c.params-to_sql.ensures, c.params-to_sql-2.ensures, c.as_str.ensures.text) at ran.runs) ran.spent (λ s. (ran.refused s).0)

@@ -16,7 +16,7 @@ returns-in-Ok-first_text-clause-works g c =
     let new = state g.S.Store c.rows.new.self.tables.now.connection in
     let params : Row = Text c.args.series.now ∷ Int (pos c.args.number) ∷ [] in
     let ran = c.in-Ok.ensures in
-    takes_ok take_held_text _ _ take_held_is.0 take_held_is.2 take_held_is.1 (λ (rows : DeskRows) (text : Option _). text ≡ held_at c.args.series.now c.args.number rows) (without_held c.args.series.now c.args.number) params old new
+    takes_ok take_held_text _ _ take_held_is.0 take_held_is.2 take_held_is.1 refl (λ (rows : DeskRows) (text : Option _). text ≡ held_at c.args.series.now c.args.number rows) (without_held c.args.series.now c.args.number) params old new
     c.args.self.now.spent c.rows.new.self.spent (λ rows. rows.items) c.in-Ok.rows c.in-Ok-first_text.text
     (rw (c.params-to_sql.ensures, c.params-to_sql-2.ensures, c.as_str.ensures.text, c.value.ensures.value) at ran.reads) ran.spent (λ s. (ran.refused s).0)
     (λ rows h shown. let taken = takes_held old new c.args.series.now c.args.number rows _ h shown in
@@ -28,6 +28,6 @@ returns-clause-works g c =
     let new = state g.S.Store c.rows.new.self.tables.now.connection in
     let params : Row = Text c.args.series.now ∷ Int (pos c.args.number) ∷ [] in
     let ran = c.in-Ok.ensures in
-    takes_late take_held_text _ _ take_held_is.0 take_held_is.2 take_held_is.1 (λ (rows : DeskRows) (text : Option _). text ≡ held_at c.args.series.now c.args.number rows) (without_held c.args.series.now c.args.number) params old new
+    takes_late take_held_text _ _ take_held_is.0 take_held_is.2 take_held_is.1 refl (λ (rows : DeskRows) (text : Option _). text ≡ held_at c.args.series.now c.args.number rows) (without_held c.args.series.now c.args.number) params old new
     c.args.self.now.spent true (λ rows. rows.items) c.in-Ok.rows _
     (rw (c.params-to_sql.ensures, c.params-to_sql-2.ensures, c.as_str.ensures.text, c.value.ensures.value) at ran.reads) refl (λ s. (ran.refused s).0)

@@ -52,7 +52,7 @@ module _ {A : Type 0} (columns : A → Row) (p : A → Bool) (clash : Row → Ro
 abbrev pub key_clash : List ℕ → Row → Row → Bool
 key_clash places a b = agree plain places a places b && differ (rowid a) (rowid b)
 
-no_clash : (places : List ℕ) (tree : List Row) (a b : Row) → Has tree a → not (clashes plain places tree b) ≡ true → key_clash places a b ≡ false
+pub no_clash : (places : List ℕ) (tree : List Row) (a b : Row) → Has tree a → not (clashes plain places tree b) ≡ true → key_clash places a b ≡ false
 no_clash places tree a b h row =
     false_from_ne_true _ (λ clash. let some = some_from (λ other. agree plain places other places b && differ (rowid other) (rowid b)) tree a h clash in let x = rw some at row in cc)
 

@@ -43,4 +43,7 @@ pub mod RecordCascades
 pub mod Replaces
 pub mod SeriesUpdates
 pub mod RecordLists
+pub mod ArticleRecords
+pub mod ArticleLists
+pub mod ArticleLoops
 pub mod Places

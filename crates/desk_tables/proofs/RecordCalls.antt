@@ -55,13 +55,13 @@ price_with row above = ap (λ b. λ rows. if b then with_minimum (minimum_row ro
 
 -- two queries in turn, whose answers make one
 pub reads_then : {A B : Type 0} (First : DeskRows → A → Type 0) (Second Both : DeskRows → B → Type 0) (old mid new : State) (was between now : Bool) (a : A) (result : Result B StoreFault) → Works First (λ rows. rows) old mid was between (Ok a)
-    → Works Second (λ rows. rows) mid new between now result → ((rows : DeskRows) (b : B) → First rows a → Second rows b → Both rows b)
+    → Works Second (λ rows. rows) mid new between now result → ((rows : DeskRows) (b : B) → Holds old.now rows → First rows a → Second rows b → Both rows b)
     → Works Both (λ rows. rows) old new was now result
 reads_then {A} {B} First Second Both old mid new was between now a result first second join = record {
   spent = second.spent;
   refused = λ s. absurd (let e = first.refused s in cc);
   inside = inside result;
-  gives = λ clean rows h. let one = first.gives (early clean) rows h in both rows one.0 result (second.gives clean rows one.1);
+  gives = λ clean rows h. let one = first.gives (early clean) rows h in both rows h one.0 result (second.gives clean rows one.1);
   goes_on = λ clean has. second.goes_on clean (first.goes_on (early clean) has).2;
   kept = λ clean has. kept_then (first.kept (early clean) has) (second.kept clean (first.goes_on (early clean) has).2);
   survives = survives_then old mid new (IsForeign old) (IsForeign mid) (IsForeign old) (λ _ db foreign. foreign) (λ clean db foreign has. foreign (first.goes_on (early clean) has).2) first.survives second.survives;
@@ -74,9 +74,50 @@ reads_then {A} {B} First Second Both old mid new was between now a result first 
     inside (Ok y) = first.inside
     inside (Err e) = tt
 
-    both : (rows : DeskRows) → First rows a → (r : Result B StoreFault) → IfOk r (λ b. Second rows b × Holds new.now rows) → IfOk r (λ b. Both rows b × Holds new.now rows)
-    both rows one (Ok y) h = (join rows y one h.0, h.1)
-    both rows one (Err e) h = tt
+    both : (rows : DeskRows) → Holds old.now rows → First rows a → (r : Result B StoreFault) → IfOk r (λ b. Second rows b × Holds new.now rows) → IfOk r (λ b. Both rows b × Holds new.now rows)
+    both rows held one (Ok y) h = (join rows y held one h.0, h.1)
+    both rows held one (Err e) h = tt
 
     kept_then : KeepsCommit old mid → KeepsCommit mid new → KeepsCommit old new
     kept_then p q = record { was_open = λ o. p.was_open (q.was_open o); committed = λ o. q.committed o ∙ p.committed (q.was_open o) }
+
+-- what was done is told in other words
+pub reads_as : {A B : Type 0} (First : DeskRows → A → Type 0) (Answer : DeskRows → B → Type 0) (old new : State) (was now : Bool) (a : A) (b : B) → Works First (λ rows. rows) old new was now (Ok a)
+    → ((rows : DeskRows) → Holds old.now rows → First rows a → Answer rows b) → Works Answer (λ rows. rows) old new was now (Ok b)
+reads_as First Answer old new was now a b first join = record {
+  spent = first.spent;
+  refused = λ s. absurd (let e = first.refused s in cc);
+  inside = first.inside;
+  gives = λ clean rows h. let one = first.gives clean rows h in (join rows h one.0, one.1);
+  goes_on = λ clean has. first.goes_on clean has;
+  kept = λ clean has. first.kept clean has;
+  survives = first.survives;
+}
+
+-- after a query the call stops
+pub reads_stopped : {A B : Type 0} (First : DeskRows → A → Type 0) (Answer : DeskRows → B → Type 0) (old new : State) (was now : Bool) (a : A) (e : StoreFault) → Works First (λ rows. rows) old new was now (Ok a)
+    → Works Answer (λ rows. rows) old new was true (Err e)
+reads_stopped First Answer old new was now a e first = record {
+  spent = refl;
+  refused = λ s. absurd (let x = first.refused s in cc);
+  inside = tt;
+  gives = λ clean rows h. tt;
+  goes_on = λ clean has. tt;
+  kept = λ clean has. first.kept clean has;
+  survives = first.survives;
+}
+
+-- the second of two queries fails, whatever the answer would have been
+pub reads_failed : {A B C : Type 0} (First : DeskRows → A → Type 0) (Second : DeskRows → B → Type 0) (Answer : DeskRows → C → Type 0) (old mid new : State) (was between now : Bool) (a : A) (e : StoreFault) → Works First (λ rows. rows) old mid was between (Ok a)
+    → Works {A = B} Second (λ rows. rows) mid new between now (Err e) → Works {A = C} Answer (λ rows. rows) old new was now (Err e)
+reads_failed First Second Answer old mid new was between now a e first second =
+    let both = reads_then First Second Second old mid new was between now a (Err e) first second (λ rows b h one two. two) in
+    record {
+      spent = both.spent;
+      refused = λ s. let x = both.refused s in cc;
+      inside = tt;
+      gives = λ clean rows h. tt;
+      goes_on = λ clean has. tt;
+      kept = λ clean has. both.kept clean has;
+      survives = both.survives;
+    }

@@ -25,7 +25,7 @@ and_true : (b : Bool) → (b && true) ≡ b
 and_true true = refl
 and_true false = refl
 
-int_order : (m n : ℕ) → int_cmp (pos m) (pos n) ≡ nat_cmp m n
+pub int_order : (m n : ℕ) → int_cmp (pos m) (pos n) ≡ nat_cmp m n
 int_order m n = grind (arith, nat_tests)
 
 -- Rows that were read from the columns of typed rows are these rows.
@@ -40,7 +40,7 @@ read_back columns cut whole same (x ∷ ordered) (y ∷ got) shown is read =
     let later : map columns got ≡ map cut (map columns ordered) = cc in
     rw (same y x (here ∙ whole x), read_back columns cut whole same ordered got (map columns ordered) refl later) refl
 
-same_record : (x y : RecordRow) → record_columns x ≡ record_columns y → x ≡ y
+pub same_record : (x y : RecordRow) → record_columns x ≡ record_columns y → x ≡ y
 same_record x y e =
     let series : x.series ≡ y.series = cc in
     let reference : x.reference ≡ y.reference = cc in
@@ -114,7 +114,7 @@ offers_shown old new series rows shown got h run read =
       read_of offer_columns read_offer s.0 shown got s.3 read,
     )
 
-same_minimum : (x y : MinimumRow) → minimum_columns x ≡ minimum_columns y → x ≡ y
+pub same_minimum : (x y : MinimumRow) → minimum_columns x ≡ minimum_columns y → x ≡ y
 same_minimum x y e =
     let series : x.series ≡ y.series = cc in
     let reference : x.reference ≡ y.reference = cc in

@@ -9,8 +9,8 @@ use Rattle.sqlite.specs.Listing.{understood, reads_listing}
 use Rattle.sqlite.proofs.Callers.{IsPlain, command_of}
 use Rattle.desk_tables.specs.Statements.{program}
 use Rattle.desk_tables.specs.Schema.{desk_schema}
-use Rattle.desk_tables.specs.RecordStatements.{has_record_text, record_rows_text, put_article_text, article_rows_text, delete_articles_text, put_offer_text, offer_rows_text, delete_offers_text, put_price_text, put_minimum_text, price_rows_text, minimum_rows_text, article_records_text}
-use Rattle.desk_tables.specs.RecordStatements.{has_record_query, record_rows_query, article_rows_query, delete_articles_query, offer_rows_query, delete_offers_query, price_rows_query, minimum_rows_query, article_records_query}
+use Rattle.desk_tables.specs.RecordStatements.{has_record_text, record_rows_text, put_article_text, article_rows_text, delete_articles_text, put_offer_text, offer_rows_text, delete_offers_text, put_price_text, put_minimum_text, price_rows_text, minimum_rows_text, article_records_text, record_offers_text, offer_prices_text, offer_minimums_text}
+use Rattle.desk_tables.specs.RecordStatements.{has_record_query, record_rows_query, article_rows_query, delete_articles_query, offer_rows_query, delete_offers_query, price_rows_query, minimum_rows_query, article_records_query, record_offers_query, offer_prices_query, offer_minimums_query}
 
 pub has_record_is : (command_of (understood desk_schema has_record_text) ≡ Select (program has_record_query) (codes "reference" ∷ [])) × (reads_listing desk_schema has_record_text ≡ false) × IsPlain (understood desk_schema has_record_text)
 unfolding understood everything
@@ -71,3 +71,20 @@ pub article_records_is : (command_of (understood desk_schema article_records_tex
     × (reads_listing desk_schema article_records_text ≡ false) × IsPlain (understood desk_schema article_records_text)
 unfolding understood everything
 article_records_is = (refl, refl, (refl, refl))
+
+pub record_offers_is : (command_of (understood desk_schema record_offers_text) ≡ Select (program record_offers_query)
+    (codes "series" ∷ codes "reference" ∷ codes "place" ∷ codes "supply" ∷ codes "included" ∷ codes "world" ∷ codes "excluded" ∷ codes "role" ∷ codes "supplier_type" ∷ codes "supplier_value" ∷ codes "supplier_name" ∷ codes "availability" ∷ codes "unpriced" ∷ []))
+    × (reads_listing desk_schema record_offers_text ≡ false) × IsPlain (understood desk_schema record_offers_text)
+unfolding understood everything
+record_offers_is = (refl, refl, (refl, refl))
+
+pub offer_prices_is : (command_of (understood desk_schema offer_prices_text) ≡ Select (program offer_prices_query)
+    (codes "series" ∷ codes "reference" ∷ codes "place" ∷ codes "price_place" ∷ codes "price_type" ∷ codes "amount" ∷ codes "currency" ∷ codes "included" ∷ codes "world" ∷ codes "excluded" ∷ codes "from_day" ∷ codes "until_day" ∷ []))
+    × (reads_listing desk_schema offer_prices_text ≡ false) × IsPlain (understood desk_schema offer_prices_text)
+unfolding understood everything
+offer_prices_is = (refl, refl, (refl, refl))
+
+pub offer_minimums_is : (command_of (understood desk_schema offer_minimums_text) ≡ Select (program offer_minimums_query) (codes "series" ∷ codes "reference" ∷ codes "place" ∷ codes "price_place" ∷ codes "minimum" ∷ []))
+    × (reads_listing desk_schema offer_minimums_text ≡ false) × IsPlain (understood desk_schema offer_minimums_text)
+unfolding understood everything
+offer_minimums_is = (refl, refl, (refl, refl))

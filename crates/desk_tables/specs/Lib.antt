@@ -8,3 +8,4 @@ pub mod Transactions
 pub mod Shown
 pub mod RecordReadings
 pub mod RecordAnswers
+pub mod ArticleAnswers

@@ -46,6 +46,15 @@ minimum_rows_text = codes "SELECT series, reference, place, price_place, minimum
 abbrev pub article_records_text : List ℕ
 article_records_text = codes "SELECT series, reference, id_type FROM article WHERE id_value = ?1 ORDER BY series, reference"
 
+abbrev pub record_offers_text : List ℕ
+record_offers_text = codes "SELECT series, reference, place, supply, included, world, excluded, role, supplier_type, supplier_value, supplier_name, availability, unpriced FROM offer WHERE series = ?1 AND reference = ?2 ORDER BY place"
+
+abbrev pub offer_prices_text : List ℕ
+offer_prices_text = codes "SELECT series, reference, place, price_place, price_type, amount, currency, included, world, excluded, from_day, until_day FROM price WHERE series = ?1 AND reference = ?2 AND place = ?3 ORDER BY price_place"
+
+abbrev pub offer_minimums_text : List ℕ
+offer_minimums_text = codes "SELECT series, reference, place, price_place, minimum FROM price_minimum WHERE series = ?1 AND reference = ?2 AND place = ?3"
+
 -- a column of the table in the order of its values
 abbrev pub rising : ℕ → Term × Key
 rising place = (col 1 place, ascending Binary)
@@ -81,3 +90,18 @@ minimum_rows_query = over 17 of_series (col 1 1 ∷ col 1 2 ∷ col 1 3 ∷ col 
 
 abbrev pub article_records_query : Query
 article_records_query = over 11 (equals 5 0 ∷ []) (col 1 1 ∷ col 1 2 ∷ col 1 4 ∷ []) (rising 1 ∷ rising 2 ∷ [])
+
+-- the first three places are the three parameters
+abbrev pub all_three : List Term
+all_three = equals 1 0 ∷ equals 2 1 ∷ equals 3 2 ∷ []
+
+abbrev pub record_offers_query : Query
+record_offers_query =
+    over 13 both (col 1 1 ∷ col 1 2 ∷ col 1 3 ∷ col 1 4 ∷ col 1 5 ∷ col 1 6 ∷ col 1 7 ∷ col 1 8 ∷ col 1 9 ∷ col 1 10 ∷ col 1 11 ∷ col 1 12 ∷ col 1 13 ∷ []) (rising 3 ∷ [])
+
+abbrev pub offer_prices_query : Query
+offer_prices_query =
+    over 15 all_three (col 1 1 ∷ col 1 2 ∷ col 1 3 ∷ col 1 4 ∷ col 1 5 ∷ col 1 6 ∷ col 1 7 ∷ col 1 8 ∷ col 1 9 ∷ col 1 10 ∷ col 1 11 ∷ col 1 12 ∷ []) (rising 4 ∷ [])
+
+abbrev pub offer_minimums_query : Query
+offer_minimums_query = over 17 all_three (col 1 1 ∷ col 1 2 ∷ col 1 3 ∷ col 1 4 ∷ col 1 5 ∷ []) []

@@ -9,6 +9,7 @@
 #![tactic(auto)]
 
 pub mod applied;
+mod article_offers;
 mod articles;
 mod columns;
 mod creation;

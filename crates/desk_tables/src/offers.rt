@@ -54,7 +54,7 @@ fn offer_row(alloc: Global, row: &Row) -> Result<OfferRow, StoreFault>
     })
 }
 
-fn all_offers(rows: &Vec<Row>) -> Result<Vec<OfferRow>, StoreFault>
+pub(crate) fn all_offers(rows: &Vec<Row>) -> Result<Vec<OfferRow>, StoreFault>
     ensures { IfOk result (λ offers. map (λ r. Some r) offers.items ≡ map read_offer rows.now.items) }
 {
     let alloc = *rows.allocator();

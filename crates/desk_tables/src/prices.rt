@@ -38,7 +38,7 @@ fn minimum_row(row: &Row) -> Result<MinimumRow, StoreFault>
     })
 }
 
-fn all_minimums(rows: &Vec<Row>) -> Result<Vec<MinimumRow>, StoreFault>
+pub(crate) fn all_minimums(rows: &Vec<Row>) -> Result<Vec<MinimumRow>, StoreFault>
     ensures { IfOk result (λ minimums. map minimum_columns minimums.items ≡ map five_columns rows.now.items) }
 {
     let mut minimums = Vec::new(*rows.allocator());
@@ -106,7 +106,7 @@ fn price_of(alloc: Global, row: &Row, minimum: Quantity) -> Result<Price, StoreF
 }
 
 // The row of `price` that a query shows, with its minimum among those.
-fn priced_row(alloc: Global, row: &Row, minimums: &[MinimumRow]) -> Result<PriceRow, StoreFault>
+pub(crate) fn priced_row(alloc: Global, row: &Row, minimums: &[MinimumRow]) -> Result<PriceRow, StoreFault>
     ensures { IfOk result (λ r. read_priced minimums.now row.now ≡ Some r) }
 {
     let series = name_column(row, 0)?;

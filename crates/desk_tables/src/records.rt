@@ -22,7 +22,7 @@ fn has_row(rows: &Vec<Row>) -> bool
 }
 
 // The row of the table that a query shows.
-fn record_row(row: &Row) -> Result<RecordRow, StoreFault>
+pub(crate) fn record_row(row: &Row) -> Result<RecordRow, StoreFault>
     ensures { IfOk result (λ r. record_columns r ≡ two_columns row.now) }
 {
     Ok(RecordRow {

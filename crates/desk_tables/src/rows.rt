@@ -13,6 +13,22 @@ pub struct RecordRow {
     pub reference: Text,
 }
 
+impl PartialEq for RecordRow {
+    ghost use Rattle.std.specs.Cmp;
+    ghost use Rattle.std.specs.Cmp.Lexicographic.{nat_list_eq_equiv};
+    ghost use Rattle.std.specs.Ordering.{eq_of_both, on};
+    ghost use Rattle.std.specs.Str.{bytes_eq};
+    ghost use Rattle.std.proofs.lemmas.Cmp.{and_equiv, on_equiv};
+
+    ghost eq = { eq_of_both (on (λ r. r.series) bytes_eq) (on (λ r. r.reference) bytes_eq) };
+
+    ghost laws = { Cmp.partial_equiv_from_equiv (and_equiv (on_equiv (λ r. r.series) nat_list_eq_equiv) (on_equiv (λ r. r.reference) nat_list_eq_equiv)) };
+
+    fn eq(&self, other: &RecordRow) -> bool {
+        self.series.as_str() == other.series.as_str() && self.reference == other.reference
+    }
+}
+
 /// A row of `article`: one identifier of a record.
 #[derive(Debug, Drop)]
 pub struct ArticleRow {

@@ -15,4 +15,4 @@ returns-clause-works g c =
     reads_then (λ (rows : DeskRows) (minimums : Vec _ _). AreMinimums series rows minimums.items) (λ (rows : DeskRows) (prices : Vec _ _). ArePricesWith c.as_slice.result.now series rows prices.items)
     (λ (rows : DeskRows) (prices : Vec _ _). ArePricesInOrder series rows prices.items) old mid new c.args.self.now.spent c.shown_minimums.new.self.spent c.shown_prices.new.self.spent c.in-Ok.minimums c.shown_prices.result
     c.in-Ok.ensures.works c.shown_prices.ensures.works
-    (λ rows prices one two. (c.in-Ok.minimums.items, one, subst (λ (l : List MinimumRow). ArePricesWith l series rows prices.items) c.as_slice.ensures.value two))
+    (λ rows prices h one two. (c.in-Ok.minimums.items, one, subst (λ (l : List MinimumRow). ArePricesWith l series rows prices.items) c.as_slice.ensures.value two))

@@ -2,6 +2,7 @@
 use Rattle.std.proofs.Common.{◌≡◌, ℕ, List, [], Bool, true, false, if◌then◌else◌, None, Some, IsTrue, Ok, Err, Result, inl, inr, refl, sym, ap, subst, ◌∙◌}
 use Rattle.sqlite_value.specs.Order.{Row}
 use Rattle.sqlite_trees.specs.Tree.{Trees}
+use Rattle.sqlite_schema.specs.declared.schema.Schema.{Schema}
 use Rattle.sqlite_schema.specs.declared.command.Command.{Command}
 use Rattle.sqlite.specs.Listing.{understood}
 use Rattle.sqlite.specs.Effect.{Database}
@@ -70,12 +71,16 @@ module _ (sql : List ℕ) (command : Command) (is : command_of (understood desk_
     survives = survives_inside params old new (Err e) ran;
   }
 
+-- a query leaves the database as it is, under any schema
+pub unchanged_in : (schema : Schema) (sql : List ℕ) → IsPlain (understood schema sql) → (params : Row) (old new : State) (got : List Row) → old.now.schema ≡ schema → Shown sql params old new got → IsUnchanged old new
+unfolding Shown
+unchanged_in schema sql plain params old new got has h =
+    let bare = subst IsPlain (sym (sym h.1.is ∙ ap (λ s. understood s sql) has)) plain in
+    (subst (ShowsRows old new sql h.0 (timed params h.0.formats h.1.now) got) bare.0 h.2).3
+
 module _ (sql : List ℕ) (plain : IsPlain (understood desk_schema sql)) where
   pub unchanged : (params : Row) (old new : State) (got : List Row) → old.now.schema ≡ desk_schema → Shown sql params old new got → IsUnchanged old new
-  unfolding Shown
-  unchanged params old new got has h =
-      let bare = subst IsPlain (sym (sym h.1.is ∙ ap (λ s. understood s sql) has)) plain in
-      (subst (ShowsRows old new sql h.0 (timed params h.0.formats h.1.now) got) bare.0 h.2).3
+  unchanged = unchanged_in desk_schema sql plain
 
   kept_by : (params : Row) (old new : State) (got : List Row) → old.now.schema ≡ desk_schema → Shown sql params old new got → KeepsCommit old new
   kept_by params old new got has h = let same = unchanged params old new got has h in record { was_open = λ _. same.0.was_open; committed = λ _. same.0.committed_is }

@@ -15,8 +15,9 @@ use Rattle.sqlite_value.proofs.KeyLemmas.{first_key-plain}
 use Rattle.desk_tables.proofs.EqualLemmas.{text_of, number_of, text_itself, number_itself, differs}
 use Rattle.sqlite_value.specs.Keys.{plain}
 use Rattle.sqlite.specs.Effect.{Database, IsDatabase}
-use Rattle.desk_tables.specs.Schema.{desk_schema}
-use Rattle.desk_tables.specs.Rows.{MetaRow, HeldRow, AppliedRow, meta_columns, DeskRows, Holds, held_columns, applied_columns, series_columns, is_held, is_applied, is_named, id_type_of, id_value_of}
+use Rattle.sqlite_schema.specs.declared.schema.Schema.{Schema}
+use Rattle.desk_tables.specs.Schema.{first_schema, desk_schema}
+use Rattle.desk_tables.specs.Rows.{MetaRow, HeldRow, AppliedRow, meta_columns, DeskRows, Holds, HoldsFirst, held_columns, applied_columns, series_columns, is_held, is_applied, is_named, id_type_of, id_value_of}
 use Rattle.desk_tables.specs.declared.series.SeriesRow.{SeriesRow}
 
 module _ {A : Type 0} (columns : A → Row) (p : A → Bool) (clash : Row → Row → Bool)
@@ -152,12 +153,17 @@ item_tells item v w x y int int′ here there below =
     let same : x.item ≡ y.item = text_of x.item item here ∙ sym (text_of y.item item there) in
     rw (first_key-plain, same, text_itself y.item, differs v w int int′ below) refl
 
-item_free : (db : Database) → db.schema ≡ desk_schema → IsDatabase db → (a b : Row) → Has (db.trees 0) a → Has (db.trees 0) b → key_clash (1 ∷ []) a b ≡ false
-item_free db has sound a b h k =
-    let rules = subst (λ s. Keeps Unique s db.trees) has (sound.obeys.rules Unique) in
-    no_clash (1 ∷ []) (db.trees 0) a b h (and_parts _ _ (all_has _ (db.trees 0) b rules.0 k)).0
+-- an item stands once at most, in both versions
+item_free : (schema : Schema) (db : Database) → ((row : Row) → Keeps Unique schema db.trees → Has (db.trees 0) row → not (clashes plain (1 ∷ []) (db.trees 0) row) ≡ true) → db.schema ≡ schema → IsDatabase db
+    → (a b : Row) → Has (db.trees 0) a → Has (db.trees 0) b → key_clash (1 ∷ []) a b ≡ false
+item_free schema db free has sound a b h k = no_clash (1 ∷ []) (db.trees 0) a b h (free b (subst (λ s. Keeps Unique s db.trees) has (sound.obeys.rules Unique)) k)
 
--- an item stands once at most
 pub item_once : (db : Database) (rows : DeskRows) → Holds db rows → (item : List ℕ) → length (filter (λ (r : MetaRow). bytes_eq r.item item) rows.meta) ≤ 1
 item_once db rows h item =
-    one_at_most meta_columns (λ (r : MetaRow). bytes_eq r.item item) (key_clash (1 ∷ [])) (item_tells item) rows.meta (db.trees 0) h.meta.shaped.0 h.meta.shaped.1 h.meta.are (item_free db h.schema h.sound)
+    one_at_most meta_columns (λ (r : MetaRow). bytes_eq r.item item) (key_clash (1 ∷ [])) (item_tells item) rows.meta (db.trees 0) h.meta.shaped.0 h.meta.shaped.1 h.meta.are
+    (item_free desk_schema db (λ b rules k. (and_parts _ _ (all_has _ (db.trees 0) b rules.0 k)).0) h.schema h.sound)
+
+pub first_item_once : (db : Database) (rows : DeskRows) → HoldsFirst db rows → (item : List ℕ) → length (filter (λ (r : MetaRow). bytes_eq r.item item) rows.meta) ≤ 1
+first_item_once db rows h item =
+    one_at_most meta_columns (λ (r : MetaRow). bytes_eq r.item item) (key_clash (1 ∷ [])) (item_tells item) rows.meta (db.trees 0) h.tables.meta.shaped.0 h.tables.meta.shaped.1 h.tables.meta.are
+    (item_free first_schema db (λ b rules k. (and_parts _ _ (all_has _ (db.trees 0) b rules.0 k)).0) h.schema h.sound)

@@ -41,7 +41,9 @@ pub mod RecordQueries
 pub mod RecordCalls
 pub mod RecordCascades
 pub mod Replaces
+pub mod UpdatedRows
 pub mod SeriesUpdates
+pub mod MetaUpdates
 pub mod RecordLists
 pub mod ArticleRecords
 pub mod ArticleLists

@@ -1,5 +1,5 @@
 -- Statements that make the tables, one after the other.
-use Rattle.std.proofs.Common.{◌≡◌, ◌⊎◌, ℕ, List, [], ◌∷◌, Bool, true, false, if◌then◌else◌, is_err, None, Some, IsTrue, Ok, Err, Result, inl, inr, arith, refl, sym, ap, subst, ◌∙◌}
+use Rattle.std.proofs.Common.{◌≡◌, ◌⊎◌, ℕ, List, [], ◌∷◌, Bool, true, false, if◌then◌else◌, is_err, None, Some, IsTrue, Ok, Err, Result, IfOk, OnOk, inl, inr, arith, refl, sym, ap, subst, ◌∙◌}
 use Rattle.sqlite_value.specs.Order.{Row}
 use Rattle.sqlite_trees.specs.Tree.{Trees}
 use Rattle.sqlite_schema.specs.declared.schema.Schema.{Schema}
@@ -13,7 +13,10 @@ use Rattle.sqlite.proofs.StateLemmas.{survives_weaker, survives_then}
 use Rattle.onix_message.specs.declared.agreement.StoreFault.{StoreFault}
 use Rattle.onix_message.specs.declared.agreement.StoreFault.TheVariants.{Unusable}
 use Rattle.desk_tables.proofs.Control.{kept_itself, survives_itself}
-use Rattle.desk_tables.specs.Transactions.{RunsIn, Makes, NoTrees}
+use Rattle.desk_tables.proofs.Calls.{unchanged_in}
+use Rattle.desk_tables.specs.Transactions.{ReadsIn, RunsIn, Makes, Works, NoAnswer, IsForeign, NoTrees}
+use Rattle.desk_tables.specs.Rows.{DeskRows, Holds}
+use Rattle.desk_tables.specs.Schema.{desk_schema}
 
 module _ (sql : List ℕ) (schema : Schema) (command : Command) (is : command_of (understood schema sql) ≡ command) (plain : IsPlain (understood schema sql))
     (no_commit : ¬ (command ≡ Commit)) (no_release : (name : List ℕ) → ¬ (command ≡ Release name))
@@ -112,3 +115,77 @@ makes_refused Before After s was = record {
   kept = λ clean before. kept_itself s;
   survives = survives_itself s _;
 }
+
+-- what is asked of the database before is had of something stronger
+pub makes_from : {A : Type 0} (Before Stronger After : Database → Type 0) (old new : State) (was now : Bool) (r : Result A StoreFault) → ((db : Database) → Stronger db → Before db) → Makes Before After old new was now r → Makes Stronger After old new was now r
+makes_from Before Stronger After old new was now r weaker one = record {
+  spent = one.spent;
+  refused = one.refused;
+  inside = one.inside;
+  made = λ clean before. one.made clean (weaker old.now before);
+  goes_on = λ clean before. one.goes_on clean (weaker old.now before);
+  kept = λ clean before. one.kept clean (weaker old.now before);
+  survives = survives_weaker old new (λ _. ¬ Before old.now) (λ _. ¬ Stronger old.now) (λ _ db no before. no (weaker old.now before)) one.survives;
+}
+
+-- a query leaves what it was asked of
+module _ (sql : List ℕ) (params : Row) (schema : Schema) (plain : IsPlain (understood schema sql)) (Before : Database → Type 0) (known : (db : Database) → Before db → db.schema ≡ schema) where
+  pub reads_made : {A V : Type 0} (old new : State) (was now : Bool) (rows_of : V → List Row) (got : V) (a : A) → ReadsIn sql params old new rows_of (Ok got) → now ≡ false → (IsTrue was → ◌≡◌ {A = Result V StoreFault} (Ok got) (Err Unusable))
+      → Makes Before Before old new was now (Ok a)
+  reads_made old new was now rows_of got a ran spent unspent = record {
+    spent = spent;
+    refused = λ s. absurd (let x = unspent s in cc);
+    inside = ran.inside;
+    made = λ clean before. subst Before (sym (unchanged_in schema sql plain params old new (rows_of got) (known old.now before) (ran.shown clean)).0.now_is) before;
+    goes_on = λ clean before. let same = unchanged_in schema sql plain params old new (rows_of got) (known old.now before) (ran.shown clean) in (same.0.mode ∙ ran.inside, same.0.is_open);
+    kept = λ clean before.
+        let same = unchanged_in schema sql plain params old new (rows_of got) (known old.now before) (ran.shown clean) in record { was_open = λ _. same.0.was_open; committed = λ _. same.0.committed_is };
+    survives = survives_weaker old new NoTrees (λ _. ¬ Before old.now) (λ _ db none. absurd none) ran.survives;
+  }
+
+  -- its rows could not be read
+  pub reads_made_late : {A V : Type 0} (old new : State) (was now : Bool) (rows_of : V → List Row) (got : V) (e : StoreFault) → ReadsIn sql params old new rows_of (Ok got) → now ≡ true → (IsTrue was → ◌≡◌ {A = Result V StoreFault} (Ok got) (Err Unusable))
+      → Makes {A = A} Before Before old new was now (Err e)
+  reads_made_late old new was now rows_of got e ran spent unspent = record {
+    spent = spent;
+    refused = λ s. absurd (let x = unspent s in cc);
+    inside = tt;
+    made = λ clean before. tt;
+    goes_on = λ clean before. tt;
+    kept = λ clean before.
+        let same = unchanged_in schema sql plain params old new (rows_of got) (known old.now before) (ran.shown clean) in record { was_open = λ _. same.0.was_open; committed = λ _. same.0.committed_is };
+    survives = survives_weaker old new NoTrees (λ _. ¬ Before old.now) (λ _ db none. absurd none) ran.survives;
+  }
+
+-- after a query the call stops
+pub makes_stopped : {A B : Type 0} (Before After : Database → Type 0) (old new : State) (was now : Bool) (a : A) (e : StoreFault) → Makes {A = A} Before Before old new was now (Ok a) → Makes {A = B} Before After old new was true (Err e)
+makes_stopped Before After old new was now a e one = record {
+  spent = refl;
+  refused = λ s. absurd (let x = one.refused s in cc);
+  inside = tt;
+  made = λ clean before. tt;
+  goes_on = λ clean before. tt;
+  kept = λ clean before. one.kept clean before;
+  survives = one.survives;
+}
+
+-- a change of the rows of the desk
+pub works_made : {A : Type 0} (rows : DeskRows) (change : DeskRows → DeskRows) (old new : State) (was now : Bool) (r : Result A StoreFault) → Works NoAnswer change old new was now r
+    → Makes (λ db. Holds db rows) (λ db. Holds db (change rows)) old new was now r
+works_made {A} rows change old new was now r works = record {
+  spent = works.spent;
+  refused = works.refused;
+  inside = works.inside;
+  made = λ clean h. made r (works.gives clean rows h);
+  goes_on = λ clean h. on r (works.goes_on clean h.schema);
+  kept = λ clean h. works.kept clean h.schema;
+  survives = survives_weaker old new (IsForeign old) (λ _. ¬ Holds old.now rows) (λ _ db foreign h. foreign h.schema) works.survives;
+}
+  where
+    made : (r : Result A StoreFault) → IfOk r (λ a. NoAnswer rows a × Holds new.now (change rows)) → OnOk r (Holds new.now (change rows))
+    made (Ok a) h = h.1
+    made (Err e) h = tt
+
+    on : (r : Result A StoreFault) → OnOk r (IsTrue new.in_transaction × IsTrue new.is_open × (new.now.schema ≡ desk_schema)) → OnOk r (IsTrue new.in_transaction × IsTrue new.is_open)
+    on (Ok a) h = (h.0, h.1)
+    on (Err e) h = tt

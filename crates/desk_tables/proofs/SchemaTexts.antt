@@ -1,11 +1,11 @@
 -- What the texts mean.
 use Rattle.std.proofs.Common.{◌≡◌, Ok, refl}
-use Rattle.sqlite_schema.specs.declared.command.Command.TheVariants.{CreateTable}
-use Rattle.sqlite_resolve.specs.Compile.{table_defined_by}
+use Rattle.sqlite_schema.specs.declared.command.Command.TheVariants.{CreateTable, CreateIndex}
+use Rattle.sqlite_resolve.specs.Compile.{table_defined_by, index_defined_by}
 use Rattle.sqlite_tied.specs.Compute.{everything}
 use Rattle.sqlite.specs.Listing.{understood}
 use Rattle.sqlite.proofs.Callers.{IsPlain, command_of, statement_of}
-use Rattle.desk_tables.specs.Schema.{meta_table, meta_definition, series_table, series_definition, held_table, held_definition, applied_table, applied_definition, record_table, record_definition, article_table, article_definition, offer_table, offer_definition, price_table, price_definition, price_minimum_table, price_minimum_definition, schema_0, schema_1, schema_2, schema_3, schema_4, schema_5, schema_6, schema_7, schema_8}
+use Rattle.desk_tables.specs.Schema.{meta_table, meta_definition, series_table, series_definition, held_table, held_definition, applied_table, applied_definition, record_table, record_definition, article_table, article_definition, offer_table, offer_definition, price_table, price_definition, price_minimum_table, price_minimum_definition, article_index, article_index_definition, schema_0, schema_1, schema_2, schema_3, schema_4, schema_5, schema_6, schema_7, schema_8, schema_9}
 
 pub meta_defined : table_defined_by meta_definition ≡ Ok (meta_table 0)
 unfolding understood everything
@@ -78,3 +78,11 @@ price_minimum_defined = refl
 pub price_minimum_is : (command_of (understood schema_8 price_minimum_definition) ≡ CreateTable) × (statement_of price_minimum_definition (understood schema_8 price_minimum_definition) ≡ price_minimum_definition) × IsPlain (understood schema_8 price_minimum_definition)
 unfolding understood everything
 price_minimum_is = (refl, refl, (refl, refl))
+
+pub article_index_defined : index_defined_by (article_table 11) article_index_definition ≡ Ok article_index
+unfolding understood everything
+article_index_defined = refl
+
+pub article_index_is : (command_of (understood schema_9 article_index_definition) ≡ CreateIndex 5) × (statement_of article_index_definition (understood schema_9 article_index_definition) ≡ article_index_definition) × IsPlain (understood schema_9 article_index_definition)
+unfolding understood everything
+article_index_is = (refl, refl, (refl, refl))

@@ -16,6 +16,7 @@ use Rattle.sqlite_trees.specs.View.{is_int}
 use Rattle.sqlite_sql.specs.Term.{Term, Env, eval_all, holds}
 use Rattle.sqlite_sql.specs.Query.{Query, Output, output, output_cmp, IsAnswer}
 use Rattle.sqlite_sql.specs.Program.{overlay}
+use Rattle.sqlite_schema.specs.declared.schema.Schema.{Schema}
 use Rattle.sqlite_schema.specs.declared.command.Command.TheVariants.{Select}
 use Rattle.sqlite.specs.Listing.{understood, reads_listing}
 use Rattle.sqlite.specs.Effect.{Database, Answers}
@@ -65,6 +66,28 @@ answers db tree terms project order params got whole h =
     let back = pull_back (λ (r : Row). output q (params ∷ r ∷ [])) a.kept a.ordered a.same (filter test (db.trees tree)) kept in
     (back.0, back.1, a.shown ∙ ap (map (λ (o : Output). o.1)) back.2 ∙ map-map _ _ back.0)
 
+module _ {A : Type 0} (columns : A → Row) (schema : Schema) (sql : List ℕ) (tree : ℕ) (terms project : List Term) (order : List (Term × Key)) (names : List (List ℕ))
+    (is : command_of (understood schema sql) ≡ Select (program (over tree terms project order)) names) (unlisted : reads_listing schema sql ≡ false) (plain : IsPlain (understood schema sql))
+    (whole : (db : Trees) → overlay db [] tree ≡ db tree) where
+  -- the typed rows that pass, in an order that ORDER BY allows
+  pub selects_in : (p : A → Bool) (sort shown : A → Row) (params : Row) (old new : State) (rows : List A) (got : List Row)
+      → ((v : Value) (x : A) → list_all (holds (params ∷ (v ∷ columns x) ∷ [])) terms ≡ p x)
+      → ((v : Value) (x : A) → eval_all (map (λ k. k.0) order) (params ∷ (v ∷ columns x) ∷ []) ≡ sort x)
+      → ((v : Value) (x : A) → eval_all project (params ∷ (v ∷ columns x) ∷ []) ≡ shown x)
+      → old.now.schema ≡ schema → Stands columns rows (old.now.trees tree) → Shown sql params old new got
+      → (ordered : List A) × IsPermutation (filter p rows) ordered × IsSorted (output_cmp (over tree terms project order)) (map (λ x. (sort x, shown x)) ordered) × (got ≡ map shown ordered)
+  selects_in p sort shown params old new rows got tests sorts shows has stands h =
+      let q : Query = over tree terms project order in
+      let a : IsAnswer q (overlay old.now.trees []) params got = (reads_as sql params old new schema has _ is plain unlisted got h).answer Null in
+      let out : A → Output = λ x. (sort x, shown x) in
+      let env : Row → Env = λ r. params ∷ r ∷ [] in
+      let test : Row → Bool = λ r. list_all (holds (params ∷ r ∷ [])) terms in
+      let show : Row → Output = λ r. output q (params ∷ r ∷ []) in
+      let staged : a.staged ≡ map env (filter test (old.now.trees tree)) = a.grouped ∙ rw (whole old.now.trees) (matches_one terms params (old.now.trees tree)) in
+      let kept : a.kept ≡ map out (filter p rows) = a.distinct ∙ ap (map (output q)) staged ∙ map-map (output q) env _ ∙ typed columns p out test show tests (λ v x. rw (sorts v x, shows v x) refl) rows (old.now.trees tree) stands.shaped.1 stands.are in
+      let back = pull_back out a.kept a.ordered a.same (filter p rows) kept in
+      (back.0, back.1, subst (IsSorted (output_cmp q)) back.2 a.sorted, a.shown ∙ ap (map (λ (o : Output). o.1)) back.2 ∙ map-map _ out back.0)
+
 module _ {A : Type 0} (columns : A → Row) (sql : List ℕ) (tree : ℕ) (terms project : List Term) (order : List (Term × Key)) (names : List (List ℕ))
     (is : command_of (understood desk_schema sql) ≡ Select (program (over tree terms project order)) names) (unlisted : reads_listing desk_schema sql ≡ false) (plain : IsPlain (understood desk_schema sql))
     (whole : (db : Trees) → overlay db [] tree ≡ db tree) where
@@ -75,17 +98,7 @@ module _ {A : Type 0} (columns : A → Row) (sql : List ℕ) (tree : ℕ) (terms
       → ((v : Value) (x : A) → eval_all project (params ∷ (v ∷ columns x) ∷ []) ≡ shown x)
       → old.now.schema ≡ desk_schema → Stands columns rows (old.now.trees tree) → Shown sql params old new got
       → (ordered : List A) × IsPermutation (filter p rows) ordered × IsSorted (output_cmp (over tree terms project order)) (map (λ x. (sort x, shown x)) ordered) × (got ≡ map shown ordered)
-  selects p sort shown params old new rows got tests sorts shows has stands h =
-      let q : Query = over tree terms project order in
-      let a : IsAnswer q (overlay old.now.trees []) params got = (reads_as sql params old new desk_schema has _ is plain unlisted got h).answer Null in
-      let out : A → Output = λ x. (sort x, shown x) in
-      let env : Row → Env = λ r. params ∷ r ∷ [] in
-      let test : Row → Bool = λ r. list_all (holds (params ∷ r ∷ [])) terms in
-      let show : Row → Output = λ r. output q (params ∷ r ∷ []) in
-      let staged : a.staged ≡ map env (filter test (old.now.trees tree)) = a.grouped ∙ rw (whole old.now.trees) (matches_one terms params (old.now.trees tree)) in
-      let kept : a.kept ≡ map out (filter p rows) = a.distinct ∙ ap (map (output q)) staged ∙ map-map (output q) env _ ∙ typed columns p out test show tests (λ v x. rw (sorts v x, shows v x) refl) rows (old.now.trees tree) stands.shaped.1 stands.are in
-      let back = pull_back out a.kept a.ordered a.same (filter p rows) kept in
-      (back.0, back.1, subst (IsSorted (output_cmp q)) back.2 a.sorted, a.shown ∙ ap (map (λ (o : Output). o.1)) back.2 ∙ map-map _ out back.0)
+  selects = selects_in columns desk_schema sql tree terms project order names is unlisted plain whole
 
 -- rows in the order of their sort keys have what is told by these in order
 pub rises : {A B : Type 0} (out : A → Output) (key : A → B) (cmp : B → B → Ordering) (q : Query) (from : B → A) → ((d : B) → key (from d) ≡ d) → ((a b : A) → is_lt (output_cmp q (out a) (out b)) ≡ false → is_lt (cmp (key a) (key b)) ≡ false)

@@ -36,6 +36,7 @@ use Rattle.desk_tables.proofs.Readings.{few_stay}
 use Rattle.desk_tables.proofs.Replaces.{stands_changed, none_changed}
 use Rattle.desk_tables.proofs.Selects.{typed}
 use Rattle.desk_tables.proofs.StatementTexts.{set_next_is}
+use Rattle.desk_tables.proofs.UpdatedRows.{written}
 use Rattle.desk_tables.proofs.Updates.{updates}
 
 -- no key asks for more where a row is replaced, or none
@@ -82,39 +83,10 @@ module _ (name : List ℕ) (next : ℕ) where
     | inr misses ↦ rw misses (told.0, told_changed rows told.1)
   ]
 
-  -- one row at most is written again
-  written : (old new : Trees) (rows : List SeriesRow) (ordered : List Row) → Stands series_columns rows (old 2) → length (filter (is_named name) rows) ≤ 1 → IsPermutation (filter test (old 2)) ordered
-      → action.Writes desk_schema Enforced old (edit_of old (series_table 2) (map (λ (r : Row). id_in (rowid (makes r))) ordered) Given 1 (map makes ordered)) (Ok new)
-      → KeepsOthers 2 old new × Stands series_columns (map (next_set name next) rows) (new 2)
-  written old new rows [] h few same wrote =
-      let made = one_step desk_schema Enforced old new (edit_of old (series_table 2) [] Given 1 []) unforced_none wrote in
-      let none : filter test (old 2) ≡ [] = no_rows_left (filter test (old 2)) same in
-      let typed_none : map series_columns (filter (is_named name) rows) ≡ [] =
-      sym (typed series_columns (is_named name) series_columns test (drop 1) tests (λ v x. refl) rows (old 2) h.shaped.1 h.are) ∙ ap (map (drop 1)) none in
-      (made.tables, subst (Stands series_columns (map (next_set name next) rows)) (sym made.rows) (subst (λ l. Stands series_columns l (old 2)) (sym (none_changed (is_named name) changed rows (no_typed _ typed_none))) h))
-    where
-      no_rows_left : (rows : List Row) → IsPermutation rows [] → rows ≡ []
-      no_rows_left [] same = refl
-      no_rows_left (r ∷ rows) same = absurd (omega (arith, length_permutation (r ∷ rows) [] same))
-
-      no_typed : (xs : List SeriesRow) → map series_columns xs ≡ [] → xs ≡ []
-      no_typed [] e = refl
-      no_typed (x ∷ xs) e = absurd (cc)
-  written old new rows (r ∷ []) h few same wrote =
-      let edit : Edit = edit_of old (series_table 2) (id_in (rowid (makes r)) ∷ []) Given 1 (makes r ∷ []) in
-      let made = one_step desk_schema Enforced old new edit (unforced (taken_by old edit) (remake r)) wrote in
-      let one : filter test (old 2) ≡ r ∷ [] = sym (few_stay (filter test (old 2)) (r ∷ []) (omega (arith, length_permutation (filter test (old 2)) (r ∷ []) same)) same) in
-      let there : Has (filter test (old 2)) r = subst (λ l. Has l r) (sym one) (inl refl) in
-      let int = all_has _ (old 2) r h.shaped.1 (has_filtered test (old 2) r there).0 in
-      (made.tables, subst (Stands series_columns (map (next_set name next) rows)) (sym made.rows) (stands_changed series_columns (is_named name) changed test remake rows (old 2) r tests remakes h one (remade_id r int)))
-  written old new rows (r ∷ s ∷ more) h few same wrote =
-      let counted : length (filter test (old 2)) ≡ length (filter (is_named name) rows) =
-      sym (length-map (filter test (old 2)) (drop 1)) ∙ ap length (typed series_columns (is_named name) series_columns test (drop 1) tests (λ v x. refl) rows (old 2) h.shaped.1 h.are) ∙ length-map (filter (is_named name) rows) series_columns in
-      absurd (omega (arith, length_permutation (filter test (old 2)) (r ∷ s ∷ more) same, counted, few))
-
   pub sets_next : (old new : State) (count : ℕ) (rows : DeskRows) → Holds old.now rows → Executes set_next_text (Text name ∷ Int (pos next) ∷ []) old new (Ok count) → Holds new.now (with_next name next rows)
   sets_next old new count rows h ran =
       let w = runs_as set_next_text (Text name ∷ Int (pos next) ∷ []) old new desk_schema h.schema _ set_next_is.0 set_next_is.1 count ran in
       let done = updates 1 _ 2 _ _ _ _ refl (λ t. refl) (equals 1 0 ∷ []) project (Text name ∷ Int (pos next) ∷ []) _ old new count h.schema w in
-      let put = written old.now.trees new.now.trees rows.series done.ordered h.series (named_once old.now rows h name) done.same done.wrote in
+      let put = written series_columns (is_named name) changed (series_table 2) test makes unforced_none unforced tests remakes (λ r. refl) remade_id old.now.trees new.now.trees rows.series done.ordered h.series
+      (named_once old.now rows h name) done.same done.wrote in
       changed_series old.now new.now rows (map (next_set name next) rows.series) h done.schema done.sound put.0 put.1 (told_changed rows.series h.addressees)

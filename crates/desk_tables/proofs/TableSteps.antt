@@ -1,14 +1,15 @@
 -- The statement that makes each table, in the transaction.
 use Rattle.std.proofs.Common.{◌≡◌, ℕ, [], Bool, is_err, IsTrue, Err, Result}
-use Rattle.sqlite_schema.specs.declared.command.Command.TheVariants.{CreateTable}
+use Rattle.sqlite_schema.specs.declared.command.Command.TheVariants.{CreateTable, CreateIndex}
 use Rattle.sqlite.specs.State.{State}
 use Rattle.onix_message.specs.declared.agreement.StoreFault.{StoreFault}
 use Rattle.onix_message.specs.declared.agreement.StoreFault.TheVariants.{Unusable}
-use Rattle.desk_tables.specs.Schema.{meta_definition, series_definition, held_definition, applied_definition, record_definition, article_definition, offer_definition, price_definition, price_minimum_definition, schema_0, schema_1, schema_2, schema_3, schema_4, schema_5, schema_6, schema_7, schema_8, desk_schema}
+use Rattle.desk_tables.specs.Schema.{meta_definition, series_definition, held_definition, applied_definition, record_definition, article_definition, offer_definition, price_definition, price_minimum_definition, article_index_definition, schema_0, schema_1, schema_2, schema_3, schema_4, schema_5, schema_6, schema_7, schema_8, schema_9}
+use Rattle.desk_tables.specs.Rows.{DeskRows, Holds, HoldsFirst}
 use Rattle.desk_tables.specs.Transactions.{RunsIn, Makes, IsEmptied, HasNoRows}
-use Rattle.desk_tables.proofs.Creates.{makes_meta, makes_series, makes_held, makes_applied, makes_record, makes_article, makes_offer, makes_price, makes_price_minimum}
+use Rattle.desk_tables.proofs.Creates.{makes_meta, makes_series, makes_held, makes_applied, makes_record, makes_article, makes_offer, makes_price, makes_price_minimum, makes_index, HoldsUnindexed}
 use Rattle.desk_tables.proofs.Makings.{makes_one}
-use Rattle.desk_tables.proofs.SchemaTexts.{meta_is, series_is, held_is, applied_is, record_is, article_is, offer_is, price_is, price_minimum_is}
+use Rattle.desk_tables.proofs.SchemaTexts.{meta_is, series_is, held_is, applied_is, record_is, article_is, offer_is, price_is, price_minimum_is, article_index_is}
 
 pub step_meta : (old new : State) (was now : Bool) (r : Result ℕ StoreFault) → RunsIn meta_definition [] old new r → now ≡ is_err r → (IsTrue was → r ≡ Err Unusable) → Makes (IsEmptied schema_0) (HasNoRows schema_1) old new was now r
 step_meta = makes_one meta_definition schema_0 CreateTable meta_is.0 meta_is.2 (λ e. cc) (λ name e. cc) (λ old new text params count r. r) (IsEmptied schema_0) (HasNoRows schema_1) (λ db h. h.schema_is) makes_meta
@@ -34,5 +35,12 @@ step_offer = makes_one offer_definition schema_6 CreateTable offer_is.0 offer_is
 pub step_price : (old new : State) (was now : Bool) (r : Result ℕ StoreFault) → RunsIn price_definition [] old new r → now ≡ is_err r → (IsTrue was → r ≡ Err Unusable) → Makes (HasNoRows schema_7) (HasNoRows schema_8) old new was now r
 step_price = makes_one price_definition schema_7 CreateTable price_is.0 price_is.2 (λ e. cc) (λ name e. cc) (λ old new text params count r. r) (HasNoRows schema_7) (HasNoRows schema_8) (λ db h. h.0.schema_is) (λ old new count h. makes_price old new count h.0)
 
-pub step_price_minimum : (old new : State) (was now : Bool) (r : Result ℕ StoreFault) → RunsIn price_minimum_definition [] old new r → now ≡ is_err r → (IsTrue was → r ≡ Err Unusable) → Makes (HasNoRows schema_8) (HasNoRows desk_schema) old new was now r
-step_price_minimum = makes_one price_minimum_definition schema_8 CreateTable price_minimum_is.0 price_minimum_is.2 (λ e. cc) (λ name e. cc) (λ old new text params count r. r) (HasNoRows schema_8) (HasNoRows desk_schema) (λ db h. h.0.schema_is) (λ old new count h. makes_price_minimum old new count h.0)
+pub step_price_minimum : (rows : DeskRows) (old new : State) (was now : Bool) (r : Result ℕ StoreFault) → RunsIn price_minimum_definition [] old new r → now ≡ is_err r → (IsTrue was → r ≡ Err Unusable)
+    → Makes (λ db. HoldsFirst db rows) (λ db. HoldsUnindexed db rows) old new was now r
+step_price_minimum rows =
+    makes_one price_minimum_definition schema_8 CreateTable price_minimum_is.0 price_minimum_is.2 (λ e. cc) (λ name e. cc) (λ old new text params count r. r) (λ db. HoldsFirst db rows) (λ db. HoldsUnindexed db rows) (λ db h. h.schema) (makes_price_minimum rows)
+
+pub step_index : (rows : DeskRows) (old new : State) (was now : Bool) (r : Result ℕ StoreFault) → RunsIn article_index_definition [] old new r → now ≡ is_err r → (IsTrue was → r ≡ Err Unusable)
+    → Makes (λ db. HoldsUnindexed db rows) (λ db. Holds db rows) old new was now r
+step_index rows =
+    makes_one article_index_definition schema_9 (CreateIndex 5) article_index_is.0 article_index_is.2 (λ e. cc) (λ name e. cc) (λ old new text params count r. r) (λ db. HoldsUnindexed db rows) (λ db. Holds db rows) (λ db h. h.schema) (makes_index rows)

@@ -8,6 +8,7 @@ use Rattle.std.specs.Ordering.{nat_cmp}
 use Rattle.sqlite_value.specs.declared.value.Value.TheVariants.{Int, Text}
 use Rattle.sqlite_value.specs.Order.{Row}
 use Rattle.sqlite_trees.specs.declared.store.Shape.TheVariants.{Table}
+use Rattle.sqlite_trees.specs.Tree.{Trees}
 use Rattle.sqlite_trees.specs.View.{IsShaped}
 use Rattle.sqlite.specs.Effect.{Database, IsDatabase}
 use Rattle.onix_terms.specs.declared.party.Party.{Party}
@@ -15,7 +16,7 @@ use Rattle.onix_message.specs.SameContents.{same_party}
 use Rattle.onix_message.specs.declared.agreement.Agreement.{Agreement}
 use Rattle.desk_tables.specs.declared.applied.EffectRow.{EffectRow}
 use Rattle.desk_tables.specs.declared.series.SeriesRow.{SeriesRow}
-use Rattle.desk_tables.specs.Schema.{desk_schema}
+use Rattle.desk_tables.specs.Schema.{first_schema, desk_schema}
 use Rattle.desk_tables.specs.RecordRows.{RecordRow, ArticleRow, OfferRow, PriceRow, MinimumRow, record_columns, article_columns, offer_columns, price_columns, minimum_columns}
 
 pub record MetaRow : Type 0 where
@@ -101,6 +102,25 @@ pub record Holds (db : Database) (rows : DeskRows) : Type 0 where
   pub prices : Stands price_columns rows.prices (db.trees 15)
   pub minimums : Stands minimum_columns rows.minimums (db.trees 17)
 
+-- the tables of version 1 have these rows
+pub record AreFirst (trees : Trees) (rows : DeskRows) : Type 0 where
+  pub meta : Stands meta_columns rows.meta (trees 0)
+  pub series : Stands series_columns rows.series (trees 2)
+  pub addressees : AllByRecursion (λ (r : SeriesRow). IsAddressee r.agreement.addressee) rows.series
+  pub held : Stands held_columns rows.held (trees 5)
+  pub applied : Stands applied_columns rows.applied (trees 7)
+  pub records : Stands record_columns rows.records (trees 9)
+  pub articles : Stands article_columns rows.articles (trees 11)
+  pub offers : Stands offer_columns rows.offers (trees 13)
+  pub prices : Stands price_columns rows.prices (trees 15)
+
+-- the database is one of version 1, with these rows; it has no minimums
+pub record HoldsFirst (db : Database) (rows : DeskRows) : Type 0 where
+  pub schema : db.schema ≡ first_schema
+  pub sound : IsDatabase db
+  pub tables : AreFirst db.trees rows
+  pub minimums : rows.minimums ≡ []
+
 -- a query leaves the rows as they are
 abbrev pub unchanged : DeskRows → DeskRows
 unchanged rows = rows
@@ -114,8 +134,17 @@ no_rows = record { meta = []; series = []; held = []; applied = []; records = []
 abbrev pub first_rows : DeskRows
 first_rows = record no_rows { meta = record { item = codes "version"; amount = 2 } ∷ [] }
 
+abbrev pub is_version : MetaRow → Bool
+is_version row = bytes_eq row.item (codes "version")
+
 abbrev pub version_in : DeskRows → Option ℕ
-version_in rows = option_map (λ (r : MetaRow). r.amount) (find (λ r. bytes_eq r.item (codes "version")) rows.meta)
+version_in rows = option_map (λ (r : MetaRow). r.amount) (find is_version rows.meta)
+
+abbrev pub version_set : ℕ → MetaRow → MetaRow
+version_set version row = if is_version row then record row { amount = version } else row
+
+abbrev pub with_version : ℕ → DeskRows → DeskRows
+with_version version rows = record rows { meta = map (version_set version) rows.meta }
 
 -- ---- series
 

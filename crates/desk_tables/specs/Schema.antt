@@ -13,7 +13,8 @@ use Rattle.sqlite_schema.specs.declared.schema.Column.{Column}
 use Rattle.sqlite_schema.specs.declared.schema.Reference.{Reference}
 use Rattle.sqlite_schema.specs.declared.schema.Table.{Table}
 use Rattle.sqlite_schema.specs.declared.schema.Schema.{Schema}
-use Rattle.sqlite_catalog.specs.Change.{created}
+use Rattle.sqlite_schema.specs.declared.schema.Index.{Index}
+use Rattle.sqlite_catalog.specs.Change.{created, indexed}
 
 abbrev pub text_column : List ℕ → Column
 text_column name = record { name = name; kind = Text; is_strict = true; not_null = true; default = Null; collation = Binary }
@@ -119,7 +120,7 @@ price_minimum_table tree = strict_table (codes "price_minimum") tree
 abbrev pub price_minimum_definition : List ℕ
 price_minimum_definition = codes "CREATE TABLE price_minimum (series TEXT NOT NULL, reference TEXT NOT NULL, place INTEGER NOT NULL, price_place INTEGER NOT NULL, minimum INTEGER NOT NULL, PRIMARY KEY (series, reference, place, price_place), FOREIGN KEY (series, reference, place, price_place) REFERENCES price (series, reference, place, price_place) ON DELETE CASCADE) STRICT"
 
--- the schema after each CREATE TABLE, in turn
+-- the schema after each CREATE, in turn
 abbrev pub schema_0 : Schema
 schema_0 = record { tables = []; indexes = []; views = [] }
 
@@ -147,8 +148,23 @@ schema_7 = created schema_6 (offer_table 0)
 abbrev pub schema_8 : Schema
 schema_8 = created schema_7 (price_table 0)
 
+abbrev pub schema_9 : Schema
+schema_9 = created schema_8 (price_minimum_table 0)
+
+-- the index by which the records of an article are found
+abbrev pub article_index : Index
+article_index = record { name = codes "article_by_value"; tree = 0; table = 11; columns = 5 ∷ 4 ∷ []; order = plain; is_unique = false }
+
+abbrev pub article_index_definition : List ℕ
+article_index_definition = codes "CREATE INDEX article_by_value ON article (id_value, id_type)"
+
+-- version 1, without the minimums of prices and that index
+abbrev pub first_schema : Schema
+first_schema = schema_8
+
+-- version 2
 abbrev pub desk_schema : Schema
-desk_schema = created schema_8 (price_minimum_table 0)
+desk_schema = indexed schema_9 (article_table 11) article_index
 
 -- a table `meta` with the columns of the desk's
 abbrev pub is_meta : Table → Bool

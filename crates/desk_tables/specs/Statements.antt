@@ -95,6 +95,9 @@ put_version_text = codes "INSERT INTO meta (item, amount) VALUES ('version', 2)"
 abbrev pub version_text : List ℕ
 version_text = codes "SELECT amount FROM meta WHERE item = 'version'"
 
+abbrev pub set_version_text : List ℕ
+set_version_text = codes "UPDATE meta SET amount = 2 WHERE item = 'version'"
+
 -- all columns of a row of `series`
 abbrev pub series_shown : List Term
 series_shown = col 1 1 ∷ col 1 2 ∷ col 1 3 ∷ col 1 4 ∷ col 1 5 ∷ col 1 6 ∷ col 1 7 ∷ []
@@ -114,5 +117,12 @@ series_rows_query = over 2 [] series_shown ((col 1 1, ascending Binary) ∷ [])
 abbrev pub applied_at_query : Query
 applied_at_query = over 7 both (col 1 3 ∷ col 1 4 ∷ col 1 5 ∷ col 1 6 ∷ col 1 7 ∷ col 1 8 ∷ []) []
 
+-- the first place is the item `version`
+abbrev pub of_version : List Term
+of_version = op2 (Compare Eq Binary) (col 1 1) (lit (Text (codes "version"))) ∷ []
+
 abbrev pub version_query : Query
-version_query = over 0 (op2 (Compare Eq Binary) (col 1 1) (lit (Text (codes "version"))) ∷ []) (col 1 2 ∷ []) []
+version_query = over 0 of_version (col 1 2 ∷ []) []
+
+abbrev pub set_version_query : Query
+set_version_query = over 0 of_version (col 1 0 ∷ col 1 0 ∷ col 1 1 ∷ lit (Int (pos 2)) ∷ []) []

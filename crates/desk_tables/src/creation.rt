@@ -3,10 +3,11 @@
 ghost use Rattle.std.specs.Prelude.{◌≡◌, true, false, pos, Err, None, Some, IsTrue, IfOk, IsSome, option_map, slice_get};
 ghost use Rattle.std.specs.List.{list_any};
 ghost use Rattle.sqlite.specs.Held.{state};
+ghost use Rattle.sqlite.specs.State.{HasCleanDisk};
 ghost use Rattle.sqlite_value.specs.Order.{column};
 ghost use Rattle.sqlite_value.specs.declared.value.Value.TheVariants.{Int};
-ghost use Rattle.desk_tables.specs.Schema.{is_meta, is_desk_table, schema_0, schema_3, schema_6, desk_schema};
-ghost use Rattle.desk_tables.specs.Rows.{Holds, first_rows, version_in, unchanged};
+ghost use Rattle.desk_tables.specs.Schema.{is_meta, is_desk_table, first_schema, schema_0, schema_3, schema_6};
+ghost use Rattle.desk_tables.specs.Rows.{DeskRows, Holds, HoldsFirst, first_rows, no_rows, version_in, unchanged};
 ghost use Rattle.desk_tables.specs.Transactions.{HasNoRows, IsEmptied, Makes, Works};
 
 use crate::columns::whole_column;
@@ -75,11 +76,11 @@ impl<S: Alter> Work<'_, S> {
         }
     }
 
-    // The tables of offers, of prices and of their minimums.
+    // The tables of offers and of prices.
     fn create_offers(&mut self) -> Result<(), StoreFault>
         ensures same_reference { self.new.tables.ghost_name ≡ self.old.tables.ghost_name }
         ensures untouched { IsTrue self.old.spent → (result ≡ Err StoreFault.Unusable) × (self.new.tables.now ≡ self.old.tables.now) }
-        ensures makes { Makes (HasNoRows schema_6) (HasNoRows desk_schema) (state S.Store self.old.tables.now.connection) (state S.Store self.new.tables.now.connection) self.old.spent self.new.spent result }
+        ensures makes { Makes (HasNoRows schema_6) (HasNoRows first_schema) (state S.Store self.old.tables.now.connection) (state S.Store self.new.tables.now.connection) self.old.spent self.new.spent result }
     {
         match self.run(
             "CREATE TABLE offer (series TEXT NOT NULL, reference TEXT NOT NULL, place INTEGER NOT NULL, supply INTEGER NOT NULL, included TEXT NOT NULL, world INTEGER NOT NULL, excluded TEXT NOT NULL, role TEXT NOT NULL, supplier_type TEXT NOT NULL, supplier_value TEXT NOT NULL, supplier_name TEXT NOT NULL, availability TEXT NOT NULL, unpriced TEXT NOT NULL, PRIMARY KEY (series, reference, place), FOREIGN KEY (series, reference) REFERENCES record (series, reference) ON DELETE CASCADE) STRICT",
@@ -92,11 +93,27 @@ impl<S: Alter> Work<'_, S> {
             "CREATE TABLE price (series TEXT NOT NULL, reference TEXT NOT NULL, place INTEGER NOT NULL, price_place INTEGER NOT NULL, price_type TEXT NOT NULL, amount INTEGER NOT NULL, currency TEXT NOT NULL, included TEXT NOT NULL, world INTEGER NOT NULL, excluded TEXT NOT NULL, from_day INTEGER, until_day INTEGER, PRIMARY KEY (series, reference, place, price_place), FOREIGN KEY (series, reference, place) REFERENCES offer (series, reference, place) ON DELETE CASCADE) STRICT",
             &[],
         ) {
+            Ok(_) => Ok(()),
+            Err(fault) => Err(fault),
+        }
+    }
+
+    // What version 1 lacks: the table of minimums, and the index by which the records of an
+    // article are found.
+    pub(crate) fn create_minimums(&mut self) -> Result<(), StoreFault>
+        ensures same_reference { self.new.tables.ghost_name ≡ self.old.tables.ghost_name }
+        ensures untouched { IsTrue self.old.spent → (result ≡ Err StoreFault.Unusable) × (self.new.tables.now ≡ self.old.tables.now) }
+        ensures makes { (rows : DeskRows) → Makes (λ db. HoldsFirst db rows) (λ db. Holds db rows) (state S.Store self.old.tables.now.connection) (state S.Store self.new.tables.now.connection) self.old.spent self.new.spent result }
+    {
+        match self.run(
+            "CREATE TABLE price_minimum (series TEXT NOT NULL, reference TEXT NOT NULL, place INTEGER NOT NULL, price_place INTEGER NOT NULL, minimum INTEGER NOT NULL, PRIMARY KEY (series, reference, place, price_place), FOREIGN KEY (series, reference, place, price_place) REFERENCES price (series, reference, place, price_place) ON DELETE CASCADE) STRICT",
+            &[],
+        ) {
             Ok(_) => {}
             Err(fault) => return Err(fault),
         }
         match self.run(
-            "CREATE TABLE price_minimum (series TEXT NOT NULL, reference TEXT NOT NULL, place INTEGER NOT NULL, price_place INTEGER NOT NULL, minimum INTEGER NOT NULL, PRIMARY KEY (series, reference, place, price_place), FOREIGN KEY (series, reference, place, price_place) REFERENCES price (series, reference, place, price_place) ON DELETE CASCADE) STRICT",
+            "CREATE INDEX article_by_value ON article (id_value, id_type)",
             &[],
         ) {
             Ok(_) => Ok(()),
@@ -107,7 +124,7 @@ impl<S: Alter> Work<'_, S> {
     fn create_tables(&mut self) -> Result<(), StoreFault>
         ensures same_reference { self.new.tables.ghost_name ≡ self.old.tables.ghost_name }
         ensures untouched { IsTrue self.old.spent → (result ≡ Err StoreFault.Unusable) × (self.new.tables.now ≡ self.old.tables.now) }
-        ensures makes { Makes (IsEmptied schema_0) (HasNoRows desk_schema) (state S.Store self.old.tables.now.connection) (state S.Store self.new.tables.now.connection) self.old.spent self.new.spent result }
+        ensures makes { Makes (IsEmptied schema_0) (λ db. Holds db no_rows) (state S.Store self.old.tables.now.connection) (state S.Store self.new.tables.now.connection) self.old.spent self.new.spent result }
     {
         match self.create_series() {
             Ok(()) => {}
@@ -117,7 +134,11 @@ impl<S: Alter> Work<'_, S> {
             Ok(()) => {}
             Err(fault) => return Err(fault),
         }
-        self.create_offers()
+        match self.create_offers() {
+            Ok(()) => {}
+            Err(fault) => return Err(fault),
+        }
+        self.create_minimums()
     }
 
     /// Makes the tables, and the row of their version, 2, in a database that has no table. It is
@@ -149,6 +170,8 @@ impl<S: Alter> Work<'_, S> {
         ensures untouched { IsTrue self.old.spent → (result ≡ Err StoreFault.Unusable) × (self.new.tables.now ≡ self.old.tables.now) }
         ensures absent { list_any is_meta (state S.Store self.old.tables.now.connection).now.schema.tables ≡ false → IfOk result (λ version. version ≡ None) × (self.new.tables.now ≡ self.old.tables.now) }
         ensures present { list_any is_meta (state S.Store self.old.tables.now.connection).now.schema.tables ≡ true → IfOk result (λ version. IsSome version) }
+        ensures first { HasCleanDisk (state S.Store self.new.tables.now.connection) → (rows : DeskRows) → HoldsFirst (state S.Store self.old.tables.now.connection).now rows → IfOk result (λ version. version ≡ version_in rows) }
+        ensures keeps_first { (rows : DeskRows) → Makes (λ db. HoldsFirst db rows) (λ db. HoldsFirst db rows) (state S.Store self.old.tables.now.connection) (state S.Store self.new.tables.now.connection) self.old.spent self.new.spent result }
         ensures works { Works (λ rows version. version ≡ version_in rows) unchanged
             (state S.Store self.old.tables.now.connection) (state S.Store self.new.tables.now.connection) self.old.spent self.new.spent result }
     {

@@ -15,6 +15,7 @@ mod columns;
 mod creation;
 mod fault;
 mod held;
+mod migration;
 mod offers;
 mod prices;
 mod records;

@@ -40,7 +40,7 @@ text_of s t h = grind (arith, bytes_eq-Decides, h)
 pub number_of : (m n : ℕ) → (m == n) ≡ true → m ≡ n
 number_of m n h = grind (arith, nat_tests)
 
-same_text : (s : List ℕ) → bytes_eq s s ≡ true
+pub same_text : (s : List ℕ) → bytes_eq s s ≡ true
 same_text s = sym (is_eq-slice_cmp s s) ∙ ap is_eq (tied_itself nat_list_cmp_total s)
 
 pub text_itself : (s : List ℕ) → is_true (binary (Compare Eq Binary) (Text s) (Text s)) ≡ true

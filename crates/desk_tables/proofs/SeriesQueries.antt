@@ -53,7 +53,7 @@ addressee_test (Some p) None told told′ = empty_test p.id_type told (bytes_eq 
     empty_test (c ∷ s) not_empty b = refl
 addressee_test (Some p) (Some q) told told′ = refl
 
-parties_test : (sender : Party) (addressee : Option Party) → IsAddressee addressee → (r : SeriesRow) → IsAddressee r.agreement.addressee
+pub parties_test : (sender : Party) (addressee : Option Party) → IsAddressee addressee → (r : SeriesRow) → IsAddressee r.agreement.addressee
     → are_parties sender.id_type sender.id_value (id_type_of addressee) (id_value_of addressee) r ≡ has_parties sender addressee r
 parties_test sender addressee told r told′ =
     and_assoc (bytes_eq r.agreement.sender.id_type sender.id_type) (bytes_eq r.agreement.sender.id_value sender.id_value) _ ∙ ap (λ b. same_party r.agreement.sender sender && b) (addressee_test r.agreement.addressee addressee told′ told)

@@ -9,3 +9,4 @@ pub mod Shown
 pub mod RecordReadings
 pub mod RecordAnswers
 pub mod ArticleAnswers
+pub mod AddedRows

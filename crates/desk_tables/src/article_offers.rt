@@ -148,11 +148,7 @@ impl<S: Alter> Work<'_, S> {
     {
         let rows = match self.rows(
             "SELECT series, reference, place, price_place, minimum FROM price_minimum WHERE series = ?1 AND reference = ?2 AND place = ?3",
-            params![
-                offer.series.as_str(),
-                offer.reference.as_str(),
-                offer.place
-            ],
+            params![offer.series.as_str(), offer.reference.as_str(), offer.place],
         ) {
             Ok(rows) => rows,
             Err(fault) => return Err(fault),
@@ -179,11 +175,7 @@ impl<S: Alter> Work<'_, S> {
     {
         let rows = match self.rows(
             "SELECT series, reference, place, price_place, price_type, amount, currency, included, world, excluded, from_day, until_day FROM price WHERE series = ?1 AND reference = ?2 AND place = ?3 ORDER BY price_place",
-            params![
-                offer.series.as_str(),
-                offer.reference.as_str(),
-                offer.place
-            ],
+            params![offer.series.as_str(), offer.reference.as_str(), offer.place],
         ) {
             Ok(rows) => rows,
             Err(fault) => return Err(fault),

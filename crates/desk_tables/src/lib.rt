@@ -15,6 +15,7 @@ mod columns;
 mod creation;
 mod fault;
 mod held;
+pub mod laws;
 mod migration;
 mod offers;
 mod prices;
@@ -22,7 +23,5 @@ mod records;
 pub mod rows;
 pub mod series;
 pub mod tables;
-#[cfg(test)]
-mod tests;
 pub mod work;
 mod written;

@@ -106,7 +106,11 @@ fn price_of(alloc: Global, row: &Row, minimum: Quantity) -> Result<Price, StoreF
 }
 
 // The row of `price` that a query shows, with its minimum among those.
-pub(crate) fn priced_row(alloc: Global, row: &Row, minimums: &[MinimumRow]) -> Result<PriceRow, StoreFault>
+pub(crate) fn priced_row(
+    alloc: Global,
+    row: &Row,
+    minimums: &[MinimumRow],
+) -> Result<PriceRow, StoreFault>
     ensures { IfOk result (λ r. read_priced minimums.now row.now ≡ Some r) }
 {
     let series = name_column(row, 0)?;

@@ -20,16 +20,12 @@ use Rattle.desk_tables.specs.declared.series.SeriesRow.{SeriesRow}
 use Rattle.desk_tables.specs.AddedRows.{CanAgree, CanApply, CanHold, CanIdentify, CanOffer, CanPrice, has_series, is_article_at, is_offer_at, is_price_placed}
 use Rattle.desk_tables.specs.RecordChanges.{has_record, is_record, with_article, with_offer, with_price, with_record}
 use Rattle.desk_tables.specs.RecordRows.{RecordRow, ArticleRow, OfferRow, PriceRow, article_columns, offer_columns, price_columns, record_columns}
-use Rattle.desk_tables.specs.Rows.{AppliedRow, DeskRows, HeldRow, Holds, Stands, IsAddressee, applied_columns, has_parties, held_columns, id_type_of, id_value_of, is_applied, is_held, is_named, series_columns, with_applied, with_held, with_series}
+use Rattle.desk_tables.specs.Rows.{AppliedRow, DeskRows, HeldRow, Holds, Stands, IsAddressee, applied_columns, has_parties, held_columns, party_type, party_value, is_applied, is_held, is_named, series_columns, with_applied, with_held, with_series}
 use Rattle.desk_tables.specs.Schema.{desk_schema}
-use Rattle.desk_tables.proofs.EqualLemmas.{text_equal, number_equal, text_of, number_of, text_itself, number_itself, differs, same_text}
+use Rattle.desk_tables.proofs.EqualLemmas.{text_equal, number_equal, text_of, number_of, text_itself, number_itself, differs, same_text, and_true}
 use Rattle.desk_tables.proofs.KeyLemmas.{are_parties, applied_once, held_once, key_clash, named_once, no_clash, one_at_most, parties_once}
 use Rattle.desk_tables.proofs.Deletes.{filter_same}
 use Rattle.desk_tables.proofs.SeriesQueries.{parties_test}
-
-and_true : (b : Bool) → (b && true) ≡ b
-and_true true = refl
-and_true false = refl
 
 same_number : (n : ℕ) → (n == n) ≡ true
 same_number n = sym (number_equal n n) ∙ number_itself n
@@ -225,12 +221,12 @@ pub series_added : (db : Database) (rows : DeskRows) (a : Agreement) → Holds d
 series_added db rows a h =
     let row : SeriesRow = record { agreement = a; next = a.first } in
     let told : IsAddressee a.addressee = all_has _ (rows.series ++ row ∷ []) row h.addressees (has_last rows.series row) in
-    let p : SeriesRow → Bool = are_parties a.sender.id_type a.sender.id_value (id_type_of a.addressee) (id_value_of a.addressee) in
+    let p : SeriesRow → Bool = are_parties a.sender.id_type a.sender.id_value (party_type a.addressee) (party_value a.addressee) in
     let q : SeriesRow → Bool = has_parties a.sender a.addressee in
-    let itself : p row ≡ true = rw (same_text a.sender.id_type, same_text a.sender.id_value, same_text (id_type_of a.addressee), same_text (id_value_of a.addressee)) refl in
+    let itself : p row ≡ true = rw (same_text a.sender.id_type, same_text a.sender.id_value, same_text (party_type a.addressee), same_text (party_value a.addressee)) refl in
     let same : filter p (rows.series ++ row ∷ []) ≡ filter q (rows.series ++ row ∷ []) =
     filter_same p q (rows.series ++ row ∷ []) (λ r k. parties_test a.sender a.addressee told r (all_has _ (rows.series ++ row ∷ []) r h.addressees k)) in (
       was_free (is_named a.name) rows.series row (same_text a.name) (named_once db (with_series a rows) h a.name),
       was_free q rows.series row (sym (parties_test a.sender a.addressee told row told) ∙ itself)
-      (subst (λ l. length l ≤ 1) same (parties_once db (with_series a rows) h a.sender.id_type a.sender.id_value (id_type_of a.addressee) (id_value_of a.addressee))),
+      (subst (λ l. length l ≤ 1) same (parties_once db (with_series a rows) h a.sender.id_type a.sender.id_value (party_type a.addressee) (party_value a.addressee))),
     )

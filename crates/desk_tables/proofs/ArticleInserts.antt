@@ -14,13 +14,12 @@ use Rattle.desk_tables.specs.RecordChanges.{with_article}
 use Rattle.desk_tables.specs.Rows.{DeskRows, Holds, Stands}
 use Rattle.desk_tables.proofs.TreeLemmas.{stands_put}
 use Rattle.desk_tables.proofs.Inserts.{inserts}
-use Rattle.desk_tables.proofs.CastLemmas.{cast_null}
-use Rattle.desk_tables.proofs.Casts.{cast_int}
+use Rattle.desk_tables.proofs.CastLemmas.{cast_null, cast_integer}
 use Rattle.desk_tables.proofs.RecordStatementTexts.{put_article_is}
 use Rattle.desk_tables.proofs.HoldsLemmas.{changed_articles}
 
 put_article_edit : (tree : List Row) (row : ArticleRow) → edited (λ _. tree) (edit_of (λ _. tree) (article_table 11) [] Chosen 0 ((Null ∷ article_columns row) ∷ [])) ≡ put_row (Int (next_rowid tree) ∷ article_columns row) tree
-put_article_edit tree row = rw (cast_null, cast_int (pos row.id_place)) refl
+put_article_edit tree row = rw (cast_null, cast_integer (pos row.id_place)) refl
 
 pub puts_article : (old new : State) (row : ArticleRow) (count : ℕ) (rows : DeskRows) → Holds old.now rows → Executes put_article_text (article_columns row) old new (Ok count) → Holds new.now (with_article row rows)
 puts_article old new row count rows h ran =

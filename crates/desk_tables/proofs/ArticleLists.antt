@@ -30,17 +30,13 @@ use Rattle.desk_tables.specs.RecordStatements.{record_offers_text, record_offers
 use Rattle.desk_tables.specs.Rows.{DeskRows, Holds}
 use Rattle.desk_tables.specs.Schema.{desk_schema}
 use Rattle.desk_tables.specs.declared.rows.OfferRow as typed
-use Rattle.desk_tables.proofs.EqualLemmas.{text_equal, number_equal, text_of, number_of, text_itself, number_itself, differs}
+use Rattle.desk_tables.proofs.EqualLemmas.{text_equal, number_equal, text_of, number_of, text_itself, number_itself, differs, and_true}
 use Rattle.desk_tables.proofs.KeyLemmas.{key_clash, no_clash, one_at_most}
 use Rattle.desk_tables.proofs.Readings.{few_stay, find_first}
 use Rattle.desk_tables.proofs.RecordLists.{read_back, read_of, same_minimum, int_order}
 use Rattle.desk_tables.proofs.RecordStatementTexts.{record_offers_is, offer_prices_is, offer_minimums_is}
 use Rattle.desk_tables.proofs.Replaces.{map_same}
 use Rattle.desk_tables.proofs.Selects.{selects, rises}
-
-and_true : (b : Bool) → (b && true) ≡ b
-and_true true = refl
-and_true false = refl
 
 -- ORDER BY a number
 by_number : (m n : ℕ) → is_lt (ordering_then (value_cmp (Int (pos m)) (Int (pos n))) Equal) ≡ false → is_lt (nat_cmp m n) ≡ false

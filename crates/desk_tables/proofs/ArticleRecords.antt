@@ -26,14 +26,10 @@ use Rattle.desk_tables.specs.RecordChanges.{is_record, is_article_of}
 use Rattle.desk_tables.specs.RecordRows.{RecordRow, ArticleRow, record_columns, article_columns}
 use Rattle.desk_tables.specs.RecordStatements.{article_records_text, article_records_query}
 use Rattle.desk_tables.specs.Rows.{DeskRows, Holds}
-use Rattle.desk_tables.proofs.EqualLemmas.{text_equal, text_of}
+use Rattle.desk_tables.proofs.EqualLemmas.{text_equal, text_of, and_true}
 use Rattle.desk_tables.proofs.RecordLists.{read_back, same_record}
 use Rattle.desk_tables.proofs.RecordStatementTexts.{article_records_is}
 use Rattle.desk_tables.proofs.Selects.{selects, rises}
-
-and_true : (b : Bool) → (b && true) ≡ b
-and_true true = refl
-and_true false = refl
 
 abbrev pub record_of : ArticleRow → RecordRow
 record_of a = record { series = a.series; reference = a.reference }

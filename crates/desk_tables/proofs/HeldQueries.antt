@@ -13,17 +13,13 @@ use Rattle.std.specs.Ordering.{nat_cmp, int_cmp, is_lt}
 use Rattle.std.proofs.lemmas.Bool.Decides.{nat_tests}
 use Rattle.sqlite_value.specs.Order.{value_cmp}
 use Rattle.sqlite_value.proofs.OrderLemmas.{then-Equal, value_cmp-Int}
-use Rattle.desk_tables.proofs.EqualLemmas.{text_equal, number_equal}
+use Rattle.desk_tables.proofs.EqualLemmas.{text_equal, number_equal, and_true}
 use Rattle.std.proofs.lemmas.List.Sorted.{IsPermutation-map}
 use Rattle.desk_tables.proofs.Readings.{first_shown, numbers_are}
 use Rattle.sqlite_value.specs.Order.{column}
 use Rattle.desk_tables.proofs.KeyLemmas.{held_once}
 use Rattle.desk_tables.proofs.Selects.{selects, rises}
 use Rattle.desk_tables.proofs.StatementTexts.{next_held_is, gap_rows_is}
-
-and_true : (b : Bool) → (b && true) ≡ b
-and_true true = refl
-and_true false = refl
 
 pub contents_shown : (old new : State) (series : List ℕ) (number : ℕ) (rows : DeskRows) (got : List Row) → Holds old.now rows → Shown next_held_text (Text series ∷ Int (pos number) ∷ []) old new got
     → (ordered : List HeldRow) × IsPermutation (filter (is_held series number) rows.held) ordered × (got ≡ map (λ (r : HeldRow). Text r.contents ∷ []) ordered)

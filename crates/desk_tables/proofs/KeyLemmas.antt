@@ -17,7 +17,7 @@ use Rattle.sqlite_value.specs.Keys.{plain}
 use Rattle.sqlite.specs.Effect.{Database, IsDatabase}
 use Rattle.sqlite_schema.specs.declared.schema.Schema.{Schema}
 use Rattle.desk_tables.specs.Schema.{first_schema, desk_schema}
-use Rattle.desk_tables.specs.Rows.{MetaRow, HeldRow, AppliedRow, meta_columns, DeskRows, Holds, HoldsFirst, held_columns, applied_columns, series_columns, is_held, is_applied, is_named, id_type_of, id_value_of}
+use Rattle.desk_tables.specs.Rows.{MetaRow, HeldRow, AppliedRow, meta_columns, DeskRows, Holds, HoldsFirst, held_columns, applied_columns, series_columns, is_held, is_applied, is_named, party_type, party_value}
 use Rattle.desk_tables.specs.declared.series.SeriesRow.{SeriesRow}
 
 module _ {A : Type 0} (columns : A → Row) (p : A → Bool) (clash : Row → Row → Bool)
@@ -122,7 +122,7 @@ named_once db rows h name =
 -- the columns of the parties are these
 abbrev pub are_parties : List ℕ → List ℕ → List ℕ → List ℕ → SeriesRow → Bool
 are_parties a b c d row =
-    bytes_eq row.agreement.sender.id_type a && (bytes_eq row.agreement.sender.id_value b && (bytes_eq (id_type_of row.agreement.addressee) c && bytes_eq (id_value_of row.agreement.addressee) d))
+    bytes_eq row.agreement.sender.id_type a && (bytes_eq row.agreement.sender.id_value b && (bytes_eq (party_type row.agreement.addressee) c && bytes_eq (party_value row.agreement.addressee) d))
 
 parties_tell : (a b c d : List ℕ) (v w : Value) (x y : SeriesRow) → is_int v ≡ true → is_int w ≡ true → are_parties a b c d x ≡ true → are_parties a b c d y ≡ true → value_cmp v w ≡ Less
     → key_clash (2 ∷ 3 ∷ 4 ∷ 5 ∷ []) (v ∷ series_columns x) (w ∷ series_columns y) ≡ true
@@ -135,9 +135,9 @@ parties_tell a b c d v w x y int int′ here there below =
     let three′ = and_parts _ _ two′.1 in
     let same_a : x.agreement.sender.id_type ≡ y.agreement.sender.id_type = text_of _ a one.0 ∙ sym (text_of _ a one′.0) in
     let same_b : x.agreement.sender.id_value ≡ y.agreement.sender.id_value = text_of _ b two.0 ∙ sym (text_of _ b two′.0) in
-    let same_c : id_type_of x.agreement.addressee ≡ id_type_of y.agreement.addressee = text_of _ c three.0 ∙ sym (text_of _ c three′.0) in
-    let same_d : id_value_of x.agreement.addressee ≡ id_value_of y.agreement.addressee = text_of _ d three.1 ∙ sym (text_of _ d three′.1) in
-    rw (first_key-plain, same_a, same_b, same_c, same_d, text_itself y.agreement.sender.id_type, text_itself y.agreement.sender.id_value, text_itself (id_type_of y.agreement.addressee), text_itself (id_value_of y.agreement.addressee), differs v w int int′ below) refl
+    let same_c : party_type x.agreement.addressee ≡ party_type y.agreement.addressee = text_of _ c three.0 ∙ sym (text_of _ c three′.0) in
+    let same_d : party_value x.agreement.addressee ≡ party_value y.agreement.addressee = text_of _ d three.1 ∙ sym (text_of _ d three′.1) in
+    rw (first_key-plain, same_a, same_b, same_c, same_d, text_itself y.agreement.sender.id_type, text_itself y.agreement.sender.id_value, text_itself (party_type y.agreement.addressee), text_itself (party_value y.agreement.addressee), differs v w int int′ below) refl
 
 -- the parties of a series have no other
 pub parties_once : (db : Database) (rows : DeskRows) → Holds db rows → (a b c d : List ℕ) → length (filter (are_parties a b c d) rows.series) ≤ 1

@@ -26,7 +26,6 @@ pub mod SeriesQueries
 pub mod SeriesReadings
 pub mod Updates
 pub mod RecordStatementTexts
-pub mod Casts
 pub mod RecordKeys
 pub mod Upserts
 pub mod RecordInserts

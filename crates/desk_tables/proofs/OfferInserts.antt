@@ -14,13 +14,12 @@ use Rattle.desk_tables.specs.RecordChanges.{with_offer}
 use Rattle.desk_tables.specs.Rows.{DeskRows, Holds, Stands}
 use Rattle.desk_tables.proofs.TreeLemmas.{stands_put}
 use Rattle.desk_tables.proofs.Inserts.{inserts}
-use Rattle.desk_tables.proofs.CastLemmas.{cast_null}
-use Rattle.desk_tables.proofs.Casts.{cast_int}
+use Rattle.desk_tables.proofs.CastLemmas.{cast_null, cast_integer}
 use Rattle.desk_tables.proofs.RecordStatementTexts.{put_offer_is}
 use Rattle.desk_tables.proofs.HoldsLemmas.{changed_offers}
 
 put_offer_edit : (tree : List Row) (row : OfferRow) → edited (λ _. tree) (edit_of (λ _. tree) (offer_table 13) [] Chosen 0 ((Null ∷ offer_columns row) ∷ [])) ≡ put_row (Int (next_rowid tree) ∷ offer_columns row) tree
-put_offer_edit tree row = rw (cast_null, cast_int (pos row.place), cast_int (pos row.supply), cast_int (bit row.world)) refl
+put_offer_edit tree row = rw (cast_null, cast_integer (pos row.place), cast_integer (pos row.supply), cast_integer (bit row.world)) refl
 
 -- the parameters, one by one
 pub offer_params : (row : OfferRow) {a b c d e f g h i j k l m : Value} → a ≡ Text row.series → b ≡ Text row.reference → c ≡ Int (pos row.place) → d ≡ Int (pos row.supply) → e ≡ Text row.included → f ≡ Int (bit row.world) → g ≡ Text row.excluded

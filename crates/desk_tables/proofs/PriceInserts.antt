@@ -15,14 +15,13 @@ use Rattle.desk_tables.specs.RecordChanges.{with_price, with_minimum}
 use Rattle.desk_tables.specs.Rows.{DeskRows, Holds, Stands}
 use Rattle.desk_tables.proofs.TreeLemmas.{stands_put}
 use Rattle.desk_tables.proofs.Inserts.{inserts}
-use Rattle.desk_tables.proofs.CastLemmas.{cast_null}
-use Rattle.desk_tables.proofs.Casts.{cast_int, cast_maybe}
+use Rattle.desk_tables.proofs.CastLemmas.{cast_null, cast_integer, cast_maybe}
 use Rattle.desk_tables.proofs.RecordStatementTexts.{put_price_is, put_minimum_is}
 use Rattle.desk_tables.proofs.HoldsLemmas.{changed_prices, changed_minimums}
 
 put_price_edit : (tree : List Row) (row : PriceRow) → edited (λ _. tree) (edit_of (λ _. tree) (price_table 15) [] Chosen 0 ((Null ∷ price_columns row) ∷ [])) ≡ put_row (Int (next_rowid tree) ∷ price_columns row) tree
 put_price_edit tree row =
-    rw (cast_null, cast_int (pos row.place), cast_int (pos row.price_place), cast_int (pos row.amount), cast_int (bit row.world), cast_maybe row.from_day, cast_maybe row.until_day) refl
+    rw (cast_null, cast_integer (pos row.place), cast_integer (pos row.price_place), cast_integer (pos row.amount), cast_integer (bit row.world), cast_maybe row.from_day, cast_maybe row.until_day) refl
 
 -- a day is bound as it is
 pub bound_day : (d : Option ℤ) → bound_value (or_null Int d) ≡ or_null Int d
@@ -45,7 +44,7 @@ puts_price old new row count rows h ran =
     (subst (Stands _ (rows.prices ++ row ∷ [])) (sym (made.applies.rows ∙ put_price_edit (old.now.trees 15) row)) (stands_put price_columns rows.prices (old.now.trees 15) row h.prices))
 
 put_minimum_edit : (tree : List Row) (row : MinimumRow) → edited (λ _. tree) (edit_of (λ _. tree) (price_minimum_table 17) [] Chosen 0 ((Null ∷ minimum_columns row) ∷ [])) ≡ put_row (Int (next_rowid tree) ∷ minimum_columns row) tree
-put_minimum_edit tree row = rw (cast_null, cast_int (pos row.place), cast_int (pos row.price_place), cast_int (pos row.minimum)) refl
+put_minimum_edit tree row = rw (cast_null, cast_integer (pos row.place), cast_integer (pos row.price_place), cast_integer (pos row.minimum)) refl
 
 pub puts_minimum : (old new : State) (row : MinimumRow) (count : ℕ) (rows : DeskRows) → Holds old.now rows → Executes put_minimum_text (minimum_columns row) old new (Ok count) → Holds new.now (with_minimum row rows)
 puts_minimum old new row count rows h ran =

@@ -31,9 +31,8 @@ use Rattle.desk_tables.specs.RecordRows.{RecordRow, record_columns}
 use Rattle.desk_tables.specs.RecordChanges.{is_record, has_record, with_record}
 use Rattle.desk_tables.specs.Rows.{DeskRows, Holds, Stands}
 use Rattle.desk_tables.proofs.TreeLemmas.{next_above, stands_put}
-use Rattle.desk_tables.proofs.EqualLemmas.{text_equal}
-use Rattle.desk_tables.proofs.CastLemmas.{cast_null}
-use Rattle.desk_tables.proofs.Casts.{cast_int}
+use Rattle.desk_tables.proofs.EqualLemmas.{text_equal, and_true}
+use Rattle.desk_tables.proofs.CastLemmas.{cast_null, cast_integer}
 use Rattle.desk_tables.proofs.Upserts.{upserts}
 use Rattle.desk_tables.proofs.StatementTexts.{put_record_is}
 use Rattle.desk_tables.proofs.HoldsLemmas.{changed_records}
@@ -55,7 +54,7 @@ new_is : (tree : List Row) (row : RecordRow) → with_rowid Chosen tree (cast_ro
 new_is tree row = rw cast_null refl
 
 record_edit : (tree : List Row) (row : RecordRow) → edited (λ _. tree) (edit_of (λ _. tree) (record_table 9) [] Given 0 ((Int (next_rowid tree) ∷ record_columns row) ∷ [])) ≡ put_row (Int (next_rowid tree) ∷ record_columns row) tree
-record_edit tree row = rw (cast_int (next_rowid tree)) refl
+record_edit tree row = rw (cast_integer (next_rowid tree)) refl
 
 -- a row conflicts by its rowid or by its key
 conflicts_is : (new r : Row) → conflicts None desk_schema.indexes (record_table 9) new r ≡ (agree plain (0 ∷ []) r (0 ∷ []) new || (agree plain (1 ∷ 2 ∷ []) r (1 ∷ 2 ∷ []) new || false))
@@ -71,10 +70,6 @@ not_tied tree row r up h = false_from_ne_true _ (λ tie.
     let low = all_has _ tree r (next_above tree up) h in
     let int : rowid r ≡ Int (id_in (rowid r)) = int_is (rowid r) (all_has _ tree r up.1 h) in
     never_tied (id_in (rowid r)) (next_rowid tree) low (sym (value_cmp-Int (id_in (rowid r)) (next_rowid tree)) ∙ subst (λ v. value_cmp v (Int (next_rowid tree)) ≡ Equal) int same))
-
-and_true : (b : Bool) → (b && true) ≡ b
-and_true true = refl
-and_true false = refl
 
 module _ (tree : List Row) (row : RecordRow) where
   abbrev new : Row

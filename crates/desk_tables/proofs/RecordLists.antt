@@ -17,13 +17,9 @@ use Rattle.sqlite_trees.proofs.ListLemmas.{map-map}
 use Rattle.desk_tables.specs.RecordStatements.{record_rows_text, article_rows_text, offer_rows_text, price_rows_text, minimum_rows_text, record_rows_query, article_rows_query, offer_rows_query, price_rows_query}
 use Rattle.desk_tables.specs.RecordAnswers.{two_columns, five_columns, place_cmp, is_record_in, is_article_in, article_key, is_offer_in, offer_key, price_cmp, is_price_in, price_key, is_minimum_in, read_priced, ArePricesWith, AreMinimums, AreRecordsInOrder, AreArticlesInOrder, AreOffersInOrder}
 use Rattle.desk_tables.specs.Rows.{DeskRows, Holds}
-use Rattle.desk_tables.proofs.EqualLemmas.{text_equal}
+use Rattle.desk_tables.proofs.EqualLemmas.{text_equal, and_true}
 use Rattle.desk_tables.proofs.Selects.{selects, rises}
 use Rattle.desk_tables.proofs.RecordStatementTexts.{record_rows_is, article_rows_is, offer_rows_is, price_rows_is, minimum_rows_is}
-
-and_true : (b : Bool) → (b && true) ≡ b
-and_true true = refl
-and_true false = refl
 
 pub int_order : (m n : ℕ) → int_cmp (pos m) (pos n) ≡ nat_cmp m n
 int_order m n = grind (arith, nat_tests)

@@ -13,13 +13,9 @@ use Rattle.desk_tables.specs.RecordRows.{RecordRow, record_columns}
 use Rattle.desk_tables.specs.RecordStatements.{has_record_text}
 use Rattle.desk_tables.specs.RecordChanges.{is_record, has_record}
 use Rattle.desk_tables.specs.Rows.{DeskRows, Holds}
-use Rattle.desk_tables.proofs.EqualLemmas.{text_equal}
+use Rattle.desk_tables.proofs.EqualLemmas.{text_equal, and_true}
 use Rattle.desk_tables.proofs.Selects.{selects}
 use Rattle.desk_tables.proofs.RecordStatementTexts.{has_record_is}
-
-and_true : (b : Bool) → (b && true) ≡ b
-and_true true = refl
-and_true false = refl
 
 -- whether some row passes is whether one is left of those that pass
 any_left : {A : Type 0} (p : A → Bool) (rows : List A) → list_any p rows ≡ is_some (slice_get (filter p rows) 0)

@@ -11,7 +11,7 @@ use Rattle.onix_message.specs.declared.agreement.Agreement.{Agreement}
 use Rattle.desk_tables.specs.declared.series.SeriesRow.{SeriesRow}
 use Rattle.desk_tables.specs.Schema.{series_table, applied_table}
 use Rattle.desk_tables.specs.Statements.{put_series_text, put_applied_text}
-use Rattle.desk_tables.specs.Rows.{AppliedRow, DeskRows, Holds, Stands, IsAddressee, series_columns, applied_columns, id_type_of, id_value_of, with_series, with_applied}
+use Rattle.desk_tables.specs.Rows.{AppliedRow, DeskRows, Holds, Stands, IsAddressee, series_columns, applied_columns, party_type, party_value, with_series, with_applied}
 use Rattle.desk_tables.proofs.CastLemmas.{cast_null, cast_number}
 use Rattle.desk_tables.proofs.HoldsLemmas.{changed_series, changed_applied}
 use Rattle.desk_tables.proofs.Inserts.{inserts}
@@ -19,7 +19,7 @@ use Rattle.desk_tables.proofs.StatementTexts.{put_series_is, put_applied_is}
 use Rattle.desk_tables.proofs.TreeLemmas.{stands_put}
 
 abbrev pub put_series_params : Agreement → Row
-put_series_params a = Text a.name ∷ Text a.sender.id_type ∷ Text a.sender.id_value ∷ Text (id_type_of a.addressee) ∷ Text (id_value_of a.addressee) ∷ Int (pos a.first) ∷ []
+put_series_params a = Text a.name ∷ Text a.sender.id_type ∷ Text a.sender.id_value ∷ Text (party_type a.addressee) ∷ Text (party_value a.addressee) ∷ Int (pos a.first) ∷ []
 
 put_series_edit : (tree : List Row) (row : SeriesRow) → edited (λ _. tree) (edit_of (λ _. tree) (series_table 2) [] Chosen 0 ((Null ∷ series_columns row) ∷ [])) ≡ put_row (Int (next_rowid tree) ∷ series_columns row) tree
 put_series_edit tree row = rw (cast_null, cast_number row.agreement.first, cast_number row.next) refl

@@ -15,17 +15,13 @@ use Rattle.onix_terms.specs.declared.party.Party.{Party}
 use Rattle.onix_message.specs.SameContents.{same_party}
 use Rattle.desk_tables.specs.declared.series.SeriesRow.{SeriesRow}
 use Rattle.desk_tables.specs.Statements.{series_by_name_text, series_by_parties_text, series_rows_text, series_rows_query, applied_at_text}
-use Rattle.desk_tables.specs.Rows.{AppliedRow, DeskRows, Holds, IsAddressee, series_columns, applied_columns, id_type_of, id_value_of, is_named, has_parties, is_applied}
+use Rattle.desk_tables.specs.Rows.{AppliedRow, DeskRows, Holds, IsAddressee, series_columns, applied_columns, party_type, party_value, is_named, has_parties, is_applied}
 use Rattle.desk_tables.proofs.Deletes.{filter_same}
-use Rattle.desk_tables.proofs.EqualLemmas.{text_equal, number_equal}
+use Rattle.desk_tables.proofs.EqualLemmas.{text_equal, number_equal, and_true}
 use Rattle.desk_tables.proofs.KeyLemmas.{are_parties, named_once, parties_once, applied_once}
 use Rattle.desk_tables.proofs.Readings.{find_first, first_shown}
 use Rattle.desk_tables.proofs.Selects.{selects, rises}
 use Rattle.desk_tables.proofs.StatementTexts.{series_by_name_is, series_by_parties_is, series_rows_is, applied_at_is}
-
-and_true : (b : Bool) → (b && true) ≡ b
-and_true true = refl
-and_true false = refl
 
 -- ---- by name
 
@@ -39,7 +35,7 @@ named_shown old new name rows got h shown =
 -- ---- by parties
 
 -- equal columns are equal addressees
-addressee_test : (p q : Option Party) → IsAddressee p → IsAddressee q → (bytes_eq (id_type_of p) (id_type_of q) && bytes_eq (id_value_of p) (id_value_of q)) ≡ option_eq same_party p q
+addressee_test : (p q : Option Party) → IsAddressee p → IsAddressee q → (bytes_eq (party_type p) (party_type q) && bytes_eq (party_value p) (party_value q)) ≡ option_eq same_party p q
 addressee_test None None told told′ = refl
 addressee_test None (Some q) told told′ = empty_test q.id_type told′ (bytes_eq [] q.id_value)
   where
@@ -54,7 +50,7 @@ addressee_test (Some p) None told told′ = empty_test p.id_type told (bytes_eq 
 addressee_test (Some p) (Some q) told told′ = refl
 
 pub parties_test : (sender : Party) (addressee : Option Party) → IsAddressee addressee → (r : SeriesRow) → IsAddressee r.agreement.addressee
-    → are_parties sender.id_type sender.id_value (id_type_of addressee) (id_value_of addressee) r ≡ has_parties sender addressee r
+    → are_parties sender.id_type sender.id_value (party_type addressee) (party_value addressee) r ≡ has_parties sender addressee r
 parties_test sender addressee told r told′ =
     and_assoc (bytes_eq r.agreement.sender.id_type sender.id_type) (bytes_eq r.agreement.sender.id_value sender.id_value) _ ∙ ap (λ b. same_party r.agreement.sender sender && b) (addressee_test r.agreement.addressee addressee told′ told)
   where
@@ -63,15 +59,15 @@ parties_test sender addressee told r told′ =
     and_assoc false b c = refl
 
 pub parties_shown : (old new : State) (sender : Party) (addressee : Option Party) (rows : DeskRows) (got : List Row) → IsAddressee addressee → Holds old.now rows
-    → Shown series_by_parties_text (Text sender.id_type ∷ Text sender.id_value ∷ Text (id_type_of addressee) ∷ Text (id_value_of addressee) ∷ []) old new got
+    → Shown series_by_parties_text (Text sender.id_type ∷ Text sender.id_value ∷ Text (party_type addressee) ∷ Text (party_value addressee) ∷ []) old new got
     → slice_get got 0 ≡ option_map series_columns (find (has_parties sender addressee) rows.series)
 parties_shown old new sender addressee rows got told h shown =
     let a = sender.id_type in
     let b = sender.id_value in
-    let c = id_type_of addressee in
-    let d = id_value_of addressee in
+    let c = party_type addressee in
+    let d = party_value addressee in
     let s = selects series_columns series_by_parties_text 2 _ _ _ _ series_by_parties_is.0 series_by_parties_is.1 series_by_parties_is.2 (λ db. refl) (are_parties a b c d) (λ r. []) series_columns (Text a ∷ Text b ∷ Text c ∷ Text d ∷ []) old new rows.series got
-    (λ v r. rw (text_equal r.agreement.sender.id_type a, text_equal r.agreement.sender.id_value b, text_equal (id_type_of r.agreement.addressee) c, text_equal (id_value_of r.agreement.addressee) d, and_true (bytes_eq (id_value_of r.agreement.addressee) d)) refl)
+    (λ v r. rw (text_equal r.agreement.sender.id_type a, text_equal r.agreement.sender.id_value b, text_equal (party_type r.agreement.addressee) c, text_equal (party_value r.agreement.addressee) d, and_true (bytes_eq (party_value r.agreement.addressee) d)) refl)
     (λ v r. refl) (λ v r. refl) h.schema h.series shown in
     let same : filter (are_parties a b c d) rows.series ≡ filter (has_parties sender addressee) rows.series = filter_same _ _ rows.series (λ r k. parties_test sender addressee told r (all_has _ rows.series r h.addressees k)) in
     let found : find (are_parties a b c d) rows.series ≡ find (has_parties sender addressee) rows.series =

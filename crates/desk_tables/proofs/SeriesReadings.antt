@@ -11,10 +11,10 @@ use Rattle.sqlite_value.specs.Order.{Row}
 use Rattle.onix_terms.specs.declared.party.Party.{Party}
 use Rattle.desk_tables.specs.declared.applied.EffectRow.{EffectRow}
 use Rattle.desk_tables.specs.declared.series.SeriesRow.{SeriesRow}
-use Rattle.desk_tables.specs.Rows.{AppliedRow, DeskRows, AreSeriesInOrder, IsAddressee, series_columns, id_type_of, id_value_of, applied_part}
+use Rattle.desk_tables.specs.Rows.{AppliedRow, DeskRows, AreSeriesInOrder, IsAddressee, series_columns, party_type, party_value, applied_part}
 use Rattle.desk_tables.specs.Shown.{six_columns, seven_columns, IsToldRow, applied_part_columns}
 
-same_addressee : (p q : Option Party) → IsAddressee p → IsAddressee q → id_type_of p ≡ id_type_of q → id_value_of p ≡ id_value_of q → p ≡ q
+same_addressee : (p q : Option Party) → IsAddressee p → IsAddressee q → party_type p ≡ party_type q → party_value p ≡ party_value q → p ≡ q
 same_addressee None None told told′ e f = refl
 same_addressee None (Some q) told told′ e f = absurd (told′ (sym e))
 same_addressee (Some p) None told told′ e f = absurd (told e)
@@ -37,8 +37,8 @@ same_series x y told told′ e =
     let name : x.agreement.name ≡ y.agreement.name = cc in
     let id_type : x.agreement.sender.id_type ≡ y.agreement.sender.id_type = cc in
     let id_value : x.agreement.sender.id_value ≡ y.agreement.sender.id_value = cc in
-    let type_of : id_type_of x.agreement.addressee ≡ id_type_of y.agreement.addressee = cc in
-    let value_of : id_value_of x.agreement.addressee ≡ id_value_of y.agreement.addressee = cc in
+    let type_of : party_type x.agreement.addressee ≡ party_type y.agreement.addressee = cc in
+    let value_of : party_value x.agreement.addressee ≡ party_value y.agreement.addressee = cc in
     let first : x.agreement.first ≡ y.agreement.first = cc in
     let next : x.next ≡ y.next = cc in
     let addressee = same_addressee x.agreement.addressee y.agreement.addressee told told′ type_of value_of in

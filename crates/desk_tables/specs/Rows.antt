@@ -18,6 +18,7 @@ use Rattle.desk_tables.specs.declared.applied.EffectRow.{EffectRow}
 use Rattle.desk_tables.specs.declared.series.SeriesRow.{SeriesRow}
 use Rattle.desk_tables.specs.Schema.{first_schema, desk_schema}
 use Rattle.desk_tables.specs.RecordRows.{RecordRow, ArticleRow, OfferRow, PriceRow, MinimumRow, record_columns, article_columns, offer_columns, price_columns, minimum_columns}
+pub use Rattle.desk_tables.specs.RecordRows.{party_type, party_value}
 
 pub record MetaRow : Type 0 where
   pub item : List ℕ
@@ -41,18 +42,9 @@ pub record AppliedRow : Type 0 where
 abbrev pub meta_columns : MetaRow → Row
 meta_columns r = Text r.item ∷ Int (pos r.amount) ∷ []
 
--- both empty where there is no addressee
-abbrev pub id_type_of : Option Party → List ℕ
-id_type_of None = []
-id_type_of (Some party) = party.id_type
-
-abbrev pub id_value_of : Option Party → List ℕ
-id_value_of None = []
-id_value_of (Some party) = party.id_value
-
 abbrev pub series_columns : SeriesRow → Row
 series_columns r =
-    Text r.agreement.name ∷ Text r.agreement.sender.id_type ∷ Text r.agreement.sender.id_value ∷ Text (id_type_of r.agreement.addressee) ∷ Text (id_value_of r.agreement.addressee)
+    Text r.agreement.name ∷ Text r.agreement.sender.id_type ∷ Text r.agreement.sender.id_value ∷ Text (party_type r.agreement.addressee) ∷ Text (party_value r.agreement.addressee)
     ∷ Int (pos r.agreement.first) ∷ Int (pos r.next) ∷ []
 
 abbrev pub held_columns : HeldRow → Row

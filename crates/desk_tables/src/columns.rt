@@ -4,7 +4,7 @@ ghost use Rattle.std.specs.Prelude.{◌≡◌, IfOk, pos, map, option_map, slice
 ghost use Rattle.sqlite_value.specs.Order.{column};
 ghost use Rattle.sqlite_value.specs.declared.value.Value.TheVariants.{Int, Text as SqlText};
 ghost use Rattle.desk_tables.specs.RecordReadings.{bool_in, code_of, day_in, territory_at};
-ghost use Rattle.desk_tables.specs.Rows.{id_type_of, id_value_of, IsAddressee};
+ghost use Rattle.desk_tables.specs.Rows.{party_type, party_value, IsAddressee};
 
 use crate::fault::fault_of;
 use onix_message::agreement::StoreFault;
@@ -165,8 +165,8 @@ pub(crate) fn addressee_columns(
     type_at: usize,
     value_at: usize,
 ) -> Result<Option<Party>, StoreFault>
-    ensures id_type { IfOk result (λ addressee. column row.now type_at ≡ SqlText (id_type_of addressee)) }
-    ensures id_value { IfOk result (λ addressee. column row.now value_at ≡ SqlText (id_value_of addressee)) }
+    ensures id_type { IfOk result (λ addressee. column row.now type_at ≡ SqlText (party_type addressee)) }
+    ensures id_value { IfOk result (λ addressee. column row.now value_at ≡ SqlText (party_value addressee)) }
     ensures told { IfOk result IsAddressee }
 {
     if text_column(row, type_at)?.is_empty() && text_column(row, value_at)?.is_empty() {

@@ -6,7 +6,7 @@ ghost use Rattle.desk_tables.specs.Transactions.{Works, NoAnswer};
 ghost use Rattle.desk_tables.specs.RecordRows.{offer_row};
 ghost use Rattle.sqlite_value.specs.Order.{column};
 ghost use Rattle.sqlite_value.specs.declared.value.Value.TheVariants.{Text as SqlText};
-ghost use Rattle.desk_tables.specs.Rows.{id_type_of, id_value_of, unchanged, IsAddressee};
+ghost use Rattle.desk_tables.specs.Rows.{party_type, party_value, unchanged, IsAddressee};
 ghost use Rattle.desk_tables.specs.RecordReadings.{read_offer};
 ghost use Rattle.desk_tables.specs.RecordAnswers.{AreOffersInOrder};
 ghost use Rattle.desk_tables.specs.RecordChanges.{with_offer, without_offers};
@@ -26,8 +26,8 @@ use std::alloc::Global;
 
 fn supplier_columns(row: &Row) -> Result<Supplier, StoreFault>
     ensures role { IfOk result (λ s. column row.now 7 ≡ SqlText s.role) }
-    ensures id_type { IfOk result (λ s. column row.now 8 ≡ SqlText (id_type_of s.party)) }
-    ensures id_value { IfOk result (λ s. column row.now 9 ≡ SqlText (id_value_of s.party)) }
+    ensures id_type { IfOk result (λ s. column row.now 8 ≡ SqlText (party_type s.party)) }
+    ensures id_value { IfOk result (λ s. column row.now 9 ≡ SqlText (party_value s.party)) }
     ensures told { IfOk result (λ s. IsAddressee s.party) }
     ensures name { IfOk result (λ s. column row.now 10 ≡ SqlText s.name) }
 {

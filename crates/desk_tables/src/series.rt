@@ -5,10 +5,11 @@ ghost use Rattle.std.specs.List.{AllByRecursion};
 ghost use Rattle.sqlite.specs.Held.{state};
 ghost use Rattle.desk_tables.specs.Transactions.{Works, NoAnswer};
 ghost use Rattle.desk_tables.specs.Shown.{seven_columns, IsToldRow};
-ghost use Rattle.desk_tables.specs.Rows.{series_columns, id_type_of, id_value_of, IsAddressee, with_series, with_next, series_at, series_between, unchanged, AreSeriesInOrder};
+ghost use Rattle.desk_tables.specs.Rows.{series_columns, party_type, party_value, IsAddressee, with_series, with_next, series_at, series_between, unchanged, AreSeriesInOrder};
 
 use crate::columns::{addressee_columns, name_column, number_column, party_columns, whole_column};
 use crate::work::Work;
+use crate::written::{party_type, party_value};
 use onix_message::agreement::{Agreement, StoreFault};
 use onix_terms::party::Party;
 use onix_terms::series_name::SeriesName;
@@ -19,26 +20,6 @@ use sqlite::{Alter, Row, params};
 pub struct SeriesRow {
     pub agreement: Agreement,
     pub next: u32,
-}
-
-// The columns of an addressee, which are empty where there is none.
-fn id_type_text(addressee: &Option<Party>) -> &str
-    ensures text { result.now ≡ id_type_of addressee.now }
-    ensures told { IsAddressee addressee.now }
-{
-    match addressee {
-        Some(party) => party.id_type.as_str(),
-        None => "",
-    }
-}
-
-fn id_value_text(addressee: &Option<Party>) -> &str
-    ensures { result.now ≡ id_value_of addressee.now }
-{
-    match addressee {
-        Some(party) => party.id_value.as_str(),
-        None => "",
-    }
 }
 
 // The row of the table that a query shows.
@@ -97,8 +78,8 @@ impl<S: Alter> Work<'_, S> {
                 agreement.name.as_str(),
                 agreement.sender.id_type.as_str(),
                 agreement.sender.id_value.as_str(),
-                id_type_text(&agreement.addressee),
-                id_value_text(&agreement.addressee),
+                party_type(&agreement.addressee),
+                party_value(&agreement.addressee),
                 agreement.first.value()
             ],
         ) {
@@ -146,8 +127,8 @@ impl<S: Alter> Work<'_, S> {
             params![
                 sender.id_type.as_str(),
                 sender.id_value.as_str(),
-                id_type_text(addressee),
-                id_value_text(addressee)
+                party_type(addressee),
+                party_value(addressee)
             ],
         ) {
             Ok(rows) => rows,

@@ -3,6 +3,7 @@
 ghost use Rattle.std.specs.Prelude.{◌≡◌, [], IfOk, unwrap_or};
 ghost use Rattle.onix_terms.specs.Territory.{countries_text};
 ghost use Rattle.desk_tables.specs.RecordRows.{party_type, party_value};
+ghost use Rattle.desk_tables.specs.Rows.{IsAddressee};
 
 use onix_message::agreement::StoreFault;
 use onix_terms::amount::Amount;
@@ -57,8 +58,10 @@ pub(crate) fn code_or_empty(code: &Option<Code2>) -> &str
     }
 }
 
+// The columns of a party, which are empty where there is none.
 pub(crate) fn party_type(party: &Option<Party>) -> &str
-    ensures { result.now ≡ party_type party.now }
+    ensures text { result.now ≡ party_type party.now }
+    ensures told { IsAddressee party.now }
 {
     match party {
         Some(party) => party.id_type.as_str(),

@@ -20,7 +20,7 @@ returns-in-Ok-clause-works g c =
     let ran = c.in-Ok.ensures in
     let params = offer_params row (ap bound_value c.params-to_sql.ensures ∙ ap (λ t. Text t) c.as_str.ensures.text) (ap bound_value c.params-to_sql-2.ensures ∙ ap (λ t. Text t) c.as_str-2.ensures)
     (ap bound_value c.params-to_sql-3.ensures) (ap bound_value c.params-to_sql-4.ensures) (ap bound_value c.params-to_sql-5.ensures) (ap bound_value c.params-to_sql-6.ensures) (ap bound_value c.params-to_sql-7.ensures)
-    (ap bound_value c.params-to_sql-8.ensures ∙ ap (λ t. Text t) c.as_str-3.ensures.text) (ap bound_value c.params-to_sql-9.ensures ∙ ap (λ t. Text t) c.party_type.ensures)
+    (ap bound_value c.params-to_sql-8.ensures ∙ ap (λ t. Text t) c.as_str-3.ensures.text) (ap bound_value c.params-to_sql-9.ensures ∙ ap (λ t. Text t) c.party_type.ensures.text)
     (ap bound_value c.params-to_sql-10.ensures ∙ ap (λ t. Text t) c.party_value.ensures) (ap bound_value c.params-to_sql-11.ensures ∙ ap (λ t. Text t) c.as_str-4.ensures)
     (ap bound_value c.params-to_sql-12.ensures ∙ ap (λ t. Text t) c.as_str-5.ensures.text) (ap bound_value c.params-to_sql-13.ensures ∙ ap (λ t. Text t) c.code_or_empty.ensures) in
     works_ok put_offer_text _ put_offer_is.0 put_offer_is.1 refl NoAnswer (with_offer row) (offer_columns row) old new c.args.self.now.spent c.run.new.self.spent c.in-Ok.field-0 tt
@@ -35,7 +35,7 @@ returns-in-Err-clause-works g c =
     let ran = c.in-Err.ensures in
     let params = offer_params row (ap bound_value c.params-to_sql.ensures ∙ ap (λ t. Text t) c.as_str.ensures.text) (ap bound_value c.params-to_sql-2.ensures ∙ ap (λ t. Text t) c.as_str-2.ensures)
     (ap bound_value c.params-to_sql-3.ensures) (ap bound_value c.params-to_sql-4.ensures) (ap bound_value c.params-to_sql-5.ensures) (ap bound_value c.params-to_sql-6.ensures) (ap bound_value c.params-to_sql-7.ensures)
-    (ap bound_value c.params-to_sql-8.ensures ∙ ap (λ t. Text t) c.as_str-3.ensures.text) (ap bound_value c.params-to_sql-9.ensures ∙ ap (λ t. Text t) c.party_type.ensures)
+    (ap bound_value c.params-to_sql-8.ensures ∙ ap (λ t. Text t) c.as_str-3.ensures.text) (ap bound_value c.params-to_sql-9.ensures ∙ ap (λ t. Text t) c.party_type.ensures.text)
     (ap bound_value c.params-to_sql-10.ensures ∙ ap (λ t. Text t) c.party_value.ensures) (ap bound_value c.params-to_sql-11.ensures ∙ ap (λ t. Text t) c.as_str-4.ensures)
     (ap bound_value c.params-to_sql-12.ensures ∙ ap (λ t. Text t) c.as_str-5.ensures.text) (ap bound_value c.params-to_sql-13.ensures ∙ ap (λ t. Text t) c.code_or_empty.ensures) in
     works_err put_offer_text _ put_offer_is.0 put_offer_is.1 refl NoAnswer (with_offer row) (offer_columns row) old new c.args.self.now.spent c.run.new.self.spent c.in-Err.fault

@@ -19,7 +19,7 @@ use Rattle.onix_message.specs.declared.agreement.Agreement.{Agreement}
 use Rattle.desk_tables.specs.declared.series.SeriesRow.{SeriesRow}
 use Rattle.desk_tables.specs.AddedRows.{CanAgree, CanApply, CanHold, CanIdentify, CanOffer, CanPrice, has_series, is_article_at, is_offer_at, is_price_placed}
 use Rattle.desk_tables.specs.RecordChanges.{has_record, is_record, with_article, with_offer, with_price, with_record}
-use Rattle.desk_tables.specs.RecordRows.{RecordRow, ArticleRow, OfferRow, PriceRow, article_columns, offer_columns, price_columns, record_columns}
+use Rattle.desk_tables.specs.RecordRows.{RecordRow, ArticleRow, MinimumRow, OfferRow, PriceRow, article_columns, minimum_columns, offer_columns, price_columns, record_columns}
 use Rattle.desk_tables.specs.Rows.{AppliedRow, DeskRows, HeldRow, Holds, Stands, IsAddressee, applied_columns, has_parties, held_columns, party_type, party_value, is_applied, is_held, is_named, series_columns, with_applied, with_held, with_series}
 use Rattle.desk_tables.specs.Schema.{desk_schema}
 use Rattle.desk_tables.proofs.EqualLemmas.{text_equal, number_equal, text_of, number_of, text_itself, number_itself, differs, same_text, and_true}
@@ -104,26 +104,34 @@ module _ (db : Database) (rows : DeskRows) (h : Holds db rows) where
       parent_there record_columns series_columns (1 ∷ []) (λ x. is_named x.series) rows.records rows.series (db.trees 9) (db.trees 2) x h.records h.series there (λ r k. all_has _ (db.trees 9) r keys.1.1.1.1.0 k) (λ v. refl)
       (λ v w y. rw (first_key-plain, text_equal y.agreement.name x.series) (and_true (bytes_eq y.agreement.name x.series)))
 
-  article_parent : (x : ArticleRow) → Has rows.articles x → has_record x.series x.reference rows ≡ true
+  pub article_parent : (x : ArticleRow) → Has rows.articles x → has_record x.series x.reference rows ≡ true
   unfolding joined same_name
   article_parent x there =
       let keys = subst (λ s. Keeps ForeignKey s db.trees) h.schema (h.sound.obeys.rules ForeignKey) in
       parent_there article_columns record_columns (1 ∷ 2 ∷ []) (λ x. is_record x.series x.reference) rows.articles rows.records (db.trees 11) (db.trees 9) x h.articles h.records there (λ r k. all_has _ (db.trees 11) r keys.1.1.1.1.1.0 k) (λ v. refl)
       (λ v w y. rw (first_key-plain, text_equal y.series x.series, text_equal y.reference x.reference, and_true (bytes_eq y.reference x.reference)) refl)
 
-  offer_parent : (x : OfferRow) → Has rows.offers x → has_record x.series x.reference rows ≡ true
+  pub offer_parent : (x : OfferRow) → Has rows.offers x → has_record x.series x.reference rows ≡ true
   unfolding joined same_name
   offer_parent x there =
       let keys = subst (λ s. Keeps ForeignKey s db.trees) h.schema (h.sound.obeys.rules ForeignKey) in
       parent_there offer_columns record_columns (1 ∷ 2 ∷ []) (λ x. is_record x.series x.reference) rows.offers rows.records (db.trees 13) (db.trees 9) x h.offers h.records there (λ r k. all_has _ (db.trees 13) r keys.1.1.1.1.1.1.0 k) (λ v. refl)
       (λ v w y. rw (first_key-plain, text_equal y.series x.series, text_equal y.reference x.reference, and_true (bytes_eq y.reference x.reference)) refl)
 
-  price_parent : (x : PriceRow) → Has rows.prices x → list_any (is_offer_at x.series x.reference x.place) rows.offers ≡ true
+  pub price_parent : (x : PriceRow) → Has rows.prices x → list_any (is_offer_at x.series x.reference x.place) rows.offers ≡ true
   unfolding joined same_name
   price_parent x there =
       let keys = subst (λ s. Keeps ForeignKey s db.trees) h.schema (h.sound.obeys.rules ForeignKey) in
       parent_there price_columns offer_columns (1 ∷ 2 ∷ 3 ∷ []) (λ x. is_offer_at x.series x.reference x.place) rows.prices rows.offers (db.trees 15) (db.trees 13) x h.prices h.offers there (λ r k. all_has _ (db.trees 15) r keys.1.1.1.1.1.1.1.0 k) (λ v. refl)
       (λ v w y. rw (first_key-plain, text_equal y.series x.series, text_equal y.reference x.reference, number_equal y.place x.place, and_true (y.place == x.place)) refl)
+
+  pub minimum_parent : (x : MinimumRow) → Has rows.minimums x → list_any (is_price_placed x.series x.reference x.place x.price_place) rows.prices ≡ true
+  unfolding joined same_name
+  minimum_parent x there =
+      let keys = subst (λ s. Keeps ForeignKey s db.trees) h.schema (h.sound.obeys.rules ForeignKey) in
+      parent_there minimum_columns price_columns (1 ∷ 2 ∷ 3 ∷ 4 ∷ []) (λ x. is_price_placed x.series x.reference x.place x.price_place) rows.minimums rows.prices (db.trees 17) (db.trees 15) x h.minimums h.prices there
+      (λ r k. all_has _ (db.trees 17) r keys.1.1.1.1.1.1.1.1.0 k) (λ v. refl)
+      (λ v w y. rw (first_key-plain, text_equal y.series x.series, text_equal y.reference x.reference, number_equal y.place x.place, number_equal y.price_place x.price_place, and_true (y.price_place == x.price_place)) refl)
 
   -- ---- keys of articles, offers and prices
 

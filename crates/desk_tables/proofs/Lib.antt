@@ -45,6 +45,7 @@ pub mod SeriesUpdates
 pub mod MetaUpdates
 pub mod RecordLists
 pub mod AddedKeys
+pub mod MissingRows
 pub mod ArticleRecords
 pub mod ArticleLists
 pub mod ArticleLoops

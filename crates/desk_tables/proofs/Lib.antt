@@ -44,6 +44,7 @@ pub mod UpdatedRows
 pub mod SeriesUpdates
 pub mod MetaUpdates
 pub mod RecordLists
+pub mod OneSchema
 pub mod AddedKeys
 pub mod MissingRows
 pub mod ArticleRecords

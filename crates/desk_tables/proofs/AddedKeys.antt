@@ -1,5 +1,5 @@
 -- Where the tables hold a row that was added last, its key was free and its parent is there.
-use Rattle.std.proofs.Common.{◌≡◌, ℕ, suc, ◌≤◌, List, [], ◌∷◌, ◌++◌, length, map, filter, drop, Bool, true, false, ◌&&◌, ◌||◌, ◌==◌, Less, IsTrue, arith, refl, sym, ap, subst, ◌∙◌, inl, inr}
+use Rattle.std.proofs.Common.{◌≡◌, ℕ, suc, ◌≤◌, List, [], ◌∷◌, ◌++◌, length, map, filter, drop, Bool, true, false, ◌&&◌, ◌||◌, ◌==◌, Less, IsTrue, arith, refl, sym, subst, ◌∙◌, inl, inr}
 use Rattle.std.specs.List.{AllByRecursion, list_any}
 use Rattle.std.specs.Str.{bytes_eq}
 use Rattle.std.proofs.lemmas.Bool.{cases_Bool, and_parts}
@@ -18,10 +18,9 @@ use Rattle.sqlite.specs.Effect.{Database}
 use Rattle.onix_message.specs.declared.agreement.Agreement.{Agreement}
 use Rattle.desk_tables.specs.declared.series.SeriesRow.{SeriesRow}
 use Rattle.desk_tables.specs.AddedRows.{CanAgree, CanApply, CanHold, CanIdentify, CanOffer, CanPrice, has_series, is_article_at, is_offer_at, is_price_placed}
-use Rattle.desk_tables.specs.RecordChanges.{has_record, is_record, with_article, with_offer, with_price, with_record}
+use Rattle.desk_tables.specs.RecordChanges.{has_record, is_record, with_article, with_offer, with_price}
 use Rattle.desk_tables.specs.RecordRows.{RecordRow, ArticleRow, MinimumRow, OfferRow, PriceRow, article_columns, minimum_columns, offer_columns, price_columns, record_columns}
 use Rattle.desk_tables.specs.Rows.{AppliedRow, DeskRows, HeldRow, Holds, Stands, IsAddressee, applied_columns, has_parties, held_columns, party_type, party_value, is_applied, is_held, is_named, series_columns, with_applied, with_held, with_series}
-use Rattle.desk_tables.specs.Schema.{desk_schema}
 use Rattle.desk_tables.proofs.EqualLemmas.{text_equal, number_equal, text_of, number_of, text_itself, number_itself, differs, same_text, and_true}
 use Rattle.desk_tables.proofs.KeyLemmas.{are_parties, applied_once, held_once, key_clash, named_once, no_clash, one_at_most, parties_once}
 use Rattle.desk_tables.proofs.Deletes.{filter_same}
@@ -218,7 +217,7 @@ offer_added db rows row h = (
 pub price_added : (db : Database) (rows : DeskRows) (row : PriceRow) → Holds db (with_price row rows) → CanPrice row rows
 price_added db rows row h = (
   was_free (is_price_placed row.series row.reference row.place row.price_place) rows.prices row (rw (same_text row.series, same_text row.reference, same_number row.place, same_number row.price_place) refl)
-  (price_once db (with_price row rows) h row),
+      (price_once db (with_price row rows) h row),
   price_parent db (with_price row rows) h row (has_last rows.prices row),
 )
 
@@ -236,5 +235,5 @@ series_added db rows a h =
     filter_same p q (rows.series ++ row ∷ []) (λ r k. parties_test a.sender a.addressee told r (all_has _ (rows.series ++ row ∷ []) r h.addressees k)) in (
       was_free (is_named a.name) rows.series row (same_text a.name) (named_once db (with_series a rows) h a.name),
       was_free q rows.series row (sym (parties_test a.sender a.addressee told row told) ∙ itself)
-      (subst (λ l. length l ≤ 1) same (parties_once db (with_series a rows) h a.sender.id_type a.sender.id_value (party_type a.addressee) (party_value a.addressee))),
+          (subst (λ l. length l ≤ 1) same (parties_once db (with_series a rows) h a.sender.id_type a.sender.id_value (party_type a.addressee) (party_value a.addressee))),
     )

@@ -1,5 +1,5 @@
 -- The offers of a record and the prices of an offer, as queries show them.
-use Rattle.std.proofs.Common.{◌≡◌, ℕ, ◌≤◌, pos, List, [], ◌∷◌, map, filter, find, length, slice_get, Bool, true, false, ◌&&◌, ◌==◌, Equal, Less, Option, Some, None, option_map, unwrap_or, refl, sym, ap, subst, ◌∙◌, inl, inr, arith}
+use Rattle.std.proofs.Common.{◌≡◌, ℕ, ◌≤◌, pos, List, [], ◌∷◌, map, filter, find, length, slice_get, Bool, true, false, ◌&&◌, ◌==◌, Equal, Less, Some, None, option_map, unwrap_or, refl, sym, ap, subst, ◌∙◌, inl, inr}
 use Rattle.std.specs.List.{AllByRecursion}
 use Rattle.std.specs.List.Sorted.{IsPermutation}
 use Rattle.std.specs.Ordering.{nat_cmp, is_lt, ordering_then}
@@ -8,11 +8,10 @@ use Rattle.std.proofs.lemmas.Bool.{cases_Bool, and_parts}
 use Rattle.sqlite_value.specs.declared.value.Value.{Value}
 use Rattle.sqlite_value.specs.declared.value.Value.TheVariants.{Int, Text}
 use Rattle.sqlite_value.specs.Order.{Row, value_cmp}
-use Rattle.sqlite_value.specs.Keys.{plain}
 use Rattle.sqlite_value.proofs.KeyLemmas.{first_key-plain}
 use Rattle.sqlite_value.proofs.OrderLemmas.{then-Equal, value_cmp-Int}
 use Rattle.sqlite_schema.specs.declared.schema.Constraint.TheVariants.{Unique}
-use Rattle.sqlite_schema.specs.Rules.{clashes, Keeps}
+use Rattle.sqlite_schema.specs.Rules.{Keeps}
 use Rattle.sqlite_sql.specs.Query.{Output}
 use Rattle.sqlite_trees.specs.View.{is_int}
 use Rattle.sqlite_trees.proofs.ListLemmas.{all-permutation, IsPermutation-filter}

@@ -1,10 +1,10 @@
 -- The records that the query for an article finds.
-use Rattle.std.proofs.Common.{◌≡◌, ℕ, pos, List, [], ◌∷◌, ◌+◌, ◌<◌, map, filter, length, get_or, Bool, true, false, ◌&&◌, ◌||◌, Less, Equal, Greater, Ordering, cond, refl, sym, ap, subst, ◌∙◌, inl, inr, arith}
+use Rattle.std.proofs.Common.{◌≡◌, ℕ, List, [], ◌∷◌, ◌+◌, ◌<◌, map, filter, length, get_or, Bool, true, false, ◌&&◌, ◌||◌, Less, Equal, Greater, Ordering, refl, sym, ap, subst, ◌∙◌, inl, inr, arith}
 use Rattle.std.specs.Cmp.{IsTotalOrder}
 use Rattle.std.specs.Cmp.Lexicographic.{slice_cmp}
 use Rattle.std.specs.List.{dedup, dedup_from, list_any}
-use Rattle.std.specs.List.Sorted.{IsPermutation, IsSorted, IsSortedBy}
-use Rattle.std.specs.Ordering.{nat_cmp, is_eq, is_lt, on, ordering_then, eq_by_cmp}
+use Rattle.std.specs.List.Sorted.{IsSorted, IsSortedBy}
+use Rattle.std.specs.Ordering.{nat_cmp, is_eq, is_lt, ordering_then, eq_by_cmp}
 use Rattle.std.specs.Str.{bytes_eq}
 use Rattle.std.proofs.Math.ListN.{get_or-map}
 use Rattle.std.proofs.lemmas.Bool.{cases_Bool}
@@ -20,7 +20,7 @@ use Rattle.sqlite_value.proofs.OrderLemmas.{then-Equal, value_cmp-Text}
 use Rattle.sqlite_sql.specs.Query.{Output}
 use Rattle.sqlite_trees.proofs.ListLemmas.{filter-map, map-map}
 use Rattle.sqlite.specs.State.{State, Shown}
-use Rattle.desk_tables.specs.ArticleAnswers.{is_article_type, names_article, record_cmp, same_row, shows_article, AreRecordsOf}
+use Rattle.desk_tables.specs.ArticleAnswers.{is_article_type, record_cmp, same_row, shows_article, AreRecordsOf}
 use Rattle.desk_tables.specs.RecordAnswers.{two_columns}
 use Rattle.desk_tables.specs.RecordChanges.{is_record, is_article_of}
 use Rattle.desk_tables.specs.RecordRows.{RecordRow, ArticleRow, record_columns, article_columns}

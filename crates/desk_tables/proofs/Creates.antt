@@ -1,6 +1,5 @@
 -- What CREATE TABLE does, table by table.
 use Rattle.std.proofs.Common.{◌≡◌, ℕ, List, [], slice_get, false, None, Some, Ok, refl, sym, ap, subst, ◌∙◌}
-use Rattle.std.specs.List.{AllByRecursion}
 use Rattle.sqlite_value.specs.Order.{Row}
 use Rattle.sqlite_trees.proofs.ListLemmas.{all-append, all_both}
 use Rattle.sqlite_schema.specs.declared.schema.Schema.{Schema}

@@ -8,7 +8,7 @@ use Rattle.sqlite_rules.specs.declared.error.Rowids.TheVariants.{Chosen}
 use Rattle.sqlite_rules.specs.Edit.{edit_of, edited, next_rowid}
 use Rattle.sqlite_trees.specs.Tree.{put_row}
 use Rattle.sqlite.specs.State.{State, Executes}
-use Rattle.desk_tables.specs.Schema.{desk_schema, price_table, price_minimum_table}
+use Rattle.desk_tables.specs.Schema.{price_table, price_minimum_table}
 use Rattle.desk_tables.specs.RecordRows.{PriceRow, MinimumRow, bit, price_columns, minimum_columns}
 use Rattle.desk_tables.specs.RecordStatements.{put_price_text, put_minimum_text}
 use Rattle.desk_tables.specs.RecordChanges.{with_price, with_minimum}

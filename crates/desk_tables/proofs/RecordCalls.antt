@@ -4,7 +4,6 @@ use Rattle.sqlite.specs.State.{State, HasCleanDisk, KeepsCommit}
 use Rattle.sqlite.proofs.StateLemmas.{survives_then}
 use Rattle.onix_message.specs.declared.agreement.StoreFault.{StoreFault}
 use Rattle.onix_message.specs.declared.agreement.StoreFault.TheVariants.{Unusable}
-use Rattle.desk_tables.specs.Schema.{desk_schema}
 use Rattle.desk_tables.specs.Rows.{DeskRows, Holds}
 use Rattle.desk_tables.specs.RecordRows.{price_row, minimum_row}
 use Rattle.desk_tables.specs.RecordChanges.{with_price, with_minimum, with_price_and_minimum}

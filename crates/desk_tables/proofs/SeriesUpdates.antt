@@ -1,40 +1,31 @@
 -- What UPDATE of the next number of a series does.
-use Rattle.std.proofs.Common.{◌≡◌, ℕ, ◌≤◌, pos, List, [], ◌∷◌, length, map, filter, drop, Bool, true, false, ◌&&◌, Ok, arith, refl, sym, ap, subst, ◌∙◌, inl, inr}
+use Rattle.std.proofs.Common.{◌≡◌, ℕ, pos, List, [], ◌∷◌, map, drop, Bool, true, false, ◌&&◌, Ok, refl, inl, inr}
 use Rattle.std.specs.List.{AllByRecursion, list_all}
-use Rattle.std.specs.List.Sorted.{IsPermutation}
 use Rattle.std.specs.Str.{bytes_eq}
 use Rattle.std.proofs.lemmas.Bool.{cases_Bool}
-use Rattle.std.proofs.lemmas.List.{length-map}
-use Rattle.std.proofs.lemmas.List.Sorted.{length_permutation}
 use Rattle.sqlite_value.specs.declared.value.Value.{Value}
 use Rattle.sqlite_value.specs.declared.value.Value.TheVariants.{Int, Text}
 use Rattle.sqlite_value.specs.Keys.{joined}
 use Rattle.sqlite_value.specs.Order.{Row}
-use Rattle.sqlite_trees.specs.Tree.{Trees, rowid}
+use Rattle.sqlite_trees.specs.Tree.{rowid}
 use Rattle.sqlite_trees.specs.View.{is_int}
 use Rattle.sqlite_sql.specs.Term.{Term, col, eval_all, holds}
 use Rattle.sqlite_schema.specs.Names.{same_name}
 use Rattle.sqlite_schema.specs.declared.schema.Keys.TheVariants.{Enforced}
-use Rattle.sqlite_rules.specs.declared.error.Rowids.TheVariants.{Given}
 use Rattle.sqlite_rules.specs.Action as action
 use Rattle.sqlite_rules.specs.Cast.{cast_row}
-use Rattle.sqlite_rules.specs.Edit.{Edit, edit_of, taken_by, id_in}
-use Rattle.sqlite_rules.specs.Lists.{Has}
-use Rattle.sqlite_rules.proofs.ListLemmas.{all_has, has_filtered}
+use Rattle.sqlite_rules.specs.Edit.{id_in}
 use Rattle.sqlite_rules.proofs.TableLemmas.{int_is}
 use Rattle.sqlite.specs.State.{State, Executes}
-use Rattle.sqlite.proofs.Callers.{runs_as, one_step}
+use Rattle.sqlite.proofs.Callers.{runs_as}
 use Rattle.desk_tables.specs.declared.series.SeriesRow.{SeriesRow}
 use Rattle.desk_tables.specs.Schema.{desk_schema, series_table}
 use Rattle.desk_tables.specs.Statements.{set_next_text, equals}
-use Rattle.desk_tables.specs.Rows.{DeskRows, Holds, Stands, IsAddressee, series_columns, is_named, next_set, with_next}
+use Rattle.desk_tables.specs.Rows.{DeskRows, Holds, IsAddressee, series_columns, is_named, next_set, with_next}
 use Rattle.desk_tables.proofs.CastLemmas.{cast_integer, cast_number}
 use Rattle.desk_tables.proofs.EqualLemmas.{text_equal}
-use Rattle.desk_tables.proofs.HoldsLemmas.{KeepsOthers, changed_series}
+use Rattle.desk_tables.proofs.HoldsLemmas.{changed_series}
 use Rattle.desk_tables.proofs.KeyLemmas.{named_once}
-use Rattle.desk_tables.proofs.Readings.{few_stay}
-use Rattle.desk_tables.proofs.Replaces.{stands_changed, none_changed}
-use Rattle.desk_tables.proofs.Selects.{typed}
 use Rattle.desk_tables.proofs.StatementTexts.{set_next_is}
 use Rattle.desk_tables.proofs.UpdatedRows.{written}
 use Rattle.desk_tables.proofs.Updates.{updates}

@@ -20,8 +20,7 @@ pub fn added_rows_are_new()
     ensures articles { (db : Database) (rows : DeskRows) (row : ArticleRow) → Holds db (with_article row rows) → CanIdentify row rows }
     ensures offers { (db : Database) (rows : DeskRows) (row : OfferRow) → Holds db (with_offer row rows) → CanOffer row rows }
     ensures prices { (db : Database) (rows : DeskRows) (row : PriceRow) → Holds db (with_price row rows) → CanPrice row rows }
-{
-}
+{}
 
 /// Where the series, the articles, the offers or the record that a call sets or removes are not
 /// there, the call changes no row.
@@ -30,13 +29,11 @@ pub fn missing_rows_change_nothing()
     ensures articles { (db : Database) (rows : DeskRows) (series reference : List ℕ) → Holds db rows → list_any (is_article_of series reference) rows.articles ≡ false → without_articles series reference rows ≡ rows }
     ensures offers { (db : Database) (rows : DeskRows) (series reference : List ℕ) → Holds db rows → list_any (is_offer_of series reference) rows.offers ≡ false → without_offers series reference rows ≡ rows }
     ensures records { (db : Database) (rows : DeskRows) (series reference : List ℕ) → Holds db rows → has_record series reference rows ≡ false → without_record series reference rows ≡ rows }
-{
-}
+{}
 
 /// A sound database with the trees of one that holds rows of the desk holds the same rows, as does
 /// one that is found in the files of the other.
 pub fn same_trees_hold_the_same_rows()
     ensures second { (a b : Database) (rows : DeskRows) → Holds a rows → IsDatabase b → b.trees ≡ a.trees → Holds b rows }
     ensures first { (a b : Database) (rows : DeskRows) → HoldsFirst a rows → IsDatabase b → b.trees ≡ a.trees → HoldsFirst b rows }
-{
-}
+{}

@@ -1,4 +1,4 @@
-use Rattle.std.proofs.Common.{◌≡◌, ◌++◌, ◌+◌, List, Ok, Err, rules, subst}
+use Rattle.std.proofs.Common.{◌≡◌, ◌++◌, ◌+◌, List, Ok, rules}
 use Rattle.sqlite.specs.Held.{state}
 use Rattle.price_rules.specs.declared.offer.Offer.{Offer}
 use Rattle.desk_tables.specs.ArticleAnswers.{AreOffersOf}

@@ -1,4 +1,4 @@
-use Rattle.std.proofs.Common.{[], ◌∷◌, pos, true, refl, List, Vec}
+use Rattle.std.proofs.Common.{[], ◌∷◌, pos, true, refl, List}
 use Rattle.sqlite_value.specs.declared.value.Value.TheVariants.{Int, Text}
 use Rattle.sqlite_value.specs.Order.{Row}
 use Rattle.sqlite.specs.Held.{state}

@@ -1,5 +1,5 @@
-use Rattle.std.proofs.Common.{[], ◌∷◌, pos, true, refl, List, Vec}
-use Rattle.sqlite_value.specs.declared.value.Value.TheVariants.{Int, Text}
+use Rattle.std.proofs.Common.{[], ◌∷◌, true, refl, Vec}
+use Rattle.sqlite_value.specs.declared.value.Value.TheVariants.{Text}
 use Rattle.sqlite_value.specs.Order.{Row}
 use Rattle.sqlite.specs.Held.{state}
 use Rattle.desk_tables.specs.ArticleAnswers.{AreOfferRowsOf}

@@ -55,13 +55,12 @@ fn refused_part<S: Alter>(alloc: Global, work: &mut Work<'_, S>, case: &str) -> 
 }
 
 // The rows are those that were put at the start.
-fn is_as_before(alloc: Global, tables: &mut Tables<MemStore>) -> Result<bool, Fail> {
+fn is_as_before(tables: &mut Tables<MemStore>) -> Result<bool, Fail> {
     let mut work = tables.work()?;
     let series = work.series_rows()?;
     let held = work.next_held(&name("north")?, number("1")?)?;
     let offers = work.offer_rows(&name("north")?)?;
     let prices = work.price_rows(&name("north")?)?;
-    let _ = alloc;
     Ok(
         series.len() == 1
             && held.is_some()
@@ -104,7 +103,7 @@ fn refuses_numbers(rt: HostRuntime) -> Result<(), Fail> {
         "a version that is not 1",
     ] {
         expect(&rt, refuses(rt.alloc(), &mut tables, case, false)?, case);
-        expect(&rt, is_as_before(rt.alloc(), &mut tables)?, case);
+        expect(&rt, is_as_before(&mut tables)?, case);
     }
     Ok(())
 }
@@ -123,7 +122,7 @@ fn refuses_parts(rt: HostRuntime) -> Result<(), Fail> {
         "a price of no offer",
     ] {
         expect(&rt, refuses(rt.alloc(), &mut tables, case, true)?, case);
-        expect(&rt, is_as_before(rt.alloc(), &mut tables)?, case);
+        expect(&rt, is_as_before(&mut tables)?, case);
     }
     Ok(())
 }
@@ -150,16 +149,8 @@ fn leaves_the_rest(rt: HostRuntime) -> Result<(), Fail> {
     let mut tables = in_memory(rt.alloc())?;
     fill(rt.alloc(), &mut tables)?;
     changes(rt.alloc(), &mut tables)?;
-    expect(
-        &rt,
-        is_as_before(rt.alloc(), &mut tables)?,
-        "let go without commit",
-    );
+    expect(&rt, is_as_before(&mut tables)?, "let go without commit");
     changes_nothing(&mut tables)?;
-    expect(
-        &rt,
-        is_as_before(rt.alloc(), &mut tables)?,
-        "what is not there",
-    );
+    expect(&rt, is_as_before(&mut tables)?, "what is not there");
     Ok(())
 }

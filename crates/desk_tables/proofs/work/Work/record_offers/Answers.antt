@@ -1,0 +1,30 @@
+use Rattle.std.proofs.Common.{[], ◌∷◌, true, refl, Vec}
+use Rattle.sqlite_value.specs.declared.value.Value.TheVariants.{Text}
+use Rattle.sqlite_value.specs.Order.{Row}
+use Rattle.sqlite.specs.Held.{state}
+use Rattle.desk_tables.specs.ArticleAnswers.{AreOfferRowsOf}
+use Rattle.desk_tables.specs.RecordStatements.{record_offers_text}
+use Rattle.desk_tables.specs.Rows.{DeskRows}
+use Rattle.desk_tables.proofs.ArticleLists.{record_offers_shown}
+use Rattle.desk_tables.proofs.RecordStatementTexts.{record_offers_is}
+use Rattle.desk_tables.proofs.Calls.{reads_ok, reads_late}
+use Rattle.desk_tables.proofs.work.Work.record_offers.Goals as goal
+
+pub returns-in-Ok-all_offers-clause-works : goal.returns-in-Ok-all_offers-clause-works
+returns-in-Ok-all_offers-clause-works g c =
+    let old = state g.S.Store c.args.self.now.tables.now.connection in
+    let new = state g.S.Store c.rows.new.self.tables.now.connection in
+    let params : Row = Text c.args.row.now.series ∷ Text c.args.row.now.reference ∷ [] in
+    let ran = c.in-Ok.ensures in
+    reads_ok record_offers_text record_offers_is.2 (λ (rows : DeskRows) (got : Vec _ _). AreOfferRowsOf rows c.args.row.now got.items) params old new c.args.self.now.spent c.rows.new.self.spent (λ rows. rows.items) c.in-Ok.rows c.in-Ok-all_offers.offers
+    (rw (c.params-to_sql.ensures, c.params-to_sql-2.ensures, c.as_str.ensures.text, c.as_str-2.ensures) at ran.reads) ran.spent (λ s. (ran.refused s).0)
+    (λ rows h shown. record_offers_shown old new c.args.row.now rows c.in-Ok.rows.items c.in-Ok-all_offers.offers.items h shown c.in-Ok-all_offers.ensures)
+
+pub returns-clause-works : goal.returns-clause-works
+returns-clause-works g c =
+    let old = state g.S.Store c.args.self.now.tables.now.connection in
+    let new = state g.S.Store c.rows.new.self.tables.now.connection in
+    let params : Row = Text c.args.row.now.series ∷ Text c.args.row.now.reference ∷ [] in
+    let ran = c.in-Ok.ensures in
+    reads_late record_offers_text record_offers_is.2 (λ (rows : DeskRows) (got : Vec _ _). AreOfferRowsOf rows c.args.row.now got.items) params old new c.args.self.now.spent true (λ rows. rows.items) c.in-Ok.rows _
+    (rw (c.params-to_sql.ensures, c.params-to_sql-2.ensures, c.as_str.ensures.text, c.as_str-2.ensures) at ran.reads) refl (λ s. (ran.refused s).0)

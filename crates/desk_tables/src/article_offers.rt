@@ -1,0 +1,252 @@
+// The offers of an article, over all series.
+
+ghost use Rattle.std.specs.Prelude.{◌≡◌, ◌++◌, Err, IfOk, IsTrue, List, Some, filter, map};
+ghost use Rattle.std.specs.List.{dedup};
+ghost use Rattle.sqlite.specs.Held.{state};
+ghost use Rattle.desk_tables.specs.ArticleAnswers.{is_article_type, offer_with, read_shown, same_row, shows_article, AreMinimumsAt, AreOfferRowsOf, AreOffersOf, AreOffersOfArticle, ArePricesAt, ArePricesUnder, AreRecordsOf};
+ghost use Rattle.desk_tables.specs.RecordAnswers.{two_columns};
+ghost use Rattle.desk_tables.specs.RecordRows.{record_columns};
+ghost use Rattle.desk_tables.specs.Rows.{unchanged};
+ghost use Rattle.desk_tables.specs.Transactions.{Works};
+
+use crate::columns::code_column;
+use crate::offers::all_offers;
+use crate::prices::{all_minimums, priced_row};
+use crate::records::record_row;
+use crate::rows::{MinimumRow, OfferRow, PriceRow, RecordRow};
+use crate::work::Work;
+use onix_message::agreement::StoreFault;
+use onix_message::parts::Price;
+use onix_terms::code::Code2;
+use onix_terms::isbn13::Isbn13;
+use onix_terms::items::Items;
+use price_rules::offer::Offer;
+use sqlite::{Alter, Row, params};
+
+// Whether it is the type of a GTIN-13 or of an ISBN-13.
+fn is_article_type(id_type: &Code2) -> bool
+    ensures { result ≡ is_article_type id_type.now }
+{
+    let code = id_type.as_str();
+    code == "03" || code == "15"
+}
+
+// The record of each row that shows an identifier of such a type.
+fn identified(rows: &Vec<Row>) -> Result<Vec<RecordRow>, StoreFault>
+    ensures { IfOk result (λ records. map record_columns records.items ≡ map two_columns (filter shows_article rows.now.items)) }
+{
+    let mut records = Vec::new(*rows.allocator());
+    for row in rows.as_slice() {
+        let id_type = code_column(row, 2)?;
+        if is_article_type(&id_type) {
+            let one = record_row(row)?;
+            if records.push(one).is_err() {
+                return Err(StoreFault::Memory);
+            }
+        }
+    }
+    Ok(records)
+}
+
+// The same, each record once where it stands in a row.
+fn each_once(rows: &Vec<Row>) -> Result<Vec<RecordRow>, StoreFault>
+    ensures { IfOk result (λ records. (found : List _) × (map record_columns found ≡ map two_columns (filter shows_article rows.now.items)) × (records.items ≡ dedup same_row found)) }
+{
+    let mut records = identified(rows)?;
+    records.dedup();
+    Ok(records)
+}
+
+fn into_price(row: PriceRow) -> Price
+    ensures { result ≡ row.price }
+{
+    row.price
+}
+
+// The prices that rows of `price` keep, with those minimums.
+fn prices_in(rows: &Vec<Row>, minimums: &[MinimumRow]) -> Result<Items<Price>, StoreFault>
+    ensures { IfOk result (λ prices. map (λ p. Some p) prices ≡ map (read_shown minimums.now) rows.now.items) }
+{
+    let alloc = *rows.allocator();
+    let mut prices = Items::new(alloc);
+    for row in rows.as_slice() {
+        let one = priced_row(alloc, row, minimums)?;
+        if prices.push(into_price(one)).is_err() {
+            return Err(StoreFault::Memory);
+        }
+    }
+    Ok(prices)
+}
+
+fn offer_with(row: OfferRow, prices: Items<Price>) -> Offer
+    ensures { result ≡ offer_with row prices }
+{
+    Offer {
+        series: row.series,
+        reference: row.reference,
+        place: row.place,
+        supplier: row.supplier,
+        availability: row.availability,
+        market: row.market,
+        prices,
+    }
+}
+
+impl<S: Alter> Work<'_, S> {
+    // The records that have an article.
+    fn article_records(&mut self, isbn: &Isbn13) -> Result<Vec<RecordRow>, StoreFault>
+        ensures same_reference { self.new.tables.ghost_name ≡ self.old.tables.ghost_name }
+        ensures untouched { IsTrue self.old.spent → (result ≡ Err StoreFault.Unusable) × (self.new.tables.now ≡ self.old.tables.now) }
+        ensures works { Works (λ rows records. AreRecordsOf isbn.now rows records.items) unchanged
+            (state S.Store self.old.tables.now.connection) (state S.Store self.new.tables.now.connection) self.old.spent self.new.spent result }
+    {
+        let rows = match self.rows(
+            "SELECT series, reference, id_type FROM article WHERE id_value = ?1 ORDER BY series, reference",
+            params![isbn.as_str()],
+        ) {
+            Ok(rows) => rows,
+            Err(fault) => return Err(fault),
+        };
+        match each_once(&rows) {
+            Ok(records) => Ok(records),
+            Err(fault) => {
+                self.spent = true;
+                Err(fault)
+            }
+        }
+    }
+
+    // The rows of the offers of a record.
+    fn record_offers(&mut self, row: &RecordRow) -> Result<Vec<OfferRow>, StoreFault>
+        ensures same_reference { self.new.tables.ghost_name ≡ self.old.tables.ghost_name }
+        ensures untouched { IsTrue self.old.spent → (result ≡ Err StoreFault.Unusable) × (self.new.tables.now ≡ self.old.tables.now) }
+        ensures works { Works (λ rows offers. AreOfferRowsOf rows row.now offers.items) unchanged
+            (state S.Store self.old.tables.now.connection) (state S.Store self.new.tables.now.connection) self.old.spent self.new.spent result }
+    {
+        let rows = match self.rows(
+            "SELECT series, reference, place, supply, included, world, excluded, role, supplier_type, supplier_value, supplier_name, availability, unpriced FROM offer WHERE series = ?1 AND reference = ?2 ORDER BY place",
+            params![row.series.as_str(), row.reference.as_str()],
+        ) {
+            Ok(rows) => rows,
+            Err(fault) => return Err(fault),
+        };
+        match all_offers(&rows) {
+            Ok(offers) => Ok(offers),
+            Err(fault) => {
+                self.spent = true;
+                Err(fault)
+            }
+        }
+    }
+
+    // The minimums of an offer.
+    fn offer_minimums(&mut self, offer: &OfferRow) -> Result<Vec<MinimumRow>, StoreFault>
+        ensures same_reference { self.new.tables.ghost_name ≡ self.old.tables.ghost_name }
+        ensures untouched { IsTrue self.old.spent → (result ≡ Err StoreFault.Unusable) × (self.new.tables.now ≡ self.old.tables.now) }
+        ensures works { Works (λ rows minimums. AreMinimumsAt offer.now.series offer.now.reference offer.now.place rows minimums.items) unchanged
+            (state S.Store self.old.tables.now.connection) (state S.Store self.new.tables.now.connection) self.old.spent self.new.spent result }
+    {
+        let rows = match self.rows(
+            "SELECT series, reference, place, price_place, minimum FROM price_minimum WHERE series = ?1 AND reference = ?2 AND place = ?3",
+            params![offer.series.as_str(), offer.reference.as_str(), offer.place],
+        ) {
+            Ok(rows) => rows,
+            Err(fault) => return Err(fault),
+        };
+        match all_minimums(&rows) {
+            Ok(minimums) => Ok(minimums),
+            Err(fault) => {
+                self.spent = true;
+                Err(fault)
+            }
+        }
+    }
+
+    // The prices of an offer, with those minimums.
+    fn prices_under(
+        &mut self,
+        offer: &OfferRow,
+        minimums: &[MinimumRow],
+    ) -> Result<Items<Price>, StoreFault>
+        ensures same_reference { self.new.tables.ghost_name ≡ self.old.tables.ghost_name }
+        ensures untouched { IsTrue self.old.spent → (result ≡ Err StoreFault.Unusable) × (self.new.tables.now ≡ self.old.tables.now) }
+        ensures works { Works (λ rows prices. ArePricesUnder minimums.now offer.now.series offer.now.reference offer.now.place rows prices) unchanged
+            (state S.Store self.old.tables.now.connection) (state S.Store self.new.tables.now.connection) self.old.spent self.new.spent result }
+    {
+        let rows = match self.rows(
+            "SELECT series, reference, place, price_place, price_type, amount, currency, included, world, excluded, from_day, until_day FROM price WHERE series = ?1 AND reference = ?2 AND place = ?3 ORDER BY price_place",
+            params![offer.series.as_str(), offer.reference.as_str(), offer.place],
+        ) {
+            Ok(rows) => rows,
+            Err(fault) => return Err(fault),
+        };
+        match prices_in(&rows, minimums) {
+            Ok(prices) => Ok(prices),
+            Err(fault) => {
+                self.spent = true;
+                Err(fault)
+            }
+        }
+    }
+
+    // The prices of an offer.
+    fn offer_prices(&mut self, offer: &OfferRow) -> Result<Items<Price>, StoreFault>
+        ensures same_reference { self.new.tables.ghost_name ≡ self.old.tables.ghost_name }
+        ensures untouched { IsTrue self.old.spent → (result ≡ Err StoreFault.Unusable) × (self.new.tables.now ≡ self.old.tables.now) }
+        ensures works { Works (λ rows prices. ArePricesAt offer.now.series offer.now.reference offer.now.place rows prices) unchanged
+            (state S.Store self.old.tables.now.connection) (state S.Store self.new.tables.now.connection) self.old.spent self.new.spent result }
+    {
+        let minimums = match self.offer_minimums(offer) {
+            Ok(minimums) => minimums,
+            Err(fault) => return Err(fault),
+        };
+        self.prices_under(offer, minimums.as_slice())
+    }
+
+    // Adds the offers of a record.
+    fn add_offers(&mut self, row: &RecordRow, offers: &mut Items<Offer>) -> Result<(), StoreFault>
+        ensures same_reference { self.new.tables.ghost_name ≡ self.old.tables.ghost_name }
+        ensures untouched { IsTrue self.old.spent → (result ≡ Err StoreFault.Unusable) × (self.new.tables.now ≡ self.old.tables.now) }
+        ensures works { Works (λ rows _. (here : List _) × AreOffersOf rows row.now here × (offers.new ≡ offers.old ++ here)) unchanged
+            (state S.Store self.old.tables.now.connection) (state S.Store self.new.tables.now.connection) self.old.spent self.new.spent result }
+    {
+        let read = match self.record_offers(row) {
+            Ok(read) => read,
+            Err(fault) => return Err(fault),
+        };
+        for offer in read {
+            let prices = match self.offer_prices(&offer) {
+                Ok(prices) => prices,
+                Err(fault) => return Err(fault),
+            };
+            if offers.push(offer_with(offer, prices)).is_err() {
+                self.spent = true;
+                return Err(StoreFault::Memory);
+            }
+        }
+        Ok(())
+    }
+
+    /// The offers of an article, by its ISBN-13 or GTIN-13, over all series: each SupplyDetail of
+    /// each record that has such an identifier, with its market and its prices, in the order of
+    /// the bytes of the names of the series, of those of the references, and of the places.
+    pub fn offers_by_article(&mut self, isbn: &Isbn13) -> Result<Items<Offer>, StoreFault>
+        ensures same_reference { self.new.tables.ghost_name ≡ self.old.tables.ghost_name }
+        ensures untouched { IsTrue self.old.spent → (result ≡ Err StoreFault.Unusable) × (self.new.tables.now ≡ self.old.tables.now) }
+        ensures works { Works (λ rows offers. AreOffersOfArticle isbn.now rows offers) unchanged
+            (state S.Store self.old.tables.now.connection) (state S.Store self.new.tables.now.connection) self.old.spent self.new.spent result }
+    {
+        let records = match self.article_records(isbn) {
+            Ok(records) => records,
+            Err(fault) => return Err(fault),
+        };
+        let mut offers = Items::new(*records.allocator());
+        for row in records.as_slice() {
+            match self.add_offers(row, &mut offers) {
+                Ok(()) => {}
+                Err(fault) => return Err(fault),
+            }
+        }
+        Ok(offers)
+    }
+}

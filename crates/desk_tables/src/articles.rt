@@ -1,0 +1,111 @@
+// The table `article`: the identifiers of each record.
+
+ghost use Rattle.std.specs.Prelude.{◌≡◌, Err, IfOk, IsTrue, map};
+ghost use Rattle.sqlite.specs.Held.{state};
+ghost use Rattle.desk_tables.specs.Transactions.{Works, NoAnswer};
+ghost use Rattle.desk_tables.specs.Rows.{unchanged};
+ghost use Rattle.desk_tables.specs.RecordRows.{article_columns};
+ghost use Rattle.desk_tables.specs.RecordAnswers.{five_columns, AreArticlesInOrder};
+ghost use Rattle.desk_tables.specs.RecordChanges.{with_article, without_articles};
+
+use crate::columns::{code_column, name_column, text_column, whole_column};
+use crate::rows::ArticleRow;
+use crate::work::Work;
+use onix_message::agreement::StoreFault;
+use onix_terms::series_name::SeriesName;
+use sqlite::{Alter, Row, params};
+
+// The row of the table that a query shows.
+fn article_row(row: &Row) -> Result<ArticleRow, StoreFault>
+    ensures { IfOk result (λ r. article_columns r ≡ five_columns row.now) }
+{
+    Ok(ArticleRow {
+        series: name_column(row, 0)?,
+        reference: text_column(row, 1)?,
+        id_place: whole_column(row, 2)?,
+        id_type: code_column(row, 3)?,
+        id_value: text_column(row, 4)?,
+    })
+}
+
+fn all_articles(rows: &Vec<Row>) -> Result<Vec<ArticleRow>, StoreFault>
+    ensures { IfOk result (λ articles. map article_columns articles.items ≡ map five_columns rows.now.items) }
+{
+    let mut articles = Vec::new(*rows.allocator());
+    for row in rows.as_slice() {
+        let one = article_row(row)?;
+        if articles.push(one).is_err() {
+            return Err(StoreFault::Memory);
+        }
+    }
+    Ok(articles)
+}
+
+impl<S: Alter> Work<'_, S> {
+    /// Adds a row. `Unusable` where the record has an identifier at that place, or the series has
+    /// no such record.
+    pub fn put_article(&mut self, row: &ArticleRow) -> Result<(), StoreFault>
+        ensures same_reference { self.new.tables.ghost_name ≡ self.old.tables.ghost_name }
+        ensures untouched { IsTrue self.old.spent → (result ≡ Err StoreFault.Unusable) × (self.new.tables.now ≡ self.old.tables.now) }
+        ensures works { Works NoAnswer (with_article row.now)
+            (state S.Store self.old.tables.now.connection) (state S.Store self.new.tables.now.connection) self.old.spent self.new.spent result }
+    {
+        match self.run(
+            "INSERT INTO article (series, reference, id_place, id_type, id_value) VALUES (?1, ?2, ?3, ?4, ?5)",
+            params![
+                row.series.as_str(),
+                row.reference.as_str(),
+                row.id_place,
+                row.id_type.as_str(),
+                row.id_value.as_str()
+            ],
+        ) {
+            Ok(_) => Ok(()),
+            Err(fault) => Err(fault),
+        }
+    }
+
+    /// Removes all rows of a record.
+    pub fn delete_articles(
+        &mut self,
+        series: &SeriesName,
+        reference: &str,
+    ) -> Result<(), StoreFault>
+        ensures same_reference { self.new.tables.ghost_name ≡ self.old.tables.ghost_name }
+        ensures untouched { IsTrue self.old.spent → (result ≡ Err StoreFault.Unusable) × (self.new.tables.now ≡ self.old.tables.now) }
+        ensures works { Works NoAnswer (without_articles series.now reference.now)
+            (state S.Store self.old.tables.now.connection) (state S.Store self.new.tables.now.connection) self.old.spent self.new.spent result }
+    {
+        match self.run(
+            "DELETE FROM article WHERE series = ?1 AND reference = ?2",
+            params![series.as_str(), reference],
+        ) {
+            Ok(_) => Ok(()),
+            Err(fault) => Err(fault),
+        }
+    }
+
+    /// All rows of a series, in the order of the bytes of their references, and then of their
+    /// places.
+    pub fn article_rows(&mut self, series: &SeriesName) -> Result<Vec<ArticleRow>, StoreFault>
+        ensures same_reference { self.new.tables.ghost_name ≡ self.old.tables.ghost_name }
+        ensures untouched { IsTrue self.old.spent → (result ≡ Err StoreFault.Unusable) × (self.new.tables.now ≡ self.old.tables.now) }
+        ensures works { Works (λ rows articles. AreArticlesInOrder series.now rows articles.items) unchanged
+            (state S.Store self.old.tables.now.connection) (state S.Store self.new.tables.now.connection) self.old.spent self.new.spent result }
+    {
+        let rows = match self.rows(
+            "SELECT series, reference, id_place, id_type, id_value FROM article WHERE series = ?1 ORDER BY reference, id_place",
+            params![series.as_str()],
+        ) {
+            Ok(rows) => rows,
+            Err(fault) => return Err(fault),
+        };
+        match all_articles(&rows) {
+            Ok(articles) => Ok(articles),
+            Err(fault) => {
+                self.spent = true;
+                Err(fault)
+            }
+        }
+    }
+}

@@ -1,0 +1,249 @@
+// How the tables are made, and the version of their schema.
+
+ghost use Rattle.std.specs.Prelude.{◌≡◌, true, false, pos, Err, None, Some, IsTrue, IfOk, IsSome, option_map, slice_get};
+ghost use Rattle.std.specs.List.{list_any};
+ghost use Rattle.sqlite.specs.Held.{state};
+ghost use Rattle.sqlite.specs.State.{HasCleanDisk};
+ghost use Rattle.sqlite_value.specs.Order.{column};
+ghost use Rattle.sqlite_value.specs.declared.value.Value.TheVariants.{Int};
+ghost use Rattle.desk_tables.specs.Schema.{is_meta, is_desk_table, first_schema, schema_0, schema_3, schema_6};
+ghost use Rattle.desk_tables.specs.Rows.{DeskRows, Holds, HoldsFirst, first_rows, no_rows, version_in, unchanged};
+ghost use Rattle.desk_tables.specs.Transactions.{HasNoRows, IsEmptied, Makes, Works};
+
+use crate::columns::whole_column;
+use crate::work::Work;
+use onix_message::agreement::StoreFault;
+use sqlite::{Alter, Row};
+use sqlite_schema::names::same_name;
+use sqlite_schema::schema::{Schema, Table};
+
+impl<S: Alter> Work<'_, S> {
+    // The tables of the version, of agreements and of held numbers.
+    fn create_series(&mut self) -> Result<(), StoreFault>
+        ensures same_reference { self.new.tables.ghost_name ≡ self.old.tables.ghost_name }
+        ensures untouched { IsTrue self.old.spent → (result ≡ Err StoreFault.Unusable) × (self.new.tables.now ≡ self.old.tables.now) }
+        ensures makes { Makes (IsEmptied schema_0) (HasNoRows schema_3) (state S.Store self.old.tables.now.connection) (state S.Store self.new.tables.now.connection) self.old.spent self.new.spent result }
+    {
+        match self.run(
+            "CREATE TABLE meta (item TEXT NOT NULL PRIMARY KEY, amount INTEGER NOT NULL) STRICT",
+            &[],
+        ) {
+            Ok(_) => {}
+            Err(fault) => return Err(fault),
+        }
+        match self.run(
+            "CREATE TABLE series (name TEXT NOT NULL PRIMARY KEY, sender_type TEXT NOT NULL, sender_value TEXT NOT NULL, addressee_type TEXT NOT NULL, addressee_value TEXT NOT NULL, first_number INTEGER NOT NULL, next_number INTEGER NOT NULL, UNIQUE (sender_type, sender_value, addressee_type, addressee_value)) STRICT",
+            &[],
+        ) {
+            Ok(_) => {}
+            Err(fault) => return Err(fault),
+        }
+        match self.run(
+            "CREATE TABLE held (series TEXT NOT NULL REFERENCES series (name), number INTEGER NOT NULL, contents TEXT NOT NULL, PRIMARY KEY (series, number)) STRICT",
+            &[],
+        ) {
+            Ok(_) => Ok(()),
+            Err(fault) => Err(fault),
+        }
+    }
+
+    // The tables of applied numbers, of records and of their identifiers.
+    fn create_records(&mut self) -> Result<(), StoreFault>
+        ensures same_reference { self.new.tables.ghost_name ≡ self.old.tables.ghost_name }
+        ensures untouched { IsTrue self.old.spent → (result ≡ Err StoreFault.Unusable) × (self.new.tables.now ≡ self.old.tables.now) }
+        ensures makes { Makes (HasNoRows schema_3) (HasNoRows schema_6) (state S.Store self.old.tables.now.connection) (state S.Store self.new.tables.now.connection) self.old.spent self.new.spent result }
+    {
+        match self.run(
+            "CREATE TABLE applied (series TEXT NOT NULL REFERENCES series (name), number INTEGER NOT NULL, contents TEXT NOT NULL, replaced INTEGER NOT NULL, updated INTEGER NOT NULL, deleted INTEGER NOT NULL, unknown INTEGER NOT NULL, ignored INTEGER NOT NULL, PRIMARY KEY (series, number)) STRICT",
+            &[],
+        ) {
+            Ok(_) => {}
+            Err(fault) => return Err(fault),
+        }
+        match self.run(
+            "CREATE TABLE record (series TEXT NOT NULL REFERENCES series (name), reference TEXT NOT NULL, PRIMARY KEY (series, reference)) STRICT",
+            &[],
+        ) {
+            Ok(_) => {}
+            Err(fault) => return Err(fault),
+        }
+        match self.run(
+            "CREATE TABLE article (series TEXT NOT NULL, reference TEXT NOT NULL, id_place INTEGER NOT NULL, id_type TEXT NOT NULL, id_value TEXT NOT NULL, PRIMARY KEY (series, reference, id_place), FOREIGN KEY (series, reference) REFERENCES record (series, reference) ON DELETE CASCADE) STRICT",
+            &[],
+        ) {
+            Ok(_) => Ok(()),
+            Err(fault) => Err(fault),
+        }
+    }
+
+    // The tables of offers and of prices.
+    fn create_offers(&mut self) -> Result<(), StoreFault>
+        ensures same_reference { self.new.tables.ghost_name ≡ self.old.tables.ghost_name }
+        ensures untouched { IsTrue self.old.spent → (result ≡ Err StoreFault.Unusable) × (self.new.tables.now ≡ self.old.tables.now) }
+        ensures makes { Makes (HasNoRows schema_6) (HasNoRows first_schema) (state S.Store self.old.tables.now.connection) (state S.Store self.new.tables.now.connection) self.old.spent self.new.spent result }
+    {
+        match self.run(
+            "CREATE TABLE offer (series TEXT NOT NULL, reference TEXT NOT NULL, place INTEGER NOT NULL, supply INTEGER NOT NULL, included TEXT NOT NULL, world INTEGER NOT NULL, excluded TEXT NOT NULL, role TEXT NOT NULL, supplier_type TEXT NOT NULL, supplier_value TEXT NOT NULL, supplier_name TEXT NOT NULL, availability TEXT NOT NULL, unpriced TEXT NOT NULL, PRIMARY KEY (series, reference, place), FOREIGN KEY (series, reference) REFERENCES record (series, reference) ON DELETE CASCADE) STRICT",
+            &[],
+        ) {
+            Ok(_) => {}
+            Err(fault) => return Err(fault),
+        }
+        match self.run(
+            "CREATE TABLE price (series TEXT NOT NULL, reference TEXT NOT NULL, place INTEGER NOT NULL, price_place INTEGER NOT NULL, price_type TEXT NOT NULL, amount INTEGER NOT NULL, currency TEXT NOT NULL, included TEXT NOT NULL, world INTEGER NOT NULL, excluded TEXT NOT NULL, from_day INTEGER, until_day INTEGER, PRIMARY KEY (series, reference, place, price_place), FOREIGN KEY (series, reference, place) REFERENCES offer (series, reference, place) ON DELETE CASCADE) STRICT",
+            &[],
+        ) {
+            Ok(_) => Ok(()),
+            Err(fault) => Err(fault),
+        }
+    }
+
+    // What version 1 lacks: the table of minimums, and the index by which the records of an
+    // article are found.
+    pub(crate) fn create_minimums(&mut self) -> Result<(), StoreFault>
+        ensures same_reference { self.new.tables.ghost_name ≡ self.old.tables.ghost_name }
+        ensures untouched { IsTrue self.old.spent → (result ≡ Err StoreFault.Unusable) × (self.new.tables.now ≡ self.old.tables.now) }
+        ensures makes { (rows : DeskRows) → Makes (λ db. HoldsFirst db rows) (λ db. Holds db rows) (state S.Store self.old.tables.now.connection) (state S.Store self.new.tables.now.connection) self.old.spent self.new.spent result }
+    {
+        match self.run(
+            "CREATE TABLE price_minimum (series TEXT NOT NULL, reference TEXT NOT NULL, place INTEGER NOT NULL, price_place INTEGER NOT NULL, minimum INTEGER NOT NULL, PRIMARY KEY (series, reference, place, price_place), FOREIGN KEY (series, reference, place, price_place) REFERENCES price (series, reference, place, price_place) ON DELETE CASCADE) STRICT",
+            &[],
+        ) {
+            Ok(_) => {}
+            Err(fault) => return Err(fault),
+        }
+        match self.run(
+            "CREATE INDEX article_by_value ON article (id_value, id_type)",
+            &[],
+        ) {
+            Ok(_) => Ok(()),
+            Err(fault) => Err(fault),
+        }
+    }
+
+    fn create_tables(&mut self) -> Result<(), StoreFault>
+        ensures same_reference { self.new.tables.ghost_name ≡ self.old.tables.ghost_name }
+        ensures untouched { IsTrue self.old.spent → (result ≡ Err StoreFault.Unusable) × (self.new.tables.now ≡ self.old.tables.now) }
+        ensures makes { Makes (IsEmptied schema_0) (λ db. Holds db no_rows) (state S.Store self.old.tables.now.connection) (state S.Store self.new.tables.now.connection) self.old.spent self.new.spent result }
+    {
+        match self.create_series() {
+            Ok(()) => {}
+            Err(fault) => return Err(fault),
+        }
+        match self.create_records() {
+            Ok(()) => {}
+            Err(fault) => return Err(fault),
+        }
+        match self.create_offers() {
+            Ok(()) => {}
+            Err(fault) => return Err(fault),
+        }
+        self.create_minimums()
+    }
+
+    /// Makes the tables, and the row of their version, 2, in a database that has no table. It is
+    /// `Unusable` where one of the tables is there.
+    pub fn create(&mut self) -> Result<(), StoreFault>
+        ensures same_reference { self.new.tables.ghost_name ≡ self.old.tables.ghost_name }
+        ensures untouched { IsTrue self.old.spent → (result ≡ Err StoreFault.Unusable) × (self.new.tables.now ≡ self.old.tables.now) }
+        ensures taken { list_any is_desk_table (state S.Store self.old.tables.now.connection).now.schema.tables ≡ true → result ≡ Err StoreFault.Unusable }
+        ensures makes { Makes (IsEmptied schema_0) (λ db. Holds db first_rows) (state S.Store self.old.tables.now.connection) (state S.Store self.new.tables.now.connection) self.old.spent self.new.spent result }
+    {
+        if has_desk_table(self.tables.connection.schema()) {
+            self.spent = true;
+            return Err(StoreFault::Unusable);
+        }
+        match self.create_tables() {
+            Ok(()) => {}
+            Err(fault) => return Err(fault),
+        }
+        match self.run("INSERT INTO meta (item, amount) VALUES ('version', 2)", &[]) {
+            Ok(_) => Ok(()),
+            Err(fault) => Err(fault),
+        }
+    }
+
+    /// The version of the tables, or `None` where there is no table `meta` with the desk's columns.
+    /// `Unusable` where that table has no row of a version, or one of another value.
+    pub fn version(&mut self) -> Result<Option<u32>, StoreFault>
+        ensures same_reference { self.new.tables.ghost_name ≡ self.old.tables.ghost_name }
+        ensures untouched { IsTrue self.old.spent → (result ≡ Err StoreFault.Unusable) × (self.new.tables.now ≡ self.old.tables.now) }
+        ensures absent { list_any is_meta (state S.Store self.old.tables.now.connection).now.schema.tables ≡ false → IfOk result (λ version. version ≡ None) × (self.new.tables.now ≡ self.old.tables.now) }
+        ensures present { list_any is_meta (state S.Store self.old.tables.now.connection).now.schema.tables ≡ true → IfOk result (λ version. IsSome version) }
+        ensures first { HasCleanDisk (state S.Store self.new.tables.now.connection) → (rows : DeskRows) → HoldsFirst (state S.Store self.old.tables.now.connection).now rows → IfOk result (λ version. version ≡ version_in rows) }
+        ensures keeps_first { (rows : DeskRows) → Makes (λ db. HoldsFirst db rows) (λ db. HoldsFirst db rows) (state S.Store self.old.tables.now.connection) (state S.Store self.new.tables.now.connection) self.old.spent self.new.spent result }
+        ensures works { Works (λ rows version. version ≡ version_in rows) unchanged
+            (state S.Store self.old.tables.now.connection) (state S.Store self.new.tables.now.connection) self.old.spent self.new.spent result }
+    {
+        if self.spent || self.tables.connection.is_autocommit() {
+            self.spent = true;
+            return Err(StoreFault::Unusable);
+        }
+        if !has_meta(self.tables.connection.schema()) {
+            return Ok(None);
+        }
+        let rows = match self.rows("SELECT amount FROM meta WHERE item = 'version'", &[]) {
+            Ok(rows) => rows,
+            Err(fault) => return Err(fault),
+        };
+        match version_of(&rows) {
+            Ok(version) => Ok(Some(version)),
+            Err(fault) => {
+                self.spent = true;
+                Err(fault)
+            }
+        }
+    }
+}
+
+// Whether one of the tables is a `meta` with the desk's columns.
+fn has_meta(schema: &Schema) -> bool
+    ensures { result ≡ list_any is_meta schema.now.tables }
+{
+    schema.tables.as_slice().iter().any(is_meta_table)
+}
+
+fn is_meta_table(table: &Table) -> bool
+    ensures { result ≡ is_meta table.now }
+{
+    if table.name.as_slice() != b"meta".as_slice() {
+        return false;
+    }
+    match table.columns.as_slice() {
+        [item, amount] => item.name.as_slice() == b"item".as_slice()
+            && amount.name.as_slice() == b"amount".as_slice(),
+        _ => false,
+    }
+}
+
+// Whether one of the tables has the name of one of the desk's.
+fn has_desk_table(schema: &Schema) -> bool
+    ensures { result ≡ list_any is_desk_table schema.now.tables }
+{
+    schema.tables.as_slice().iter().any(is_named_as_one)
+}
+
+fn is_named_as_one(table: &Table) -> bool
+    ensures { result ≡ is_desk_table table.now }
+{
+    let name = table.name.as_slice();
+    same_name(name, b"meta")
+        || same_name(name, b"series")
+        || same_name(name, b"held")
+        || same_name(name, b"applied")
+        || same_name(name, b"record")
+        || same_name(name, b"article")
+        || same_name(name, b"offer")
+        || same_name(name, b"price")
+        || same_name(name, b"price_minimum")
+}
+
+// The version in the first row that is shown. `Unusable` where there is none.
+fn version_of(rows: &Vec<Row>) -> Result<u32, StoreFault>
+    ensures { IfOk result (λ version. option_map (λ row. column row 0) (slice_get rows.now.items 0) ≡ Some (Int (pos version))) }
+{
+    match rows.first() {
+        Some(row) => whole_column(row, 0),
+        None => Err(StoreFault::Unusable),
+    }
+}

@@ -1,0 +1,303 @@
+// The tables `price` and `price_minimum`: the prices of each offer, and the minimums above 1.
+
+ghost use Rattle.std.specs.Prelude.{◌≡◌, Err, IfOk, IsTrue, Some, map, position};
+ghost use Rattle.sqlite.specs.Held.{state};
+ghost use Rattle.desk_tables.specs.Transactions.{Works, NoAnswer};
+ghost use Rattle.desk_tables.specs.RecordRows.{price_row, minimum_row, minimum_columns};
+ghost use Rattle.desk_tables.specs.RecordAnswers.{five_columns, is_minimum_at, minimum_at, read_priced, AreMinimums, ArePricesWith, ArePricesInOrder};
+ghost use Rattle.desk_tables.specs.Rows.{unchanged};
+ghost use Rattle.desk_tables.specs.RecordReadings.{day_in, number_in, territory_at, text_in};
+ghost use Rattle.sqlite_value.specs.Order.{column};
+ghost use Rattle.desk_tables.specs.RecordChanges.{with_price, with_minimum, with_price_and_minimum};
+
+use crate::columns::{
+    amount_column, code_column, currency_column, day_column, name_column, territory_columns,
+    text_column, whole_column,
+};
+use crate::rows::{MinimumRow, PriceRow};
+use crate::work::Work;
+use crate::written::{DayNumber, Thousandths, territory_texts};
+use onix_message::agreement::StoreFault;
+use onix_message::parts::Price;
+use onix_terms::quantity::Quantity;
+use onix_terms::series_name::SeriesName;
+use onix_terms::text::Text;
+use sqlite::{Alter, Row, params};
+use std::alloc::Global;
+
+// The row of `price_minimum` that a query shows.
+fn minimum_row(row: &Row) -> Result<MinimumRow, StoreFault>
+    ensures { IfOk result (λ r. minimum_columns r ≡ five_columns row.now) }
+{
+    Ok(MinimumRow {
+        series: name_column(row, 0)?,
+        reference: text_column(row, 1)?,
+        place: whole_column(row, 2)?,
+        price_place: whole_column(row, 3)?,
+        minimum: whole_column(row, 4)?,
+    })
+}
+
+pub(crate) fn all_minimums(rows: &Vec<Row>) -> Result<Vec<MinimumRow>, StoreFault>
+    ensures { IfOk result (λ minimums. map minimum_columns minimums.items ≡ map five_columns rows.now.items) }
+{
+    let mut minimums = Vec::new(*rows.allocator());
+    for row in rows.as_slice() {
+        let one = minimum_row(row)?;
+        if minimums.push(one).is_err() {
+            return Err(StoreFault::Memory);
+        }
+    }
+    Ok(minimums)
+}
+
+// The place of the minimum of a price.
+fn place_of_minimum(
+    minimums: &[MinimumRow],
+    reference: &Text,
+    place: u32,
+    price_place: u32,
+) -> Option<usize>
+    ensures { result ≡ position (is_minimum_at reference.now place price_place) minimums.now }
+{
+    minimums.iter().position(|row| {
+        row.reference == *reference && row.place == place && row.price_place == price_place
+    })
+}
+
+// The minimum of a price: 1 where it has no row.
+fn minimum_of(
+    minimums: &[MinimumRow],
+    reference: &Text,
+    place: u32,
+    price_place: u32,
+) -> Result<Quantity, StoreFault>
+    ensures { IfOk result (λ q. q ≡ minimum_at reference.now place price_place minimums.now) }
+{
+    let value = match place_of_minimum(minimums, reference, place, price_place) {
+        Some(at) => minimums[at].minimum,
+        None => 1,
+    };
+    match Quantity::from_value(value) {
+        Some(minimum) => Ok(minimum),
+        None => Err(StoreFault::Unusable),
+    }
+}
+
+// The price of a row of `price`.
+fn price_of(alloc: Global, row: &Row, minimum: Quantity) -> Result<Price, StoreFault>
+    ensures price_type { IfOk result (λ p. text_in (column row.now 4) ≡ Some p.price_type) }
+    ensures amount { IfOk result (λ p. number_in (column row.now 5) ≡ Some p.amount) }
+    ensures currency { IfOk result (λ p. text_in (column row.now 6) ≡ Some p.currency) }
+    ensures territory { IfOk result (λ p. territory_at row.now 7 8 9 ≡ Some p.territory) }
+    ensures minimum { IfOk result (λ p. p.minimum ≡ minimum) }
+    ensures from { IfOk result (λ p. day_in (column row.now 10) ≡ Some p.from) }
+    ensures until { IfOk result (λ p. day_in (column row.now 11) ≡ Some p.until) }
+{
+    Ok(Price {
+        price_type: code_column(row, 4)?,
+        amount: amount_column(row, 5)?,
+        currency: currency_column(row, 6)?,
+        territory: territory_columns(alloc, row, 7, 8, 9)?,
+        minimum,
+        from: day_column(row, 10)?,
+        until: day_column(row, 11)?,
+    })
+}
+
+// The row of `price` that a query shows, with its minimum among those.
+pub(crate) fn priced_row(
+    alloc: Global,
+    row: &Row,
+    minimums: &[MinimumRow],
+) -> Result<PriceRow, StoreFault>
+    ensures { IfOk result (λ r. read_priced minimums.now row.now ≡ Some r) }
+{
+    let series = name_column(row, 0)?;
+    let reference = text_column(row, 1)?;
+    let place = whole_column(row, 2)?;
+    let price_place = whole_column(row, 3)?;
+    let minimum = minimum_of(minimums, &reference, place, price_place)?;
+    let price = price_of(alloc, row, minimum)?;
+    Ok(PriceRow {
+        series,
+        reference,
+        place,
+        price_place,
+        price,
+    })
+}
+
+fn all_prices(rows: &Vec<Row>, minimums: &[MinimumRow]) -> Result<Vec<PriceRow>, StoreFault>
+    ensures { IfOk result (λ prices. map (λ r. Some r) prices.items ≡ map (read_priced minimums.now) rows.now.items) }
+{
+    let alloc = *rows.allocator();
+    let mut prices = Vec::new(alloc);
+    for row in rows.as_slice() {
+        let one = priced_row(alloc, row, minimums)?;
+        if prices.push(one).is_err() {
+            return Err(StoreFault::Memory);
+        }
+    }
+    Ok(prices)
+}
+
+impl<S: Alter> Work<'_, S> {
+    // Adds a row of `price` whose territory has these texts.
+    fn put_price_texts(
+        &mut self,
+        row: &PriceRow,
+        included: &str,
+        excluded: &str,
+    ) -> Result<(), StoreFault>
+        ensures same_reference { self.new.tables.ghost_name ≡ self.old.tables.ghost_name }
+        ensures untouched { IsTrue self.old.spent → (result ≡ Err StoreFault.Unusable) × (self.new.tables.now ≡ self.old.tables.now) }
+        ensures works { Works NoAnswer (with_price (record (price_row row.now) { included = included.now; excluded = excluded.now }))
+            (state S.Store self.old.tables.now.connection) (state S.Store self.new.tables.now.connection) self.old.spent self.new.spent result }
+    {
+        match self.run(
+            "INSERT INTO price (series, reference, place, price_place, price_type, amount, currency, included, world, excluded, from_day, until_day) VALUES (?1, ?2, ?3, ?4, ?5, ?6, ?7, ?8, ?9, ?10, ?11, ?12)",
+            params![
+                row.series.as_str(),
+                row.reference.as_str(),
+                row.place,
+                row.price_place,
+                row.price.price_type.as_str(),
+                Thousandths {
+                    amount: row.price.amount
+                },
+                row.price.currency.as_str(),
+                included,
+                row.price.territory.world,
+                excluded,
+                DayNumber {
+                    day: row.price.from
+                },
+                DayNumber {
+                    day: row.price.until
+                }
+            ],
+        ) {
+            Ok(_) => Ok(()),
+            Err(fault) => Err(fault),
+        }
+    }
+
+    // Adds a row of `price_minimum`.
+    fn put_minimum(&mut self, row: &PriceRow) -> Result<(), StoreFault>
+        ensures same_reference { self.new.tables.ghost_name ≡ self.old.tables.ghost_name }
+        ensures untouched { IsTrue self.old.spent → (result ≡ Err StoreFault.Unusable) × (self.new.tables.now ≡ self.old.tables.now) }
+        ensures works { Works NoAnswer (with_minimum (minimum_row row.now))
+            (state S.Store self.old.tables.now.connection) (state S.Store self.new.tables.now.connection) self.old.spent self.new.spent result }
+    {
+        match self.run(
+            "INSERT INTO price_minimum (series, reference, place, price_place, minimum) VALUES (?1, ?2, ?3, ?4, ?5)",
+            params![
+                row.series.as_str(),
+                row.reference.as_str(),
+                row.place,
+                row.price_place,
+                row.price.minimum.value()
+            ],
+        ) {
+            Ok(_) => Ok(()),
+            Err(fault) => Err(fault),
+        }
+    }
+
+    /// Adds a price, and its minimum where that is above 1. `Unusable` where the offer has a price
+    /// at that place, or the record has no such offer.
+    pub fn put_price(&mut self, row: &PriceRow) -> Result<(), StoreFault>
+        ensures same_reference { self.new.tables.ghost_name ≡ self.old.tables.ghost_name }
+        ensures untouched { IsTrue self.old.spent → (result ≡ Err StoreFault.Unusable) × (self.new.tables.now ≡ self.old.tables.now) }
+        ensures works { Works NoAnswer (with_price_and_minimum row.now)
+            (state S.Store self.old.tables.now.connection) (state S.Store self.new.tables.now.connection) self.old.spent self.new.spent result }
+    {
+        if self.spent {
+            return Err(StoreFault::Unusable);
+        }
+        let texts = match territory_texts(&row.reference, &row.price.territory) {
+            Ok(texts) => texts,
+            Err(fault) => {
+                self.spent = true;
+                return Err(fault);
+            }
+        };
+        if let Err(fault) = self.put_price_texts(
+            row,
+            texts.included.as_str(),
+            texts.excluded.as_str(),
+        ) {
+            return Err(fault);
+        }
+        if row.price.minimum.value() > 1 {
+            return self.put_minimum(row);
+        }
+        Ok(())
+    }
+
+    // The minimums of a series.
+    fn shown_minimums(&mut self, series: &SeriesName) -> Result<Vec<MinimumRow>, StoreFault>
+        ensures same_reference { self.new.tables.ghost_name ≡ self.old.tables.ghost_name }
+        ensures untouched { IsTrue self.old.spent → (result ≡ Err StoreFault.Unusable) × (self.new.tables.now ≡ self.old.tables.now) }
+        ensures works { Works (λ rows minimums. AreMinimums series.now rows minimums.items) unchanged
+            (state S.Store self.old.tables.now.connection) (state S.Store self.new.tables.now.connection) self.old.spent self.new.spent result }
+    {
+        let rows = match self.rows(
+            "SELECT series, reference, place, price_place, minimum FROM price_minimum WHERE series = ?1 ORDER BY reference, place, price_place",
+            params![series.as_str()],
+        ) {
+            Ok(rows) => rows,
+            Err(fault) => return Err(fault),
+        };
+        match all_minimums(&rows) {
+            Ok(minimums) => Ok(minimums),
+            Err(fault) => {
+                self.spent = true;
+                Err(fault)
+            }
+        }
+    }
+
+    // The prices of a series, with those minimums.
+    fn shown_prices(
+        &mut self,
+        series: &SeriesName,
+        minimums: &[MinimumRow],
+    ) -> Result<Vec<PriceRow>, StoreFault>
+        ensures same_reference { self.new.tables.ghost_name ≡ self.old.tables.ghost_name }
+        ensures untouched { IsTrue self.old.spent → (result ≡ Err StoreFault.Unusable) × (self.new.tables.now ≡ self.old.tables.now) }
+        ensures works { Works (λ rows prices. ArePricesWith minimums.now series.now rows prices.items) unchanged
+            (state S.Store self.old.tables.now.connection) (state S.Store self.new.tables.now.connection) self.old.spent self.new.spent result }
+    {
+        let rows = match self.rows(
+            "SELECT series, reference, place, price_place, price_type, amount, currency, included, world, excluded, from_day, until_day FROM price WHERE series = ?1 ORDER BY reference, place, price_place",
+            params![series.as_str()],
+        ) {
+            Ok(rows) => rows,
+            Err(fault) => return Err(fault),
+        };
+        match all_prices(&rows, minimums) {
+            Ok(prices) => Ok(prices),
+            Err(fault) => {
+                self.spent = true;
+                Err(fault)
+            }
+        }
+    }
+
+    /// All prices of a series, in the order of the bytes of their references, then of the places
+    /// of their offers, and then of their own.
+    pub fn price_rows(&mut self, series: &SeriesName) -> Result<Vec<PriceRow>, StoreFault>
+        ensures same_reference { self.new.tables.ghost_name ≡ self.old.tables.ghost_name }
+        ensures untouched { IsTrue self.old.spent → (result ≡ Err StoreFault.Unusable) × (self.new.tables.now ≡ self.old.tables.now) }
+        ensures works { Works (λ rows prices. ArePricesInOrder series.now rows prices.items) unchanged
+            (state S.Store self.old.tables.now.connection) (state S.Store self.new.tables.now.connection) self.old.spent self.new.spent result }
+    {
+        let minimums = match self.shown_minimums(series) {
+            Ok(minimums) => minimums,
+            Err(fault) => return Err(fault),
+        };
+        self.shown_prices(series, minimums.as_slice())
+    }
+}

@@ -1,0 +1,185 @@
+// The table `series`: the agreements, each with the number that is applied next.
+
+ghost use Rattle.std.specs.Prelude.{◌≡◌, Err, IfOk, IsTrue, map, option_map, slice_get};
+ghost use Rattle.std.specs.List.{AllByRecursion};
+ghost use Rattle.sqlite.specs.Held.{state};
+ghost use Rattle.desk_tables.specs.Transactions.{Works, NoAnswer};
+ghost use Rattle.desk_tables.specs.Shown.{seven_columns, IsToldRow};
+ghost use Rattle.desk_tables.specs.Rows.{series_columns, party_type, party_value, IsAddressee, with_series, with_next, series_at, series_between, unchanged, AreSeriesInOrder};
+
+use crate::columns::{addressee_columns, name_column, number_column, party_columns, whole_column};
+use crate::work::Work;
+use crate::written::{party_type, party_value};
+use onix_message::agreement::{Agreement, StoreFault};
+use onix_terms::party::Party;
+use onix_terms::series_name::SeriesName;
+use sqlite::{Alter, Row, params};
+
+/// An agreement, with the number of its series that is applied next.
+#[derive(Debug, Drop, PartialEq, Eq)]
+pub struct SeriesRow {
+    pub agreement: Agreement,
+    pub next: u32,
+}
+
+// The row of the table that a query shows.
+fn series_row(row: &Row) -> Result<SeriesRow, StoreFault>
+    ensures columns { IfOk result (λ series. series_columns series ≡ seven_columns row.now) }
+    ensures told { IfOk result (λ series. IsAddressee series.agreement.addressee) }
+{
+    let agreement = Agreement {
+        name: name_column(row, 0)?,
+        sender: party_columns(row, 1, 2)?,
+        addressee: addressee_columns(row, 3, 4)?,
+        first: number_column(row, 5)?,
+    };
+    Ok(SeriesRow {
+        agreement,
+        next: whole_column(row, 6)?,
+    })
+}
+
+fn first_series(rows: &Vec<Row>) -> Result<Option<SeriesRow>, StoreFault>
+    ensures columns { IfOk result (λ series. option_map series_columns series ≡ option_map seven_columns (slice_get rows.now.items 0)) }
+    ensures told { IfOk result (λ series. IsToldRow series) }
+{
+    match rows.first() {
+        Some(row) => Ok(Some(series_row(row)?)),
+        None => Ok(None),
+    }
+}
+
+fn all_series(rows: &Vec<Row>) -> Result<Vec<SeriesRow>, StoreFault>
+    ensures columns { IfOk result (λ series. map series_columns series.items ≡ map seven_columns rows.now.items) }
+    ensures told { IfOk result (λ series. AllByRecursion (λ r. IsAddressee r.agreement.addressee) series.items) }
+{
+    let mut series = Vec::new(*rows.allocator());
+    for row in rows.as_slice() {
+        let one = series_row(row)?;
+        if series.push(one).is_err() {
+            return Err(StoreFault::Memory);
+        }
+    }
+    Ok(series)
+}
+
+impl<S: Alter> Work<'_, S> {
+    /// Adds an agreement, with its first number as the next. `Unusable` where a series has its
+    /// name, or its sender and addressee.
+    pub fn put_series(&mut self, agreement: &Agreement) -> Result<(), StoreFault>
+        ensures same_reference { self.new.tables.ghost_name ≡ self.old.tables.ghost_name }
+        ensures untouched { IsTrue self.old.spent → (result ≡ Err StoreFault.Unusable) × (self.new.tables.now ≡ self.old.tables.now) }
+        ensures works { Works NoAnswer (with_series agreement.now)
+            (state S.Store self.old.tables.now.connection) (state S.Store self.new.tables.now.connection) self.old.spent self.new.spent result }
+    {
+        match self.run(
+            "INSERT INTO series (name, sender_type, sender_value, addressee_type, addressee_value, first_number, next_number) VALUES (?1, ?2, ?3, ?4, ?5, ?6, ?6)",
+            params![
+                agreement.name.as_str(),
+                agreement.sender.id_type.as_str(),
+                agreement.sender.id_value.as_str(),
+                party_type(&agreement.addressee),
+                party_value(&agreement.addressee),
+                agreement.first.value()
+            ],
+        ) {
+            Ok(_) => Ok(()),
+            Err(fault) => Err(fault),
+        }
+    }
+
+    /// The series of a name, or `None`.
+    pub fn series_by_name(&mut self, name: &SeriesName) -> Result<Option<SeriesRow>, StoreFault>
+        ensures same_reference { self.new.tables.ghost_name ≡ self.old.tables.ghost_name }
+        ensures untouched { IsTrue self.old.spent → (result ≡ Err StoreFault.Unusable) × (self.new.tables.now ≡ self.old.tables.now) }
+        ensures works { Works (λ rows series. series ≡ series_at name.now rows) unchanged
+            (state S.Store self.old.tables.now.connection) (state S.Store self.new.tables.now.connection) self.old.spent self.new.spent result }
+    {
+        let rows = match self.rows(
+            "SELECT name, sender_type, sender_value, addressee_type, addressee_value, first_number, next_number FROM series WHERE name = ?1",
+            params![name.as_str()],
+        ) {
+            Ok(rows) => rows,
+            Err(fault) => return Err(fault),
+        };
+        match first_series(&rows) {
+            Ok(series) => Ok(series),
+            Err(fault) => {
+                self.spent = true;
+                Err(fault)
+            }
+        }
+    }
+
+    /// The series of a sender and an addressee, or `None`.
+    pub fn series_by_parties(
+        &mut self,
+        sender: &Party,
+        addressee: &Option<Party>,
+    ) -> Result<Option<SeriesRow>, StoreFault>
+        ensures same_reference { self.new.tables.ghost_name ≡ self.old.tables.ghost_name }
+        ensures untouched { IsTrue self.old.spent → (result ≡ Err StoreFault.Unusable) × (self.new.tables.now ≡ self.old.tables.now) }
+        ensures works { Works (λ rows series. series ≡ series_between sender.now addressee.now rows) unchanged
+            (state S.Store self.old.tables.now.connection) (state S.Store self.new.tables.now.connection) self.old.spent self.new.spent result }
+    {
+        let rows = match self.rows(
+            "SELECT name, sender_type, sender_value, addressee_type, addressee_value, first_number, next_number FROM series WHERE sender_type = ?1 AND sender_value = ?2 AND addressee_type = ?3 AND addressee_value = ?4",
+            params![
+                sender.id_type.as_str(),
+                sender.id_value.as_str(),
+                party_type(addressee),
+                party_value(addressee)
+            ],
+        ) {
+            Ok(rows) => rows,
+            Err(fault) => return Err(fault),
+        };
+        match first_series(&rows) {
+            Ok(series) => Ok(series),
+            Err(fault) => {
+                self.spent = true;
+                Err(fault)
+            }
+        }
+    }
+
+    /// All series, in the order of the bytes of their names.
+    pub fn series_rows(&mut self) -> Result<Vec<SeriesRow>, StoreFault>
+        ensures same_reference { self.new.tables.ghost_name ≡ self.old.tables.ghost_name }
+        ensures untouched { IsTrue self.old.spent → (result ≡ Err StoreFault.Unusable) × (self.new.tables.now ≡ self.old.tables.now) }
+        ensures works { Works (λ rows series. AreSeriesInOrder rows series.items) unchanged
+            (state S.Store self.old.tables.now.connection) (state S.Store self.new.tables.now.connection) self.old.spent self.new.spent result }
+    {
+        let rows = match self.rows(
+            "SELECT name, sender_type, sender_value, addressee_type, addressee_value, first_number, next_number FROM series ORDER BY name",
+            &[],
+        ) {
+            Ok(rows) => rows,
+            Err(fault) => return Err(fault),
+        };
+        match all_series(&rows) {
+            Ok(series) => Ok(series),
+            Err(fault) => {
+                self.spent = true;
+                Err(fault)
+            }
+        }
+    }
+
+    /// Sets the number of a series that is applied next. Where no series has that name nothing
+    /// changes.
+    pub fn set_next(&mut self, series: &SeriesName, next: u32) -> Result<(), StoreFault>
+        ensures same_reference { self.new.tables.ghost_name ≡ self.old.tables.ghost_name }
+        ensures untouched { IsTrue self.old.spent → (result ≡ Err StoreFault.Unusable) × (self.new.tables.now ≡ self.old.tables.now) }
+        ensures works { Works NoAnswer (with_next series.now next)
+            (state S.Store self.old.tables.now.connection) (state S.Store self.new.tables.now.connection) self.old.spent self.new.spent result }
+    {
+        match self.run(
+            "UPDATE series SET next_number = ?2 WHERE name = ?1",
+            params![series.as_str(), next],
+        ) {
+            Ok(_) => Ok(()),
+            Err(fault) => Err(fault),
+        }
+    }
+}

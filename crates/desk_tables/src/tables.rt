@@ -1,0 +1,83 @@
+// The tables, and how a transaction on them begins and ends.
+
+ghost use Rattle.std.specs.Prelude.{◌≡◌, false, IfOk, OnOk, OnErr};
+ghost use Rattle.std.specs.Borrow.{sem, RestsIfErr};
+ghost use Rattle.sqlite.specs.State.{HasCleanDisk, Survives};
+ghost use Rattle.sqlite.specs.Held.{state};
+ghost use Rattle.desk_tables.specs.contracts.tables.Tables.{the_row};
+ghost use Rattle.desk_tables.specs.Transactions.{BeginsWork, EndsWork, IsUndone, LeavesOnly, NoTrees};
+
+use crate::fault::fault_of;
+use crate::work::Work;
+use onix_message::agreement::StoreFault;
+use sqlite::{Alter, Connection};
+
+/// The tables of a desk, over a store of `sqlite`.
+#[derive(Drop)]
+pub struct Tables<S: Alter> {
+    pub(crate) connection: Connection<S>,
+}
+
+impl<S: Alter> Tables<S> {
+    /// The tables of a connection. It takes no memory and does not touch the store.
+    pub fn new(connection: Connection<S>) -> Tables<S>
+        ensures { result.connection ≡ connection }
+    {
+        Tables { connection }
+    }
+
+    /// The connection.
+    pub fn into_connection(self) -> Connection<S>
+        ensures { result ≡ self.connection }
+    {
+        self.connection
+    }
+
+    fn begin(&mut self) -> Result<(), StoreFault>
+        ensures { BeginsWork (state S.Store self.old.connection) (state S.Store self.new.connection) result }
+    {
+        match self.connection.execute("BEGIN", &[]) {
+            Ok(_) => Ok(()),
+            Err(error) => Err(fault_of(error)),
+        }
+    }
+
+    pub(crate) fn roll_back(&mut self)
+        ensures undone { HasCleanDisk (state S.Store self.new.connection) → IsUndone (state S.Store self.old.connection) (state S.Store self.new.connection) }
+        ensures survives { Survives (state S.Store self.old.connection) (state S.Store self.new.connection) NoTrees }
+    {
+        if !self.connection.is_autocommit() {
+            // Whatever it answers, the transaction is over.
+            let _ = self.connection.execute("ROLLBACK", &[]);
+        }
+    }
+
+    pub(crate) fn finish(&mut self, spent: bool) -> Result<(), StoreFault>
+        ensures ends { EndsWork (state S.Store self.old.connection) (state S.Store self.new.connection) spent result }
+        ensures durable { HasCleanDisk (state S.Store self.new.connection) → OnOk result (LeavesOnly (state S.Store self.new.connection)) }
+    {
+        if spent || self.connection.is_autocommit() {
+            self.roll_back();
+            return Err(StoreFault::Unusable);
+        }
+        match self.connection.execute("COMMIT", &[]) {
+            Ok(_) => Ok(()),
+            Err(error) => Err(fault_of(error)),
+        }
+    }
+
+    /// Begins a transaction. `Unusable` where the connection still stands in one; otherwise a fault
+    /// is one of the store, and the last commit stays.
+    pub fn work(&mut self) -> Result<Work<'_, S>, StoreFault>
+        ensures* rests { sem 𝓛 (RestsIfErr (the_row S.row S.Store) self.entry (λ w. w.tables.ghost_name) result (λ last. BeginsWork (state S.Store self.old.connection) (state S.Store last.connection) result)) }
+        ensures same_reference { IfOk result (λ w. w.tables.ghost_name ≡ self.entry.ghost_name) }
+        ensures begun { IfOk result (λ w. BeginsWork (state S.Store self.old.connection) (state S.Store w.tables.now.connection) result) }
+        ensures fresh { IfOk result (λ w. w.spent ≡ false) }
+    {
+        self.begin()?;
+        Ok(Work {
+            tables: self,
+            spent: false,
+        })
+    }
+}

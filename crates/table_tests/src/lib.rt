@@ -1,0 +1,15 @@
+//! Tests of `desk_tables` by its public calls: each call once over the store in memory and over
+//! files, what is refused, and the way from version 1 to version 2. They stand in a crate of their
+//! own, since a library with tests is proved once more with them.
+#![tactic(auto)]
+
+#[cfg(test)]
+mod calls;
+#[cfg(test)]
+mod migration;
+#[cfg(test)]
+mod refusals;
+#[cfg(test)]
+mod sample;
+#[cfg(test)]
+mod strangers;

@@ -1,7 +1,7 @@
 // A message that is being read, row by row. What is left over where a row is refused is dropped by a
 // call, and not where it goes out of scope: docs/DECISIONS.md says why.
 
-ghost use Rattle.std.specs.Prelude.{◌≡◌, ◌≢◌, ◌++◌, ◌∷◌, [], ℕ, List, IfOk, IfErr, MatchResult, true};
+ghost use Rattle.std.specs.Prelude.{◌≡◌, ◌≢◌, ◌++◌, ◌∷◌, [], ℕ, List, IfOk, IfErr, MatchResult, OnOk, true};
 ghost use Rattle.std.specs.List.{AllByRecursion, flat_map};
 ghost use Rattle.onix_message.specs.private.Draft.{Adds, AllowsProduct, DraftHasDetails, PartHasDetails, Refuses, RefusesProduct, RefusesSupply, allows, draft_rows, part_rows};
 ghost use Rattle.onix_message.specs.PartRows.{SuppliesHaveDetails, detail_rows, product_rows, supply_rows};
@@ -13,6 +13,7 @@ use crate::parts::{Price, Product, ProductSupply, SupplyDetail};
 use crate::row::Row;
 use onix_terms::items::Items;
 use std::alloc::AllocError;
+use std::mem;
 
 /// The part of the last product that stands open.
 #[derive(Drop)]
@@ -95,52 +96,45 @@ fn close_to_product(part: Part) -> Result<Product, StepFault>
     }
 }
 
-// All products, where another or the end may come.
-fn close_to_products(products: Items<Product>, part: Part) -> Result<Items<Product>, StepFault>
-    requires before { AllByRecursion SuppliesHaveDetails products }
+fn push_product(products: &mut Items<Product>, product: Product) -> Result<(), AllocError>
+    requires before { AllByRecursion SuppliesHaveDetails products.old }
+    requires own { SuppliesHaveDetails product }
+    ensures rows { OnOk result (flat_map product_rows products.new ≡ flat_map product_rows products.old ++ product_rows product) }
+    ensures details { OnOk result (AllByRecursion SuppliesHaveDetails products.new) }
+{
+    products.push(product)
+}
+
+// All products, where another or the end may come: the one that stands open joins those before it.
+fn close_to_products(products: &mut Items<Product>, part: Part) -> Result<(), StepFault>
+    requires before { AllByRecursion SuppliesHaveDetails products.old }
     requires own { PartHasDetails part }
-    ensures rows { IfOk result (λ ps. flat_map product_rows ps ≡ flat_map product_rows products ++ part_rows part) }
-    ensures details { IfOk result (λ ps. AllByRecursion SuppliesHaveDetails ps) }
-    ensures allowed { IfOk result (λ _. AllowsProduct part) }
+    ensures rows { OnOk result (flat_map product_rows products.new ≡ flat_map product_rows products.old ++ part_rows part) }
+    ensures details { OnOk result (AllByRecursion SuppliesHaveDetails products.new) }
+    ensures allowed { OnOk result (AllowsProduct part) }
     ensures refused { IfErr result (λ e. RefusesProduct part e) }
 {
     match part {
-        Part::Nothing => Ok(products),
+        Part::Nothing => Ok(()),
         open => match close_to_product(open) {
             Ok(product) => Ok(push_product(products, product)?),
-            Err(fault) => {
-                drop(products);
-                Err(fault)
-            }
+            Err(fault) => Err(fault),
         },
     }
 }
 
-fn push_product(
-    mut products: Items<Product>,
-    product: Product,
-) -> Result<Items<Product>, AllocError>
-    requires before { AllByRecursion SuppliesHaveDetails products }
-    requires own { SuppliesHaveDetails product }
-    ensures rows { IfOk result (λ ps. flat_map product_rows ps ≡ flat_map product_rows products ++ product_rows product) }
-    ensures details { IfOk result (λ ps. AllByRecursion SuppliesHaveDetails ps) }
-{
-    products.push(product)?;
-    Ok(products)
-}
-
-fn add_product(draft: Draft, product: Product) -> Result<Draft, StepFault>
+fn add_product(draft: &mut Draft, product: Product) -> Result<(), StepFault>
     requires bare { product.supplies ≡ [] }
-    requires details { DraftHasDetails draft }
-    ensures added { IfOk result (λ new. Adds draft (row.Product product) new) }
-    ensures refused { IfErr result (λ e. Refuses draft (row.Product product) e) }
+    requires details { DraftHasDetails draft.old }
+    ensures added { OnOk result (Adds draft.old (row.Product product) draft.new) }
+    ensures refused { IfErr result (λ e. Refuses draft.old (row.Product product) e) }
 {
-    let Draft { products, part } = draft;
-    match close_to_products(products, part) {
-        Ok(products) => Ok(Draft {
-            products,
-            part: Part::InProduct(product),
-        }),
+    let part = mem::replace(&mut draft.part, Part::Nothing);
+    match close_to_products(&mut draft.products, part) {
+        Ok(()) => {
+            draft.part = Part::InProduct(product);
+            Ok(())
+        }
         Err(fault) => {
             drop(product);
             Err(fault)
@@ -148,119 +142,94 @@ fn add_product(draft: Draft, product: Product) -> Result<Draft, StepFault>
     }
 }
 
-fn add_end(draft: Draft, count: u32) -> Result<Draft, StepFault>
-    requires { DraftHasDetails draft }
-    ensures added { IfOk result (λ new. Adds draft (row.EndMessage count) new) }
-    ensures refused { IfErr result (λ e. Refuses draft (row.EndMessage count) e) }
+fn add_end(draft: &mut Draft, count: u32) -> Result<(), StepFault>
+    requires { DraftHasDetails draft.old }
+    ensures added { OnOk result (Adds draft.old (row.EndMessage count) draft.new) }
+    ensures refused { IfErr result (λ e. Refuses draft.old (row.EndMessage count) e) }
 {
-    let Draft { products, part } = draft;
-    let products = close_to_products(products, part)?;
-    Ok(Draft {
-        products,
-        part: Part::Ended(count),
-    })
+    let part = mem::replace(&mut draft.part, Part::Nothing);
+    close_to_products(&mut draft.products, part)?;
+    draft.part = Part::Ended(count);
+    Ok(())
 }
 
-fn add_supply(draft: Draft, supply: ProductSupply) -> Result<Draft, StepFault>
+fn add_supply(draft: &mut Draft, supply: ProductSupply) -> Result<(), StepFault>
     requires bare { supply.details ≡ [] }
-    requires details { DraftHasDetails draft }
-    ensures added { IfOk result (λ new. Adds draft (row.ProductSupply supply) new) }
-    ensures refused { IfErr result (λ e. Refuses draft (row.ProductSupply supply) e) }
+    requires details { DraftHasDetails draft.old }
+    ensures added { OnOk result (Adds draft.old (row.ProductSupply supply) draft.new) }
+    ensures refused { IfErr result (λ e. Refuses draft.old (row.ProductSupply supply) e) }
 {
-    let Draft { products, part } = draft;
+    let part = mem::replace(&mut draft.part, Part::Nothing);
     match close_to_product(part) {
-        Ok(product) => Ok(Draft {
-            products,
-            part: Part::InSupply(product, supply),
-        }),
+        Ok(product) => {
+            draft.part = Part::InSupply(product, supply);
+            Ok(())
+        }
         Err(fault) => {
             drop(supply);
-            drop(products);
             Err(fault)
         }
     }
 }
 
-fn add_detail(draft: Draft, detail: SupplyDetail) -> Result<Draft, StepFault>
-    requires bare { detail.prices ≡ [] }
-    requires details { DraftHasDetails draft }
-    ensures added { IfOk result (λ new. Adds draft (row.SupplyDetail detail) new) }
-    ensures refused { IfErr result (λ e. Refuses draft (row.SupplyDetail detail) e) }
+// The detail takes the place of the one that stood open, which joins those of its supply.
+fn next_detail(
+    supply: &mut ProductSupply,
+    last: &mut SupplyDetail,
+    detail: SupplyDetail,
+) -> Result<(), AllocError>
+    ensures rows { OnOk result (supply_rows supply.new ≡ supply_rows supply.old ++ detail_rows last.old) }
+    ensures last { OnOk result (last.new ≡ detail) }
 {
-    let Draft { products, part } = draft;
-    match part {
-        Part::InSupply(product, supply) => Ok(Draft {
-            products,
-            part: Part::InDetail(product, supply, detail),
-        }),
-        Part::InDetail(product, supply, last) => {
-            let Ok(supply) = close_detail(supply, last) else {
-                drop(detail);
-                drop(product);
-                drop(products);
-                return Err(StepFault::Memory);
-            };
-            Ok(Draft {
-                products,
-                part: Part::InDetail(product, supply, detail),
-            })
+    supply.details.push(mem::replace(last, detail))
+}
+
+fn add_detail(draft: &mut Draft, detail: SupplyDetail) -> Result<(), StepFault>
+    requires bare { detail.prices ≡ [] }
+    requires details { DraftHasDetails draft.old }
+    ensures added { OnOk result (Adds draft.old (row.SupplyDetail detail) draft.new) }
+    ensures refused { IfErr result (λ e. Refuses draft.old (row.SupplyDetail detail) e) }
+{
+    if let Part::InDetail(_, supply, last) = &mut draft.part {
+        return Ok(next_detail(supply, last, detail)?);
+    }
+    match mem::replace(&mut draft.part, Part::Nothing) {
+        Part::InSupply(product, supply) => {
+            draft.part = Part::InDetail(product, supply, detail);
+            Ok(())
         }
         other => {
             drop(other);
             drop(detail);
-            drop(products);
             Err(StepFault::OutOfOrder)
         }
     }
 }
 
-// The detail that stands open, with one more price.
-fn with_price(mut detail: SupplyDetail, price: Price) -> Result<SupplyDetail, AllocError>
-    ensures { IfOk result (λ d. detail_rows d ≡ detail_rows detail ++ row.Price price ∷ []) }
+fn add_price(draft: &mut Draft, price: Price) -> Result<(), StepFault>
+    requires { DraftHasDetails draft.old }
+    ensures added { OnOk result (Adds draft.old (row.Price price) draft.new) }
+    ensures refused { IfErr result (λ e. Refuses draft.old (row.Price price) e) }
 {
-    detail.prices.push(price)?;
-    Ok(detail)
-}
-
-fn add_price(draft: Draft, price: Price) -> Result<Draft, StepFault>
-    requires { DraftHasDetails draft }
-    ensures added { IfOk result (λ new. Adds draft (row.Price price) new) }
-    ensures refused { IfErr result (λ e. Refuses draft (row.Price price) e) }
-{
-    let Draft { products, part } = draft;
-    match part {
-        Part::InDetail(product, supply, detail) => {
-            let Ok(detail) = with_price(detail, price) else {
-                drop(supply);
-                drop(product);
-                drop(products);
-                return Err(StepFault::Memory);
-            };
-            Ok(Draft {
-                products,
-                part: Part::InDetail(product, supply, detail),
-            })
-        }
-        other => {
-            drop(other);
+    match &mut draft.part {
+        Part::InDetail(_, _, detail) => Ok(detail.prices.push(price)?),
+        _ => {
             drop(price);
-            drop(products);
             Err(StepFault::OutOfOrder)
         }
     }
 }
 
-// Adds a row, where it may come next.
-pub(crate) fn add_row(draft: Draft, next: Row) -> Result<Draft, StepFault>
+// Adds a row, where it may come next. What the draft holds after a fault is not said.
+pub(crate) fn add_row(draft: &mut Draft, next: Row) -> Result<(), StepFault>
     requires bare { IsBare next }
-    requires details { DraftHasDetails draft }
-    ensures added { IfOk result (λ new. Adds draft next new) }
-    ensures refused { IfErr result (λ e. Refuses draft next e) }
+    requires details { DraftHasDetails draft.old }
+    ensures added { OnOk result (Adds draft.old next draft.new) }
+    ensures refused { IfErr result (λ e. Refuses draft.old next e) }
 {
     match next {
         Row::Message(header) => {
             drop(header);
-            drop(draft);
             Err(StepFault::OutOfOrder)
         }
         Row::Product(product) => add_product(draft, product),

@@ -1,6 +1,6 @@
 // Messages: a header and contents, read from records.
 
-ghost use Rattle.std.specs.Prelude.{◌≡◌, ◌∷◌, IfOk, IfErr, Some, true, false};
+ghost use Rattle.std.specs.Prelude.{◌≡◌, ◌∷◌, IfOk, IfErr, OnOk, Some, true, false};
 ghost use Rattle.onix_message.specs.private.Draft.{Adds, DraftHasDetails, Refuses, Stops, Takes, has_ended};
 ghost use Rattle.onix_message.specs.ContentsText.{IsContents};
 ghost use Rattle.onix_message.specs.Grammar.{IsMessage, is_counted};
@@ -42,17 +42,16 @@ fn is_counted_row(next: &Row, before: usize) -> bool
 }
 
 // Adds a row, where it may come next and counts well.
-fn add_counted_row(draft: Draft, next: Row, before: usize) -> Result<Draft, StepFault>
+fn add_counted_row(draft: &mut Draft, next: Row, before: usize) -> Result<(), StepFault>
     requires bare { IsBare next }
-    requires details { DraftHasDetails draft }
-    ensures added { IfOk result (λ new. (is_counted next before ≡ true) × Adds draft next new) }
-    ensures refused { IfErr result (λ e. is_counted next before ≡ true → Refuses draft next e) }
+    requires details { DraftHasDetails draft.old }
+    ensures added { OnOk result ((is_counted next before ≡ true) × Adds draft.old next draft.new) }
+    ensures refused { IfErr result (λ e. is_counted next before ≡ true → Refuses draft.old next e) }
 {
     if is_counted_row(&next, before) {
         add_row(draft, next)
     } else {
         drop(next);
-        drop(draft);
         Err(StepFault::OutOfOrder)
     }
 }
@@ -61,24 +60,19 @@ fn add_counted_row(draft: Draft, next: Row, before: usize) -> Result<Draft, Step
 fn read_next<'a>(
     alloc: Global,
     opening: &Opening,
-    draft: Draft,
+    draft: &mut Draft,
     from: &Record<'a>,
     fields: &mut Vec<&'a str>,
     before: usize,
-) -> Result<Draft, StepFault>
-    requires { DraftHasDetails draft }
-    ensures added { IfOk result (λ new. Takes opening.now draft from.now before new) }
-    ensures refused { IfErr result (λ e. Stops opening.now draft from.now before e) }
+) -> Result<(), StepFault>
+    requires { DraftHasDetails draft.old }
+    ensures added { OnOk result (Takes opening.now draft.old from.now before draft.new) }
+    ensures refused { IfErr result (λ e. Stops opening.now draft.old from.now before e) }
 {
     match read_row(alloc, opening, from, fields) {
         Ok(next) => add_counted_row(draft, next, before),
-        Err(fault) => {
-            drop(draft);
-            match fault {
-                RowFault::Wrong => Err(StepFault::OutOfOrder),
-                RowFault::Memory => Err(StepFault::Memory),
-            }
-        }
+        Err(RowFault::Wrong) => Err(StepFault::OutOfOrder),
+        Err(RowFault::Memory) => Err(StepFault::Memory),
     }
 }
 
@@ -133,11 +127,17 @@ fn read_products<'a>(
             drop(draft);
             return Err(MessageFault::Malformed { row: 20001 });
         }
-        draft = match read_next(alloc, opening, draft, &next, fields, i + 1) {
-            Ok(draft) => draft,
-            Err(StepFault::OutOfOrder) => return Err(MessageFault::Malformed { row: i as u32 + 2 }),
-            Err(StepFault::Memory) => return Err(MessageFault::Memory),
-        };
+        match read_next(alloc, opening, &mut draft, &next, fields, i + 1) {
+            Ok(()) => {}
+            Err(StepFault::OutOfOrder) => {
+                drop(draft);
+                return Err(MessageFault::Malformed { row: i as u32 + 2 });
+            }
+            Err(StepFault::Memory) => {
+                drop(draft);
+                return Err(MessageFault::Memory);
+            }
+        }
     }
     contents_of_messages();
     close(draft, rest.len() as u32 + 2)

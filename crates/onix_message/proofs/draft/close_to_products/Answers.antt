@@ -41,7 +41,7 @@ returns-in-Err c = record {
 
 pub returns-in_ok-push_product-in-Ok : goal.returns-in_ok-push_product-in-Ok
 returns-in_ok-push_product-in-Ok c = record {
-  rows = c.in_ok-push_product-in-Ok.ensures.rows ∙ ap (λ (t : List Row). flat_map product_rows c.args.products ++ t) c.in-Ok.ensures.rows;
+  rows = c.in_ok-push_product-in-Ok.ensures.rows ∙ ap (λ (t : List Row). flat_map product_rows c.args.products.now ++ t) c.in-Ok.ensures.rows;
   details = c.in_ok-push_product-in-Ok.ensures.details;
   allowed = allows-product c.args.part c.in-Ok.ensures.allowed;
   refused = tt;

@@ -14,7 +14,7 @@ returns-then-i-ge19999-clause-fault c =
 
 pub loop-i-preserved : goal.loop-i-preserved
 loop-i-preserved c =
-    goes-on c.args.opening.now c.args.rest.now c.loop-i.i c.record-next.result c.loop-i.draft c.in-Ok.draft (sym (get_or_from_slice_get c.args.rest.now c.loop-i.i c.record-next.result c.record-next.result c.record-next.ensures)) (omega (arith, c.len-i-end.ensures)) c.loop-i.invariant c.if-i-ge19999.false c.in-Ok.ensures.added
+    goes-on c.args.opening.now c.args.rest.now c.loop-i.i c.record-next.result c.loop-i.draft c.read_next.new.draft (sym (get_or_from_slice_get c.args.rest.now c.loop-i.i c.record-next.result c.record-next.result c.record-next.ensures)) (omega (arith, c.len-i-end.ensures)) c.loop-i.invariant c.if-i-ge19999.false c.in-Ok.ensures.added
 
 pub returns-in-Err-OutOfOrder-clause-fault : goal.returns-in-Err-OutOfOrder-clause-fault
 returns-in-Err-OutOfOrder-clause-fault c =

@@ -3,9 +3,8 @@
 
 ghost use Rattle.std.specs.Prelude.{◌≡◌, ◌≢◌, ◌++◌, ◌∷◌, [], ℕ, List, IfOk, IfErr, MatchResult, OnOk, true};
 ghost use Rattle.std.specs.List.{AllByRecursion, flat_map};
-ghost use Rattle.onix_message.specs.private.Draft.{Adds, AllowsProduct, DraftHasDetails, PartHasDetails, Refuses, RefusesProduct, RefusesSupply, allows, draft_rows, part_rows};
+ghost use Rattle.onix_message.specs.private.Draft.{Adds, AllowsProduct, DraftHasDetails, IsBare, PartHasDetails, Refuses, RefusesProduct, RefusesSupply, allows, part_rows};
 ghost use Rattle.onix_message.specs.PartRows.{SuppliesHaveDetails, detail_rows, product_rows, supply_rows};
-ghost use Rattle.onix_message.specs.private.Draft.{IsBare};
 ghost use Rattle.onix_message.specs.declared.parts.ProductSupply.{ProductSupply};
 ghost use Rattle.onix_message.specs.declared.row.Row.TheVariants as row;
 

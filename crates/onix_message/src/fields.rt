@@ -1,10 +1,9 @@
 // The fields of a record, and those that several rows have.
 
-ghost use Rattle.std.specs.Prelude.{◌≡◌, ◌++◌, ◌∷◌, [], IsErrOf, OnOk, length, map, nat_le, not, true, false};
+ghost use Rattle.std.specs.Prelude.{◌≡◌, ◌++◌, IsErrOf, OnOk, length, map, nat_le, not, true, false};
 ghost use Rattle.std.specs.List.{list_all};
-ghost use Rattle.onix_message.specs.Fields.{is_clean, is_control, optional, optional_party, party_of, party_fields, territory_fields};
+ghost use Rattle.onix_message.specs.Fields.{is_clean, is_control, optional_party, party_of, party_fields, territory_fields};
 ghost use Rattle.onix_message.specs.Gives.{Gives};
-ghost use Rattle.onix_terms.specs.Code.{code2_of};
 ghost use Rattle.onix_terms.specs.Options.{nonempty};
 ghost use Rattle.onix_terms.specs.Territory.{territory_of};
 

@@ -1,12 +1,8 @@
 // The row with which a message begins.
 
 ghost use Rattle.std.specs.Prelude.{◌≡◌, map};
-ghost use Rattle.onix_message.specs.Fields.{optional};
 ghost use Rattle.onix_message.specs.Gives.{Gives};
 ghost use Rattle.onix_message.specs.Opening.{form_of, opening_fields, opening_from, opening_of};
-ghost use Rattle.onix_terms.specs.Code.{currency_of};
-ghost use Rattle.onix_terms.specs.Digits.{digits_of};
-ghost use Rattle.onix_terms.specs.Number.{number_of};
 
 use crate::fields::{read_fields, read_optional_party, read_party};
 use crate::parts::Header;

@@ -2,12 +2,8 @@
 
 ghost use Rattle.std.specs.Prelude.{◌≡◌, ◌++◌, ◌∷◌, [], OnOk, OnErr, map};
 ghost use Rattle.onix_terms.specs.Amount.{amount_text};
-ghost use Rattle.onix_message.specs.Fields.{optional};
 ghost use Rattle.onix_message.specs.Gives.{Gives};
 ghost use Rattle.onix_message.specs.Price.{day_field, minimum_of, price_from, price_of, quantity_or_one, minimum_fields, price_record};
-ghost use Rattle.onix_terms.specs.Amount.{amount_of};
-ghost use Rattle.onix_terms.specs.Code.{code2_of, currency_of};
-ghost use Rattle.onix_terms.specs.Day.{day_of};
 ghost use Rattle.onix_terms.specs.Quantity.{quantity_from};
 
 use crate::fields::{push_territory, read_territory};

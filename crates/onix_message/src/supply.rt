@@ -1,6 +1,6 @@
 // The supply of a product to a market: its row, and its records.
 
-ghost use Rattle.std.specs.Prelude.{◌≡◌, ◌++◌, ◌∷◌, [], OnOk, OnErr, map};
+ghost use Rattle.std.specs.Prelude.{◌≡◌, ◌++◌, OnOk, OnErr, map};
 ghost use Rattle.onix_message.specs.Supply.{supplies_records, supply_of, supply_record, supply_records};
 ghost use Rattle.onix_message.specs.Gives.{Gives};
 

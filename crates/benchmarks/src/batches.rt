@@ -1,10 +1,10 @@
-// The memory of a batch of the greatest size.
+// The memory of a long batch.
 
 use crate::memory::peak;
 use crate::texts::greatest_batch;
 use desk_batch::batch::run_batch;
-use price_rules::precedence::Precedence;
 use desk_memory::desk::MemoryDesk;
+use price_rules::precedence::Precedence;
 use std::fs::{self, File};
 
 /// Writes the text of a batch of 500 messages of 20 products with prices into the file of this

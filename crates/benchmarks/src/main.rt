@@ -2,7 +2,7 @@
 //! the reading of messages beside `csv` alone and its memory beside the text, `writing` sets the
 //! texts of contents beside `csv` writing the same rows, `orders` sets a long batch in number order
 //! and reversed beside one half as long, and `questions` sets price questions beside catalogue
-//! questions. `text FILE` writes a batch of the greatest size, and `batch FILE` prints the memory
+//! questions. `text FILE` writes a long batch, and `batch FILE` prints the memory
 //! that it takes. The script `bench/run` builds and runs it.
 #![tactic(auto)]
 

@@ -3,8 +3,8 @@
 use crate::texts::small_messages;
 use crate::times::{print_ratio, used};
 use desk_batch::batch::run_batch;
-use price_rules::precedence::Precedence;
 use desk_memory::desk::MemoryDesk;
+use price_rules::precedence::Precedence;
 
 // The time of a batch of so many messages, in microseconds.
 fn time_of(rt: &HostRuntime, count: u32, is_reversed: bool) -> anyhow::Result<u64> {

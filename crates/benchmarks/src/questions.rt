@@ -1,12 +1,12 @@
-// Questions about a catalogue of 5,000 records, and one fold of it from nothing.
+// Questions about a catalogue of 5,000 records, and one copy of it.
 
 use crate::texts::{large_catalogue, repeated};
 use crate::times::{print_ratio, used};
 use desk_batch::batch::run_batch;
+use desk_memory::desk::MemoryDesk;
 use onix_terms::series_name::SeriesName;
 use price_rules::precedence::Precedence;
 use series_rules::desk::Desk;
-use desk_memory::desk::MemoryDesk;
 
 // The time of a batch, in microseconds.
 fn time_of(rt: &HostRuntime, desk: &mut MemoryDesk, text: &str) -> anyhow::Result<u64> {
@@ -23,22 +23,22 @@ fn time_of(rt: &HostRuntime, desk: &mut MemoryDesk, text: &str) -> anyhow::Resul
     Ok(end.saturating_sub(start))
 }
 
-// The time of one fold of the series from nothing, in microseconds.
-fn time_of_fold(rt: &HostRuntime, desk: &mut MemoryDesk) -> anyhow::Result<u64> {
+// The time of one copy of the catalogue of the series, in microseconds.
+fn time_of_copy(rt: &HostRuntime, desk: &mut MemoryDesk) -> anyhow::Result<u64> {
     let Some(series) = SeriesName::read("north") else {
         anyhow::bail!("the series has no name");
     };
     let start = used(rt)?;
     match desk.catalogue(&series) {
         Ok(Some(_)) => {}
-        _ => anyhow::bail!("the series was not folded"),
+        _ => anyhow::bail!("the series has no catalogue"),
     }
     let end = used(rt)?;
     Ok(end.saturating_sub(start))
 }
 
 /// Prints the time of 100 price questions about a catalogue of 5,000 records, as ratios to one
-/// catalogue question and to one fold of the series from nothing.
+/// catalogue question and to one copy of the catalogue.
 pub fn report(rt: &HostRuntime) -> anyhow::Result<()> {
     let alloc = rt.alloc();
     let mut desk = MemoryDesk::new(alloc);
@@ -46,7 +46,7 @@ pub fn report(rt: &HostRuntime) -> anyhow::Result<()> {
     let questions = repeated(alloc, "AskPrice,9780000000042,20250301,GB,GBP,02\n", 100)?;
     let prices = time_of(rt, &mut desk, questions.as_str())?;
     let catalogue = time_of(rt, &mut desk, "AskCatalogue,north\n")?;
-    let fold = time_of_fold(rt, &mut desk)?;
+    let copy = time_of_copy(rt, &mut desk)?;
     println!(rt; "100 price questions: {prices} microseconds of processor time")?;
     print_ratio(
         rt,
@@ -54,6 +54,11 @@ pub fn report(rt: &HostRuntime) -> anyhow::Result<()> {
         prices,
         catalogue,
     )?;
-    print_ratio(rt, "100 price questions, to one fold", prices, fold)?;
+    print_ratio(
+        rt,
+        "100 price questions, to one copy of the catalogue",
+        prices,
+        copy,
+    )?;
     Ok(())
 }

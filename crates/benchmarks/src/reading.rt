@@ -44,7 +44,8 @@ fn messages_of(alloc: Global, bytes: &[u8]) -> anyhow::Result<u64> {
     Ok(count)
 }
 
-/// Prints the time of reading a text of about 4 MB, as a ratio to `csv` alone.
+/// Prints the time of reading a text of about 4 MB, as a ratio to `csv` alone, and the greatest
+/// memory of the process as one to the text.
 pub fn report(rt: &HostRuntime) -> anyhow::Result<()> {
     let alloc = rt.alloc();
     let text = messages(alloc, 4_150_000)?;

@@ -69,7 +69,8 @@ impl<'a> RecordReader<'a> {
         }
     }
 
-    /// A reader of a text of at most 4,194,304 bytes. It never fails for want of memory.
+    /// A reader of a text of at most 4,194,304 bytes. `TooLarge` exactly above that, `NotUtf8` exactly
+    /// where within it the bytes are no text.
     pub fn new(alloc: Global, bytes: &'a [u8]) -> Result<RecordReader<'a>, RecordFault>
         ensures records { IfOk result (λ reader. (length bytes.now ≤ limit) × IsUtf8 bytes.now × (reader ≡ records_of bytes.now)) }
         ensures too_large { limit < length bytes.now → IsErrOf result RecordFault.TooLarge }
@@ -87,8 +88,7 @@ impl<'a> RecordReader<'a> {
     }
 
     /// Reads the next record in place of what `into` held, or tells that there is none. One
-    /// `into` serves all records of a text. Without memory the reader has no records left, and
-    /// each further read fails too.
+    /// `into` serves all records of a text. Without memory the reader has no records left.
     pub fn read(&mut self, into: &mut StringRecord) -> Result<bool, AllocError>
         ensures found { IfOk result (λ found. found ≡ true → self.old ≡ fields_of into.new ∷ self.new) }
         ensures ended { IfOk result (λ found. found ≡ false → (self.old ≡ []) × (self.new ≡ [])) }

@@ -45,7 +45,7 @@ fn start_of(next: u32, from: Number) -> Number
 #[derive(Drop)]
 pub(crate) struct Fold {
     pub(crate) catalogue: Catalogue,
-    /// What each message did, in order of number.
+    /// What stands at each number did, in order of number; a waived one did nothing.
     pub(crate) effects: Vec<Effect>,
     /// The first number that is not folded.
     pub(crate) next: u32,

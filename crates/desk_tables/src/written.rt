@@ -28,8 +28,7 @@ fn texts_beside(beside: &Text, territory: &Territory) -> Result<TerritoryTexts, 
     ensures included { IfOk result (λ t. t.included ≡ countries_text territory.now.included) }
     ensures excluded { IfOk result (λ t. t.excluded ≡ countries_text territory.now.excluded) }
 {
-    let copy = beside.clone()?.into_string();
-    let alloc = *copy.allocator();
+    let alloc = beside.allocator();
     let included = countries_text(alloc, territory.included.as_slice())?;
     let excluded = countries_text(alloc, territory.excluded.as_slice())?;
     Ok(TerritoryTexts { included, excluded })

@@ -52,7 +52,7 @@ with_supply s g = record { products = g.products; supplies = record s { details 
 abbrev pub with_detail : SupplyDetail → PartLists → PartLists
 with_detail d g = record { products = g.products; supplies = g.supplies; details = record d { prices = g.prices } ∷ g.details; prices = [] }
 
--- a price takes no_parts
+-- a price takes nothing
 abbrev pub with_price : Price → PartLists → PartLists
 with_price p g = record { products = g.products; supplies = g.supplies; details = g.details; prices = p ∷ g.prices }
 

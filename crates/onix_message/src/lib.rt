@@ -16,7 +16,6 @@ pub mod fields;
 pub mod laws;
 pub mod message;
 mod opening;
-pub mod part_records;
 pub mod parts;
 mod plain;
 mod price;

@@ -8,9 +8,9 @@ ghost use Rattle.series_rules.specs.declared.requests.Request.{Request};
 
 use crate::fault::{Fault, report};
 use desk_batch::batch::{BatchFault, run_batch};
+use desk_memory::desk::MemoryDesk;
 use price_rules::precedence::Precedence;
 use series_rules::desk::Desk;
-use desk_memory::desk::MemoryDesk;
 use std::alloc::Global;
 use std::io::{Read, Write};
 

@@ -1,6 +1,6 @@
 // Effects, catalogues, waivers and gaps.
 
-pub const QUESTIONS: [&str; 12] = [
+pub const QUESTIONS: [&str; 13] = [
     "one message fills a gap before two
 Agree,north,06,4012345000009,06,5012345678900,1
 Message,1,06,4012345000009,06,5012345678900,3,1,20250301,,
@@ -201,6 +201,29 @@ applied,north,1,replaced=0,updated=0,deleted=0,unknown=0,ignored=0
 held,north,3,waiting-for=2
 waived,north,2
 gaps,north,first=1,next=4,greatest=3,held=0,missing=0
+",
+    "a waiver that closes a gap
+Agree,north,06,4012345000009,06,5012345678900,1
+Message,1,06,4012345000009,06,5012345678900,2,1,20250301,02,GBP
+Product,R2,03,15,9781234567897
+ProductSupply,GB IE,,
+SupplyDetail,04,06,4012345000009,North Books,21,
+Price,,12.99,,,,,,
+EndMessage,5
+Waive,north,1
+AskCatalogue,north
+AskPrice,9781234567897,20250301,GB,GBP,02
+-- status 0
+agreed,north,1
+held,north,2,waiting-for=1
+waived,north,1
+catalogue,north,1
+record,R2,15,9781234567897
+ProductSupply,GB IE,,
+SupplyDetail,04,06,4012345000009,North Books,21,
+Price,02,12.990,GBP,,WORLD,,,
+price,9781234567897,1
+offer,north,R2,1,21,12.990
 ",
     "a waiver ahead of its turn is held like a message
 Agree,north,06,4012345000009,06,5012345678900,1

@@ -2,9 +2,11 @@
 //! A list of requests has its latest request first.
 //!
 //! The definitions are in `specs/`: `Agreements` (which agreements stand), `Firsts` (what stands
-//! at each number), `Series` (a series up to its first gap), `Answers` (the answer to each
-//! request) and `Content` (what two lists of requests have in common). Code meets them through
-//! the trait `desk::Desk`. What a desk's proof needs of them stands beside them, in
+//! at each number), `Series` (a series up to its first gap), `Gaps` (the report on a series),
+//! `Offers` and `PriceAnswers` (what is answered about an article), `Answers` (the answer to each
+//! request), `Runs` (a run of requests) and `Content` (what two lists of requests have in common);
+//! `laws` says what they come to. Code meets them through the trait `desk::Desk`; this crate has no
+//! desk of its own. What a desk's proof needs of them stands beside them, in
 //! `AgreementLemmas`, `FirstLemmas`, `FrontLemmas`, `GapLemmas` and `OfferLemmas`.
 #![tactic(auto)]
 

@@ -8,6 +8,9 @@ use clap::{Arg, ArgAction, Command, Error};
 use std::alloc::{AllocError, Global};
 use std::io::Write;
 
+/// The version that `--version` prints.
+const VERSION: &str = "0.1.0";
+
 /// What the program is asked to do.
 #[derive(Clone, Copy, Debug)]
 pub enum Invocation<'a> {
@@ -20,7 +23,7 @@ pub enum Invocation<'a> {
 #[derive(Drop)]
 pub enum Reading<'a> {
     Run(Invocation<'a>),
-    /// Asked-for help.
+    /// Help or the version, where asked for.
     Help(String),
     /// A fault of the command line, as clap words it.
     Wrong(String),
@@ -51,6 +54,7 @@ fn rules<'a>(alloc: Global) -> Arg<'a> {
 // The program's words, without its command and option.
 fn program<'a>(alloc: Global) -> Command<'a> {
     Command::new(alloc, "onixdesk")
+        .version(VERSION)
         .about(
             "The intake of a bookshop's buying desk: numbered ONIX messages in, proved answers out",
         )
@@ -93,7 +97,7 @@ pub fn read<'a>(alloc: Global, words: &'a [&'a str]) -> Reading<'a> {
     }
 }
 
-/// Writes help that was asked for, and gives the status.
+/// Writes help or the version, which was asked for, and gives the status.
 pub fn print_help<W: Write, E: Write>(text: &str, output: &mut W, errors: &mut E) -> u8
     ensures { result ≤ 3 }
 {

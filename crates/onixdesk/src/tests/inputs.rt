@@ -73,7 +73,7 @@ pub struct CommandLine {
     pub status: u8,
 }
 
-pub static COMMAND_LINES: [CommandLine; 11] = [
+pub static COMMAND_LINES: [CommandLine; 12] = [
     CommandLine {
         name: "no command",
         words: &["onixdesk"],
@@ -95,6 +95,12 @@ pub static COMMAND_LINES: [CommandLine; 11] = [
     CommandLine {
         name: "help",
         words: &["onixdesk", "--help"],
+        prints: true,
+        status: 0,
+    },
+    CommandLine {
+        name: "the version",
+        words: &["onixdesk", "--version"],
         prints: true,
         status: 0,
     },

@@ -1,6 +1,6 @@
 // One record that is lent.
 
-ghost use Rattle.std.specs.Prelude.{◌≡◌, ◌≤◌, ◌<◌, ◌-◌, ◌∷◌, [], OnOk, IfSome, IfNone, Some, length, take, drop, map, slice_get, option_map};
+ghost use Rattle.std.specs.Prelude.{◌≡◌, ◌≤◌, ◌<◌, ◌-◌, ◌++◌, ◌∷◌, [], OnOk, OnErr, IfSome, IfNone, Some, length, take, drop, map, slice_get, option_map};
 ghost use Rattle.std.specs.List.{flat_map};
 
 use crate::fields::FieldBuffer;
@@ -67,6 +67,14 @@ impl<'a> Record<'a> {
         ensures { result.now ≡ flat_map (λ f. f) self.now }
     {
         self.fields.bytes_of(self.start, self.end)
+    }
+
+    // Adds the fields to others, all of them, or none where there is no memory.
+    pub(crate) fn copy_to(&self, to: &mut FieldBuffer) -> Result<(), AllocError>
+        ensures ok { OnOk result (to.new ≡ to.old ++ self.now) }
+        ensures err { OnErr result (to.new ≡ to.old) }
+    {
+        to.push_part(self.fields, self.start, self.end)
     }
 
     /// The fields from one index to before another, counted from 0.

@@ -1,10 +1,10 @@
 // The fields of one record.
 
-ghost use Rattle.std.specs.Prelude.{◌≡◌, ◌≤◌, ◌-◌, ◌++◌, ◌∷◌, [], OnOk, OnErr, length, take, drop, map, slice_get, option_map};
+ghost use Rattle.std.specs.Prelude.{◌≡◌, ◌≤◌, ◌<◌, ◌-◌, ◌++◌, ◌∷◌, [], OnOk, OnErr, Some, length, take, drop, map, slice_get, option_map};
 ghost use Rattle.std.specs.List.{flat_map};
 ghost use Rattle.csv.specs.Records.{fields_of};
 
-use crate::ends::{add_ends, end_of};
+use crate::ends::{add_ends, end_of, span};
 use crate::record::Record;
 use csv::StringRecord;
 use std::alloc::{AllocError, Global};
@@ -148,12 +148,19 @@ impl FieldBuffer {
     pub fn get(&self, index: usize) -> Option<&str>
         ensures { option_map (λ s. s.now) result ≡ slice_get self.now index }
     {
-        if index >= self.ends.len() {
+        if index >= self.len() {
             return None;
         }
-        let start = end_of(&self.ends, index);
-        let end = end_of(&self.ends, index + 1);
-        Some(unsafe { str::from_utf8_unchecked(&self.bytes.as_slice()[start..end]) })
+        Some(self.at(index))
+    }
+
+    // The field at an index that there is, counted from 0.
+    pub(crate) fn at(&self, index: usize) -> &str
+        requires { index < length self.now }
+        ensures { slice_get self.now index ≡ Some result.now }
+    {
+        let (start, end) = span(&self.ends, index);
+        unsafe { str::from_utf8_unchecked(&self.bytes.as_slice()[start..end]) }
     }
 
     // The bytes of the fields from one index to before another.

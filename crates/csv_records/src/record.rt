@@ -48,7 +48,7 @@ impl<'a> Record<'a> {
         if index >= self.end - self.start {
             return None;
         }
-        self.fields.get(self.start + index)
+        Some(self.at(index))
     }
 
     /// The field at an index that there is, counted from 0.
@@ -56,10 +56,8 @@ impl<'a> Record<'a> {
         requires { index < length self.now }
         ensures { slice_get self.now index ≡ Some result.now }
     {
-        match self.get(index) {
-            Some(text) => text,
-            None => "",
-        }
+        let _end = self.end;
+        self.fields.at(self.start + index)
     }
 
     /// The bytes of all fields, one after the other.

@@ -1,10 +1,10 @@
 // The fields of one record.
 
-ghost use Rattle.std.specs.Prelude.{◌≡◌, ◌≤◌, ◌-◌, ◌++◌, ◌∷◌, [], OnOk, OnErr, length, take, drop, map, slice_get, option_map};
+ghost use Rattle.std.specs.Prelude.{◌≡◌, ◌≤◌, ◌<◌, ◌-◌, ◌++◌, ◌∷◌, [], OnOk, OnErr, Some, length, take, drop, map, slice_get, option_map};
 ghost use Rattle.std.specs.List.{flat_map};
 ghost use Rattle.csv.specs.Records.{fields_of};
 
-use crate::ends::end_of;
+use crate::ends::{add_ends, end_of, span};
 use crate::record::Record;
 use csv::StringRecord;
 use std::alloc::{AllocError, Global};
@@ -81,15 +81,31 @@ impl FieldBuffer {
         ensures ok { OnOk result (self.new ≡ self.old ++ from.now) }
         ensures err { OnErr result (self.new ≡ self.old) }
     {
-        let count = self.len();
-        for i in 0..from.len() {
-            if let Some(text) = from.get(i) {
-                let Ok(()) = self.push(text) else {
-                    self.truncate(count);
-                    return Err(AllocError);
-                };
-            }
-        }
+        from.copy_to(self)
+    }
+
+    // Adds the fields of another buffer from one index to before another, all of them, or none
+    // where there is no memory. Their bytes are copied at once.
+    pub(crate) fn push_part(
+        &mut self,
+        from: &FieldBuffer,
+        start: usize,
+        end: usize,
+    ) -> Result<(), AllocError>
+        requires { (start ≤ end) × (end ≤ length from.now) }
+        ensures ok { OnOk result (self.new ≡ self.old ++ take (end - start) (drop start from.now)) }
+        ensures err { OnErr result (self.new ≡ self.old) }
+    {
+        let first = end_of(&from.ends, start);
+        let last = end_of(&from.ends, end);
+        let size = self.bytes.len();
+        self.bytes
+            .extend_from_slice(&from.bytes.as_slice()[first..last])?;
+        let ends = &from.ends.as_slice()[start..end];
+        let Ok(()) = add_ends(&mut self.ends, ends, first, size) else {
+            self.bytes.truncate(size);
+            return Err(AllocError);
+        };
         Ok(())
     }
 
@@ -132,12 +148,19 @@ impl FieldBuffer {
     pub fn get(&self, index: usize) -> Option<&str>
         ensures { option_map (λ s. s.now) result ≡ slice_get self.now index }
     {
-        if index >= self.ends.len() {
+        if index >= self.len() {
             return None;
         }
-        let start = end_of(&self.ends, index);
-        let end = end_of(&self.ends, index + 1);
-        Some(unsafe { str::from_utf8_unchecked(&self.bytes.as_slice()[start..end]) })
+        Some(self.at(index))
+    }
+
+    // The field at an index that there is, counted from 0.
+    pub(crate) fn at(&self, index: usize) -> &str
+        requires { index < length self.now }
+        ensures { slice_get self.now index ≡ Some result.now }
+    {
+        let (start, end) = span(&self.ends, index);
+        unsafe { str::from_utf8_unchecked(&self.bytes.as_slice()[start..end]) }
     }
 
     // The bytes of the fields from one index to before another.

@@ -1,6 +1,6 @@
 // One record that is lent.
 
-ghost use Rattle.std.specs.Prelude.{◌≡◌, ◌≤◌, ◌<◌, ◌-◌, ◌∷◌, [], OnOk, IfSome, IfNone, Some, length, take, drop, map, slice_get, option_map};
+ghost use Rattle.std.specs.Prelude.{◌≡◌, ◌≤◌, ◌<◌, ◌-◌, ◌++◌, ◌∷◌, [], OnOk, OnErr, IfSome, IfNone, Some, length, take, drop, map, slice_get, option_map};
 ghost use Rattle.std.specs.List.{flat_map};
 
 use crate::fields::FieldBuffer;
@@ -48,7 +48,7 @@ impl<'a> Record<'a> {
         if index >= self.end - self.start {
             return None;
         }
-        self.fields.get(self.start + index)
+        Some(self.at(index))
     }
 
     /// The field at an index that there is, counted from 0.
@@ -56,10 +56,8 @@ impl<'a> Record<'a> {
         requires { index < length self.now }
         ensures { slice_get self.now index ≡ Some result.now }
     {
-        match self.get(index) {
-            Some(text) => text,
-            None => "",
-        }
+        let _end = self.end;
+        self.fields.at(self.start + index)
     }
 
     /// The bytes of all fields, one after the other.
@@ -67,6 +65,14 @@ impl<'a> Record<'a> {
         ensures { result.now ≡ flat_map (λ f. f) self.now }
     {
         self.fields.bytes_of(self.start, self.end)
+    }
+
+    // Adds the fields to others, all of them, or none where there is no memory.
+    pub(crate) fn copy_to(&self, to: &mut FieldBuffer) -> Result<(), AllocError>
+        ensures ok { OnOk result (to.new ≡ to.old ++ self.now) }
+        ensures err { OnErr result (to.new ≡ to.old) }
+    {
+        to.push_part(self.fields, self.start, self.end)
     }
 
     /// The fields from one index to before another, counted from 0.

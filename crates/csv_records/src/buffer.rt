@@ -1,6 +1,7 @@
 // Records in one buffer.
 
-ghost use Rattle.std.specs.Prelude.{◌≡◌, ◌<◌, ◌++◌, ◌∷◌, ◌↔◌, [], IsTrue, OnOk, OnErr, Some, length, take, map, slice_get};
+ghost use Rattle.std.specs.Prelude.{◌≡◌, ◌≤◌, ◌<◌, ◌-◌, ◌++◌, ◌∷◌, ◌↔◌, [], IsTrue, IfOk, OnOk, OnErr, Some, length, take, drop, map, slice_get};
+ghost use Rattle.std.specs.List.{flat_map};
 ghost use Rattle.csv.specs.Records.{fields_of};
 
 use crate::ends::{end_of, span};
@@ -54,6 +55,20 @@ impl RecordBuffer {
             fields: FieldBuffer::new(alloc),
             ends: Vec::new(alloc),
         }
+    }
+
+    /// No records, with room for so many, of so many fields and bytes in all.
+    pub fn with_capacity(
+        alloc: Global,
+        records: usize,
+        fields: usize,
+        bytes: usize,
+    ) -> Result<RecordBuffer, AllocError>
+        ensures { IfOk result (λ r. r ≡ []) }
+    {
+        let fields = FieldBuffer::with_capacity(alloc, fields, bytes)?;
+        let ends = Vec::with_capacity(alloc, records)?;
+        Ok(RecordBuffer { fields, ends })
     }
 
     /// How many records there are.
@@ -121,6 +136,16 @@ impl RecordBuffer {
     {
         let (start, end) = span(&self.ends, index);
         Record::of(&self.fields, start, end)
+    }
+
+    // The fields of the records from one index to before another, one after the other.
+    pub(crate) fn fields_of(&self, start: usize, end: usize) -> Record<'_>
+        requires { (start ≤ end) × (end ≤ length self.now) }
+        ensures { result ≡ flat_map (λ r. r) (take (end - start) (drop start self.now)) }
+    {
+        let first = end_of(&self.ends, start);
+        let last = end_of(&self.ends, end);
+        Record::of(&self.fields, first, last)
     }
 
     /// All records.

@@ -1,6 +1,6 @@
 // The fields of one record.
 
-ghost use Rattle.std.specs.Prelude.{◌≡◌, ◌≤◌, ◌<◌, ◌-◌, ◌++◌, ◌∷◌, [], OnOk, OnErr, Some, length, take, drop, map, slice_get, option_map};
+ghost use Rattle.std.specs.Prelude.{◌≡◌, ◌≤◌, ◌<◌, ◌-◌, ◌++◌, ◌∷◌, [], IfOk, OnOk, OnErr, Some, length, take, drop, map, slice_get, option_map};
 ghost use Rattle.std.specs.List.{flat_map};
 ghost use Rattle.csv.specs.Records.{fields_of};
 
@@ -37,6 +37,19 @@ impl FieldBuffer {
             bytes: Vec::new(alloc),
             ends: Vec::new(alloc),
         }
+    }
+
+    /// No fields, with room for so many, of so many bytes in all.
+    pub fn with_capacity(
+        alloc: Global,
+        fields: usize,
+        bytes: usize,
+    ) -> Result<FieldBuffer, AllocError>
+        ensures { IfOk result (λ f. f ≡ []) }
+    {
+        let bytes = Vec::with_capacity(alloc, bytes)?;
+        let ends = Vec::with_capacity(alloc, fields)?;
+        Ok(FieldBuffer { bytes, ends })
     }
 
     /// How many fields there are.

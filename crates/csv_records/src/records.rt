@@ -1,6 +1,7 @@
 // Records that are lent.
 
 ghost use Rattle.std.specs.Prelude.{◌≡◌, ◌≤◌, ◌<◌, ◌-◌, ◌∷◌, [], ◌↔◌, IfSome, IfNone, IsTrue, Some, length, take, drop, slice_get};
+ghost use Rattle.std.specs.List.{flat_map};
 
 use crate::buffer::RecordBuffer;
 use crate::record::Record;
@@ -54,6 +55,13 @@ impl<'a> Records<'a> {
     {
         let _end = self.end;
         self.buffer.record(self.start + index)
+    }
+
+    // The fields of all records, one after the other.
+    pub(crate) fn as_fields(&self) -> Record<'a>
+        ensures { result ≡ flat_map (λ r. r) self.now }
+    {
+        self.buffer.fields_of(self.start, self.end)
     }
 
     /// The records from one index to before another, counted from 0.

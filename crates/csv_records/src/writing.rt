@@ -1,6 +1,6 @@
 // The text of records.
 
-ghost use Rattle.std.specs.Prelude.{◌≡◌, IfOk, OnOk, map};
+ghost use Rattle.std.specs.Prelude.{◌≡◌, [], IfOk, OnOk, map};
 ghost use Rattle.std.specs.String.{string_bytes};
 ghost use Rattle.csv_records.specs.RecordTexts.{records_text};
 
@@ -22,13 +22,22 @@ fn fill_bytes<'a>(from: &Record<'a>, list: &mut Vec<&'a [u8]>) -> Result<(), All
     Ok(())
 }
 
+// Room for the text of records: for their fields, for what stands after each, and for quotes.
+fn room_for(alloc: Global, records: &Records<'_>) -> Result<Vec<u8>, AllocError>
+    ensures { IfOk result (λ bytes. bytes.items ≡ []) }
+{
+    let fields = records.as_fields();
+    let marks = fields.len().saturating_mul(3);
+    Vec::with_capacity(alloc, fields.as_bytes().len().saturating_add(marks))
+}
+
 // The bytes of records, one after the other.
 fn write_each(alloc: Global, records: &Records<'_>) -> Result<Vec<u8>, AllocError>
     ensures { IfOk result (λ bytes. bytes.items ≡ records_text records.now) }
 {
     let mut writer = WriterBuilder::new()
         .flexible(true)
-        .from_writer(Vec::new(alloc));
+        .from_writer(room_for(alloc, records)?);
     let mut fields = Vec::new(alloc);
     for i in 0..records.len() {
         fill_bytes(&records.record(i), &mut fields)?;

@@ -47,7 +47,14 @@ impl From<AllocError> for ContentsFault {
 fn records_of_contents(alloc: Global, products: &[Product]) -> Result<RecordBuffer, AllocError>
     ensures { IfOk result (λ records. records ≡ content_records products.now) }
 {
-    let mut records = RecordBuffer::new(alloc);
+    // Room for products of common size.
+    let count = products.len();
+    let mut records = RecordBuffer::with_capacity(
+        alloc,
+        count.saturating_mul(16),
+        count.saturating_mul(128),
+        count.saturating_mul(512),
+    )?;
     let mut fields = FieldBuffer::new(alloc);
     for product in products {
         append_product(alloc, &mut fields, &mut records, product)?;

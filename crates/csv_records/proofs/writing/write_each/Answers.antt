@@ -6,7 +6,7 @@ use Rattle.csv_records.proofs.writing.write_each.Goals as goal
 pub loop-i-init : goal.loop-i-init
 loop-i-init c =
     let from = c.from_writer-writer.ensures in
-    (rw (from.cfg, c.flexible.ensures, c.new.ensures) refl, from.fields, from.wrote, rw (from.wtr, from.empty, c.new-2.ensures.items, text-nil) refl)
+    (rw (from.cfg, c.flexible.ensures, c.new.ensures) refl, from.fields, from.wrote, rw (from.wtr, from.empty, c.in_ok-room_for.ensures, text-nil) refl)
 
 pub loop-i-preserved : goal.loop-i-preserved
 loop-i-preserved c =

@@ -141,8 +141,8 @@ impl<S: Alter> Work<'_, S> {
         self.create_minimums()
     }
 
-    /// Makes the tables, and the row of their version, 2, in a database that has no table. It is
-    /// `Unusable` where one of the tables is there.
+    /// Makes the tables, and the row of their version, 2. It is `Unusable` where one of the tables is
+    /// there. What it makes is said of a database that has no table.
     pub fn create(&mut self) -> Result<(), StoreFault>
         ensures same_reference { self.new.tables.ghost_name ≡ self.old.tables.ghost_name }
         ensures untouched { IsTrue self.old.spent → (result ≡ Err StoreFault.Unusable) × (self.new.tables.now ≡ self.old.tables.now) }
@@ -163,8 +163,8 @@ impl<S: Alter> Work<'_, S> {
         }
     }
 
-    /// The version of the tables, or `None` where there is no table `meta` with the desk's columns.
-    /// `Unusable` where that table has no row of a version, or one of another value.
+    /// The version of the tables, or `None` where there is no table `meta` with columns of the desk's
+    /// two names. `Unusable` where that table has no row of a version, or one that is no `u32`.
     pub fn version(&mut self) -> Result<Option<u32>, StoreFault>
         ensures same_reference { self.new.tables.ghost_name ≡ self.old.tables.ghost_name }
         ensures untouched { IsTrue self.old.spent → (result ≡ Err StoreFault.Unusable) × (self.new.tables.now ≡ self.old.tables.now) }
@@ -196,7 +196,7 @@ impl<S: Alter> Work<'_, S> {
     }
 }
 
-// Whether one of the tables is a `meta` with the desk's columns.
+// Whether one of the tables is a `meta` with columns of the desk's two names.
 fn has_meta(schema: &Schema) -> bool
     ensures { result ≡ list_any is_meta schema.now.tables }
 {

@@ -11,7 +11,8 @@ ghost use Rattle.desk_tables.specs.RecordRows.{ArticleRow, OfferRow, PriceRow, R
 ghost use Rattle.desk_tables.specs.Rows.{AppliedRow, DeskRows, HeldRow, Holds, HoldsFirst, with_applied, with_held, with_next, with_series};
 
 /// Tables that hold a row which was added last had no row with its key, and have the row that it
-/// refers to. So a call that adds a row is `Ok` only where its key is free and its parent there.
+/// refers to. So a call that adds a row is `Ok` only where its key is free and its parent there;
+/// `put_record` replaces what has its key.
 pub fn added_rows_are_new()
     ensures series { (db : Database) (rows : DeskRows) (a : Agreement) → Holds db (with_series a rows) → CanAgree a rows }
     ensures held { (db : Database) (rows : DeskRows) (row : HeldRow) → Holds db (with_held row rows) → CanHold row rows }
@@ -31,8 +32,7 @@ pub fn missing_rows_change_nothing()
     ensures records { (db : Database) (rows : DeskRows) (series reference : List ℕ) → Holds db rows → has_record series reference rows ≡ false → without_record series reference rows ≡ rows }
 {}
 
-/// A sound database with the trees of one that holds rows of the desk holds the same rows, as does
-/// one that is found in the files of the other.
+/// A sound database with the trees of one that holds rows of the desk holds the same rows.
 pub fn same_trees_hold_the_same_rows()
     ensures second { (a b : Database) (rows : DeskRows) → Holds a rows → IsDatabase b → b.trees ≡ a.trees → Holds b rows }
     ensures first { (a b : Database) (rows : DeskRows) → HoldsFirst a rows → IsDatabase b → b.trees ≡ a.trees → HoldsFirst b rows }

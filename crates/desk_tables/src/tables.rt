@@ -66,8 +66,8 @@ impl<S: Alter> Tables<S> {
         }
     }
 
-    /// Begins a transaction. `Unusable` where the connection still stands in one; otherwise a fault
-    /// is one of the store, and the last commit stays.
+    /// Begins a transaction. It is refused where the connection still stands in one; otherwise a
+    /// fault is one of the store, and the last commit stays.
     pub fn work(&mut self) -> Result<Work<'_, S>, StoreFault>
         ensures* rests { sem 𝓛 (RestsIfErr (the_row S.row S.Store) self.entry (λ w. w.tables.ghost_name) result (λ last. BeginsWork (state S.Store self.old.connection) (state S.Store last.connection) result)) }
         ensures same_reference { IfOk result (λ w. w.tables.ghost_name ≡ self.entry.ghost_name) }

@@ -12,8 +12,9 @@ use onix_message::agreement::StoreFault;
 use sqlite::types::ValueRef;
 use sqlite::{Alter, Row};
 
-/// One transaction on the tables. After a fault of a call each further call, `commit` too, is
-/// `Unusable` and changes nothing. Where it is let go without `commit`, the tables are as before.
+/// One transaction on the tables. After a fault of a call each further call is `Unusable` and changes
+/// nothing, and `commit` is `Unusable` and rolls back. Where it is let go without `commit`, the tables
+/// are as before, if the disk is clean and the connection open.
 pub struct Work<'a, S: Alter> {
     pub(crate) tables: &'a mut Tables<S>,
     // Whether a call has had a fault.
@@ -66,8 +67,9 @@ impl<S: Alter> Work<'_, S> {
     }
 
     /// Ends the transaction: what it changed stands from then on, and after `Ok` it is all that a
-    /// crash leaves. After a fault nothing of it stands. `Unusable` where a call before it had a
-    /// fault; otherwise a fault is one of the store.
+    /// crash leaves. After a fault nothing of it stands in the open connection, and a crash may leave
+    /// what stood before or what was to be committed. `Unusable` where a call before it had a fault;
+    /// otherwise a fault is one of the store.
     pub fn commit(self) -> Result<(), StoreFault>
         ensures ends { EndsWork (state S.Store self.entry.tables.now.connection) (state S.Store self.exit.0.now.connection) self.entry.spent result }
         ensures durable { HasCleanDisk (state S.Store self.exit.0.now.connection) → OnOk result (LeavesOnly (state S.Store self.exit.0.now.connection)) }

@@ -21,7 +21,7 @@ pub enum StoreFault {
     /// Memory ran out.
     #[error("memory")]
     Memory,
-    /// The store has no room left.
+    /// A value is larger than the store takes.
     #[error("size")]
     Size,
     /// The disk failed.

@@ -1,4 +1,4 @@
-// Each call once, in one transaction on an empty database, over memory and over files.
+// The calls in one transaction on an empty database, over memory and over files on disks in memory.
 
 ghost use Rattle.std.specs.Prelude.{IsTrue};
 ghost use Rattle.sqlite_disk.specs.Memory.{memory_is_usable};

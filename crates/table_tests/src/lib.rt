@@ -1,5 +1,6 @@
-//! Tests of `desk_tables` by its public calls: each call once over the store in memory and over
-//! files, what is refused, and the way from version 1 to version 2. They stand in a crate of their
+//! Tests of `desk_tables` by its public calls: the calls over the store in memory and over files on
+//! disks in memory, what is refused, databases with tables of strangers, and the way from version 1
+//! to version 2. They stand in a crate of their
 //! own, since a library with tests is proved once more with them.
 #![tactic(auto)]
 

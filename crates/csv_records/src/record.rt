@@ -105,10 +105,9 @@ impl<'a> Record<'a> {
         ensures { OnOk result (map (λ f. f.now) list.new.items ≡ self.now) }
     {
         list.clear();
+        list.reserve(self.len())?;
         for i in 0..self.len() {
-            if let Some(text) = self.get(i) {
-                list.push(text)?;
-            }
+            list.push_reserved(self.at(i));
         }
         Ok(())
     }

@@ -28,7 +28,7 @@ abbrev pub AllBare : List Row → Type 0
 AllBare [] = ⊤
 AllBare (r ∷ rows) = IsBare r × AllBare rows
 
-product-bare : (fields : List (List ℕ)) (p : Product) → product_of fields ≡ Some p → p.supplies ≡ []
+pub product-bare : (fields : List (List ℕ)) (p : Product) → product_of fields ≡ Some p → p.supplies ≡ []
 unfolding product_of
 product-bare [] p e = cc e
 product-bare (reference ∷ []) p e = cc e
@@ -40,7 +40,7 @@ product-bare (reference ∷ notification ∷ kind ∷ pairs) p e =
     let same = same_Some _ p h in
     cc same
 
-supply-bare : (fields : List (List ℕ)) (s : ProductSupply) → supply_of fields ≡ Some s → s.details ≡ []
+pub supply-bare : (fields : List (List ℕ)) (s : ProductSupply) → supply_of fields ≡ Some s → s.details ≡ []
 supply-bare [] s e = cc e
 supply-bare (included ∷ []) s e = cc e
 supply-bare (included ∷ regions ∷ []) s e = cc e
@@ -50,7 +50,7 @@ supply-bare (included ∷ regions ∷ excluded ∷ []) s e =
     cc same
 supply-bare (included ∷ regions ∷ excluded ∷ more ∷ fields) s e = cc e
 
-detail-bare : (fields : List (List ℕ)) (d : SupplyDetail) → detail_of fields ≡ Some d → d.prices ≡ []
+pub detail-bare : (fields : List (List ℕ)) (d : SupplyDetail) → detail_of fields ≡ Some d → d.prices ≡ []
 unfolding detail_of
 detail-bare [] d e = cc e
 detail-bare (role ∷ []) d e = cc e

@@ -268,7 +268,7 @@ pub record Holds (o : Opening) (done : List Record) (d : Draft) : Type 0 where
   pub next : (y : Row) → allows d.part y ≡ may_follow (last_of (message_row o) (draft_rows d)) y
   pub details : DraftHasDetails d
 
-holds-push : (o : Opening) (done : List Record) (r : Record) (d new : Draft) → Holds o done d → Takes o d r (length done + 1) new → length done < 19999 → Holds o (done ++ r ∷ []) new
+holds-push : (o : Opening) (done : List Record) (r : Record) (d new : Draft) → Holds o done d → Takes (row_of o r) d (length done + 1) new → length done < 19999 → Holds o (done ++ r ∷ []) new
 holds-push o done r d new s t less =
     let follows : may_follow (last_of (message_row o) (draft_rows d)) t.added ≡ true = sym (s.next t.added) ∙ t.adds.allowed in
     let last : last_of (message_row o) (draft_rows new) ≡ t.added = ap (λ (rows : List Row). last_of (message_row o) rows) t.adds.rows ∙ last-push (message_row o) (draft_rows d) t.added in
@@ -297,7 +297,7 @@ begins o rest products none =
     starts (row.EndMessage n) = refl
 
 pub goes-on : (o : Opening) (rest : List Record) (i : ℕ) (r : Record) (d new : Draft) → r ≡ get_or rest i r → i < length rest
-    → Holds o (take i rest) d → i < 19999 → Takes o d r (i + 1) new → Holds o (take (i + 1) rest) new
+    → Holds o (take i rest) d → i < 19999 → Takes (row_of o r) d (i + 1) new → Holds o (take (i + 1) rest) new
 goes-on o rest i r d new at less s small t =
     let more : take (i + 1) rest ≡ take i rest ++ r ∷ [] = take_more rest i r less ∙ ap (λ (x : Record). take i rest ++ x ∷ []) (sym at) in
     let l : length (take i rest) ≡ i = length-take-le i rest (omega arith) in
@@ -308,7 +308,7 @@ part-of rest i r at less =
     sym (take-append-drop i rest) ∙ ap (λ (t : List Record). take i rest ++ t) (drop_more rest i r less ∙ ap (λ (x : Record). x ∷ drop (i + 1) rest) (sym at))
 
 pub stops-in : (records : List Record) (first : Record) (rest : List Record) (o : Opening) (i : ℕ) (r : Record) (d : Draft) (number : ℕ) → records ≡ first ∷ rest → opening_of first ≡ Some o
-    → r ≡ get_or rest i r → i < length rest → Holds o (take i rest) d → Stops o d r (i + 1) steps.OutOfOrder → number ≡ i + 2 → Breaks records number
+    → r ≡ get_or rest i r → i < length rest → Holds o (take i rest) d → Stops (row_of o r) d (i + 1) steps.OutOfOrder → number ≡ i + 2 → Breaks records number
 stops-in records first rest o i r d number split header at less s stop p =
     let l : length (take i rest) ≡ i = length-take-le i rest (omega arith) in
     stops-at records first rest o (take i rest) r (drop (i + 1) rest) (draft_rows d) number split header (part-of rest i r at less) s.front
@@ -328,16 +328,15 @@ stops-many records first rest o i r d split header at less s many =
 some-next : (p : Part) → ((n : ℕ) → p ≡ part.Ended n → ⊥) → (y : Row) × (allows p y ≡ true)
 some-next part.Nothing never = (row.EndMessage 0, refl)
 some-next (part.InProduct p) never = (row.EndMessage 0, refl)
-some-next (part.InSupply p s) never = (row.SupplyDetail (record { supplier = record { role = []; party = None; name = [] }; availability = []; unpriced = None; prices = [] }), refl)
-some-next (part.InDetail p s d) never = (row.EndMessage 0, refl)
+some-next (part.InSupply p s None) never = (row.SupplyDetail (record { supplier = record { role = []; party = None; name = [] }; availability = []; unpriced = None; prices = [] }), refl)
+some-next (part.InSupply p s (Some d)) never = (row.EndMessage 0, refl)
 some-next (part.Ended n) never = absurd (never n refl)
 
 -- the end that a draft has
 pub its-end : (p : Part) → has_ended p ≡ true → (n : ℕ) × (p ≡ part.Ended n)
 its-end part.Nothing e = cc e
 its-end (part.InProduct p) e = cc e
-its-end (part.InSupply p s) e = cc e
-its-end (part.InDetail p s d) e = cc e
+its-end (part.InSupply p s o) e = cc e
 its-end (part.Ended n) e = (n, refl)
 
 pub no-end : (p : Part) → has_ended p ≡ false → (n : ℕ) → p ≡ part.Ended n → ⊥

@@ -3,7 +3,7 @@ pub mod Orders
 pub mod Fronts
 pub mod FrontRows
 pub mod Bare
-pub mod RowFaults
+pub mod StepsOfRows
 pub mod CleanFields
 pub mod Pairs
 pub mod TenFields

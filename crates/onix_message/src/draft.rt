@@ -1,26 +1,26 @@
 // A message that is being read, row by row. What is left over where a row is refused is dropped by a
 // call, and not where it goes out of scope: docs/DECISIONS.md says why.
 
-ghost use Rattle.std.specs.Prelude.{◌≡◌, ◌≢◌, ◌++◌, ◌∷◌, [], ℕ, List, IfOk, IfErr, MatchResult, OnOk, true};
+ghost use Rattle.std.specs.Prelude.{◌≡◌, ◌≢◌, ◌++◌, ◌∷◌, [], ℕ, List, IfOk, IfErr, MatchResult, OnOk, Some, true};
 ghost use Rattle.std.specs.List.{AllByRecursion, flat_map};
-ghost use Rattle.onix_message.specs.private.Draft.{Adds, AllowsProduct, DraftHasDetails, IsBare, PartHasDetails, Refuses, RefusesProduct, RefusesSupply, allows, part_rows};
+ghost use Rattle.onix_message.specs.private.Draft.{Adds, AllowsProduct, DraftHasDetails, PartHasDetails, Refuses, RefusesProduct, RefusesSupply, allows, open_rows, part_rows};
 ghost use Rattle.onix_message.specs.PartRows.{SuppliesHaveDetails, detail_rows, product_rows, supply_rows};
 ghost use Rattle.onix_message.specs.declared.parts.ProductSupply.{ProductSupply};
+ghost use Rattle.onix_message.specs.declared.draft.Part.TheVariants.{InSupply};
 ghost use Rattle.onix_message.specs.declared.row.Row.TheVariants as row;
 
 use crate::parts::{Price, Product, ProductSupply, SupplyDetail};
-use crate::row::Row;
 use onix_terms::items::Items;
 use std::alloc::AllocError;
 use std::mem;
 
-/// The part of the last product that stands open.
+/// The part of the last product that stands open: the product, or it and its last supply, with that
+/// supply's last detail where it has one.
 #[derive(Drop)]
 pub enum Part {
     Nothing,
     InProduct(Product),
-    InSupply(Product, ProductSupply),
-    InDetail(Product, ProductSupply, SupplyDetail),
+    InSupply(Product, ProductSupply, Option<SupplyDetail>),
     Ended(u32),
 }
 
@@ -71,6 +71,30 @@ fn close_supply(mut product: Product, supply: ProductSupply) -> Result<Product, 
     Ok(product)
 }
 
+// The product with the supply and the detail that stood open, where there is such a detail.
+fn close_last(
+    product: Product,
+    supply: ProductSupply,
+    last: Option<SupplyDetail>,
+) -> Result<Product, StepFault>
+    requires { SuppliesHaveDetails product }
+    ensures rows { IfOk result (λ p. product_rows p ≡ product_rows product ++ open_rows supply last) }
+    ensures details { IfOk result (λ p. SuppliesHaveDetails p) }
+    ensures allowed { IfOk result (λ p. (s : ProductSupply) → allows (InSupply product supply last) (row.ProductSupply s) ≡ true) }
+    ensures refused { IfErr result (λ e. RefusesSupply (InSupply product supply last) e) }
+{
+    let Some(detail) = last else {
+        drop(product);
+        drop(supply);
+        return Err(StepFault::OutOfOrder);
+    };
+    let Ok(supply) = close_detail(supply, detail) else {
+        drop(product);
+        return Err(StepFault::Memory);
+    };
+    Ok(close_supply(product, supply)?)
+}
+
 // The product that stands open, where a supply may come.
 fn close_to_product(part: Part) -> Result<Product, StepFault>
     requires { PartHasDetails part }
@@ -81,13 +105,7 @@ fn close_to_product(part: Part) -> Result<Product, StepFault>
 {
     match part {
         Part::InProduct(product) => Ok(product),
-        Part::InDetail(product, supply, detail) => {
-            let Ok(supply) = close_detail(supply, detail) else {
-                drop(product);
-                return Err(StepFault::Memory);
-            };
-            Ok(close_supply(product, supply)?)
-        }
+        Part::InSupply(product, supply, last) => close_last(product, supply, last),
         other => {
             drop(other);
             Err(StepFault::OutOfOrder)
@@ -122,7 +140,7 @@ fn close_to_products(products: &mut Items<Product>, part: Part) -> Result<(), St
     }
 }
 
-fn add_product(draft: &mut Draft, product: Product) -> Result<(), StepFault>
+pub(crate) fn add_product(draft: &mut Draft, product: Product) -> Result<(), StepFault>
     requires bare { product.supplies ≡ [] }
     requires details { DraftHasDetails draft.old }
     ensures added { OnOk result (Adds draft.old (row.Product product) draft.new) }
@@ -141,7 +159,7 @@ fn add_product(draft: &mut Draft, product: Product) -> Result<(), StepFault>
     }
 }
 
-fn add_end(draft: &mut Draft, count: u32) -> Result<(), StepFault>
+pub(crate) fn add_end(draft: &mut Draft, count: u32) -> Result<(), StepFault>
     requires { DraftHasDetails draft.old }
     ensures added { OnOk result (Adds draft.old (row.EndMessage count) draft.new) }
     ensures refused { IfErr result (λ e. Refuses draft.old (row.EndMessage count) e) }
@@ -152,89 +170,98 @@ fn add_end(draft: &mut Draft, count: u32) -> Result<(), StepFault>
     Ok(())
 }
 
-fn add_supply(draft: &mut Draft, supply: ProductSupply) -> Result<(), StepFault>
+// The supply takes the place of the one that stood open, which joins those of its product with this
+// detail.
+fn next_supply(
+    product: &mut Product,
+    last: &mut ProductSupply,
+    detail: SupplyDetail,
+    supply: ProductSupply,
+) -> Result<(), AllocError>
+    requires { SuppliesHaveDetails product.old }
+    ensures rows { OnOk result (product_rows product.new ≡ product_rows product.old ++ (supply_rows last.old ++ detail_rows detail)) }
+    ensures details { OnOk result (SuppliesHaveDetails product.new) }
+    ensures last { OnOk result (last.new ≡ supply) }
+{
+    let Ok(()) = last.details.push(detail) else {
+        drop(supply);
+        return Err(AllocError);
+    };
+    product.supplies.push(mem::replace(last, supply))
+}
+
+// What stands open stays where it lies, since it is large: only its lists grow.
+pub(crate) fn add_supply(draft: &mut Draft, supply: ProductSupply) -> Result<(), StepFault>
     requires bare { supply.details ≡ [] }
     requires details { DraftHasDetails draft.old }
     ensures added { OnOk result (Adds draft.old (row.ProductSupply supply) draft.new) }
     ensures refused { IfErr result (λ e. Refuses draft.old (row.ProductSupply supply) e) }
 {
-    let part = mem::replace(&mut draft.part, Part::Nothing);
-    match close_to_product(part) {
-        Ok(product) => {
-            draft.part = Part::InSupply(product, supply);
+    if let Part::InSupply(product, last, detail) = &mut draft.part {
+        return match detail.take() {
+            Some(detail) => Ok(next_supply(product, last, detail, supply)?),
+            None => {
+                drop(supply);
+                Err(StepFault::OutOfOrder)
+            }
+        };
+    }
+    match mem::replace(&mut draft.part, Part::Nothing) {
+        Part::InProduct(product) => {
+            draft.part = Part::InSupply(product, supply, None);
             Ok(())
         }
-        Err(fault) => {
+        other => {
+            drop(other);
             drop(supply);
-            Err(fault)
+            Err(StepFault::OutOfOrder)
         }
     }
 }
 
-// The detail takes the place of the one that stood open, which joins those of its supply.
+// The detail stands open in its supply, and the one before it joins those of the supply.
 fn next_detail(
     supply: &mut ProductSupply,
-    last: &mut SupplyDetail,
+    last: &mut Option<SupplyDetail>,
     detail: SupplyDetail,
 ) -> Result<(), AllocError>
-    ensures rows { OnOk result (supply_rows supply.new ≡ supply_rows supply.old ++ detail_rows last.old) }
-    ensures last { OnOk result (last.new ≡ detail) }
+    ensures rows { OnOk result (open_rows supply.new last.new ≡ open_rows supply.old last.old ++ detail_rows detail) }
+    ensures last { OnOk result (last.new ≡ Some detail) }
 {
-    supply.details.push(mem::replace(last, detail))
+    match last {
+        Some(before) => supply.details.push(mem::replace(before, detail)),
+        None => {
+            *last = Some(detail);
+            Ok(())
+        }
+    }
 }
 
-fn add_detail(draft: &mut Draft, detail: SupplyDetail) -> Result<(), StepFault>
+pub(crate) fn add_detail(draft: &mut Draft, detail: SupplyDetail) -> Result<(), StepFault>
     requires bare { detail.prices ≡ [] }
     requires details { DraftHasDetails draft.old }
     ensures added { OnOk result (Adds draft.old (row.SupplyDetail detail) draft.new) }
     ensures refused { IfErr result (λ e. Refuses draft.old (row.SupplyDetail detail) e) }
 {
-    if let Part::InDetail(_, supply, last) = &mut draft.part {
-        return Ok(next_detail(supply, last, detail)?);
-    }
-    match mem::replace(&mut draft.part, Part::Nothing) {
-        Part::InSupply(product, supply) => {
-            draft.part = Part::InDetail(product, supply, detail);
-            Ok(())
-        }
-        other => {
-            drop(other);
+    match &mut draft.part {
+        Part::InSupply(_, supply, last) => Ok(next_detail(supply, last, detail)?),
+        _ => {
             drop(detail);
             Err(StepFault::OutOfOrder)
         }
     }
 }
 
-fn add_price(draft: &mut Draft, price: Price) -> Result<(), StepFault>
+pub(crate) fn add_price(draft: &mut Draft, price: Price) -> Result<(), StepFault>
     requires { DraftHasDetails draft.old }
     ensures added { OnOk result (Adds draft.old (row.Price price) draft.new) }
     ensures refused { IfErr result (λ e. Refuses draft.old (row.Price price) e) }
 {
     match &mut draft.part {
-        Part::InDetail(_, _, detail) => Ok(detail.prices.push(price)?),
+        Part::InSupply(_, _, Some(detail)) => Ok(detail.prices.push(price)?),
         _ => {
             drop(price);
             Err(StepFault::OutOfOrder)
         }
-    }
-}
-
-// Adds a row, where it may come next. What the draft holds after a fault is not said.
-pub(crate) fn add_row(draft: &mut Draft, next: Row) -> Result<(), StepFault>
-    requires bare { IsBare next }
-    requires details { DraftHasDetails draft.old }
-    ensures added { OnOk result (Adds draft.old next draft.new) }
-    ensures refused { IfErr result (λ e. Refuses draft.old next e) }
-{
-    match next {
-        Row::Message(header) => {
-            drop(header);
-            Err(StepFault::OutOfOrder)
-        }
-        Row::Product(product) => add_product(draft, product),
-        Row::ProductSupply(supply) => add_supply(draft, supply),
-        Row::SupplyDetail(detail) => add_detail(draft, detail),
-        Row::Price(price) => add_price(draft, price),
-        Row::EndMessage(count) => add_end(draft, count),
     }
 }

@@ -21,5 +21,6 @@ mod plain;
 mod price;
 pub mod product;
 pub mod row;
+mod step;
 pub mod supply;
 mod term;

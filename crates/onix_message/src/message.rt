@@ -1,19 +1,19 @@
 // Messages: a header and contents, read from records.
 
 ghost use Rattle.std.specs.Prelude.{◌≡◌, ◌∷◌, IfOk, IfErr, OnOk, Some, true, false};
-ghost use Rattle.onix_message.specs.private.Draft.{Adds, DraftHasDetails, Refuses, Stops, Takes, has_ended};
+ghost use Rattle.onix_message.specs.private.Draft.{has_ended};
 ghost use Rattle.onix_message.specs.ContentsText.{IsContents};
-ghost use Rattle.onix_message.specs.Grammar.{IsMessage, is_counted};
+ghost use Rattle.onix_message.specs.Grammar.{IsMessage};
 ghost use Rattle.onix_message.specs.Message.{Explains};
 ghost use Rattle.onix_message.specs.Opening.{opening_of};
-ghost use Rattle.onix_message.specs.private.Draft.{IsBare};
 ghost use Rattle.onix_message.specs.declared.message.MessageFault.TheVariants.{Malformed};
 
-use crate::draft::{Draft, Part, StepFault, add_row};
+use crate::draft::{Draft, Part, StepFault};
 use crate::laws::contents_of_messages;
 use crate::opening::read_opening;
 use crate::parts::{Contents, Header};
-use crate::row::{Opening, Row, RowFault, read_row};
+use crate::row::{Opening, RowFault};
+use crate::step::read_next;
 use csv_records::record::Record;
 use csv_records::records::Records;
 use onix_terms::items::Items;
@@ -29,51 +29,6 @@ pub enum MessageFault {
     /// Memory ran out.
     #[error("out of memory")]
     Memory,
-}
-
-// Whether an end says how many records come before it.
-fn is_counted_row(next: &Row, before: usize) -> bool
-    ensures { result ≡ is_counted next.now before }
-{
-    match next {
-        Row::EndMessage(count) => *count as usize == before,
-        _ => true,
-    }
-}
-
-// Adds a row, where it may come next and counts well.
-fn add_counted_row(draft: &mut Draft, next: Row, before: usize) -> Result<(), StepFault>
-    requires bare { IsBare next }
-    requires details { DraftHasDetails draft.old }
-    ensures added { OnOk result ((is_counted next before ≡ true) × Adds draft.old next draft.new) }
-    ensures refused { IfErr result (λ e. is_counted next before ≡ true → Refuses draft.old next e) }
-{
-    if is_counted_row(&next, before) {
-        add_row(draft, next)
-    } else {
-        drop(next);
-        Err(StepFault::OutOfOrder)
-    }
-}
-
-// Adds the row that a record is, where it may come next.
-fn read_next<'a>(
-    alloc: Global,
-    opening: &Opening,
-    draft: &mut Draft,
-    from: &Record<'a>,
-    fields: &mut Vec<&'a str>,
-    before: usize,
-) -> Result<(), StepFault>
-    requires { DraftHasDetails draft.old }
-    ensures added { OnOk result (Takes opening.now draft.old from.now before draft.new) }
-    ensures refused { IfErr result (λ e. Stops opening.now draft.old from.now before e) }
-{
-    match read_row(alloc, opening, from, fields) {
-        Ok(next) => add_counted_row(draft, next, before),
-        Err(RowFault::Wrong) => Err(StepFault::OutOfOrder),
-        Err(RowFault::Memory) => Err(StepFault::Memory),
-    }
 }
 
 // Whether the last row was an end.

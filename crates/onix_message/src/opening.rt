@@ -69,7 +69,7 @@ fn make_opening(
 
 // What the fields after the name say.
 #[tactic(auto, unfolding(crate::specs::Opening::opening_fields))]
-pub(crate) fn read_opening_fields(alloc: Global, fields: &[&str]) -> Result<Opening, RowFault>
+fn read_opening_fields(alloc: Global, fields: &[&str]) -> Result<Opening, RowFault>
     ensures { Gives result (opening_fields (map (λ f. f.now) fields.now)) }
 {
     let [

@@ -1,9 +1,8 @@
 -- The part of a message that was read so far, and how a row is added: what private functions say to one another.
-use Rattle.std.specs.Prelude.{ℕ, List, [], ◌∷◌, ◌++◌, ◌≡◌, Bool, true, false, ⊤, Some}
+use Rattle.std.specs.Prelude.{ℕ, List, [], ◌∷◌, ◌++◌, ◌≡◌, Bool, true, false, ⊤, Option, None, Some, Result, Ok, Err}
 use Rattle.std.specs.List.{AllByRecursion, flat_map}
 use Rattle.onix_message.specs.Grammar.{is_counted, may_follow}
 use Rattle.onix_message.specs.PartRows.{SuppliesHaveDetails, detail_rows, product_rows, supply_rows}
-use Rattle.onix_message.specs.Row.{row_of}
 use Rattle.onix_message.specs.declared.draft.Draft.{Draft}
 use Rattle.onix_message.specs.declared.draft.Part.{Part}
 use Rattle.onix_message.specs.declared.draft.Part.TheVariants as part
@@ -11,16 +10,22 @@ use Rattle.onix_message.specs.declared.draft.StepFault.{StepFault}
 use Rattle.onix_message.specs.declared.draft.StepFault.TheVariants as fault
 use Rattle.onix_message.specs.declared.parts.Product.{Product}
 use Rattle.onix_message.specs.declared.parts.ProductSupply.{ProductSupply}
-use Rattle.onix_message.specs.declared.row.Opening.{Opening}
+use Rattle.onix_message.specs.declared.parts.SupplyDetail.{SupplyDetail}
 use Rattle.onix_message.specs.declared.row.Row.{Row}
 use Rattle.onix_message.specs.declared.row.Row.TheVariants as row
+use Rattle.onix_message.specs.declared.row.RowFault.{RowFault}
+use Rattle.onix_message.specs.declared.row.RowFault.TheVariants as read
+
+-- the rows of a supply that stands open, with the detail that stands open in it
+abbrev pub open_rows : ProductSupply → Option SupplyDetail → List Row
+open_rows s None = supply_rows s
+open_rows s (Some d) = supply_rows s ++ detail_rows d
 
 -- the rows of what stands open
 abbrev pub part_rows : Part → List Row
 part_rows part.Nothing = []
 part_rows (part.InProduct p) = product_rows p
-part_rows (part.InSupply p s) = product_rows p ++ supply_rows s
-part_rows (part.InDetail p s d) = product_rows p ++ (supply_rows s ++ detail_rows d)
+part_rows (part.InSupply p s o) = product_rows p ++ open_rows s o
 part_rows (part.Ended n) = row.EndMessage n ∷ []
 
 -- the rows after the first, so far
@@ -34,20 +39,19 @@ allows part.Nothing (row.EndMessage n) = true
 allows (part.InProduct p) (row.Product q) = true
 allows (part.InProduct p) (row.ProductSupply s) = true
 allows (part.InProduct p) (row.EndMessage n) = true
-allows (part.InSupply p s) (row.SupplyDetail d) = true
-allows (part.InDetail p s d) (row.Price q) = true
-allows (part.InDetail p s d) (row.SupplyDetail e) = true
-allows (part.InDetail p s d) (row.ProductSupply t) = true
-allows (part.InDetail p s d) (row.Product q) = true
-allows (part.InDetail p s d) (row.EndMessage n) = true
+allows (part.InSupply p s None) (row.SupplyDetail d) = true
+allows (part.InSupply p s (Some d)) (row.Price q) = true
+allows (part.InSupply p s (Some d)) (row.SupplyDetail e) = true
+allows (part.InSupply p s (Some d)) (row.ProductSupply t) = true
+allows (part.InSupply p s (Some d)) (row.Product q) = true
+allows (part.InSupply p s (Some d)) (row.EndMessage n) = true
 allows _ _ = false
 
 -- the parts that are closed have their details
 abbrev pub PartHasDetails : Part → Type 0
 PartHasDetails part.Nothing = ⊤
 PartHasDetails (part.InProduct p) = SuppliesHaveDetails p
-PartHasDetails (part.InSupply p s) = SuppliesHaveDetails p
-PartHasDetails (part.InDetail p s d) = SuppliesHaveDetails p
+PartHasDetails (part.InSupply p s o) = SuppliesHaveDetails p
 PartHasDetails (part.Ended n) = ⊤
 
 abbrev pub DraftHasDetails : Draft → Type 0
@@ -91,14 +95,24 @@ RefusesProduct o fault.Memory = ⊤
 abbrev pub AllowsProduct : Part → Type 0
 AllowsProduct o = ((p : Product) → allows o (row.Product p) ≡ true) × ((n : ℕ) → allows o (row.EndMessage n) ≡ true)
 
--- a record's row was added
-pub record Takes (o : Opening) (old : Draft) (fields : List (List ℕ)) (before : ℕ) (new : Draft) : Type 0 where
+-- a record that is no row may not come next
+abbrev pub step_fault : RowFault → StepFault
+step_fault read.Wrong = fault.OutOfOrder
+step_fault read.Memory = fault.Memory
+
+-- the row that was found was added
+pub record Takes (found : Option Row) (old : Draft) (before : ℕ) (new : Draft) : Type 0 where
   pub added : Row
-  pub reads : row_of o fields ≡ Some added
+  pub reads : found ≡ Some added
   pub counted : is_counted added before ≡ true
   pub adds : Adds old added new
 
 -- why no row was added
-abbrev pub Stops : Opening → Draft → List (List ℕ) → ℕ → StepFault → Type 0
-Stops o old fields before fault.OutOfOrder = (r : Row) → row_of o fields ≡ Some r → is_counted r before ≡ true → allows old.part r ≡ true → ⊥
-Stops o old fields before fault.Memory = ⊤
+abbrev pub Stops : Option Row → Draft → ℕ → StepFault → Type 0
+Stops found old before fault.OutOfOrder = (r : Row) → found ≡ Some r → is_counted r before ≡ true → allows old.part r ≡ true → ⊥
+Stops found old before fault.Memory = ⊤
+
+-- a row was added where one was found that may come next
+abbrev pub Steps : Result (Unit {0}) StepFault → Option Row → Draft → ℕ → Draft → Type 0
+Steps (Ok u) found old before new = Takes found old before new
+Steps (Err e) found old before new = Stops found old before e

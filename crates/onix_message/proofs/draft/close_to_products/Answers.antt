@@ -1,4 +1,4 @@
-use Rattle.std.proofs.Common.{List, [], ◌++◌, ◌≡◌, ◌∙◌, ap, refl, true, false}
+use Rattle.std.proofs.Common.{List, [], ◌++◌, ◌≡◌, ◌∙◌, ap, refl, true, false, None, Some}
 use Rattle.std.specs.List.{flat_map}
 use Rattle.onix_message.specs.private.Draft.{AllowsProduct, RefusesProduct, RefusesSupply, allows}
 use Rattle.onix_message.specs.PartRows.{product_rows}
@@ -18,8 +18,8 @@ some-supply = record { market = record { included = []; world = false; excluded 
 allows-product : (o : Part) → ((s : ProductSupply) → allows o (row.ProductSupply s) ≡ true) → AllowsProduct o
 allows-product part.Nothing h = (λ _. refl, λ _. refl)
 allows-product (part.InProduct p) h = (λ _. refl, λ _. refl)
-allows-product (part.InSupply p s) h = cc (h s)
-allows-product (part.InDetail p s d) h = (λ _. refl, λ _. refl)
+allows-product (part.InSupply p s None) h = cc (h s)
+allows-product (part.InSupply p s (Some d)) h = (λ _. refl, λ _. refl)
 allows-product (part.Ended n) h = cc (h some-supply)
 
 -- where no supply may come, neither may a product nor the end, but at the start
@@ -27,8 +27,8 @@ refuses-product : (o : Part) (e : StepFault) → (o ≡ part.Nothing → ⊥) �
 refuses-product o fault.Memory filled h = tt
 refuses-product part.Nothing fault.OutOfOrder filled h = absurd (filled refl)
 refuses-product (part.InProduct p) fault.OutOfOrder filled h = cc (h some-supply)
-refuses-product (part.InSupply p s) fault.OutOfOrder filled h = (λ _. refl, λ _. refl)
-refuses-product (part.InDetail p s d) fault.OutOfOrder filled h = cc (h s)
+refuses-product (part.InSupply p s None) fault.OutOfOrder filled h = (λ _. refl, λ _. refl)
+refuses-product (part.InSupply p s (Some d)) fault.OutOfOrder filled h = cc (h s)
 refuses-product (part.Ended n) fault.OutOfOrder filled h = (λ _. refl, λ _. refl)
 
 pub returns-in-Err : goal.returns-in-Err

@@ -7,8 +7,7 @@ use Rattle.onix_message.proofs.message.has_ended.Goals as goal
 not-ended : (p : Part) → ((n : ℕ) → p ≡ part.Ended n → ⊥) → false ≡ has_ended p
 not-ended part.Nothing never = refl
 not-ended (part.InProduct p) never = refl
-not-ended (part.InSupply p s) never = refl
-not-ended (part.InDetail p s d) never = refl
+not-ended (part.InSupply p s o) never = refl
 not-ended (part.Ended n) never = absurd (never n refl)
 
 pub returns-in-Ended : goal.returns-in-Ended

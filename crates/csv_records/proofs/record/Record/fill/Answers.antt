@@ -1,15 +1,13 @@
-use Rattle.std.proofs.Common.{◌<◌, length, sym, refl, arith}
+use Rattle.std.proofs.Common.{refl, arith}
 use Rattle.std.proofs.lemmas.List.{map-append}
-use Rattle.csv_records.proofs.CutFacts.{get-there, take-get}
+use Rattle.csv_records.proofs.CutFacts.{take-get}
 use Rattle.csv_records.proofs.record.Record.fill.Goals as goal
-use Rattle.csv_records.proofs.record.Record.fill.Goals.{in-Some+in_ok-push, in_default}
 
 pub loop-i-preserved : goal.loop-i-preserved
-loop-i-preserved c = elim c.match-get.branch [
-  | in-Some+in_ok-push w ↦
-      let step = take-get c.args.self.now c.loop-i.i w.in-Some.text.now (sym w.in-Some.ensures) in
-      rw (w.list-is, w.in_ok-push.ensures.items, map-append, c.loop-i.invariant, step) refl
-  | in_default w ↦
-      let lt : c.loop-i.i < length c.args.self.now = omega (arith, c.len-i-end.ensures) in
-      absurd (get-there c.args.self.now c.loop-i.i lt (sym w.in_default.ensures))
-]
+loop-i-preserved c =
+    let step = take-get c.args.self.now c.loop-i.i c.at.result.now c.at.ensures in
+    let pushed = c.push_reserved.ensures in
+    record {
+      room = omega (arith, c.loop-i.invariant.room, pushed.len, pushed.capacity);
+      so_far = rw (pushed.items, map-append, c.loop-i.invariant.so_far, step) refl;
+    }

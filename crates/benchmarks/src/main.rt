@@ -2,8 +2,10 @@
 //! the reading of messages beside `csv` alone and its memory beside the text, `writing` sets the
 //! texts of contents beside `csv` writing the same rows, `orders` sets a long batch in number order
 //! and reversed beside one half as long, and `questions` sets price questions beside catalogue
-//! questions. `text FILE` writes a long batch, and `batch FILE` prints the memory
-//! that it takes. The script `bench/run` builds and runs it.
+//! questions. `tables FILE` sets rows put into tables in that file beside `sqlite` alone, the prices of
+//! a series beside half as many, and questions about articles among few beside many. `text FILE`
+//! writes a long batch, and `batch FILE` prints the memory that it takes. The script `bench/run`
+//! builds and runs it.
 #![tactic(auto)]
 
 mod batches;
@@ -11,6 +13,8 @@ mod memory;
 mod orders;
 mod questions;
 mod reading;
+mod table_rows;
+mod tables;
 mod texts;
 mod times;
 mod writing;
@@ -28,13 +32,14 @@ fn main(rt: HostRuntime) -> anyhow::Result<()> {
         Some("batch") => batches::report(&rt, file),
         Some("orders") => orders::report(&rt),
         Some("questions") => questions::report(&rt),
+        Some("tables") => tables::report(&rt, file),
         _ => usage(&rt),
     }
 }
 
 fn usage(rt: &HostRuntime) -> anyhow::Result<()> {
     println!(rt;
-        "usage: benchmarks reading | writing | orders | questions | text FILE | batch FILE"
+        "usage: benchmarks reading | writing | orders | questions | tables FILE | text FILE | batch FILE"
     )?;
     Ok(())
 }

@@ -1,4 +1,4 @@
--- The offers of a record and the prices of an offer, as queries show them.
+-- The identifiers and the offers of a record and the prices of an offer, as queries show them.
 use Rattle.std.proofs.Common.{◌≡◌, ℕ, ◌≤◌, pos, List, [], ◌∷◌, map, filter, find, length, slice_get, Bool, true, false, ◌&&◌, ◌==◌, Equal, Less, Some, None, option_map, unwrap_or, refl, sym, ap, subst, ◌∙◌, inl, inr}
 use Rattle.std.specs.List.{AllByRecursion}
 use Rattle.std.specs.List.Sorted.{IsPermutation}
@@ -20,26 +20,37 @@ use Rattle.sqlite_rules.proofs.ListLemmas.{all_has, all_from, has_filtered}
 use Rattle.sqlite.specs.Effect.{Database, IsDatabase}
 use Rattle.sqlite.specs.State.{State, Shown}
 use Rattle.onix_message.specs.declared.parts.Price.{Price}
-use Rattle.desk_tables.specs.ArticleAnswers.{is_minimum_at_offer, is_minimum_for, is_price_at, minimum_in, price_in, price_part, read_shown, AreMinimumsAt, AreOfferRowsOf, ArePricesAt, ArePricesUnder}
-use Rattle.desk_tables.specs.RecordAnswers.{five_columns, is_minimum_at, minimum_at}
-use Rattle.desk_tables.specs.RecordChanges.{is_offer_of}
+use Rattle.desk_tables.specs.ArticleAnswers.{is_minimum_at_offer, is_minimum_for, is_price_at, minimum_in, price_in, price_part, read_shown, AreArticlesOf, AreMinimumsAt, AreOfferRowsOf, ArePricesAt, ArePricesUnder}
+use Rattle.desk_tables.specs.RecordAnswers.{five_columns, is_minimum_at, minimum_at, AreRising}
+use Rattle.desk_tables.specs.RecordChanges.{is_article_of, is_offer_of}
 use Rattle.desk_tables.specs.RecordReadings.{read_offer, read_price}
-use Rattle.desk_tables.specs.RecordRows.{RecordRow, OfferRow, PriceRow, MinimumRow, offer_columns, price_columns, minimum_columns}
-use Rattle.desk_tables.specs.RecordStatements.{record_offers_text, record_offers_query, offer_prices_text, offer_prices_query, offer_minimums_text}
+use Rattle.desk_tables.specs.RecordRows.{RecordRow, ArticleRow, OfferRow, PriceRow, MinimumRow, article_columns, offer_columns, price_columns, minimum_columns}
+use Rattle.desk_tables.specs.RecordStatements.{record_articles_text, record_articles_query, record_offers_text, record_offers_query, offer_prices_text, offer_prices_query, offer_minimums_text, offer_minimums_query}
 use Rattle.desk_tables.specs.Rows.{DeskRows, Holds}
 use Rattle.desk_tables.specs.Schema.{desk_schema}
 use Rattle.desk_tables.specs.declared.rows.OfferRow as typed
 use Rattle.desk_tables.proofs.EqualLemmas.{text_equal, number_equal, text_of, number_of, text_itself, number_itself, differs, and_true}
 use Rattle.desk_tables.proofs.KeyLemmas.{key_clash, no_clash, one_at_most}
 use Rattle.desk_tables.proofs.Readings.{few_stay, find_first}
-use Rattle.desk_tables.proofs.RecordLists.{read_back, read_of, same_minimum, int_order}
-use Rattle.desk_tables.proofs.RecordStatementTexts.{record_offers_is, offer_prices_is, offer_minimums_is}
+use Rattle.desk_tables.proofs.RecordLists.{read_back, read_of, same_article, same_minimum, int_order, by_three, rising}
+use Rattle.desk_tables.proofs.RecordStatementTexts.{record_articles_is, record_offers_is, offer_prices_is, offer_minimums_is}
 use Rattle.desk_tables.proofs.Replaces.{map_same}
 use Rattle.desk_tables.proofs.Selects.{selects, rises}
 
 -- ORDER BY a number
 by_number : (m n : ℕ) → is_lt (ordering_then (value_cmp (Int (pos m)) (Int (pos n))) Equal) ≡ false → is_lt (nat_cmp m n) ≡ false
 by_number m n e = rw (then-Equal (value_cmp (Int (pos m)) (Int (pos n))), value_cmp-Int (pos m) (pos n), int_order m n) at e
+
+pub record_articles_shown : (old new : State) (series reference : List ℕ) (rows : DeskRows) (shown : List Row) (got : List ArticleRow) → Holds old.now rows
+    → Shown record_articles_text (Text series ∷ Text reference ∷ []) old new shown → map article_columns got ≡ map five_columns shown → AreArticlesOf series reference rows got
+record_articles_shown old new series reference rows shown got h run read =
+    let out : ArticleRow → Output = λ r. (Int (pos r.id_place) ∷ [], article_columns r) in
+    let place : ArticleRow → ℕ = λ r. r.id_place in
+    let from : ℕ → ArticleRow = λ n. record { series = []; reference = []; id_place = n; id_type = []; id_value = [] } in
+    let s = selects article_columns record_articles_text 11 _ _ _ _ record_articles_is.0 record_articles_is.1 record_articles_is.2 (λ db. refl) (is_article_of series reference) (λ r. Int (pos r.id_place) ∷ []) article_columns (Text series ∷ Text reference ∷ []) old new rows.articles shown
+    (λ v r. rw (text_equal r.series series, text_equal r.reference reference, and_true (bytes_eq r.reference reference)) refl) (λ v r. refl) (λ v r. refl) h.schema h.articles run in
+    subst (λ (l : List ArticleRow). AreArticlesOf series reference rows l) (sym (read_back article_columns five_columns (λ x. refl) same_article s.0 got shown s.3 read))
+    (s.1, rises out place nat_cmp record_articles_query from (λ d. refl) (λ a b e. by_number a.id_place b.id_place e) s.0 s.2)
 
 pub record_offers_shown : (old new : State) (row : RecordRow) (rows : DeskRows) (shown : List Row) (got : List typed.OfferRow) → Holds old.now rows → Shown record_offers_text (Text row.series ∷ Text row.reference ∷ []) old new shown
     → map (λ r. Some r) got ≡ map read_offer shown → AreOfferRowsOf rows row got
@@ -66,11 +77,13 @@ record_offers_shown old new row rows shown got h run read =
     (s.0, s.1, rises out place nat_cmp record_offers_query from (λ d. refl) (λ a b e. by_number a.place b.place e) s.0 s.2, read_of offer_columns read_offer s.0 shown got s.3 read)
 
 pub offer_minimums_shown : (old new : State) (series reference : List ℕ) (place : ℕ) (rows : DeskRows) (shown : List Row) (got : List MinimumRow) → Holds old.now rows
-    → Shown offer_minimums_text (Text series ∷ Text reference ∷ Int (pos place) ∷ []) old new shown → map minimum_columns got ≡ map five_columns shown → AreMinimumsAt series reference place rows got
+    → Shown offer_minimums_text (Text series ∷ Text reference ∷ Int (pos place) ∷ []) old new shown → map minimum_columns got ≡ map five_columns shown → AreMinimumsAt series reference place rows got × AreRising got
 offer_minimums_shown old new series reference place rows shown got h run read =
-    let s = selects minimum_columns offer_minimums_text 17 _ _ _ _ offer_minimums_is.0 offer_minimums_is.1 offer_minimums_is.2 (λ db. refl) (is_minimum_at_offer series reference place) (λ r. []) minimum_columns (Text series ∷ Text reference ∷ Int (pos place) ∷ []) old new rows.minimums shown
+    let out : MinimumRow → Output = λ r. (Text r.reference ∷ Int (pos r.place) ∷ Int (pos r.price_place) ∷ [], minimum_columns r) in
+    let s = selects minimum_columns offer_minimums_text 17 _ _ _ _ offer_minimums_is.0 offer_minimums_is.1 offer_minimums_is.2 (λ db. refl) (is_minimum_at_offer series reference place) (λ r. Text r.reference ∷ Int (pos r.place) ∷ Int (pos r.price_place) ∷ []) minimum_columns (Text series ∷ Text reference ∷ Int (pos place) ∷ []) old new rows.minimums shown
     (λ v r. rw (text_equal r.series series, text_equal r.reference reference, number_equal r.place place, and_true (r.place == place)) refl) (λ v r. refl) (λ v r. refl) h.schema h.minimums run in
-    subst (λ (l : List MinimumRow). AreMinimumsAt series reference place rows l) (sym (read_back minimum_columns five_columns (λ x. refl) same_minimum s.0 got shown s.3 read)) s.1
+    subst (λ (l : List MinimumRow). AreMinimumsAt series reference place rows l × AreRising l) (sym (read_back minimum_columns five_columns (λ x. refl) same_minimum s.0 got shown s.3 read))
+    (s.1, rising out offer_minimums_query (λ a b e. by_three a.reference b.reference a.place b.place a.price_place b.price_place e) s.0 s.2)
 
 pub offer_prices_shown : (old new : State) (series reference : List ℕ) (place : ℕ) (minimums : List MinimumRow) (rows : DeskRows) (shown : List Row) (got : List Price) → Holds old.now rows
     → Shown offer_prices_text (Text series ∷ Text reference ∷ Int (pos place) ∷ []) old new shown → map (λ p. Some p) got ≡ map (read_shown minimums) shown → ArePricesUnder minimums series reference place rows got

@@ -7,6 +7,7 @@ pub mod CastLemmas
 pub mod HeldLemmas
 pub mod RowWrites
 pub mod Control
+pub mod Outside
 pub mod Calls
 pub mod Selects
 pub mod EqualLemmas
@@ -51,3 +52,6 @@ pub mod ArticleRecords
 pub mod ArticleLists
 pub mod ArticleLoops
 pub mod Places
+pub mod ReadLoops
+pub mod SortedKeys
+pub mod MinimumPlaces

@@ -1,21 +1,23 @@
 -- The rows of a series, in order, as queries show them.
 use Rattle.std.proofs.Common.{◌≡◌, ℕ, pos, List, [], ◌∷◌, map, false, Equal, Option, Some, None, refl, sym, ap, subst, ◌∙◌, arith}
 use Rattle.std.specs.Cmp.Lexicographic.{slice_cmp}
+use Rattle.std.specs.List.Sorted.{IsSorted}
 use Rattle.std.specs.Ordering.{nat_cmp, int_cmp, is_lt, ordering_then}
 use Rattle.std.specs.Str.{bytes_eq}
 use Rattle.std.proofs.lemmas.Bool.Decides.{nat_tests}
+use Rattle.std.proofs.lemmas.List.{map-id}
 use Rattle.sqlite_value.specs.declared.value.Value.TheVariants.{Int, Text}
 use Rattle.sqlite_value.specs.Order.{Row, value_cmp}
 use Rattle.sqlite_value.proofs.OrderLemmas.{then-Equal, value_cmp-Int, value_cmp-Text}
-use Rattle.sqlite_sql.specs.Query.{Output}
+use Rattle.sqlite_sql.specs.Query.{Query, Output, output_cmp}
 use Rattle.sqlite.specs.State.{State, Shown}
 use Rattle.desk_tables.specs.RecordRows.{RecordRow, ArticleRow, OfferRow, PriceRow, MinimumRow, record_columns, article_columns, offer_columns, price_columns, minimum_columns}
 use Rattle.desk_tables.specs.RecordReadings.{read_offer}
 use Rattle.desk_tables.specs.declared.rows.OfferRow as typed
 use Rattle.desk_tables.specs.declared.rows.PriceRow as typed_price
 use Rattle.sqlite_trees.proofs.ListLemmas.{map-map}
-use Rattle.desk_tables.specs.RecordStatements.{record_rows_text, article_rows_text, offer_rows_text, price_rows_text, minimum_rows_text, record_rows_query, article_rows_query, offer_rows_query, price_rows_query}
-use Rattle.desk_tables.specs.RecordAnswers.{two_columns, five_columns, place_cmp, is_record_in, is_article_in, article_key, is_offer_in, offer_key, price_cmp, is_price_in, price_key, is_minimum_in, read_priced, ArePricesWith, AreMinimums, AreRecordsInOrder, AreArticlesInOrder, AreOffersInOrder}
+use Rattle.desk_tables.specs.RecordStatements.{record_rows_text, article_rows_text, offer_rows_text, price_rows_text, minimum_rows_text, record_rows_query, article_rows_query, offer_rows_query, price_rows_query, minimum_rows_query}
+use Rattle.desk_tables.specs.RecordAnswers.{two_columns, five_columns, place_cmp, is_record_in, is_article_in, article_key, is_offer_in, offer_key, price_cmp, is_price_in, price_key, is_minimum_in, minimum_key, read_priced, AreRising, ArePricesWith, AreMinimums, AreRecordsInOrder, AreArticlesInOrder, AreOffersInOrder}
 use Rattle.desk_tables.specs.Rows.{DeskRows, Holds}
 use Rattle.desk_tables.proofs.EqualLemmas.{text_equal, and_true}
 use Rattle.desk_tables.proofs.Selects.{selects, rises}
@@ -42,7 +44,7 @@ same_record x y e =
     let reference : x.reference ≡ y.reference = cc in
     λ i. record { series = series i; reference = reference i }
 
-same_article : (x y : ArticleRow) → article_columns x ≡ article_columns y → x ≡ y
+pub same_article : (x y : ArticleRow) → article_columns x ≡ article_columns y → x ≡ y
 same_article x y e =
     let series : x.series ≡ y.series = cc in
     let reference : x.reference ≡ y.reference = cc in
@@ -119,18 +121,26 @@ same_minimum x y e =
     let minimum : x.minimum ≡ y.minimum = cc in
     λ i. record { series = series i; reference = reference i; place = place i; price_place = price_place i; minimum = minimum i }
 
-pub minimums_shown : (old new : State) (series : List ℕ) (rows : DeskRows) (shown : List Row) (got : List MinimumRow) → Holds old.now rows → Shown minimum_rows_text (Text series ∷ []) old new shown → map minimum_columns got ≡ map five_columns shown
-    → AreMinimums series rows got
-minimums_shown old new series rows shown got h run read =
-    let s = selects minimum_columns minimum_rows_text 17 _ _ _ _ minimum_rows_is.0 minimum_rows_is.1 minimum_rows_is.2 (λ db. refl) (is_minimum_in series) (λ r. Text r.reference ∷ Int (pos r.place) ∷ Int (pos r.price_place) ∷ []) minimum_columns (Text series ∷ []) old new rows.minimums shown
-    (λ v r. rw (text_equal r.series series) (and_true (bytes_eq r.series series))) (λ v r. refl) (λ v r. refl) h.schema h.minimums run in
-    subst (λ (l : List MinimumRow). AreMinimums series rows l) (sym (read_back minimum_columns five_columns (λ x. refl) same_minimum s.0 got shown s.3 read)) s.1
-
 -- the three keys of ORDER BY
-by_three : (s t : List ℕ) (m n k l : ℕ) → is_lt (ordering_then (value_cmp (Text s) (Text t)) (ordering_then (value_cmp (Int (pos m)) (Int (pos n))) (ordering_then (value_cmp (Int (pos k)) (Int (pos l))) Equal))) ≡ false
+pub by_three : (s t : List ℕ) (m n k l : ℕ) → is_lt (ordering_then (value_cmp (Text s) (Text t)) (ordering_then (value_cmp (Int (pos m)) (Int (pos n))) (ordering_then (value_cmp (Int (pos k)) (Int (pos l))) Equal))) ≡ false
     → is_lt (price_cmp (s, m, k) (t, n, l)) ≡ false
 by_three s t m n k l e =
     rw (then-Equal (value_cmp (Int (pos k)) (Int (pos l))), value_cmp-Text s t, value_cmp-Int (pos m) (pos n), value_cmp-Int (pos k) (pos l), int_order m n, int_order k l) at e
+
+-- what ORDER BY gives in the order of the three keys
+pub rising : (out : MinimumRow → Output) (q : Query) → ((a b : MinimumRow) → is_lt (output_cmp q (out a) (out b)) ≡ false → is_lt (price_cmp (minimum_key a) (minimum_key b)) ≡ false) → (ordered : List MinimumRow)
+    → IsSorted (output_cmp q) (map out ordered) → AreRising ordered
+rising out q each ordered up =
+    subst AreRising (map-id ordered) (rises out (λ (m : MinimumRow). m) (λ a b. price_cmp (minimum_key a) (minimum_key b)) q (λ d. d) (λ d. refl) each ordered up)
+
+pub minimums_shown : (old new : State) (series : List ℕ) (rows : DeskRows) (shown : List Row) (got : List MinimumRow) → Holds old.now rows → Shown minimum_rows_text (Text series ∷ []) old new shown → map minimum_columns got ≡ map five_columns shown
+    → AreMinimums series rows got × AreRising got
+minimums_shown old new series rows shown got h run read =
+    let out : MinimumRow → Output = λ r. (Text r.reference ∷ Int (pos r.place) ∷ Int (pos r.price_place) ∷ [], minimum_columns r) in
+    let s = selects minimum_columns minimum_rows_text 17 _ _ _ _ minimum_rows_is.0 minimum_rows_is.1 minimum_rows_is.2 (λ db. refl) (is_minimum_in series) (λ r. Text r.reference ∷ Int (pos r.place) ∷ Int (pos r.price_place) ∷ []) minimum_columns (Text series ∷ []) old new rows.minimums shown
+    (λ v r. rw (text_equal r.series series) (and_true (bytes_eq r.series series))) (λ v r. refl) (λ v r. refl) h.schema h.minimums run in
+    subst (λ (l : List MinimumRow). AreMinimums series rows l × AreRising l) (sym (read_back minimum_columns five_columns (λ x. refl) same_minimum s.0 got shown s.3 read))
+    (s.1, rising out minimum_rows_query (λ a b e. by_three a.reference b.reference a.place b.place a.price_place b.price_place e) s.0 s.2)
 
 pub prices_shown : (old new : State) (series : List ℕ) (minimums : List MinimumRow) (rows : DeskRows) (shown : List Row) (got : List typed_price.PriceRow) → Holds old.now rows → Shown price_rows_text (Text series ∷ []) old new shown
     → map (λ r. Some r) got ≡ map (read_priced minimums) shown → ArePricesWith minimums series rows got

@@ -9,8 +9,8 @@ use Rattle.sqlite.specs.Listing.{understood, reads_listing}
 use Rattle.sqlite.proofs.Callers.{IsPlain, command_of}
 use Rattle.desk_tables.specs.Statements.{program}
 use Rattle.desk_tables.specs.Schema.{desk_schema}
-use Rattle.desk_tables.specs.RecordStatements.{has_record_text, record_rows_text, put_article_text, article_rows_text, delete_articles_text, put_offer_text, offer_rows_text, delete_offers_text, put_price_text, put_minimum_text, price_rows_text, minimum_rows_text, article_records_text, record_offers_text, offer_prices_text, offer_minimums_text}
-use Rattle.desk_tables.specs.RecordStatements.{has_record_query, record_rows_query, article_rows_query, delete_articles_query, offer_rows_query, delete_offers_query, price_rows_query, minimum_rows_query, article_records_query, record_offers_query, offer_prices_query, offer_minimums_query}
+use Rattle.desk_tables.specs.RecordStatements.{has_record_text, record_rows_text, put_article_text, article_rows_text, record_articles_text, delete_articles_text, put_offer_text, offer_rows_text, delete_offers_text, put_price_text, put_minimum_text, price_rows_text, minimum_rows_text, article_records_text, record_offers_text, offer_prices_text, offer_minimums_text}
+use Rattle.desk_tables.specs.RecordStatements.{has_record_query, record_rows_query, article_rows_query, record_articles_query, delete_articles_query, offer_rows_query, delete_offers_query, price_rows_query, minimum_rows_query, article_records_query, record_offers_query, offer_prices_query, offer_minimums_query}
 
 pub has_record_is : (command_of (understood desk_schema has_record_text) ≡ Select (program has_record_query) (codes "reference" ∷ [])) × (reads_listing desk_schema has_record_text ≡ false) × IsPlain (understood desk_schema has_record_text)
 unfolding understood everything
@@ -27,6 +27,11 @@ put_article_is = (refl, (refl, refl))
 pub article_rows_is : (command_of (understood desk_schema article_rows_text) ≡ Select (program article_rows_query) (codes "series" ∷ codes "reference" ∷ codes "id_place" ∷ codes "id_type" ∷ codes "id_value" ∷ [])) × (reads_listing desk_schema article_rows_text ≡ false) × IsPlain (understood desk_schema article_rows_text)
 unfolding understood everything
 article_rows_is = (refl, refl, (refl, refl))
+
+pub record_articles_is : (command_of (understood desk_schema record_articles_text) ≡ Select (program record_articles_query) (codes "series" ∷ codes "reference" ∷ codes "id_place" ∷ codes "id_type" ∷ codes "id_value" ∷ []))
+    × (reads_listing desk_schema record_articles_text ≡ false) × IsPlain (understood desk_schema record_articles_text)
+unfolding understood everything
+record_articles_is = (refl, refl, (refl, refl))
 
 pub delete_articles_is : (command_of (understood desk_schema delete_articles_text) ≡ Delete 5 (program delete_articles_query)) × IsPlain (understood desk_schema delete_articles_text)
 unfolding understood everything

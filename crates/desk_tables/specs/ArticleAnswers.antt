@@ -39,6 +39,12 @@ pub record AreRecordsOf (isbn : List ℕ) (rows : DeskRows) (records : List Reco
   pub rising : IsStrictlySortedBy record_cmp records
   pub are : (series reference : List ℕ) → list_any (is_record series reference) records ≡ list_any (λ a. is_article_of series reference a && names_article isbn a) rows.articles
 
+-- ---- the identifiers of a record
+
+-- the identifiers of a record, in order of their places
+abbrev pub AreArticlesOf : List ℕ → List ℕ → DeskRows → List ArticleRow → Type 0
+AreArticlesOf series reference rows got = IsPermutation (filter (is_article_of series reference) rows.articles) got × IsSorted nat_cmp (map (λ (a : ArticleRow). a.id_place) got)
+
 -- ---- the prices of an offer
 
 abbrev pub is_price_at : List ℕ → List ℕ → ℕ → PriceRow → Bool

@@ -10,3 +10,4 @@ pub mod RecordReadings
 pub mod RecordAnswers
 pub mod ArticleAnswers
 pub mod AddedRows
+pub mod Refusals

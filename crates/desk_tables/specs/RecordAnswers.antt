@@ -1,7 +1,7 @@
 -- What the queries on the tables that keep catalogues answer.
 use Rattle.std.specs.Prelude.{◌≡◌, ℕ, Bool, ◌&&◌, ◌==◌, Option, Some, find, option_map, unwrap_or, List, [], ◌∷◌, map, filter}
 use Rattle.std.specs.Cmp.Lexicographic.{slice_cmp}
-use Rattle.std.specs.List.Sorted.{IsPermutation, IsSorted}
+use Rattle.std.specs.List.Sorted.{IsPermutation, IsSorted, IsSortedByKey}
 use Rattle.std.specs.Ordering.{nat_cmp, on, then_cmp}
 use Rattle.std.specs.Str.{bytes_eq}
 use Rattle.std.specs.declared.cmp.Ordering.{Ordering}
@@ -64,6 +64,13 @@ is_price_in series row = bytes_eq row.series series
 
 abbrev pub price_key : PriceRow → List ℕ × ℕ × ℕ
 price_key row = (row.reference, row.place, row.price_place)
+
+abbrev pub minimum_key : MinimumRow → List ℕ × ℕ × ℕ
+minimum_key row = (row.reference, row.place, row.price_place)
+
+-- minimums in the order of the prices of a series
+abbrev pub AreRising : List MinimumRow → Type 0
+AreRising minimums = IsSortedByKey minimum_key price_cmp minimums
 
 abbrev pub is_minimum_in : List ℕ → MinimumRow → Bool
 is_minimum_in series row = bytes_eq row.series series

@@ -19,6 +19,9 @@ put_article_text = codes "INSERT INTO article (series, reference, id_place, id_t
 abbrev pub article_rows_text : List ℕ
 article_rows_text = codes "SELECT series, reference, id_place, id_type, id_value FROM article WHERE series = ?1 ORDER BY reference, id_place"
 
+abbrev pub record_articles_text : List ℕ
+record_articles_text = codes "SELECT series, reference, id_place, id_type, id_value FROM article WHERE series = ?1 AND reference = ?2 ORDER BY id_place"
+
 abbrev pub delete_articles_text : List ℕ
 delete_articles_text = codes "DELETE FROM article WHERE series = ?1 AND reference = ?2"
 
@@ -53,7 +56,7 @@ abbrev pub offer_prices_text : List ℕ
 offer_prices_text = codes "SELECT series, reference, place, price_place, price_type, amount, currency, included, world, excluded, from_day, until_day FROM price WHERE series = ?1 AND reference = ?2 AND place = ?3 ORDER BY price_place"
 
 abbrev pub offer_minimums_text : List ℕ
-offer_minimums_text = codes "SELECT series, reference, place, price_place, minimum FROM price_minimum WHERE series = ?1 AND reference = ?2 AND place = ?3"
+offer_minimums_text = codes "SELECT series, reference, place, price_place, minimum FROM price_minimum WHERE series = ?1 AND reference = ?2 AND place = ?3 ORDER BY reference, place, price_place"
 
 -- a column of the table in the order of its values
 abbrev pub rising : ℕ → Term × Key
@@ -70,6 +73,9 @@ record_rows_query = over 9 of_series (col 1 1 ∷ col 1 2 ∷ []) (rising 2 ∷ 
 
 abbrev pub article_rows_query : Query
 article_rows_query = over 11 of_series (col 1 1 ∷ col 1 2 ∷ col 1 3 ∷ col 1 4 ∷ col 1 5 ∷ []) (rising 2 ∷ rising 3 ∷ [])
+
+abbrev pub record_articles_query : Query
+record_articles_query = over 11 both (col 1 1 ∷ col 1 2 ∷ col 1 3 ∷ col 1 4 ∷ col 1 5 ∷ []) (rising 3 ∷ [])
 
 abbrev pub delete_articles_query : Query
 delete_articles_query = over 11 both (col 1 0 ∷ []) []
@@ -104,4 +110,4 @@ offer_prices_query =
     over 15 all_three (col 1 1 ∷ col 1 2 ∷ col 1 3 ∷ col 1 4 ∷ col 1 5 ∷ col 1 6 ∷ col 1 7 ∷ col 1 8 ∷ col 1 9 ∷ col 1 10 ∷ col 1 11 ∷ col 1 12 ∷ []) (rising 4 ∷ [])
 
 abbrev pub offer_minimums_query : Query
-offer_minimums_query = over 17 all_three (col 1 1 ∷ col 1 2 ∷ col 1 3 ∷ col 1 4 ∷ col 1 5 ∷ []) []
+offer_minimums_query = over 17 all_three (col 1 1 ∷ col 1 2 ∷ col 1 3 ∷ col 1 4 ∷ col 1 5 ∷ []) (rising 2 ∷ rising 3 ∷ rising 4 ∷ [])

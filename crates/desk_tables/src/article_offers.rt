@@ -4,7 +4,7 @@ ghost use Rattle.std.specs.Prelude.{◌≡◌, ◌++◌, Err, IfOk, IsTrue, List
 ghost use Rattle.std.specs.List.{dedup};
 ghost use Rattle.sqlite.specs.Held.{state};
 ghost use Rattle.desk_tables.specs.ArticleAnswers.{is_article_type, offer_with, read_shown, same_row, shows_article, AreMinimumsAt, AreOfferRowsOf, AreOffersOf, AreOffersOfArticle, ArePricesAt, ArePricesUnder, AreRecordsOf};
-ghost use Rattle.desk_tables.specs.RecordAnswers.{two_columns};
+ghost use Rattle.desk_tables.specs.RecordAnswers.{two_columns, AreRising};
 ghost use Rattle.desk_tables.specs.RecordRows.{record_columns};
 ghost use Rattle.desk_tables.specs.Rows.{unchanged};
 ghost use Rattle.desk_tables.specs.Transactions.{Works};
@@ -65,7 +65,7 @@ fn into_price(row: PriceRow) -> Price
 
 // The prices that rows of `price` keep, with those minimums.
 fn prices_in(rows: &Vec<Row>, minimums: &[MinimumRow]) -> Result<Items<Price>, StoreFault>
-    ensures { IfOk result (λ prices. map (λ p. Some p) prices ≡ map (read_shown minimums.now) rows.now.items) }
+    ensures { AreRising minimums.now → IfOk result (λ prices. map (λ p. Some p) prices ≡ map (read_shown minimums.now) rows.now.items) }
 {
     let alloc = *rows.allocator();
     let mut prices = Items::new(alloc);
@@ -116,8 +116,10 @@ impl<S: Alter> Work<'_, S> {
         }
     }
 
-    // The rows of the offers of a record.
-    fn record_offers(&mut self, row: &RecordRow) -> Result<Vec<OfferRow>, StoreFault>
+    /// The rows of the offers of a record, which are its SupplyDetails, in order of their places.
+    /// `Unusable` where a row holds what no offer is, and `Memory` where memory runs out; otherwise
+    /// a fault is one of the store.
+    pub fn record_offers(&mut self, row: &RecordRow) -> Result<Vec<OfferRow>, StoreFault>
         ensures same_reference { self.new.tables.ghost_name ≡ self.old.tables.ghost_name }
         ensures untouched { IsTrue self.old.spent → (result ≡ Err StoreFault.Unusable) × (self.new.tables.now ≡ self.old.tables.now) }
         ensures works { Works (λ rows offers. AreOfferRowsOf rows row.now offers.items) unchanged
@@ -139,15 +141,15 @@ impl<S: Alter> Work<'_, S> {
         }
     }
 
-    // The minimums of an offer.
+    // The minimums of an offer, in the order of its prices.
     fn offer_minimums(&mut self, offer: &OfferRow) -> Result<Vec<MinimumRow>, StoreFault>
         ensures same_reference { self.new.tables.ghost_name ≡ self.old.tables.ghost_name }
         ensures untouched { IsTrue self.old.spent → (result ≡ Err StoreFault.Unusable) × (self.new.tables.now ≡ self.old.tables.now) }
-        ensures works { Works (λ rows minimums. AreMinimumsAt offer.now.series offer.now.reference offer.now.place rows minimums.items) unchanged
+        ensures works { Works (λ rows minimums. AreMinimumsAt offer.now.series offer.now.reference offer.now.place rows minimums.items × AreRising minimums.items) unchanged
             (state S.Store self.old.tables.now.connection) (state S.Store self.new.tables.now.connection) self.old.spent self.new.spent result }
     {
         let rows = match self.rows(
-            "SELECT series, reference, place, price_place, minimum FROM price_minimum WHERE series = ?1 AND reference = ?2 AND place = ?3",
+            "SELECT series, reference, place, price_place, minimum FROM price_minimum WHERE series = ?1 AND reference = ?2 AND place = ?3 ORDER BY reference, place, price_place",
             params![offer.series.as_str(), offer.reference.as_str(), offer.place],
         ) {
             Ok(rows) => rows,
@@ -170,7 +172,7 @@ impl<S: Alter> Work<'_, S> {
     ) -> Result<Items<Price>, StoreFault>
         ensures same_reference { self.new.tables.ghost_name ≡ self.old.tables.ghost_name }
         ensures untouched { IsTrue self.old.spent → (result ≡ Err StoreFault.Unusable) × (self.new.tables.now ≡ self.old.tables.now) }
-        ensures works { Works (λ rows prices. ArePricesUnder minimums.now offer.now.series offer.now.reference offer.now.place rows prices) unchanged
+        ensures works { Works (λ rows prices. AreRising minimums.now → ArePricesUnder minimums.now offer.now.series offer.now.reference offer.now.place rows prices) unchanged
             (state S.Store self.old.tables.now.connection) (state S.Store self.new.tables.now.connection) self.old.spent self.new.spent result }
     {
         let rows = match self.rows(
@@ -189,8 +191,10 @@ impl<S: Alter> Work<'_, S> {
         }
     }
 
-    // The prices of an offer.
-    fn offer_prices(&mut self, offer: &OfferRow) -> Result<Items<Price>, StoreFault>
+    /// The prices of an offer, in order of their places, each from so many copies on as its minimum
+    /// says, and from 1 where it has none. `Unusable` where a row holds what no price is, and
+    /// `Memory` where memory runs out; otherwise a fault is one of the store.
+    pub fn offer_prices(&mut self, offer: &OfferRow) -> Result<Items<Price>, StoreFault>
         ensures same_reference { self.new.tables.ghost_name ≡ self.old.tables.ghost_name }
         ensures untouched { IsTrue self.old.spent → (result ≡ Err StoreFault.Unusable) × (self.new.tables.now ≡ self.old.tables.now) }
         ensures works { Works (λ rows prices. ArePricesAt offer.now.series offer.now.reference offer.now.place rows prices) unchanged

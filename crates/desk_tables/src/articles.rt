@@ -6,10 +6,11 @@ ghost use Rattle.desk_tables.specs.Transactions.{Works, NoAnswer};
 ghost use Rattle.desk_tables.specs.Rows.{unchanged};
 ghost use Rattle.desk_tables.specs.RecordRows.{article_columns};
 ghost use Rattle.desk_tables.specs.RecordAnswers.{five_columns, AreArticlesInOrder};
+ghost use Rattle.desk_tables.specs.ArticleAnswers.{AreArticlesOf};
 ghost use Rattle.desk_tables.specs.RecordChanges.{with_article, without_articles};
 
 use crate::columns::{code_column, name_column, text_column, whole_column};
-use crate::rows::ArticleRow;
+use crate::rows::{ArticleRow, RecordRow};
 use crate::work::Work;
 use onix_message::agreement::StoreFault;
 use onix_terms::series_name::SeriesName;
@@ -96,6 +97,29 @@ impl<S: Alter> Work<'_, S> {
         let rows = match self.rows(
             "SELECT series, reference, id_place, id_type, id_value FROM article WHERE series = ?1 ORDER BY reference, id_place",
             params![series.as_str()],
+        ) {
+            Ok(rows) => rows,
+            Err(fault) => return Err(fault),
+        };
+        match all_articles(&rows) {
+            Ok(articles) => Ok(articles),
+            Err(fault) => {
+                self.spent = true;
+                Err(fault)
+            }
+        }
+    }
+
+    /// The identifiers of a record, in order of their places.
+    pub fn record_articles(&mut self, row: &RecordRow) -> Result<Vec<ArticleRow>, StoreFault>
+        ensures same_reference { self.new.tables.ghost_name ≡ self.old.tables.ghost_name }
+        ensures untouched { IsTrue self.old.spent → (result ≡ Err StoreFault.Unusable) × (self.new.tables.now ≡ self.old.tables.now) }
+        ensures works { Works (λ rows articles. AreArticlesOf row.now.series row.now.reference rows articles.items) unchanged
+            (state S.Store self.old.tables.now.connection) (state S.Store self.new.tables.now.connection) self.old.spent self.new.spent result }
+    {
+        let rows = match self.rows(
+            "SELECT series, reference, id_place, id_type, id_value FROM article WHERE series = ?1 AND reference = ?2 ORDER BY id_place",
+            params![row.series.as_str(), row.reference.as_str()],
         ) {
             Ok(rows) => rows,
             Err(fault) => return Err(fault),

@@ -1,10 +1,11 @@
 // The tables `price` and `price_minimum`: the prices of each offer, and the minimums above 1.
 
-ghost use Rattle.std.specs.Prelude.{◌≡◌, Err, IfOk, IsTrue, Some, map, position};
+ghost use Rattle.std.specs.Prelude.{◌≡◌, ◌<◌, Err, IfOk, IfSome, IsTrue, Some, length, map, position};
+ghost use Rattle.std.specs.Ordering.{is_lt};
 ghost use Rattle.sqlite.specs.Held.{state};
 ghost use Rattle.desk_tables.specs.Transactions.{Works, NoAnswer};
 ghost use Rattle.desk_tables.specs.RecordRows.{price_row, minimum_row, minimum_columns};
-ghost use Rattle.desk_tables.specs.RecordAnswers.{five_columns, is_minimum_at, minimum_at, read_priced, AreMinimums, ArePricesWith, ArePricesInOrder};
+ghost use Rattle.desk_tables.specs.RecordAnswers.{five_columns, is_minimum_at, minimum_at, minimum_key, price_cmp, read_priced, AreMinimums, ArePricesWith, ArePricesInOrder, AreRising};
 ghost use Rattle.desk_tables.specs.Rows.{unchanged};
 ghost use Rattle.desk_tables.specs.RecordReadings.{day_in, number_in, territory_at, text_in};
 ghost use Rattle.sqlite_value.specs.Order.{column};
@@ -51,18 +52,38 @@ pub(crate) fn all_minimums(rows: &Vec<Row>) -> Result<Vec<MinimumRow>, StoreFaul
     Ok(minimums)
 }
 
-// The place of the minimum of a price.
+// Whether a minimum stands before that of a price.
+fn is_before(row: &MinimumRow, reference: &Text, place: u32, price_place: u32) -> bool
+    ensures { result ≡ is_lt (price_cmp (minimum_key row.now) (reference.now, place, price_place)) }
+{
+    let by_places = row
+        .place
+        .cmp(&place)
+        .then(row.price_place.cmp(&price_place));
+    row.reference.compare(reference).then(by_places).is_lt()
+}
+
+fn is_minimum_at(row: &MinimumRow, reference: &Text, place: u32, price_place: u32) -> bool
+    ensures { result ≡ is_minimum_at reference.now place price_place row.now }
+{
+    row.reference == *reference && row.place == place && row.price_place == price_place
+}
+
+// The place of the minimum of a price among minimums in order.
 fn place_of_minimum(
     minimums: &[MinimumRow],
     reference: &Text,
     place: u32,
     price_place: u32,
 ) -> Option<usize>
-    ensures { result ≡ position (is_minimum_at reference.now place price_place) minimums.now }
+    ensures within { IfSome result (λ at. at < length minimums.now) }
+    ensures place { AreRising minimums.now → result ≡ position (is_minimum_at reference.now place price_place) minimums.now }
 {
-    minimums.iter().position(|row| {
-        row.reference == *reference && row.place == place && row.price_place == price_place
-    })
+    let at = minimums.partition_point(|row| is_before(row, reference, place, price_place));
+    if at < minimums.len() && is_minimum_at(&minimums[at], reference, place, price_place) {
+        return Some(at);
+    }
+    None
 }
 
 // The minimum of a price: 1 where it has no row.
@@ -72,7 +93,7 @@ fn minimum_of(
     place: u32,
     price_place: u32,
 ) -> Result<Quantity, StoreFault>
-    ensures { IfOk result (λ q. q ≡ minimum_at reference.now place price_place minimums.now) }
+    ensures { AreRising minimums.now → IfOk result (λ q. q ≡ minimum_at reference.now place price_place minimums.now) }
 {
     let value = match place_of_minimum(minimums, reference, place, price_place) {
         Some(at) => minimums[at].minimum,
@@ -105,13 +126,13 @@ fn price_of(alloc: Global, row: &Row, minimum: Quantity) -> Result<Price, StoreF
     })
 }
 
-// The row of `price` that a query shows, with its minimum among those.
+// The row of `price` that a query shows, with its minimum among those, which are in order.
 pub(crate) fn priced_row(
     alloc: Global,
     row: &Row,
     minimums: &[MinimumRow],
 ) -> Result<PriceRow, StoreFault>
-    ensures { IfOk result (λ r. read_priced minimums.now row.now ≡ Some r) }
+    ensures { AreRising minimums.now → IfOk result (λ r. read_priced minimums.now row.now ≡ Some r) }
 {
     let series = name_column(row, 0)?;
     let reference = text_column(row, 1)?;
@@ -129,7 +150,7 @@ pub(crate) fn priced_row(
 }
 
 fn all_prices(rows: &Vec<Row>, minimums: &[MinimumRow]) -> Result<Vec<PriceRow>, StoreFault>
-    ensures { IfOk result (λ prices. map (λ r. Some r) prices.items ≡ map (read_priced minimums.now) rows.now.items) }
+    ensures { AreRising minimums.now → IfOk result (λ prices. map (λ r. Some r) prices.items ≡ map (read_priced minimums.now) rows.now.items) }
 {
     let alloc = *rows.allocator();
     let mut prices = Vec::new(alloc);
@@ -236,11 +257,11 @@ impl<S: Alter> Work<'_, S> {
         Ok(())
     }
 
-    // The minimums of a series.
+    // The minimums of a series, in the order of its prices.
     fn shown_minimums(&mut self, series: &SeriesName) -> Result<Vec<MinimumRow>, StoreFault>
         ensures same_reference { self.new.tables.ghost_name ≡ self.old.tables.ghost_name }
         ensures untouched { IsTrue self.old.spent → (result ≡ Err StoreFault.Unusable) × (self.new.tables.now ≡ self.old.tables.now) }
-        ensures works { Works (λ rows minimums. AreMinimums series.now rows minimums.items) unchanged
+        ensures works { Works (λ rows minimums. AreMinimums series.now rows minimums.items × AreRising minimums.items) unchanged
             (state S.Store self.old.tables.now.connection) (state S.Store self.new.tables.now.connection) self.old.spent self.new.spent result }
     {
         let rows = match self.rows(
@@ -267,7 +288,7 @@ impl<S: Alter> Work<'_, S> {
     ) -> Result<Vec<PriceRow>, StoreFault>
         ensures same_reference { self.new.tables.ghost_name ≡ self.old.tables.ghost_name }
         ensures untouched { IsTrue self.old.spent → (result ≡ Err StoreFault.Unusable) × (self.new.tables.now ≡ self.old.tables.now) }
-        ensures works { Works (λ rows prices. ArePricesWith minimums.now series.now rows prices.items) unchanged
+        ensures works { Works (λ rows prices. AreRising minimums.now → ArePricesWith minimums.now series.now rows prices.items) unchanged
             (state S.Store self.old.tables.now.connection) (state S.Store self.new.tables.now.connection) self.old.spent self.new.spent result }
     {
         let rows = match self.rows(

@@ -5,6 +5,7 @@ ghost use Rattle.std.specs.Borrow.{sem, RestsIfErr};
 ghost use Rattle.sqlite.specs.State.{HasCleanDisk, Survives};
 ghost use Rattle.sqlite.specs.Held.{state};
 ghost use Rattle.desk_tables.specs.contracts.tables.Tables.{the_row};
+ghost use Rattle.desk_tables.specs.Refusals.{FailsOutside};
 ghost use Rattle.desk_tables.specs.Transactions.{BeginsWork, EndsWork, IsUndone, LeavesOnly, NoTrees};
 
 use crate::fault::fault_of;
@@ -34,7 +35,8 @@ impl<S: Alter> Tables<S> {
     }
 
     fn begin(&mut self) -> Result<(), StoreFault>
-        ensures { BeginsWork (state S.Store self.old.connection) (state S.Store self.new.connection) result }
+        ensures begins { BeginsWork (state S.Store self.old.connection) (state S.Store self.new.connection) result }
+        ensures outside { FailsOutside (state S.Store self.old.connection) (state S.Store self.new.connection) result }
     {
         match self.connection.execute("BEGIN", &[]) {
             Ok(_) => Ok(()),
@@ -69,7 +71,7 @@ impl<S: Alter> Tables<S> {
     /// Begins a transaction. It is refused where the connection still stands in one; otherwise a
     /// fault is one of the store, and the last commit stays.
     pub fn work(&mut self) -> Result<Work<'_, S>, StoreFault>
-        ensures* rests { sem 𝓛 (RestsIfErr (the_row S.row S.Store) self.entry (λ w. w.tables.ghost_name) result (λ last. BeginsWork (state S.Store self.old.connection) (state S.Store last.connection) result)) }
+        ensures* rests { sem 𝓛 (RestsIfErr (the_row S.row S.Store) self.entry (λ w. w.tables.ghost_name) result (λ last. BeginsWork (state S.Store self.old.connection) (state S.Store last.connection) result × FailsOutside (state S.Store self.old.connection) (state S.Store last.connection) result)) }
         ensures same_reference { IfOk result (λ w. w.tables.ghost_name ≡ self.entry.ghost_name) }
         ensures begun { IfOk result (λ w. BeginsWork (state S.Store self.old.connection) (state S.Store w.tables.now.connection) result) }
         ensures fresh { IfOk result (λ w. w.spent ≡ false) }

@@ -7,10 +7,14 @@
 #[cfg(test)]
 mod calls;
 #[cfg(test)]
+mod cases;
+#[cfg(test)]
 mod migration;
 #[cfg(test)]
 mod refusals;
 #[cfg(test)]
 mod sample;
+#[cfg(test)]
+mod stores;
 #[cfg(test)]
 mod strangers;

@@ -1,11 +1,15 @@
 // Tables of version 1, made by the test's own statements, are taken to version 2.
 
-use crate::sample::{expect, is_offer, is_price, isbn, name, number, offer, price};
+use crate::calls::{finds_offer, has_offer, has_prices};
+use crate::cases::Case;
+use crate::sample::{expect, name, number, put_price};
+use crate::stores::{Before, over_memory};
 use desk_tables::tables::Tables;
 use desk_tables::work::Work;
 use onix_message::agreement::StoreFault;
-use sqlite::{Connection, MemStore};
+use sqlite::Alter;
 use std::alloc::Global;
+use std::process::Abort;
 use std::test::Fail;
 
 const VERSION_1: &str = "
@@ -18,9 +22,6 @@ CREATE TABLE article (series TEXT NOT NULL, reference TEXT NOT NULL, id_place IN
 CREATE TABLE offer (series TEXT NOT NULL, reference TEXT NOT NULL, place INTEGER NOT NULL, supply INTEGER NOT NULL, included TEXT NOT NULL, world INTEGER NOT NULL, excluded TEXT NOT NULL, role TEXT NOT NULL, supplier_type TEXT NOT NULL, supplier_value TEXT NOT NULL, supplier_name TEXT NOT NULL, availability TEXT NOT NULL, unpriced TEXT NOT NULL, PRIMARY KEY (series, reference, place), FOREIGN KEY (series, reference) REFERENCES record (series, reference) ON DELETE CASCADE) STRICT;
 CREATE TABLE price (series TEXT NOT NULL, reference TEXT NOT NULL, place INTEGER NOT NULL, price_place INTEGER NOT NULL, price_type TEXT NOT NULL, amount INTEGER NOT NULL, currency TEXT NOT NULL, included TEXT NOT NULL, world INTEGER NOT NULL, excluded TEXT NOT NULL, from_day INTEGER, until_day INTEGER, PRIMARY KEY (series, reference, place, price_place), FOREIGN KEY (series, reference, place) REFERENCES offer (series, reference, place) ON DELETE CASCADE) STRICT;
 INSERT INTO meta VALUES ('version', 1);
-";
-
-const ROWS: &str = "
 INSERT INTO series VALUES ('north', '06', '4012345000009', '06', '5012345678900', 1, 2);
 INSERT INTO held VALUES ('north', 5, 'later');
 INSERT INTO applied VALUES ('north', 1, 'first', 1, 0, 0, 0, 0);
@@ -30,14 +31,7 @@ INSERT INTO offer VALUES ('north', 'R1', 1, 1, 'GB IE', 0, '', '04', '06', '4012
 INSERT INTO price VALUES ('north', 'R1', 1, 1, '02', 12990, 'GBP', '', 1, '', NULL, NULL);
 ";
 
-fn version_1(alloc: Global) -> Result<Tables<MemStore>, Fail> {
-    let mut connection = Connection::open_in_memory(alloc)?;
-    connection.execute_batch(VERSION_1)?;
-    connection.execute_batch(ROWS)?;
-    Ok(Tables::new(connection))
-}
-
-fn migrates(tables: &mut Tables<MemStore>) -> Result<bool, Fail> {
+fn migrates<S: Alter>(tables: &mut Tables<S>) -> Result<bool, StoreFault> {
     let mut work = tables.work()?;
     let before = work.version()?;
     work.migrate()?;
@@ -46,62 +40,65 @@ fn migrates(tables: &mut Tables<MemStore>) -> Result<bool, Fail> {
     Ok(before == Some(1) && after == Some(2))
 }
 
-fn migrates_again(tables: &mut Tables<MemStore>) -> Result<bool, Fail> {
+fn migrates_again<S: Alter>(tables: &mut Tables<S>) -> Result<bool, StoreFault> {
     let mut work = tables.work()?;
-    match work.migrate() {
-        Err(StoreFault::Unusable) => Ok(true),
-        _ => Ok(false),
+    Ok(matches!(work.migrate(), Err(StoreFault::Unusable)))
+}
+
+fn has_next<S: Alter>(work: &mut Work<'_, S>) -> Result<bool, Fail> {
+    match work.series_by_name(&name("north")?)? {
+        Some(series) => Ok(series.next == 2),
+        None => Ok(false),
     }
 }
 
-fn has_numbers(work: &mut Work<'_, MemStore>) -> Result<bool, Fail> {
-    let series = work.series_by_name(&name("north")?)?;
-    let held = work.next_held(&name("north")?, number("5")?)?;
-    let applied = work.applied_at(&name("north")?, number("1")?)?;
-    match (series, held, applied) {
-        (Some(series), Some(held), Some((text, counts))) => Ok(
-            series.next == 2
-                && held.as_str() == "later"
-                && text.as_str() == "first"
-                && counts.replaced == 1,
-        ),
-        _ => Ok(false),
+fn has_held<S: Alter>(work: &mut Work<'_, S>) -> Result<bool, Fail> {
+    match work.next_held(&name("north")?, number("5")?)? {
+        Some(held) => Ok(held.as_str() == "later"),
+        None => Ok(false),
     }
 }
 
-fn has_parts(alloc: Global, work: &mut Work<'_, MemStore>) -> Result<bool, Fail> {
-    let offers = work.offer_rows(&name("north")?)?;
-    let prices = work.price_rows(&name("north")?)?;
-    let found = work.offers_by_article(&isbn("9781234567897")?)?;
-    match (offers.as_slice(), prices.as_slice()) {
-        ([row], [one]) => Ok(
-            is_offer(row, &offer(alloc, "R1", 1)?)
-                && is_price(one, &price(alloc, 1, 1, 1)?)
-                && found.len() == 1,
-        ),
-        _ => Ok(false),
+fn has_applied<S: Alter>(work: &mut Work<'_, S>) -> Result<bool, Fail> {
+    match work.applied_at(&name("north")?, number("1")?)? {
+        Some((text, counts)) => Ok(text.as_str() == "first" && counts.replaced == 1),
+        None => Ok(false),
     }
 }
 
-fn takes_minimum(alloc: Global, work: &mut Work<'_, MemStore>) -> Result<bool, Fail> {
-    let wanted = price(alloc, 1, 2, 10)?;
-    work.put_price(&wanted)?;
-    match work.price_rows(&name("north")?)?.as_slice() {
-        [_, two] => Ok(is_price(two, &wanted)),
-        _ => Ok(false),
-    }
+fn takes_minimum<S: Alter>(alloc: Global, work: &mut Work<'_, S>) -> Result<bool, Fail> {
+    put_price(alloc, work, 1, 2, 10)??;
+    has_prices(alloc, work, &[1, 10])
+}
+
+fn holds<S: Alter>(alloc: Global, rt: &impl Abort, work: &mut Work<'_, S>) -> Result<(), Fail> {
+    expect(rt, has_next(work)?, "the next number");
+    expect(rt, has_held(work)?, "a held number");
+    expect(rt, has_applied(work)?, "an applied number");
+    expect(rt, has_offer(alloc, work)?, "the offer");
+    expect(rt, has_prices(alloc, work, &[1])?, "the price");
+    expect(rt, finds_offer(alloc, work, 1)?, "the article");
+    expect(rt, takes_minimum(alloc, work)?, "a minimum");
+    Ok(())
+}
+
+/// Tables of version 1 with rows are taken to version 2, once.
+pub fn migration<S: Alter>(
+    alloc: Global,
+    rt: &impl Abort,
+    tables: &mut Tables<S>,
+) -> Result<(), Fail> {
+    expect(rt, migrates(tables)?, "the version");
+    expect(rt, migrates_again(tables)?, "a second time");
+    let mut work = tables.work()?;
+    holds(alloc, rt, &mut work)
 }
 
 #[test]
 fn from_version_1(rt: HostRuntime) -> Result<(), Fail> {
-    let alloc = rt.alloc();
-    let mut tables = version_1(alloc)?;
-    expect(&rt, migrates(&mut tables)?, "the version");
-    expect(&rt, migrates_again(&mut tables)?, "a second time");
-    let mut work = tables.work()?;
-    expect(&rt, has_numbers(&mut work)?, "the numbers");
-    expect(&rt, has_parts(alloc, &mut work)?, "the record");
-    expect(&rt, takes_minimum(alloc, &mut work)?, "a minimum");
-    work.commit()?;
-    Ok(())
+    let before = Before {
+        has_sample: false,
+        statements: VERSION_1,
+    };
+    over_memory(rt.alloc(), &rt, before, Case::Migration)
 }

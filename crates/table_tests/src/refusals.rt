@@ -1,20 +1,21 @@
 // What is refused, and that it changes nothing.
 
+use crate::calls::{has_offer, has_prices};
+use crate::cases::Case;
 use crate::sample::{
-    CONTENTS, EFFECT, agreement, article, expect, fill, in_memory, name, number, offer, price,
+    CONTENTS, EFFECT, expect, name, number, put_article, put_offer, put_price, put_series,
 };
+use crate::stores::{Before, over_memory};
 use desk_tables::tables::Tables;
 use desk_tables::work::Work;
 use onix_message::agreement::StoreFault;
-use sqlite::{Alter, MemStore};
+use sqlite::Alter;
 use std::alloc::Global;
+use std::process::Abort;
 use std::test::Fail;
 
 fn is_unusable(outcome: Result<(), StoreFault>) -> bool {
-    match outcome {
-        Err(StoreFault::Unusable) => true,
-        _ => false,
-    }
+    matches!(outcome, Err(StoreFault::Unusable))
 }
 
 // A call for the numbers of a series that is refused: its key is there, or its series is not.
@@ -24,8 +25,8 @@ fn refused_number<S: Alter>(
     case: &str,
 ) -> Result<bool, Fail> {
     let outcome = match case {
-        "a name that is taken" => work.put_series(&agreement(alloc, "north", "1")?),
-        "parties that are taken" => work.put_series(&agreement(alloc, "south", "4012345000009")?),
+        "a name that is taken" => put_series(alloc, work, "north", "1")?,
+        "parties that are taken" => { put_series(alloc, work, "south", "4012345000009")? },
         "a held number" => work.put_held(&name("north")?, number("1")?, "other"),
         "an applied number" => work.put_applied(&name("north")?, number("2")?, "other", &EFFECT),
         "held of no series" => work.put_held(&name("west")?, number("1")?, CONTENTS),
@@ -43,98 +44,53 @@ fn refused_number<S: Alter>(
 fn refused_part<S: Alter>(alloc: Global, work: &mut Work<'_, S>, case: &str) -> Result<bool, Fail> {
     let outcome = match case {
         "a record of no series" => work.put_record(&name("west")?, "R1"),
-        "an article's place" => work.put_article(&article(alloc, "R1", 1, "03")?),
-        "an article of no record" => work.put_article(&article(alloc, "R2", 1, "03")?),
-        "an offer's place" => work.put_offer(&offer(alloc, "R1", 1)?),
-        "an offer of no record" => work.put_offer(&offer(alloc, "R2", 1)?),
-        "a price's place" => work.put_price(&price(alloc, 1, 2, 1)?),
-        "a price of no offer" => work.put_price(&price(alloc, 2, 1, 10)?),
+        "an article's place" => put_article(alloc, work, "R1", 1, "03")?,
+        "an article of no record" => put_article(alloc, work, "R2", 1, "03")?,
+        "an offer's place" => put_offer(alloc, work, "R1")?,
+        "an offer of no record" => put_offer(alloc, work, "R2")?,
+        "a price's place" => put_price(alloc, work, 1, 2, 1)?,
+        "a price of no offer" => put_price(alloc, work, 2, 1, 10)?,
         _ => Ok(()),
     };
     Ok(is_unusable(outcome))
 }
 
-// The rows are those that were put at the start.
-fn is_as_before(tables: &mut Tables<MemStore>) -> Result<bool, Fail> {
-    let mut work = tables.work()?;
+fn has_numbers<S: Alter>(work: &mut Work<'_, S>) -> Result<bool, Fail> {
     let series = work.series_rows()?;
+    let count = series.len();
+    drop(series);
     let held = work.next_held(&name("north")?, number("1")?)?;
-    let offers = work.offer_rows(&name("north")?)?;
-    let prices = work.price_rows(&name("north")?)?;
+    Ok(count == 1 && held.is_some())
+}
+
+// The rows are those of the sample.
+fn is_as_before<S: Alter>(alloc: Global, tables: &mut Tables<S>) -> Result<bool, Fail> {
+    let mut work = tables.work()?;
     Ok(
-        series.len() == 1
-            && held.is_some()
-            && offers.len() == 1
-            && prices.len() == 2
-            && work.version()? == Some(2),
+        work.version()? == Some(2)
+            && has_numbers(&mut work)?
+            && has_offer(alloc, &mut work)?
+            && has_prices(alloc, &mut work, &[1, 10])?,
     )
 }
 
 // The call is refused, and so is each later one, `commit` too.
-fn refuses(
-    alloc: Global,
-    tables: &mut Tables<MemStore>,
-    case: &str,
-    is_part: bool,
-) -> Result<bool, Fail> {
+fn refuses<S: Alter>(alloc: Global, tables: &mut Tables<S>, case: &str) -> Result<bool, Fail> {
     let mut work = tables.work()?;
     work.delete_offers(&name("north")?, "R9")?;
-    let refused = if is_part {
-        refused_part(alloc, &mut work, case)?
-    } else {
-        refused_number(alloc, &mut work, case)?
-    };
+    let refused = refused_number(alloc, &mut work, case)? || refused_part(alloc, &mut work, case)?;
     let next = is_unusable(work.set_next(&name("north")?, 7));
     Ok(refused && next && is_unusable(work.commit()))
 }
 
-#[test]
-fn refuses_numbers(rt: HostRuntime) -> Result<(), Fail> {
-    let mut tables = in_memory(rt.alloc())?;
-    fill(rt.alloc(), &mut tables)?;
-    for case in [
-        "a name that is taken",
-        "parties that are taken",
-        "a held number",
-        "an applied number",
-        "held of no series",
-        "applied of no series",
-        "tables that are there",
-        "a version that is not 1",
-    ] {
-        expect(&rt, refuses(rt.alloc(), &mut tables, case, false)?, case);
-        expect(&rt, is_as_before(&mut tables)?, case);
-    }
-    Ok(())
-}
-
-#[test]
-fn refuses_parts(rt: HostRuntime) -> Result<(), Fail> {
-    let mut tables = in_memory(rt.alloc())?;
-    fill(rt.alloc(), &mut tables)?;
-    for case in [
-        "a record of no series",
-        "an article's place",
-        "an article of no record",
-        "an offer's place",
-        "an offer of no record",
-        "a price's place",
-        "a price of no offer",
-    ] {
-        expect(&rt, refuses(rt.alloc(), &mut tables, case, true)?, case);
-        expect(&rt, is_as_before(&mut tables)?, case);
-    }
-    Ok(())
-}
-
-fn changes(alloc: Global, tables: &mut Tables<MemStore>) -> Result<(), Fail> {
+fn changes<S: Alter>(alloc: Global, tables: &mut Tables<S>) -> Result<(), Fail> {
     let mut work = tables.work()?;
-    work.put_series(&agreement(alloc, "south", "1")?)?;
+    put_series(alloc, &mut work, "south", "1")??;
     work.delete_record(&name("north")?, "R1")?;
     Ok(())
 }
 
-fn changes_nothing(tables: &mut Tables<MemStore>) -> Result<(), Fail> {
+fn changes_nothing<S: Alter>(tables: &mut Tables<S>) -> Result<(), Fail> {
     let mut work = tables.work()?;
     work.set_next(&name("west")?, 7)?;
     work.delete_articles(&name("north")?, "R2")?;
@@ -144,13 +100,44 @@ fn changes_nothing(tables: &mut Tables<MemStore>) -> Result<(), Fail> {
     Ok(())
 }
 
-#[test]
-fn leaves_the_rest(rt: HostRuntime) -> Result<(), Fail> {
-    let mut tables = in_memory(rt.alloc())?;
-    fill(rt.alloc(), &mut tables)?;
-    changes(rt.alloc(), &mut tables)?;
-    expect(&rt, is_as_before(&mut tables)?, "let go without commit");
-    changes_nothing(&mut tables)?;
-    expect(&rt, is_as_before(&mut tables)?, "what is not there");
+/// What is refused changes nothing, nor does what is let go without `commit`, nor what is not there.
+pub fn refusals<S: Alter>(
+    alloc: Global,
+    rt: &impl Abort,
+    tables: &mut Tables<S>,
+) -> Result<(), Fail> {
+    for case in [
+        "a name that is taken",
+        "parties that are taken",
+        "a held number",
+        "an applied number",
+        "held of no series",
+        "applied of no series",
+        "tables that are there",
+        "a version that is not 1",
+        "a record of no series",
+        "an article's place",
+        "an article of no record",
+        "an offer's place",
+        "an offer of no record",
+        "a price's place",
+        "a price of no offer",
+    ] {
+        expect(rt, refuses(alloc, tables, case)?, case);
+        expect(rt, is_as_before(alloc, tables)?, case);
+    }
+    changes(alloc, tables)?;
+    expect(rt, is_as_before(alloc, tables)?, "let go without commit");
+    changes_nothing(tables)?;
+    expect(rt, is_as_before(alloc, tables)?, "what is not there");
     Ok(())
+}
+
+#[test]
+fn refuses_what_does_not_fit(rt: HostRuntime) -> Result<(), Fail> {
+    let before = Before {
+        has_sample: true,
+        statements: "",
+    };
+    over_memory(rt.alloc(), &rt, before, Case::Refusals)
 }

@@ -3,7 +3,8 @@
 use desk_tables::applied::EffectRow;
 use desk_tables::rows::{ArticleRow, OfferRow, PriceRow};
 use desk_tables::tables::Tables;
-use onix_message::agreement::Agreement;
+use desk_tables::work::Work;
+use onix_message::agreement::{Agreement, StoreFault};
 use onix_message::parts::{Price, Supplier};
 use onix_terms::amount::Amount;
 use onix_terms::code::{Code2, Currency};
@@ -14,7 +15,7 @@ use onix_terms::quantity::Quantity;
 use onix_terms::series_name::SeriesName;
 use onix_terms::territory::Territory;
 use onix_terms::text::Text;
-use sqlite::{Alter, Connection, MemStore};
+use sqlite::Alter;
 use std::alloc::Global;
 use std::process::Abort;
 use std::test::Fail;
@@ -147,29 +148,81 @@ pub fn is_price(row: &PriceRow, wanted: &PriceRow) -> bool {
         && row.price == wanted.price
 }
 
-pub fn in_memory(alloc: Global) -> Result<Tables<MemStore>, Fail> {
-    Ok(Tables::new(Connection::open_in_memory(alloc)?))
+// Each of these lets go of its row by a call, since a row that goes out of scope on several ways
+// out is dear to prove.
+
+pub fn put_series<S: Alter>(
+    alloc: Global,
+    work: &mut Work<'_, S>,
+    series: &str,
+    sender: &str,
+) -> Result<Result<(), StoreFault>, Fail> {
+    let row = agreement(alloc, series, sender)?;
+    let put = work.put_series(&row);
+    drop(row);
+    Ok(put)
 }
 
-// The rows of the record, with a second price from ten copies on.
-fn put_record_rows<S: Alter>(alloc: Global, tables: &mut Tables<S>) -> Result<(), Fail> {
-    let mut work = tables.work()?;
+pub fn put_article<S: Alter>(
+    alloc: Global,
+    work: &mut Work<'_, S>,
+    reference: &str,
+    place: u32,
+    id_type: &str,
+) -> Result<Result<(), StoreFault>, Fail> {
+    let row = article(alloc, reference, place, id_type)?;
+    let put = work.put_article(&row);
+    drop(row);
+    Ok(put)
+}
+
+pub fn put_offer<S: Alter>(
+    alloc: Global,
+    work: &mut Work<'_, S>,
+    reference: &str,
+) -> Result<Result<(), StoreFault>, Fail> {
+    let row = offer(alloc, reference, 1)?;
+    let put = work.put_offer(&row);
+    drop(row);
+    Ok(put)
+}
+
+pub fn put_price<S: Alter>(
+    alloc: Global,
+    work: &mut Work<'_, S>,
+    place: u32,
+    price_place: u32,
+    minimum: u32,
+) -> Result<Result<(), StoreFault>, Fail> {
+    let row = price(alloc, place, price_place, minimum)?;
+    let put = work.put_price(&row);
+    drop(row);
+    Ok(put)
+}
+
+// The rows of a record, with a second price from ten copies on.
+fn put_record_rows<S: Alter>(alloc: Global, work: &mut Work<'_, S>) -> Result<(), Fail> {
     work.put_record(&name("north")?, "R1")?;
-    work.put_article(&article(alloc, "R1", 1, "15")?)?;
-    work.put_offer(&offer(alloc, "R1", 1)?)?;
-    work.put_price(&price(alloc, 1, 1, 1)?)?;
-    work.put_price(&price(alloc, 1, 2, 10)?)?;
-    work.commit()?;
+    put_article(alloc, work, "R1", 1, "15")??;
+    put_offer(alloc, work, "R1")??;
+    put_price(alloc, work, 1, 1, 1)??;
+    put_price(alloc, work, 1, 2, 10)??;
     Ok(())
 }
 
-/// Makes the tables, with the series, the message held at 1 and applied at 2, and its record.
-pub fn fill<S: Alter>(alloc: Global, tables: &mut Tables<S>) -> Result<(), Fail> {
-    let mut work = tables.work()?;
+fn put_rows<S: Alter>(alloc: Global, work: &mut Work<'_, S>) -> Result<(), Fail> {
     work.create()?;
-    work.put_series(&agreement(alloc, "north", "4012345000009")?)?;
+    put_series(alloc, work, "north", "4012345000009")??;
     work.put_held(&name("north")?, number("1")?, CONTENTS)?;
     work.put_applied(&name("north")?, number("2")?, CONTENTS, &EFFECT)?;
+    put_record_rows(alloc, work)
+}
+
+/// Makes the tables in one transaction, with the series, the message held at 1 and applied at 2, and
+/// its record.
+pub fn fill<S: Alter>(alloc: Global, tables: &mut Tables<S>) -> Result<(), Fail> {
+    let mut work = tables.work()?;
+    put_rows(alloc, &mut work)?;
     work.commit()?;
-    put_record_rows(alloc, tables)
+    Ok(())
 }

@@ -1,114 +1,141 @@
 // Databases that are not the desk's, or that hold what no desk has put.
 
-use crate::sample::{expect, fill, in_memory, name};
+use crate::cases::Case;
+use crate::sample::{expect, name};
+use crate::stores::{Before, over_memory};
 use desk_tables::tables::Tables;
 use onix_message::agreement::StoreFault;
-use sqlite::{Connection, MemStore};
+use sqlite::Alter;
 use std::alloc::Global;
+use std::process::Abort;
 use std::test::Fail;
 
-fn with_statements(alloc: Global, statements: &str) -> Result<Tables<MemStore>, Fail> {
-    let mut connection = Connection::open_in_memory(alloc)?;
-    connection.execute_batch(statements)?;
-    Ok(Tables::new(connection))
-}
-
-fn version(alloc: Global, statements: &str) -> Result<Option<u32>, Fail> {
-    let mut tables = with_statements(alloc, statements)?;
+fn version<S: Alter>(tables: &mut Tables<S>) -> Result<Option<u32>, StoreFault> {
     let mut work = tables.work()?;
-    Ok(work.version()?)
+    work.version()
 }
 
-fn has_no_version(alloc: Global, statements: &str) -> Result<bool, Fail> {
-    let mut tables = with_statements(alloc, statements)?;
-    let mut work = tables.work()?;
-    match work.version() {
-        Err(StoreFault::Unusable) => Ok(true),
-        _ => Ok(false),
-    }
+pub fn has_version<S: Alter>(
+    alloc: Global,
+    rt: &impl Abort,
+    tables: &mut Tables<S>,
+    wanted: Option<u32>,
+) -> Result<(), Fail> {
+    expect(rt, version(tables)? == wanted, "a version");
+    Ok(())
 }
 
-// The version of the tables that are made beside strangers' tables.
-fn makes_tables(alloc: Global) -> Result<Option<u32>, Fail> {
-    let mut tables = with_statements(alloc, "CREATE TABLE book (title TEXT)")?;
-    let mut work = tables.work()?;
-    work.create()?;
-    let version = work.version()?;
-    work.commit()?;
-    Ok(version)
-}
-
-#[test]
-fn versions(rt: HostRuntime) -> Result<(), Fail> {
-    let alloc = rt.alloc();
-    let seven =
-        "CREATE TABLE meta (item TEXT NOT NULL PRIMARY KEY, amount INTEGER NOT NULL) STRICT; INSERT INTO meta VALUES ('version', 7)";
-    let none = "CREATE TABLE meta (item TEXT NOT NULL PRIMARY KEY, amount INTEGER NOT NULL) STRICT";
-    let text =
-        "CREATE TABLE meta (item TEXT, amount TEXT); INSERT INTO meta VALUES ('version', 'two')";
-    expect(&rt, version(alloc, seven)? == Some(7), "version 7");
-    expect(&rt, version(alloc, "")? == None, "an empty database");
+pub fn has_no_version<S: Alter>(
+    alloc: Global,
+    rt: &impl Abort,
+    tables: &mut Tables<S>,
+) -> Result<(), Fail> {
     expect(
-        &rt,
-        version(alloc, "CREATE TABLE meta (title TEXT)")? == None,
-        "another table meta",
-    );
-    expect(&rt, has_no_version(alloc, none)?, "no row of a version");
-    expect(
-        &rt,
-        has_no_version(alloc, text)?,
-        "a version that is no number",
-    );
-    expect(
-        &rt,
-        makes_tables(alloc)? == Some(2),
-        "strangers' tables alone",
+        rt,
+        matches!(version(tables), Err(StoreFault::Unusable)),
+        "no version",
     );
     Ok(())
 }
 
-// The tables after statements that no desk makes.
-fn damaged(alloc: Global, statements: &str) -> Result<Tables<MemStore>, Fail> {
-    let mut tables = in_memory(alloc)?;
-    fill(alloc, &mut tables)?;
-    let mut connection = tables.into_connection();
-    connection.execute_batch(statements)?;
-    Ok(Tables::new(connection))
+fn made<S: Alter>(tables: &mut Tables<S>) -> Result<(), StoreFault> {
+    let mut work = tables.work()?;
+    work.create()?;
+    work.commit()
 }
 
-fn lists_no_offers(alloc: Global, statements: &str) -> Result<bool, Fail> {
-    let mut tables = damaged(alloc, statements)?;
-    let mut work = tables.work()?;
-    match work.offer_rows(&name("north")?) {
-        Err(StoreFault::Unusable) => Ok(true),
-        _ => Ok(false),
-    }
+pub fn makes_tables<S: Alter>(
+    alloc: Global,
+    rt: &impl Abort,
+    tables: &mut Tables<S>,
+) -> Result<(), Fail> {
+    made(tables)?;
+    expect(rt, version(tables)? == Some(2), "tables that were made");
+    Ok(())
 }
 
-fn lists_no_series(alloc: Global, statements: &str) -> Result<bool, Fail> {
-    let mut tables = damaged(alloc, statements)?;
+fn lists_offers<S: Alter>(tables: &mut Tables<S>) -> Result<Result<(), StoreFault>, Fail> {
+    let series = name("north")?;
     let mut work = tables.work()?;
-    match work.series_rows() {
-        Err(StoreFault::Unusable) => Ok(true),
-        _ => Ok(false),
+    Ok(work.offer_rows(&series).map(drop))
+}
+
+pub fn has_no_offers<S: Alter>(
+    alloc: Global,
+    rt: &impl Abort,
+    tables: &mut Tables<S>,
+) -> Result<(), Fail> {
+    expect(
+        rt,
+        matches!(lists_offers(tables)?, Err(StoreFault::Unusable)),
+        "an offer that cannot be read",
+    );
+    Ok(())
+}
+
+fn lists_series<S: Alter>(tables: &mut Tables<S>) -> Result<(), StoreFault> {
+    let mut work = tables.work()?;
+    work.series_rows().map(drop)
+}
+
+pub fn has_no_series<S: Alter>(
+    alloc: Global,
+    rt: &impl Abort,
+    tables: &mut Tables<S>,
+) -> Result<(), Fail> {
+    expect(
+        rt,
+        matches!(lists_series(tables), Err(StoreFault::Unusable)),
+        "a series that cannot be read",
+    );
+    Ok(())
+}
+
+#[test]
+fn versions(rt: HostRuntime) -> Result<(), Fail> {
+    for (statements, case) in [
+        (
+            "CREATE TABLE meta (item TEXT NOT NULL PRIMARY KEY, amount INTEGER NOT NULL) STRICT; INSERT INTO meta VALUES ('version', 7)",
+            Case::Version(Some(7)),
+        ),
+        ("", Case::Version(None)),
+        ("CREATE TABLE meta (title TEXT)", Case::Version(None)),
+        (
+            "CREATE TABLE meta (item TEXT NOT NULL PRIMARY KEY, amount INTEGER NOT NULL) STRICT",
+            Case::NoVersion,
+        ),
+        (
+            "CREATE TABLE meta (item TEXT, amount TEXT); INSERT INTO meta VALUES ('version', 'two')",
+            Case::NoVersion,
+        ),
+        ("CREATE TABLE book (title TEXT)", Case::MakesTables),
+    ] {
+        let before = Before {
+            has_sample: false,
+            statements,
+        };
+        over_memory(rt.alloc(), &rt, before, case)?;
     }
+    Ok(())
 }
 
 #[test]
 fn values_that_are_no_terms(rt: HostRuntime) -> Result<(), Fail> {
-    let alloc = rt.alloc();
-    for statements in [
-        "UPDATE offer SET included = 'gb'",
-        "UPDATE offer SET world = 2",
-        "DELETE FROM price; UPDATE offer SET place = -1",
-        "UPDATE offer SET availability = '2'",
+    for (statements, case) in [
+        ("UPDATE offer SET included = 'gb'", Case::NoOffers),
+        ("UPDATE offer SET world = 2", Case::NoOffers),
+        (
+            "DELETE FROM price; UPDATE offer SET place = -1",
+            Case::NoOffers,
+        ),
+        ("UPDATE offer SET availability = '2'", Case::NoOffers),
+        ("UPDATE series SET first_number = 0", Case::NoSeries),
     ] {
-        expect(&rt, lists_no_offers(alloc, statements)?, statements);
+        let before = Before {
+            has_sample: true,
+            statements,
+        };
+        over_memory(rt.alloc(), &rt, before, case)?;
     }
-    expect(
-        &rt,
-        lists_no_series(alloc, "UPDATE series SET first_number = 0")?,
-        "no number",
-    );
     Ok(())
 }

@@ -3,6 +3,7 @@ use Rattle.sqlite_value.specs.declared.value.Value.TheVariants.{Int, Text}
 use Rattle.sqlite_value.specs.Order.{Row}
 use Rattle.sqlite.specs.Held.{state}
 use Rattle.desk_tables.specs.ArticleAnswers.{AreMinimumsAt}
+use Rattle.desk_tables.specs.RecordAnswers.{AreRising}
 use Rattle.desk_tables.specs.RecordStatements.{offer_minimums_text}
 use Rattle.desk_tables.specs.Rows.{DeskRows}
 use Rattle.desk_tables.proofs.ArticleLists.{offer_minimums_shown}
@@ -16,7 +17,7 @@ returns-in-Ok-all_minimums-clause-works g c =
     let new = state g.S.Store c.rows.new.self.tables.now.connection in
     let params : Row = Text c.args.offer.now.series ∷ Text c.args.offer.now.reference ∷ Int (pos c.args.offer.now.place) ∷ [] in
     let ran = c.in-Ok.ensures in
-    reads_ok offer_minimums_text offer_minimums_is.2 (λ (rows : DeskRows) (got : Vec _ _). AreMinimumsAt c.args.offer.now.series c.args.offer.now.reference c.args.offer.now.place rows got.items) params old new c.args.self.now.spent c.rows.new.self.spent (λ rows. rows.items) c.in-Ok.rows c.in-Ok-all_minimums.minimums
+    reads_ok offer_minimums_text offer_minimums_is.2 (λ (rows : DeskRows) (got : Vec _ _). AreMinimumsAt c.args.offer.now.series c.args.offer.now.reference c.args.offer.now.place rows got.items × AreRising got.items) params old new c.args.self.now.spent c.rows.new.self.spent (λ rows. rows.items) c.in-Ok.rows c.in-Ok-all_minimums.minimums
     (rw (c.params-to_sql.ensures, c.params-to_sql-2.ensures, c.params-to_sql-3.ensures, c.as_str.ensures.text, c.as_str-2.ensures) at ran.reads) ran.spent (λ s. (ran.refused s).0)
     (λ rows h shown. offer_minimums_shown old new c.args.offer.now.series c.args.offer.now.reference c.args.offer.now.place rows c.in-Ok.rows.items c.in-Ok-all_minimums.minimums.items h shown c.in-Ok-all_minimums.ensures)
 
@@ -26,5 +27,5 @@ returns-clause-works g c =
     let new = state g.S.Store c.rows.new.self.tables.now.connection in
     let params : Row = Text c.args.offer.now.series ∷ Text c.args.offer.now.reference ∷ Int (pos c.args.offer.now.place) ∷ [] in
     let ran = c.in-Ok.ensures in
-    reads_late offer_minimums_text offer_minimums_is.2 (λ (rows : DeskRows) (got : Vec _ _). AreMinimumsAt c.args.offer.now.series c.args.offer.now.reference c.args.offer.now.place rows got.items) params old new c.args.self.now.spent true (λ rows. rows.items) c.in-Ok.rows _
+    reads_late offer_minimums_text offer_minimums_is.2 (λ (rows : DeskRows) (got : Vec _ _). AreMinimumsAt c.args.offer.now.series c.args.offer.now.reference c.args.offer.now.place rows got.items × AreRising got.items) params old new c.args.self.now.spent true (λ rows. rows.items) c.in-Ok.rows _
     (rw (c.params-to_sql.ensures, c.params-to_sql-2.ensures, c.params-to_sql-3.ensures, c.as_str.ensures.text, c.as_str-2.ensures) at ran.reads) refl (λ s. (ran.refused s).0)

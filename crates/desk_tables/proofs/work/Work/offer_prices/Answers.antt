@@ -2,6 +2,7 @@ use Rattle.std.proofs.Common.{List, Vec, subst}
 use Rattle.sqlite.specs.Held.{state}
 use Rattle.onix_message.specs.declared.parts.Price.{Price}
 use Rattle.desk_tables.specs.ArticleAnswers.{AreMinimumsAt, ArePricesAt, ArePricesUnder}
+use Rattle.desk_tables.specs.RecordAnswers.{AreRising}
 use Rattle.desk_tables.specs.RecordRows.{MinimumRow}
 use Rattle.desk_tables.specs.Rows.{DeskRows}
 use Rattle.desk_tables.proofs.ArticleLists.{prices_joined}
@@ -16,7 +17,7 @@ returns-clause-works g c =
     let series = c.args.offer.now.series in
     let reference = c.args.offer.now.reference in
     let place = c.args.offer.now.place in
-    reads_then (λ (rows : DeskRows) (minimums : Vec _ _). AreMinimumsAt series reference place rows minimums.items) (λ (rows : DeskRows) (prices : List Price). ArePricesUnder c.as_slice.result.now series reference place rows prices)
+    reads_then (λ (rows : DeskRows) (minimums : Vec _ _). AreMinimumsAt series reference place rows minimums.items × AreRising minimums.items) (λ (rows : DeskRows) (prices : List Price). AreRising c.as_slice.result.now → ArePricesUnder c.as_slice.result.now series reference place rows prices)
     (λ (rows : DeskRows) (prices : List Price). ArePricesAt series reference place rows prices) old mid new c.args.self.now.spent c.offer_minimums.new.self.spent c.prices_under.new.self.spent c.in-Ok.minimums c.prices_under.result
     c.in-Ok.ensures.works c.prices_under.ensures.works
-    (λ rows prices h one two. prices_joined old.now series reference place rows c.in-Ok.minimums.items prices h one (subst (λ (l : List MinimumRow). ArePricesUnder l series reference place rows prices) c.as_slice.ensures.value two))
+    (λ rows prices h one two. prices_joined old.now series reference place rows c.in-Ok.minimums.items prices h one.0 (subst (λ (l : List MinimumRow). AreRising l → ArePricesUnder l series reference place rows prices) c.as_slice.ensures.value two one.1))

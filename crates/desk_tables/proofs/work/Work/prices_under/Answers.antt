@@ -4,6 +4,7 @@ use Rattle.sqlite_value.specs.Order.{Row}
 use Rattle.sqlite.specs.Held.{state}
 use Rattle.onix_message.specs.declared.parts.Price.{Price}
 use Rattle.desk_tables.specs.ArticleAnswers.{ArePricesUnder}
+use Rattle.desk_tables.specs.RecordAnswers.{AreRising}
 use Rattle.desk_tables.specs.RecordStatements.{offer_prices_text}
 use Rattle.desk_tables.specs.Rows.{DeskRows}
 use Rattle.desk_tables.proofs.ArticleLists.{offer_prices_shown}
@@ -17,9 +18,9 @@ returns-in-Ok-prices_in-clause-works g c =
     let new = state g.S.Store c.rows.new.self.tables.now.connection in
     let params : Row = Text c.args.offer.now.series ∷ Text c.args.offer.now.reference ∷ Int (pos c.args.offer.now.place) ∷ [] in
     let ran = c.in-Ok.ensures in
-    reads_ok offer_prices_text offer_prices_is.2 (λ (rows : DeskRows) (got : List Price). ArePricesUnder c.args.minimums.now c.args.offer.now.series c.args.offer.now.reference c.args.offer.now.place rows got) params old new c.args.self.now.spent c.rows.new.self.spent (λ rows. rows.items) c.in-Ok.rows c.in-Ok-prices_in.prices
+    reads_ok offer_prices_text offer_prices_is.2 (λ (rows : DeskRows) (got : List Price). AreRising c.args.minimums.now → ArePricesUnder c.args.minimums.now c.args.offer.now.series c.args.offer.now.reference c.args.offer.now.place rows got) params old new c.args.self.now.spent c.rows.new.self.spent (λ rows. rows.items) c.in-Ok.rows c.in-Ok-prices_in.prices
     (rw (c.params-to_sql.ensures, c.params-to_sql-2.ensures, c.params-to_sql-3.ensures, c.as_str.ensures.text, c.as_str-2.ensures) at ran.reads) ran.spent (λ s. (ran.refused s).0)
-    (λ rows h shown. offer_prices_shown old new c.args.offer.now.series c.args.offer.now.reference c.args.offer.now.place c.args.minimums.now rows c.in-Ok.rows.items c.in-Ok-prices_in.prices h shown c.in-Ok-prices_in.ensures)
+    (λ rows h shown up. offer_prices_shown old new c.args.offer.now.series c.args.offer.now.reference c.args.offer.now.place c.args.minimums.now rows c.in-Ok.rows.items c.in-Ok-prices_in.prices h shown (c.in-Ok-prices_in.ensures up))
 
 pub returns-clause-works : goal.returns-clause-works
 returns-clause-works g c =
@@ -27,5 +28,5 @@ returns-clause-works g c =
     let new = state g.S.Store c.rows.new.self.tables.now.connection in
     let params : Row = Text c.args.offer.now.series ∷ Text c.args.offer.now.reference ∷ Int (pos c.args.offer.now.place) ∷ [] in
     let ran = c.in-Ok.ensures in
-    reads_late offer_prices_text offer_prices_is.2 (λ (rows : DeskRows) (got : List Price). ArePricesUnder c.args.minimums.now c.args.offer.now.series c.args.offer.now.reference c.args.offer.now.place rows got) params old new c.args.self.now.spent true (λ rows. rows.items) c.in-Ok.rows _
+    reads_late offer_prices_text offer_prices_is.2 (λ (rows : DeskRows) (got : List Price). AreRising c.args.minimums.now → ArePricesUnder c.args.minimums.now c.args.offer.now.series c.args.offer.now.reference c.args.offer.now.place rows got) params old new c.args.self.now.spent true (λ rows. rows.items) c.in-Ok.rows _
     (rw (c.params-to_sql.ensures, c.params-to_sql-2.ensures, c.params-to_sql-3.ensures, c.as_str.ensures.text, c.as_str-2.ensures) at ran.reads) refl (λ s. (ran.refused s).0)

@@ -3,7 +3,7 @@ use Rattle.sqlite_value.specs.declared.value.Value.TheVariants.{Text}
 use Rattle.sqlite_value.specs.Order.{Row}
 use Rattle.sqlite.specs.Held.{state}
 use Rattle.desk_tables.specs.Rows.{DeskRows}
-use Rattle.desk_tables.specs.RecordAnswers.{AreMinimums}
+use Rattle.desk_tables.specs.RecordAnswers.{AreMinimums, AreRising}
 use Rattle.desk_tables.specs.RecordStatements.{minimum_rows_text}
 use Rattle.desk_tables.proofs.RecordStatementTexts.{minimum_rows_is}
 use Rattle.desk_tables.proofs.RecordLists.{minimums_shown}
@@ -16,7 +16,7 @@ returns-in-Ok-all_minimums-clause-works g c =
     let new = state g.S.Store c.rows.new.self.tables.now.connection in
     let params : Row = Text c.args.series.now ∷ [] in
     let ran = c.in-Ok.ensures in
-    reads_ok minimum_rows_text minimum_rows_is.2 (λ (rows : DeskRows) (got : Vec _ _). AreMinimums c.args.series.now rows got.items) params old new c.args.self.now.spent c.rows.new.self.spent (λ rows. rows.items) c.in-Ok.rows c.in-Ok-all_minimums.minimums
+    reads_ok minimum_rows_text minimum_rows_is.2 (λ (rows : DeskRows) (got : Vec _ _). AreMinimums c.args.series.now rows got.items × AreRising got.items) params old new c.args.self.now.spent c.rows.new.self.spent (λ rows. rows.items) c.in-Ok.rows c.in-Ok-all_minimums.minimums
     (rw (c.params-to_sql.ensures, c.as_str.ensures.text) at ran.reads) ran.spent (λ s. (ran.refused s).0)
     (λ rows h shown. minimums_shown old new c.args.series.now rows c.in-Ok.rows.items c.in-Ok-all_minimums.minimums.items h shown c.in-Ok-all_minimums.ensures)
 
@@ -26,5 +26,5 @@ returns-clause-works g c =
     let new = state g.S.Store c.rows.new.self.tables.now.connection in
     let params : Row = Text c.args.series.now ∷ [] in
     let ran = c.in-Ok.ensures in
-    reads_late minimum_rows_text minimum_rows_is.2 (λ (rows : DeskRows) (got : Vec _ _). AreMinimums c.args.series.now rows got.items) params old new c.args.self.now.spent true (λ rows. rows.items) c.in-Ok.rows _
+    reads_late minimum_rows_text minimum_rows_is.2 (λ (rows : DeskRows) (got : Vec _ _). AreMinimums c.args.series.now rows got.items × AreRising got.items) params old new c.args.self.now.spent true (λ rows. rows.items) c.in-Ok.rows _
     (rw (c.params-to_sql.ensures, c.as_str.ensures.text) at ran.reads) refl (λ s. (ran.refused s).0)

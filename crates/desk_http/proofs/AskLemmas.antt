@@ -1,0 +1,40 @@
+-- What an input asks for, by the bytes that were read and those that follow.
+use Rattle.std.proofs.Common.{◌++◌, ◌≤◌, ℕ, List, Option, Some, None, Result, Ok, Err, sym, ap, subst, arith, length, length-append}
+use Rattle.std.specs.Prelude.{IfSome}
+use Rattle.std.specs.Io.KnownBytes.{Consumes}
+use Rattle.httparse.specs.Grammar.{RequestHead, ReadsRequest, print_request}
+use Rattle.httparse.proofs.GrammarLemmas.{ReadsRequest-append}
+use Rattle.series_rules.specs.declared.requests.Request.{Request}
+use Rattle.desk_http.specs.declared.fault.InputFault.{InputFault}
+use Rattle.desk_http.specs.declared.fault.InputFault.TheVariants as fault
+use Rattle.desk_http.specs.declared.refusal.Refusal.{Refusal}
+use Rattle.desk_http.specs.Asks.{Asks, IfTold, asks_of, with_head}
+use Rattle.desk_http.specs.Head.{HasHead}
+use Rattle.desk_http.specs.Steps.{Gives}
+
+-- what holds of the bytes that follow says what holds of the input
+pub known_then : (P Q : List ℕ → Type 0) (a b : Option (List ℕ)) (bytes : List ℕ) → Consumes a b bytes
+    → ((more : List ℕ) → Q more → P (bytes ++ more)) → IfSome b Q → IfSome a P
+known_then P Q None b bytes p each q = tt
+known_then P Q (Some x) None bytes p each q = absurd p
+known_then P Q (Some x) (Some y) bytes p each q = subst P (sym p) (each y q)
+
+-- a head within the limit stays the head whatever bytes follow
+pub head_of_more : (text more rest : List ℕ) (h : RequestHead) → ReadsRequest text h rest → length text ≤ 16384 → HasHead (text ++ more) h (rest ++ more)
+head_of_more text more rest h reads fits = record {
+  reads = ReadsRequest-append text h rest more reads;
+  fits = omega (arith, ap length reads.1, length-append (print_request h) rest);
+}
+
+pub told : (r : Result Request InputFault) (wanted : Result Request Refusal) (P : Result Request Refusal → Type 0)
+    → Gives r wanted → P wanted → IfTold r P
+told (Ok x) wanted P is p = subst P is p
+told (Err (fault.Refused why)) wanted P is p = subst P is p
+told (Err fault.Read) wanted P is p = tt
+told (Err fault.Memory) wanted P is p = tt
+
+-- what was made of a head and the bytes behind it was asked for
+pub asked_for : (r : Result Request InputFault) (text early more : List ℕ) (h : RequestHead) → ReadsRequest text h early → length text ≤ 16384
+    → Gives r (asks_of h (early ++ more)) → IfTold r (Asks (text ++ more))
+asked_for r text early more h reads fits gives =
+    told r (asks_of h (early ++ more)) (Asks (text ++ more)) gives (with_head (head_of_more text more early h reads fits))

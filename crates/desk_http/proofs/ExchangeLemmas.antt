@@ -1,0 +1,91 @@
+-- What the steps of an exchange come to.
+use Rattle.std.proofs.Common.{◌≡◌, ℕ, Bool, true, false, List, [], ◌∷◌, arith, Option, None, Result, Ok, Err, refl}
+use Rattle.std.specs.Prelude.{IfSome}
+use Rattle.std.proofs.lemmas.Bool.{false≢true}
+use Rattle.onix_message.specs.declared.agreement.StoreFault.{StoreFault}
+use Rattle.price_rules.specs.declared.precedence.Rule.{Rule}
+use Rattle.series_rules.specs.declared.answers.Answer.{Answer}
+use Rattle.series_rules.specs.declared.requests.Request.{Request}
+use Rattle.desk_http.specs.declared.exchange.HttpFault.{HttpFault}
+use Rattle.desk_http.specs.declared.exchange.HttpFault.TheVariants as fault
+use Rattle.desk_http.specs.declared.exchange.ReplyText.{ReplyText}
+use Rattle.desk_http.specs.declared.refusal.Refusal.{Refusal}
+use Rattle.desk_http.specs.declared.refusal.Refusal.TheVariants as refusal
+use Rattle.desk_http.specs.AnswerReply.{reply_of_answer}
+use Rattle.desk_http.specs.Asks.{Asks}
+use Rattle.desk_http.specs.Exchange.{AtMostOneMore, Exchanges, Served, Unsent, answers, faults, refuses}
+use Rattle.desk_http.specs.ExchangeSteps.{AskFits, IsAnswered, IfMemory, IfWrite, IsReplied, reply_view}
+use Rattle.desk_http.specs.Reply.{Reply, reply_text}
+use Rattle.desk_http.proofs.KnownLemmas.{IfSome-all, IfSome-map}
+
+-- a status and a body are those of an answer
+pub reply_is : (a : Answer) (status : ℕ) (body : List ℕ) → status ≡ (reply_of_answer a).status → body ≡ (reply_of_answer a).body
+    → record { status = status; allow = None; body = body } ≡ reply_of_answer a
+unfolding reply_of_answer
+reply_is a status body s b = rw (s, b) refl
+
+exchanged : (rules : List Rule) (may_give : StoreFault → Type 0) (L : List Request) (wanted : Result Request Refusal)
+    (stands : List Request → Type 0) (reply : Reply) (taken : Bool) → IsReplied rules may_give L wanted stands reply taken
+    → (after : List Request) × Exchanges rules may_give L wanted reply after × stands after
+exchanged rules may_give L (Err why) stands reply taken is = (L, rw is.0 refuses, is.1)
+exchanged rules may_give L (Ok r) stands reply true is = (r ∷ L, rw is.0 answers, is.1)
+exchanged rules may_give L (Ok r) stands reply false is = (L, rw is.0.2 (faults is.0.1), is.1)
+
+-- a reply to what an input asks for was written so
+pub served : (rules : List Rule) (may_give : StoreFault → Type 0) (L : List Request) (wanted : Result Request Refusal)
+    (stands : List Request → Type 0) (reply : Reply) (taken : Bool) → IsReplied rules may_give L wanted stands reply taken
+    → (written : List ℕ → Type 0) → written (reply_text reply) → (input : List ℕ) → Asks input wanted
+    → Served rules may_give L input stands written reply.status
+served rules may_give L wanted stands reply taken is written text input asks =
+    let e = exchanged rules may_give L wanted stands reply taken is in
+    record {
+      wanted = wanted;
+      reply = reply;
+      after = e.0;
+      asks = asks;
+      exchanges = e.1;
+      stands_after = e.2;
+      status_is = refl;
+      text = text;
+    }
+
+-- the same where a write failed
+pub served_in_part : (rules : List Rule) (may_give : StoreFault → Type 0) (L : List Request) (wanted : Result Request Refusal)
+    (stands : List Request → Type 0) (reply : Reply) (taken : Bool) → IsReplied rules may_give L wanted stands reply taken
+    → (written : List ℕ → Type 0) (f : HttpFault) → IfWrite {T = Unit {0}} (Err f) (λ status. (status ≡ reply.status) × written (reply_text reply))
+    → (known : Option (List ℕ)) → IfSome known (λ input. Asks input wanted)
+    → IfWrite {T = ℕ} (Err f) (λ status. IfSome known (λ input. Served rules may_give L input stands written status))
+served_in_part rules may_give L wanted stands reply taken is written fault.Read front known asks = tt
+served_in_part rules may_give L wanted stands reply taken is written (fault.Write status) front known asks =
+    rw front.0 (IfSome-map known (λ input. Asks input wanted) (λ input. Served rules may_give L input stands written reply.status)
+    (served rules may_give L wanted stands reply taken is written front.1) asks)
+served_in_part rules may_give L wanted stands reply taken is written (fault.Memory taken') front known asks = tt
+
+-- nothing was asked, and memory ran out
+unsent_before : (L : List Request) (stands : List Request → Type 0) (taken : Bool) → taken ≡ false → stands L
+    → (input : List ℕ) → Unsent L input stands taken
+unsent_before L stands taken e left input = rw e (record { wanted = Err refusal.BadHead; asks = λ q. absurd (false≢true q); stands_after = left })
+
+pub fault_before : (f : HttpFault) (known : Option (List ℕ)) (L : List Request) (stands : List Request → Type 0) → stands L
+    → IfMemory {T = Result Request Refusal} (Err f) (λ taken. taken ≡ false)
+    → IfMemory {T = ℕ} (Err f) (λ taken. IfSome known (λ input. Unsent L input stands taken))
+fault_before fault.Read known L stands left h = tt
+fault_before (fault.Write status) known L stands left h = tt
+fault_before (fault.Memory taken) known L stands left h =
+    IfSome-all known (λ input. Unsent L input stands taken) (unsent_before L stands taken h left)
+
+-- asking leaves what stood, or one request more
+answered_once : (rules : List Rule) (may_give : StoreFault → Type 0) (L : List Request) (r : Request) (stands : List Request → Type 0)
+    (reply : Reply) (taken : Bool) → IsAnswered rules may_give L r stands reply taken → AtMostOneMore L stands
+answered_once rules may_give L r stands reply true is = (r ∷ [], omega arith, is.1)
+answered_once rules may_give L r stands reply false is = ([], omega arith, is.1)
+
+pub asked_once : (rules : List Rule) (may_give : StoreFault → Type 0) (L : List Request) (wanted : Result Request Refusal)
+    (stands : List Request → Type 0) (result : Result ReplyText HttpFault) → AskFits rules may_give L wanted stands result → AtMostOneMore L stands
+asked_once rules may_give L (Ok r) stands (Ok reply) fits = answered_once rules may_give L r stands (reply_view reply) reply.taken fits
+asked_once rules may_give L (Err why) stands (Ok reply) fits = ([], omega arith, fits.1)
+asked_once rules may_give L wanted stands (Err fault.Read) fits = absurd fits
+asked_once rules may_give L wanted stands (Err (fault.Write status)) fits = absurd fits
+asked_once rules may_give L (Ok r) stands (Err (fault.Memory true)) fits = (r ∷ [], omega arith, fits)
+asked_once rules may_give L (Err why) stands (Err (fault.Memory true)) fits = ([], omega arith, fits)
+asked_once rules may_give L wanted stands (Err (fault.Memory false)) fits = ([], omega arith, fits)

@@ -1,0 +1,25 @@
+use Rattle.std.proofs.Common.{◌++◌, Err}
+use Rattle.desk_http.specs.Asks.{Asks, IfTold, asks_of, without_head}
+use Rattle.desk_http.specs.Head.{IsRefused}
+use Rattle.desk_http.specs.HeadRead.{head_text}
+use Rattle.desk_http.specs.Steps.{Gives}
+use Rattle.desk_http.proofs.AskLemmas.{asked_for, known_then}
+use Rattle.desk_http.proofs.KnownLemmas.{IfSome-map}
+use Rattle.desk_http.proofs.request.read_request.Goals as goal
+
+pub returns-in-Ok-Whole : goal.returns-in-Ok-Whole
+returns-in-Ok-Whole g c =
+    let head = c.in-Ok-Whole.head in
+    let whole = rw c.in-Ok-Whole.field-0-is at c.in-Ok-Whole.ensures.whole in
+    let limit = rw c.in-Ok-Whole.field-0-is at c.in-Ok-Whole.ensures.limit in
+    let read = rw c.in-Ok-Whole.field-0-is at c.in-Ok-Whole.ensures.read in
+    known_then (λ input. IfTold c.read_behind.result (Asks input)) (λ more. Gives c.read_behind.result (asks_of whole.0 (c.early.result.now ++ more)))
+    _ (g.R.Read.remaining c.read_head.new.reader) (head_text head) read
+    (λ more gives. asked_for c.read_behind.result (head_text head) c.early.result.now more whole.0 (whole.1.reads.0, c.early.ensures whole.0 whole.1) limit gives)
+    (c.read_behind.ensures whole.0 whole.1)
+
+pub returns-in-Ok-Refused : goal.returns-in-Ok-Refused
+returns-in-Ok-Refused g c =
+    IfSome-map (g.R.Read.remaining c.args.reader.now) (λ input. IsRefused input c.in-Ok-Refused.why) (λ input. Asks input (Err c.in-Ok-Refused.why))
+    (λ input is. without_head is)
+    (rw c.in-Ok-Refused.field-0-is at c.in-Ok-Refused.ensures.refused)

@@ -1,0 +1,68 @@
+-- The reply to each answer of a desk, and to its faults.
+use Rattle.std.specs.Prelude.{ℕ, List, None, codes}
+use Rattle.serde_json.specs.Written.{compact_text}
+use Rattle.onix_message.specs.declared.agreement.StoreFault.{StoreFault}
+use Rattle.onix_message.specs.declared.agreement.StoreFault.TheVariants as store
+use Rattle.series_rules.specs.declared.answers.AgreeAnswer.{AgreeAnswer}
+use Rattle.series_rules.specs.declared.answers.AgreeAnswer.TheVariants as agree
+use Rattle.series_rules.specs.declared.answers.DeliveryAnswer.{DeliveryAnswer}
+use Rattle.series_rules.specs.declared.answers.DeliveryAnswer.TheVariants as delivery
+use Rattle.series_rules.specs.declared.answers.WaiveAnswer.{WaiveAnswer}
+use Rattle.series_rules.specs.declared.answers.WaiveAnswer.TheVariants as waiver
+use Rattle.series_rules.specs.declared.answers.Answer.{Answer}
+use Rattle.series_rules.specs.declared.answers.Answer.TheVariants as answer
+use Rattle.desk_http.specs.AnswerJson.{answer_json}
+use Rattle.desk_http.specs.Reply.{Reply, fault_reply}
+
+-- an agreement stands, or clashes with one that stands
+abbrev pub agree_status : AgreeAnswer → ℕ
+agree_status agree.Agreed = 200
+agree_status agree.NameTaken = 409
+agree_status (agree.SeriesTaken holder) = 409
+
+-- a message is applied; it waits for another; its number has something else; or it cannot be taken as it is
+abbrev pub delivery_status : DeliveryAnswer → ℕ
+delivery_status (delivery.Malformed row) = 422
+delivery_status delivery.Unnumbered = 422
+delivery_status delivery.UnknownSeries = 422
+delivery_status (delivery.BeforeFirst series n first) = 422
+delivery_status (delivery.Waived series n) = 409
+delivery_status (delivery.OtherContents series n) = 409
+delivery_status (delivery.Applied series n e) = 200
+delivery_status (delivery.Held series n next) = 202
+
+-- no such series; a number that the series cannot have; a number that a message has; or the number is waived
+abbrev pub waiver_status : WaiveAnswer → ℕ
+waiver_status waiver.UnknownSeries = 404
+waiver_status (waiver.BeforeFirst first) = 422
+waiver_status waiver.HasMessage = 409
+waiver_status waiver.Waived = 200
+
+-- the status of an answer
+abbrev pub status_of : Answer → ℕ
+status_of (answer.Agreement name first a) = agree_status a
+status_of (answer.Delivery a) = delivery_status a
+status_of (answer.Waiver series n a) = waiver_status a
+status_of (answer.Price isbn offers) = 200
+status_of (answer.Choice isbn c) = 200
+status_of (answer.Calendar isbn offers) = 200
+status_of answer.BadRange = 400
+status_of (answer.Gaps report) = 200
+status_of (answer.Catalogue series m) = 200
+status_of answer.UnknownSeries = 404
+status_of (answer.Malformed row) = 422
+
+-- the reply to an answer: its status and its JSON without spaces
+unfoldable pub reply_of_answer : Answer → Reply
+reply_of_answer a = record { status = status_of a; allow = None; body = compact_text (answer_json a) }
+
+-- the kind of a fault of storage
+abbrev pub fault_kind : StoreFault → List ℕ
+fault_kind store.Memory = codes "memory"
+fault_kind store.Size = codes "size"
+fault_kind store.Disk = codes "disk"
+fault_kind store.Unusable = codes "unusable"
+
+-- the reply where a fault of storage comes in the place of an answer
+abbrev pub reply_of_fault : StoreFault → Reply
+reply_of_fault f = fault_reply (fault_kind f)

@@ -1,0 +1,57 @@
+-- What the bytes of a connection ask for: a request to the desk, or a refusal before it is asked.
+use Rattle.std.specs.Prelude.{ℕ, List, Result, Ok, Err, ⊤}
+use Rattle.httparse.specs.Grammar.{RequestHead}
+use Rattle.series_rules.specs.declared.requests.Request.{Request}
+use Rattle.series_rules.specs.declared.requests.Request.TheVariants as request
+use Rattle.desk_http.specs.declared.fault.InputFault.{InputFault}
+use Rattle.desk_http.specs.declared.fault.InputFault.TheVariants as fault
+use Rattle.desk_http.specs.declared.refusal.Refusal.{Refusal}
+use Rattle.desk_http.specs.declared.refusal.Refusal.TheVariants as refusal
+use Rattle.desk_http.specs.declared.routes.Route.{Route}
+use Rattle.desk_http.specs.declared.routes.Route.TheVariants as route
+use Rattle.desk_http.specs.Head.{HasHead, IsRefused}
+use Rattle.desk_http.specs.Keys.{part_at}
+use Rattle.desk_http.specs.Posted.{records_posted}
+use Rattle.desk_http.specs.Questions.{calendar_asked, prices_asked, series_asked}
+use Rattle.desk_http.specs.Routing.{path_of, query_of, route_asked}
+use Rattle.desk_http.specs.Steps.{◌>>=◌}
+
+-- the question of a GET, by its route, the part of the path that stands for itself, and the query.
+-- The path of messages asks no question
+abbrev pub question_of : Route → List ℕ → List ℕ → Result Request Refusal
+question_of route.Messages part query = Err refusal.NotFound
+question_of route.Price part query = prices_asked part query >>= λ asked. Ok (request.AskPrice asked.0 asked.1)
+question_of route.Choice part query = prices_asked part query >>= λ asked. Ok (request.AskChoice asked.0 asked.1)
+question_of route.Calendar part query = calendar_asked part query >>= λ asked.
+    Ok (request.AskCalendar asked.0 (record { from = asked.1.day; to = asked.2; country = asked.1.country; currency = asked.1.currency; price_type = asked.1.price_type; quantity = asked.1.quantity }))
+question_of route.Gaps part query = series_asked part >>= λ name. Ok (request.AskGaps name)
+question_of route.Catalogue part query = series_asked part >>= λ name. Ok (request.AskCatalogue name)
+
+-- the same by the target of a head
+abbrev pub question_at : Route → List ℕ → Result Request Refusal
+question_at route target = question_of route (part_at route (path_of target)) (query_of target)
+
+-- the request of a route: a delivery of the records in the body, or a question
+abbrev pub request_at : RequestHead → List ℕ → Route → Result Request Refusal
+request_at h rest route.Messages = records_posted h rest >>= λ records. Ok (request.Deliver records)
+request_at h rest route.Price = question_at route.Price h.target
+request_at h rest route.Choice = question_at route.Choice h.target
+request_at h rest route.Calendar = question_at route.Calendar h.target
+request_at h rest route.Gaps = question_at route.Gaps h.target
+request_at h rest route.Catalogue = question_at route.Catalogue h.target
+
+-- what a head and the bytes behind it ask for: the refusal that comes first, or the request
+unfoldable pub asks_of : RequestHead → List ℕ → Result Request Refusal
+asks_of h rest = route_asked h >>= request_at h rest
+
+-- what an input asks for, by its bytes alone
+pub data Asks : List ℕ → Result Request Refusal → Type 0 where
+  without_head : {input : List ℕ} {why : Refusal} → IsRefused input why → Asks input (Err why)
+  with_head : {input rest : List ℕ} {h : RequestHead} → HasHead input h rest → Asks input (asks_of h rest)
+
+-- P of what was asked for, unless a read failed or memory ran out
+abbrev pub IfTold : Result Request InputFault → (Result Request Refusal → Type 0) → Type 0
+IfTold (Ok r) P = P (Ok r)
+IfTold (Err (fault.Refused why)) P = P (Err why)
+IfTold (Err fault.Read) P = ⊤
+IfTold (Err fault.Memory) P = ⊤

@@ -1,0 +1,45 @@
+-- One exchange: what an input asks for, what is replied, and what the desk stands for then.
+use Rattle.std.specs.Prelude.{◌≡◌, ◌≤◌, ◌++◌, ℕ, Bool, true, List, ◌∷◌, length, if◌then◌else◌, Result, Ok, Err}
+use Rattle.onix_message.specs.declared.agreement.StoreFault.{StoreFault}
+use Rattle.price_rules.specs.declared.precedence.Rule.{Rule}
+use Rattle.series_rules.specs.Answers.{answer_to}
+use Rattle.series_rules.specs.declared.requests.Request.{Request}
+use Rattle.desk_http.specs.declared.refusal.Refusal.{Refusal}
+use Rattle.desk_http.specs.AnswerReply.{reply_of_answer, reply_of_fault}
+use Rattle.desk_http.specs.Asks.{Asks}
+use Rattle.desk_http.specs.Refusals.{reply_of_refusal}
+use Rattle.desk_http.specs.Reply.{Reply, reply_text}
+
+-- what a desk that stands for L may make of what is asked for, under the rules of a precedence
+-- table: a reply, and the list that it stands for then
+pub data Exchanges (rules : List Rule) (may_give : StoreFault → Type 0) (L : List Request) : Result Request Refusal → Reply → List Request → Type 0 where
+  refuses : {why : Refusal} → Exchanges rules may_give L (Err why) (reply_of_refusal why) L
+  answers : {r : Request} → Exchanges rules may_give L (Ok r) (reply_of_answer (answer_to rules L r)) (r ∷ L)
+  faults : {r : Request} {f : StoreFault} → may_give f → Exchanges rules may_give L (Ok r) (reply_of_fault f) L
+
+-- an input was replied to. Stands: the desk stands for that list. Written: this text was written
+pub record Served (rules : List Rule) (may_give : StoreFault → Type 0) (L : List Request) (input : List ℕ)
+    (stands : List Request → Type 0) (written : List ℕ → Type 0) (status : ℕ) : Type 0 where
+  pub wanted : Result Request Refusal
+  pub reply : Reply
+  pub after : List Request
+  pub asks : Asks input wanted
+  pub exchanges : Exchanges rules may_give L wanted reply after
+  pub stands_after : stands after
+  pub status_is : status ≡ reply.status
+  pub text : written (reply_text reply)
+
+-- L and then the request, if one is asked for
+abbrev pub followed : Result Request Refusal → List Request → List Request
+followed (Ok r) L = r ∷ L
+followed (Err why) L = L
+
+-- an input got no reply, and the desk has answered it or has not
+pub record Unsent (L : List Request) (input : List ℕ) (stands : List Request → Type 0) (taken : Bool) : Type 0 where
+  pub wanted : Result Request Refusal
+  pub asks : taken ≡ true → Asks input wanted
+  pub stands_after : stands (if taken then followed wanted L else L)
+
+-- what stands is L, or L and one request more
+abbrev pub AtMostOneMore : List Request → (List Request → Type 0) → Type 0
+AtMostOneMore L stands = (more : List Request) × (length more ≤ 1) × stands (more ++ L)

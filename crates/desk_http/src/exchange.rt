@@ -1,0 +1,29 @@
+// The reply of an exchange, and why there is none.
+
+use thiserror::Error;
+
+/// Why a request has no reply.
+#[derive(Debug, Drop, Error)]
+pub enum HttpFault {
+    /// A read failed. Nothing was asked of the desk and nothing written.
+    #[error("the request cannot be read")]
+    Read,
+    /// A write failed or took nothing. The request has had the effect that the status of its reply
+    /// tells, and what was written is a part of the reply, from its first byte on.
+    #[error("the reply with status {status} cannot be written")]
+    Write { status: u16 },
+    /// Memory ran out outside the desk. Nothing was written; `taken` says whether the desk had
+    /// answered without a fault.
+    #[error("out of memory")]
+    Memory { taken: bool },
+}
+
+/// A reply on its way.
+#[derive(Drop)]
+pub(crate) struct ReplyText {
+    pub(crate) status: u16,
+    pub(crate) allow: Option<&'static str>,
+    pub(crate) body: String,
+    /// The desk answered without a fault.
+    pub(crate) taken: bool,
+}

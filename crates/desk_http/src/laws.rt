@@ -1,0 +1,20 @@
+// Laws of the definitions.
+
+ghost use Rattle.desk_http.specs.Laws.{AsksOnce, AsksSomething, RefusalsAreErrors};
+
+/// An answer has one of HTTP's statuses for errors, 400 or above, exactly where its JSON begins
+/// with the member `answer` of value `refused`.
+pub fn refusals_are_errors()
+    ensures { RefusalsAreErrors }
+{}
+
+/// An input asks for one thing: a request, or the refusal that comes first.
+pub fn asks_once()
+    ensures { AsksOnce }
+{}
+
+/// No input asks for nothing: each that begins with no head is refused, and each head is of some
+/// request or is refused.
+pub fn asks_something()
+    ensures { AsksSomething }
+{}

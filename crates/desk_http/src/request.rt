@@ -1,0 +1,115 @@
+// The request that an input asks for.
+
+ghost use Rattle.std.specs.Prelude.{◌≡◌, ◌++◌, ℕ, List, IfSome};
+ghost use Rattle.httparse.specs.Grammar.{RequestHead};
+ghost use Rattle.desk_http.specs.Asks.{Asks, IfTold, asks_of, question_at, question_of, request_at};
+ghost use Rattle.desk_http.specs.HeadRead.{IsHeadOf};
+ghost use Rattle.desk_http.specs.Steps.{Gives};
+
+use crate::body::read_posted;
+use crate::fault::InputFault;
+use crate::head::read_head;
+use crate::parts::{Head, HeadRead};
+use crate::questions::{read_calendar_question, read_price_question, read_series};
+use crate::refusal::Refusal;
+use crate::routes::{Route, cut, part};
+use crate::routing::read_route;
+use price_rules::offer::CalendarQuery;
+use series_rules::requests::Request;
+use std::alloc::Global;
+use std::io::Read;
+
+// What each offer of an article costs from one day to another.
+fn ask_calendar(alloc: Global, part: &str, query: &[u8]) -> Result<Request, InputFault>
+    ensures { Gives result (question_of Route.Calendar part.now query.now) }
+{
+    let (isbn, prices, to) = read_calendar_question(alloc, part, query)?;
+    let query = CalendarQuery {
+        from: prices.day,
+        to,
+        country: prices.country,
+        currency: prices.currency,
+        price_type: prices.price_type,
+        quantity: prices.quantity,
+    };
+    Ok(Request::AskCalendar { isbn, query })
+}
+
+// The question of a GET.
+fn ask(alloc: Global, route: Route, part: &str, query: &[u8]) -> Result<Request, InputFault>
+    ensures { Gives result (question_of route part.now query.now) }
+{
+    match route {
+        Route::Messages => Err(InputFault::Refused(Refusal::NotFound)),
+        Route::Price => {
+            let (isbn, query) = read_price_question(alloc, part, query)?;
+            Ok(Request::AskPrice { isbn, query })
+        }
+        Route::Choice => {
+            let (isbn, query) = read_price_question(alloc, part, query)?;
+            Ok(Request::AskChoice { isbn, query })
+        }
+        Route::Calendar => ask_calendar(alloc, part, query),
+        Route::Gaps => Ok(Request::AskGaps(read_series(part)?)),
+        Route::Catalogue => Ok(Request::AskCatalogue(read_series(part)?)),
+    }
+}
+
+// The same by the target of a head.
+fn ask_at(alloc: Global, route: Route, target: &str) -> Result<Request, InputFault>
+    ensures { Gives result (question_at route target.now) }
+{
+    let (path, query) = cut(target, '?');
+    ask(alloc, route, part(route, path), query.as_bytes())
+}
+
+// The request of a route, by a head, the bytes that were read behind it and those that follow in
+// the input.
+fn read_at<R: Read>(
+    alloc: Global,
+    reader: &mut R,
+    head: &Head,
+    early: &[u8],
+    route: Route,
+) -> Result<Request, InputFault>
+    ensures { (h : RequestHead) → IsHeadOf head.now h → IfSome (R.remaining reader.old) (λ more.
+        Gives result (request_at h (early.now ++ more) route)) }
+{
+    match route {
+        Route::Messages => match read_posted(alloc, reader, head, early) {
+            Ok(records) => Ok(Request::Deliver(records)),
+            Err(fault) => Err(fault),
+        },
+        Route::Price | Route::Choice | Route::Calendar | Route::Gaps | Route::Catalogue => {
+            ask_at(alloc, route, head.target_text())
+        }
+    }
+}
+
+// What a head and the bytes behind it ask for.
+fn read_behind<R: Read>(
+    alloc: Global,
+    reader: &mut R,
+    head: &Head,
+    early: &[u8],
+) -> Result<Request, InputFault>
+    ensures { (h : RequestHead) → IsHeadOf head.now h → IfSome (R.remaining reader.old) (λ more.
+        Gives result (asks_of h (early.now ++ more))) }
+{
+    match read_route(alloc, head) {
+        Ok(route) => read_at(alloc, reader, head, early, route),
+        Err(fault) => Err(fault),
+    }
+}
+
+/// Reads the request that an input asks for: its head, and the body of a POST that gets so far. A
+/// refusal comes as soon as the bytes that were read decide it.
+pub(crate) fn read_request<R: Read>(alloc: Global, reader: &mut R) -> Result<Request, InputFault>
+    ensures { IfSome (R.remaining reader.old) (λ input. IfTold result (Asks input)) }
+{
+    match read_head(alloc, reader) {
+        Ok(HeadRead::Whole(head)) => read_behind(alloc, reader, &head, head.early()),
+        Ok(HeadRead::Refused(why)) => Err(InputFault::Refused(why)),
+        Err(fault) => Err(fault),
+    }
+}

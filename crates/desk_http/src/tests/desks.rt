@@ -1,0 +1,97 @@
+// Desks that tests ask.
+
+use catalogue_rules::catalogue::Catalogue;
+use csv_records::records::Records;
+use desk_memory::desk::MemoryDesk;
+use onix_message::agreement::{Agreement, StoreFault};
+use onix_terms::code::Code2;
+use onix_terms::isbn13::Isbn13;
+use onix_terms::items::Items;
+use onix_terms::number::Number;
+use onix_terms::party::Party;
+use onix_terms::series_name::SeriesName;
+use onix_terms::text::Text;
+use price_rules::offer::Offer;
+use series_rules::answers::{AgreeAnswer, DeliveryAnswer, GapReport, WaiveAnswer};
+use series_rules::desk::Desk;
+use std::alloc::Global;
+use std::test::Fail;
+
+fn party(alloc: Global, id: &str) -> Option<Party> {
+    Some(Party {
+        id_type: Code2::read("06")?,
+        id_value: Text::from_str(alloc, id).ok()?,
+    })
+}
+
+fn agreement(alloc: Global, name: &str, sender: &str, first: u32) -> Option<Agreement> {
+    Some(Agreement {
+        name: SeriesName::read(name)?,
+        sender: party(alloc, sender)?,
+        addressee: Some(party(alloc, "5012345678900")?),
+        first: Number::from_value(first)?,
+    })
+}
+
+/// A desk with the agreements `north`, from number 1 on, and `south`, from number 5 on, of which 7
+/// is waived.
+pub fn agreed_desk(alloc: Global) -> Result<MemoryDesk, Fail> {
+    let mut desk = MemoryDesk::new(alloc);
+    let north = agreement(alloc, "north", "4012345000009", 1).ok_or("no agreement")?;
+    let south = agreement(alloc, "south", "5000000000005", 5).ok_or("no agreement")?;
+    desk.agree(&north)?;
+    desk.agree(&south)?;
+    desk.waive(&south.name, Number::from_value(7).ok_or("no number")?)?;
+    Ok(desk)
+}
+
+/// A desk whose store has the same fault each time, by the fault's number.
+#[derive(Drop)]
+pub struct BrokenDesk {
+    pub number: usize,
+}
+
+impl BrokenDesk {
+    fn fault(&self) -> StoreFault {
+        match self.number {
+            0 => StoreFault::Memory,
+            1 => StoreFault::Size,
+            2 => StoreFault::Disk,
+            _ => StoreFault::Unusable,
+        }
+    }
+}
+
+impl Desk for BrokenDesk {
+    ghost is_sound = { λ d. Unit {0} };
+
+    ghost stands_for = { λ d L. Unit {0} };
+
+    ghost may_give = { λ f. Unit {0} };
+
+    ghost by_content = { λ d L M same stands. tt };
+
+    fn agree(&mut self, _agreement: &Agreement) -> Result<AgreeAnswer, StoreFault> {
+        Err(self.fault())
+    }
+
+    fn deliver(&mut self, _records: &Records<'_>) -> Result<DeliveryAnswer, StoreFault> {
+        Err(self.fault())
+    }
+
+    fn waive(&mut self, _series: &SeriesName, _number: Number) -> Result<WaiveAnswer, StoreFault> {
+        Err(self.fault())
+    }
+
+    fn offers_of(&mut self, _isbn: &Isbn13) -> Result<Items<Offer>, StoreFault> {
+        Err(self.fault())
+    }
+
+    fn gaps(&mut self, _series: &SeriesName) -> Result<Option<GapReport>, StoreFault> {
+        Err(self.fault())
+    }
+
+    fn catalogue(&mut self, _series: &SeriesName) -> Result<Option<Catalogue>, StoreFault> {
+        Err(self.fault())
+    }
+}

@@ -1,0 +1,50 @@
+// The tests, each by its name.
+
+use crate::calls::calls;
+use crate::migration::migration;
+use crate::refusals::refusals;
+use crate::strangers::{has_no_offers, has_no_series, has_no_version, has_version, makes_tables};
+use desk_tables::tables::Tables;
+use sqlite::Alter;
+use std::alloc::Global;
+use std::process::Abort;
+use std::test::Fail;
+
+#[derive(Clone, Copy)]
+pub enum Case {
+    /// All calls in one transaction.
+    Calls,
+    /// What is refused.
+    Refusals,
+    /// From version 1 to version 2.
+    Migration,
+    /// The version is this.
+    Version(Option<u32>),
+    /// The version cannot be read.
+    NoVersion,
+    /// Tables can be made, of version 2.
+    MakesTables,
+    /// The offers cannot be read.
+    NoOffers,
+    /// The series cannot be read.
+    NoSeries,
+}
+
+/// Runs a test on these tables.
+pub fn run<S: Alter>(
+    alloc: Global,
+    rt: &impl Abort,
+    tables: &mut Tables<S>,
+    case: Case,
+) -> Result<(), Fail> {
+    match case {
+        Case::Calls => calls(alloc, rt, tables),
+        Case::Refusals => refusals(alloc, rt, tables),
+        Case::Migration => migration(alloc, rt, tables),
+        Case::Version(version) => has_version(alloc, rt, tables, version),
+        Case::NoVersion => has_no_version(alloc, rt, tables),
+        Case::MakesTables => makes_tables(alloc, rt, tables),
+        Case::NoOffers => has_no_offers(alloc, rt, tables),
+        Case::NoSeries => has_no_series(alloc, rt, tables),
+    }
+}

@@ -1,0 +1,3 @@
+mod Built
+mod SamePrices
+mod Assembled

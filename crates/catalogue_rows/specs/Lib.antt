@@ -1,0 +1,11 @@
+pub mod EntryRows
+pub mod Storable
+pub mod Assembly
+pub mod Holding
+pub mod SortedLemmas
+pub mod ReadingLemmas
+pub mod PlaceLemmas
+pub mod HeldLemmas
+pub mod HeldPriceLemmas
+pub mod StorableLemmas
+pub mod ArticleLemmas

@@ -1,0 +1,5 @@
+pub mod Achieves
+pub mod AchievesLemmas
+pub mod WrittenRows
+pub mod ReadRows
+pub mod AppliedProducts

@@ -1,0 +1,34 @@
+-- What is read of one record.
+use Rattle.std.specs.Prelude.{◌≡◌, Bool, IsTrue, List, Option}
+use Rattle.onix_message.specs.declared.parts.Price.{Price}
+use Rattle.onix_message.specs.declared.parts.ProductIdentifier.{ProductIdentifier}
+use Rattle.onix_message.specs.declared.parts.ProductSupply.{ProductSupply}
+use Rattle.catalogue_rules.specs.declared.entry.Entry.{Entry}
+use Rattle.desk_tables.specs.ArticleAnswers.{ArePricesAt}
+use Rattle.desk_tables.specs.Rows.{DeskRows}
+use Rattle.desk_tables.specs.declared.rows.OfferRow as typed
+use Rattle.desk_tables.specs.declared.rows.RecordRow.{RecordRow}
+use Rattle.catalogue_rows.specs.EntryRows.{article_rows, detail_rows, price_rows_of, ids_of, supplies_of}
+use Rattle.catalogue_rows.specs.Holding.{HoldsEntry}
+
+-- the prices are those of the SupplyDetail of that row
+abbrev pub HasPricesOf : DeskRows → typed.OfferRow → List Price → Type 0
+HasPricesOf rows detail prices = ArePricesAt detail.series detail.reference detail.place rows prices
+
+-- with `true` the identifiers of the record have the rows of these
+abbrev pub HoldsIdentifiers : RecordRow → List ProductIdentifier → DeskRows → Bool → Type 0
+HoldsIdentifiers row ids rows b =
+    (o : Option Entry) → HoldsEntry row.series row.reference o rows → IsTrue b → article_rows row.series row.reference (ids_of o) ≡ article_rows row.series row.reference ids
+
+-- the supplies of the record have the rows of these
+pub record HasSupplyRows (row : RecordRow) (supplies was : List ProductSupply) : Type 0 where
+  pub details : detail_rows row.series row.reference was ≡ detail_rows row.series row.reference supplies
+  pub prices : price_rows_of row.series row.reference was ≡ price_rows_of row.series row.reference supplies
+
+-- with `true` the supplies of the record have the rows of these
+abbrev pub HoldsSupplies : RecordRow → List ProductSupply → DeskRows → Bool → Type 0
+HoldsSupplies row supplies rows b = (o : Option Entry) → HoldsEntry row.series row.reference o rows → IsTrue b → HasSupplyRows row supplies (supplies_of o)
+
+-- with `true` the record is that of these
+abbrev pub HoldsRecord : RecordRow → List ProductIdentifier → List ProductSupply → DeskRows → Bool → Type 0
+HoldsRecord row ids supplies rows b = HoldsIdentifiers row ids rows b × HoldsSupplies row supplies rows b

@@ -1,0 +1,257 @@
+// A message applied to the rows of a catalogue.
+
+ghost use Rattle.std.specs.Prelude.{◌≡◌, ◌+◌, ◌<◌, ◌^◌, IfOk, Option, Some, None};
+ghost use Rattle.std.specs.Option.{is_some};
+ghost use Rattle.sqlite.specs.Held.{state};
+ghost use Rattle.catalogue_rules.specs.Effects.{change_of, counted};
+ghost use Rattle.catalogue_rules.specs.Plans.{total};
+ghost use Rattle.catalogue_rules.specs.Records.{ByReference};
+ghost use Rattle.catalogue_rules.specs.declared.effect.Change.TheVariants as asked;
+ghost use Rattle.catalogue_rules.specs.declared.entry.Entry.{Entry};
+ghost use Rattle.catalogue_rows.specs.Holding.{Became, HoldsCatalogue, HoldsEntry, IsApplied};
+ghost use Rattle.catalogue_rows.specs.Storable.{AreStorable, IsStorableProduct};
+ghost use Rattle.catalogue_store.specs.Achieves.{Achieves};
+ghost use Rattle.catalogue_store.specs.AppliedProducts.{IsChanged, IsProductApplied};
+
+use crate::reading::{has_supplies, is_stored};
+use crate::records::{remove_record, replace_supplies, write_record};
+use catalogue_rules::effect::{Change, Effect};
+use desk_tables::rows::RecordRow;
+use desk_tables::work::Work;
+use onix_message::agreement::StoreFault;
+use onix_message::parts::{Contents, Product, ProductIdentifier, ProductSupply};
+use onix_terms::code::Code2;
+use onix_terms::series_name::SeriesName;
+use sqlite::Alter;
+use std::alloc::Global;
+
+// What a NotificationType asks for.
+fn change_of(notification: Code2) -> Change
+    ensures { result ≡ change_of notification }
+{
+    match notification.as_str() {
+        "01" | "02" | "03" => Change::Replace,
+        "04" => Change::Update,
+        "05" => Change::Delete,
+        _ => Change::Ignore,
+    }
+}
+
+// The counts with one more product, whose reference had a record or not.
+fn counted(effect: Effect, change: Change, is_known: bool) -> Effect
+    requires { total effect + 1 < 2 ^ 32 }
+    ensures counts { (was : Option Entry) → is_some was ≡ is_known → result ≡ counted change was effect }
+    ensures one { total result ≡ total effect + 1 }
+{
+    let mut counts = effect;
+    match change {
+        Change::Replace => counts.replaced += 1,
+        Change::Update if is_known => counts.updated += 1,
+        Change::Update => counts.unknown += 1,
+        Change::Delete if is_known => counts.deleted += 1,
+        Change::Delete => counts.unknown += 1,
+        Change::Ignore => counts.ignored += 1,
+    }
+    counts
+}
+
+// Removes the rows of a record and writes those of one with these identifiers and supplies.
+fn rewrite_record<S: Alter>(
+    alloc: Global,
+    work: &mut Work<'_, S>,
+    row: &RecordRow,
+    ids: &[ProductIdentifier],
+    supplies: &[ProductSupply],
+) -> Result<(), StoreFault>
+    ensures same_reference { work.new.tables.ghost_name ≡ work.old.tables.ghost_name }
+    ensures achieves { Achieves (λ rows _ after. AreStorable supplies.now → Became row.now.series row.now.reference (Some (record { ids = ids.now; supplies = supplies.now })) rows after)
+        (state S.Store work.old.tables.now.connection) (state S.Store work.new.tables.now.connection) result }
+{
+    match remove_record(work, row) {
+        Ok(()) => {}
+        Err(fault) => return Err(fault),
+    }
+    write_record(alloc, work, row, ids, supplies)
+}
+
+// Makes a record that is there the one with these identifiers and supplies, and writes only where
+// it is not that one.
+fn keep_record<S: Alter>(
+    alloc: Global,
+    work: &mut Work<'_, S>,
+    row: &RecordRow,
+    ids: &[ProductIdentifier],
+    supplies: &[ProductSupply],
+) -> Result<(), StoreFault>
+    ensures same_reference { work.new.tables.ghost_name ≡ work.old.tables.ghost_name }
+    ensures achieves { Achieves (λ rows _ after. (e : Entry) → HoldsEntry row.now.series row.now.reference (Some e) rows → AreStorable supplies.now
+        → Became row.now.series row.now.reference (Some (record { ids = ids.now; supplies = supplies.now })) rows after)
+        (state S.Store work.old.tables.now.connection) (state S.Store work.new.tables.now.connection) result }
+{
+    let same = match is_stored(alloc, work, row, ids, supplies) {
+        Ok(same) => same,
+        Err(fault) => return Err(fault),
+    };
+    if same {
+        return Ok(());
+    }
+    rewrite_record(alloc, work, row, ids, supplies)
+}
+
+// Gives a record that is there these supplies, and writes only where it has others.
+fn keep_supplies<S: Alter>(
+    alloc: Global,
+    work: &mut Work<'_, S>,
+    row: &RecordRow,
+    supplies: &[ProductSupply],
+) -> Result<(), StoreFault>
+    ensures same_reference { work.new.tables.ghost_name ≡ work.old.tables.ghost_name }
+    ensures achieves { Achieves (λ rows _ after. (e : Entry) → HoldsEntry row.now.series row.now.reference (Some e) rows → AreStorable supplies.now
+        → Became row.now.series row.now.reference (Some (record e { supplies = supplies.now })) rows after)
+        (state S.Store work.old.tables.now.connection) (state S.Store work.new.tables.now.connection) result }
+{
+    let same = match has_supplies(alloc, work, row, supplies) {
+        Ok(same) => same,
+        Err(fault) => return Err(fault),
+    };
+    if same {
+        return Ok(());
+    }
+    replace_supplies(alloc, work, row, supplies)
+}
+
+// Carries out 01, 02 or 03.
+fn replace<S: Alter>(
+    alloc: Global,
+    work: &mut Work<'_, S>,
+    row: &RecordRow,
+    product: &Product,
+    is_known: bool,
+) -> Result<(), StoreFault>
+    ensures same_reference { work.new.tables.ghost_name ≡ work.old.tables.ghost_name }
+    ensures achieves { Achieves (λ rows _ after. IsChanged asked.Replace row.now product.now is_known rows after)
+        (state S.Store work.old.tables.now.connection) (state S.Store work.new.tables.now.connection) result }
+{
+    let ids = product.ids.as_slice();
+    let supplies = product.supplies.as_slice();
+    if is_known {
+        return keep_record(alloc, work, row, ids, supplies);
+    }
+    write_record(alloc, work, row, ids, supplies)
+}
+
+// Carries out 04: a known record gets the supplies of the product, where it has some.
+fn update<S: Alter>(
+    alloc: Global,
+    work: &mut Work<'_, S>,
+    row: &RecordRow,
+    product: &Product,
+    is_known: bool,
+) -> Result<(), StoreFault>
+    ensures same_reference { work.new.tables.ghost_name ≡ work.old.tables.ghost_name }
+    ensures achieves { Achieves (λ rows _ after. IsChanged asked.Update row.now product.now is_known rows after)
+        (state S.Store work.old.tables.now.connection) (state S.Store work.new.tables.now.connection) result }
+{
+    let is_empty = product.supplies.is_empty();
+    if is_empty {
+        return Ok(());
+    }
+    if is_known {
+        return keep_supplies(alloc, work, row, product.supplies.as_slice());
+    }
+    Ok(())
+}
+
+// Carries out 05.
+fn delete<S: Alter>(
+    work: &mut Work<'_, S>,
+    row: &RecordRow,
+    is_known: bool,
+) -> Result<(), StoreFault>
+    ensures same_reference { work.new.tables.ghost_name ≡ work.old.tables.ghost_name }
+    ensures achieves { Achieves (λ rows _ after. (o : Option Entry) → HoldsEntry row.now.series row.now.reference o rows → is_some o ≡ is_known → Became row.now.series row.now.reference None rows after)
+        (state S.Store work.old.tables.now.connection) (state S.Store work.new.tables.now.connection) result }
+{
+    if is_known {
+        return remove_record(work, row);
+    }
+    Ok(())
+}
+
+// Carries out what the product asks for.
+fn change_record<S: Alter>(
+    alloc: Global,
+    work: &mut Work<'_, S>,
+    row: &RecordRow,
+    product: &Product,
+    change: Change,
+    is_known: bool,
+) -> Result<(), StoreFault>
+    ensures same_reference { work.new.tables.ghost_name ≡ work.old.tables.ghost_name }
+    ensures achieves { Achieves (λ rows _ after. IsChanged change row.now product.now is_known rows after)
+        (state S.Store work.old.tables.now.connection) (state S.Store work.new.tables.now.connection) result }
+{
+    match change {
+        Change::Replace => replace(alloc, work, row, product, is_known),
+        Change::Update => update(alloc, work, row, product, is_known),
+        Change::Delete => delete(work, row, is_known),
+        Change::Ignore => Ok(()),
+    }
+}
+
+// Applies one product to the catalogue of the series, and gives the counts with it.
+fn apply_product<S: Alter>(
+    alloc: Global,
+    work: &mut Work<'_, S>,
+    series: &SeriesName,
+    product: &Product,
+    effect: Effect,
+) -> Result<Effect, StoreFault>
+    requires { total effect + 1 < 2 ^ 32 }
+    ensures same_reference { work.new.tables.ghost_name ≡ work.old.tables.ghost_name }
+    ensures one { IfOk result (λ e. total e ≡ total effect + 1) }
+    ensures achieves { Achieves (λ rows counts after. (m : ByReference) → HoldsCatalogue series.now m rows → IsStorableProduct product.now → IsProductApplied series.now m product.now effect rows counts after)
+        (state S.Store work.old.tables.now.connection) (state S.Store work.new.tables.now.connection) result }
+{
+    let row = match product.reference.copy(alloc) {
+        Ok(reference) => RecordRow {
+            series: *series,
+            reference,
+        },
+        Err(_) => return Err(StoreFault::Memory),
+    };
+    let is_known = match work.has_record(&row.series, row.reference.as_str()) {
+        Ok(is_known) => is_known,
+        Err(fault) => return Err(fault),
+    };
+    let change = change_of(product.notification);
+    match change_record(alloc, work, &row, product, change, is_known) {
+        Ok(()) => Ok(counted(effect, change, is_known)),
+        Err(fault) => Err(fault),
+    }
+}
+
+/// Applies the products of a message, one after the other, to the catalogue of the series, and gives
+/// how many did what. A record that stays as it is is not written. `Unusable` where the series is not
+/// there or its rows cannot be read back; otherwise a fault is one of the store, or want of memory.
+pub fn apply_message<S: Alter>(
+    alloc: Global,
+    work: &mut Work<'_, S>,
+    series: &SeriesName,
+    contents: &Contents,
+) -> Result<Effect, StoreFault>
+    ensures same_reference { work.new.tables.ghost_name ≡ work.old.tables.ghost_name }
+    ensures achieves { Achieves (λ rows effect after. (m : ByReference) → HoldsCatalogue series.now m rows → IsApplied series.now m contents.now rows effect after)
+        (state S.Store work.old.tables.now.connection) (state S.Store work.new.tables.now.connection) result }
+{
+    contents.is_contents();
+    let products = contents.products();
+    let mut effect = Effect::none();
+    for product in products {
+        effect = match apply_product(alloc, work, series, product, effect) {
+            Ok(counts) => counts,
+            Err(fault) => return Err(fault),
+        };
+    }
+    Ok(effect)
+}

@@ -1,0 +1,152 @@
+// The rows of one record, read and compared.
+
+ghost use Rattle.std.specs.Prelude.{◌≡◌, IfOk, Some};
+ghost use Rattle.std.specs.List.{AllZip};
+ghost use Rattle.sqlite.specs.Held.{state};
+ghost use Rattle.catalogue_rules.specs.Records.{HasFewDetails};
+ghost use Rattle.catalogue_rules.specs.declared.entry.Entry.{Entry as TheEntry};
+ghost use Rattle.catalogue_rows.specs.Holding.{HoldsEntry};
+ghost use Rattle.catalogue_store.specs.Achieves.{Achieves};
+ghost use Rattle.catalogue_store.specs.ReadRows.{HasPricesOf, HoldsIdentifiers, HoldsRecord, HoldsSupplies};
+
+use catalogue_rows::assemble::entry_of;
+use catalogue_rows::build::{article_rows, detail_rows};
+use catalogue_rows::same::{same_articles, same_detail_prices, same_details};
+use catalogue_rules::entry::Entry;
+use desk_tables::rows::{OfferRow, RecordRow};
+use desk_tables::work::Work;
+use onix_message::agreement::StoreFault;
+use onix_message::parts::{Price, ProductIdentifier, ProductSupply};
+use onix_terms::items::Items;
+use sqlite::Alter;
+use std::alloc::Global;
+
+// The prices of each of these SupplyDetails.
+fn read_prices<S: Alter>(
+    alloc: Global,
+    work: &mut Work<'_, S>,
+    details: &[OfferRow],
+) -> Result<Vec<Items<Price>>, StoreFault>
+    ensures same_reference { work.new.tables.ghost_name ≡ work.old.tables.ghost_name }
+    ensures achieves { Achieves (λ rows prices after. (after ≡ rows) × AllZip (HasPricesOf rows) details.now prices.items)
+        (state S.Store work.old.tables.now.connection) (state S.Store work.new.tables.now.connection) result }
+{
+    let mut prices = Vec::new(alloc);
+    for detail in details {
+        let own = match work.offer_prices(detail) {
+            Ok(own) => own,
+            Err(fault) => return Err(fault),
+        };
+        if prices.push(own).is_err() {
+            return Err(StoreFault::Memory);
+        }
+    }
+    Ok(prices)
+}
+
+/// The entry of a record that is there. `Unusable` where its rows cannot be read back; otherwise a
+/// fault is one of the store, or want of memory.
+pub fn read_record<S: Alter>(
+    alloc: Global,
+    work: &mut Work<'_, S>,
+    row: &RecordRow,
+) -> Result<Entry, StoreFault>
+    ensures same_reference { work.new.tables.ghost_name ≡ work.old.tables.ghost_name }
+    ensures few { IfOk result HasFewDetails }
+    ensures achieves { Achieves (λ rows entry after. (after ≡ rows) × ((e : TheEntry) → HoldsEntry row.now.series row.now.reference (Some e) rows → entry ≡ e))
+        (state S.Store work.old.tables.now.connection) (state S.Store work.new.tables.now.connection) result }
+{
+    let articles = match work.record_articles(row) {
+        Ok(articles) => articles,
+        Err(fault) => return Err(fault),
+    };
+    let details = match work.record_offers(row) {
+        Ok(details) => details,
+        Err(fault) => return Err(fault),
+    };
+    let prices = match read_prices(alloc, work, details.as_slice()) {
+        Ok(prices) => prices,
+        Err(fault) => return Err(fault),
+    };
+    entry_of(
+        alloc,
+        articles.as_slice(),
+        details.as_slice(),
+        prices.as_slice(),
+    )
+}
+
+/// Whether the identifiers of a record are these. A fault is one of the store, or want of memory;
+/// `Unusable` where a row cannot be read back.
+pub fn has_identifiers<S: Alter>(
+    alloc: Global,
+    work: &mut Work<'_, S>,
+    row: &RecordRow,
+    ids: &[ProductIdentifier],
+) -> Result<bool, StoreFault>
+    ensures same_reference { work.new.tables.ghost_name ≡ work.old.tables.ghost_name }
+    ensures achieves { Achieves (λ rows b after. (after ≡ rows) × HoldsIdentifiers row.now ids.now rows b)
+        (state S.Store work.old.tables.now.connection) (state S.Store work.new.tables.now.connection) result }
+{
+    let wanted = match article_rows(alloc, &row.series, &row.reference, ids) {
+        Ok(wanted) => wanted,
+        Err(fault) => return Err(fault),
+    };
+    match work.record_articles(row) {
+        Ok(articles) => Ok(same_articles(articles.as_slice(), wanted.as_slice())),
+        Err(fault) => Err(fault),
+    }
+}
+
+/// Whether the supplies of a record are these. A fault is one of the store, or want of memory;
+/// `Unusable` where a row cannot be read back.
+pub fn has_supplies<S: Alter>(
+    alloc: Global,
+    work: &mut Work<'_, S>,
+    row: &RecordRow,
+    supplies: &[ProductSupply],
+) -> Result<bool, StoreFault>
+    ensures same_reference { work.new.tables.ghost_name ≡ work.old.tables.ghost_name }
+    ensures achieves { Achieves (λ rows b after. (after ≡ rows) × HoldsSupplies row.now supplies.now rows b)
+        (state S.Store work.old.tables.now.connection) (state S.Store work.new.tables.now.connection) result }
+{
+    let wanted = match detail_rows(alloc, &row.series, &row.reference, supplies) {
+        Ok(wanted) => wanted,
+        Err(fault) => return Err(fault),
+    };
+    let details = match work.record_offers(row) {
+        Ok(details) => details,
+        Err(fault) => return Err(fault),
+    };
+    let same = same_details(details.as_slice(), wanted.as_slice());
+    if !same {
+        return Ok(false);
+    }
+    match read_prices(alloc, work, details.as_slice()) {
+        Ok(prices) => Ok(same_detail_prices(prices.as_slice(), supplies)),
+        Err(fault) => Err(fault),
+    }
+}
+
+/// Whether a record has these identifiers and supplies. A fault is one of the store, or want of
+/// memory; `Unusable` where a row cannot be read back.
+pub fn is_stored<S: Alter>(
+    alloc: Global,
+    work: &mut Work<'_, S>,
+    row: &RecordRow,
+    ids: &[ProductIdentifier],
+    supplies: &[ProductSupply],
+) -> Result<bool, StoreFault>
+    ensures same_reference { work.new.tables.ghost_name ≡ work.old.tables.ghost_name }
+    ensures achieves { Achieves (λ rows b after. (after ≡ rows) × HoldsRecord row.now ids.now supplies.now rows b)
+        (state S.Store work.old.tables.now.connection) (state S.Store work.new.tables.now.connection) result }
+{
+    let same = match has_identifiers(alloc, work, row, ids) {
+        Ok(same) => same,
+        Err(fault) => return Err(fault),
+    };
+    if !same {
+        return Ok(false);
+    }
+    has_supplies(alloc, work, row, supplies)
+}

@@ -1,0 +1,158 @@
+// The rows of one record, written.
+
+ghost use Rattle.std.specs.Prelude.{◌≡◌, Some, None};
+ghost use Rattle.sqlite.specs.Held.{state};
+ghost use Rattle.catalogue_rules.specs.declared.entry.Entry.{Entry};
+ghost use Rattle.catalogue_rows.specs.Holding.{Became, HoldsEntry};
+ghost use Rattle.catalogue_rows.specs.Storable.{AreStorable};
+ghost use Rattle.catalogue_store.specs.Achieves.{Achieves};
+ghost use Rattle.catalogue_store.specs.WrittenRows.{with_articles, with_details, with_identified, with_prices, with_supplies};
+
+use catalogue_rows::build::{article_rows, detail_rows, price_rows};
+use desk_tables::rows::{ArticleRow, OfferRow, PriceRow, RecordRow};
+use desk_tables::work::Work;
+use onix_message::agreement::StoreFault;
+use onix_message::parts::{ProductIdentifier, ProductSupply};
+use sqlite::Alter;
+use std::alloc::Global;
+
+fn put_articles<S: Alter>(work: &mut Work<'_, S>, added: &[ArticleRow]) -> Result<(), StoreFault>
+    ensures same_reference { work.new.tables.ghost_name ≡ work.old.tables.ghost_name }
+    ensures achieves { Achieves (λ rows _ after. after ≡ with_articles added.now rows)
+        (state S.Store work.old.tables.now.connection) (state S.Store work.new.tables.now.connection) result }
+{
+    for row in added {
+        match work.put_article(row) {
+            Ok(()) => {}
+            Err(fault) => return Err(fault),
+        }
+    }
+    Ok(())
+}
+
+fn put_details<S: Alter>(work: &mut Work<'_, S>, added: &[OfferRow]) -> Result<(), StoreFault>
+    ensures same_reference { work.new.tables.ghost_name ≡ work.old.tables.ghost_name }
+    ensures achieves { Achieves (λ rows _ after. after ≡ with_details added.now rows)
+        (state S.Store work.old.tables.now.connection) (state S.Store work.new.tables.now.connection) result }
+{
+    for row in added {
+        match work.put_offer(row) {
+            Ok(()) => {}
+            Err(fault) => return Err(fault),
+        }
+    }
+    Ok(())
+}
+
+fn put_prices<S: Alter>(work: &mut Work<'_, S>, added: &[PriceRow]) -> Result<(), StoreFault>
+    ensures same_reference { work.new.tables.ghost_name ≡ work.old.tables.ghost_name }
+    ensures achieves { Achieves (λ rows _ after. after ≡ with_prices added.now rows)
+        (state S.Store work.old.tables.now.connection) (state S.Store work.new.tables.now.connection) result }
+{
+    for row in added {
+        match work.put_price(row) {
+            Ok(()) => {}
+            Err(fault) => return Err(fault),
+        }
+    }
+    Ok(())
+}
+
+// Adds the SupplyDetails of the record, and their prices.
+fn put_supplies<S: Alter>(
+    alloc: Global,
+    work: &mut Work<'_, S>,
+    row: &RecordRow,
+    supplies: &[ProductSupply],
+) -> Result<(), StoreFault>
+    ensures same_reference { work.new.tables.ghost_name ≡ work.old.tables.ghost_name }
+    ensures achieves { Achieves (λ rows _ after. after ≡ with_supplies row.now.series row.now.reference supplies.now rows)
+        (state S.Store work.old.tables.now.connection) (state S.Store work.new.tables.now.connection) result }
+{
+    let details = match detail_rows(alloc, &row.series, &row.reference, supplies) {
+        Ok(details) => details,
+        Err(fault) => return Err(fault),
+    };
+    let prices = match price_rows(alloc, &row.series, &row.reference, supplies) {
+        Ok(prices) => prices,
+        Err(fault) => return Err(fault),
+    };
+    match put_details(work, details.as_slice()) {
+        Ok(()) => {}
+        Err(fault) => return Err(fault),
+    }
+    put_prices(work, prices.as_slice())
+}
+
+// Adds the record and its identifiers.
+fn put_identified<S: Alter>(
+    alloc: Global,
+    work: &mut Work<'_, S>,
+    row: &RecordRow,
+    ids: &[ProductIdentifier],
+) -> Result<(), StoreFault>
+    ensures same_reference { work.new.tables.ghost_name ≡ work.old.tables.ghost_name }
+    ensures achieves { Achieves (λ rows _ after. after ≡ with_identified row.now ids.now rows)
+        (state S.Store work.old.tables.now.connection) (state S.Store work.new.tables.now.connection) result }
+{
+    let articles = match article_rows(alloc, &row.series, &row.reference, ids) {
+        Ok(articles) => articles,
+        Err(fault) => return Err(fault),
+    };
+    match work.put_record(&row.series, row.reference.as_str()) {
+        Ok(()) => {}
+        Err(fault) => return Err(fault),
+    }
+    put_articles(work, articles.as_slice())
+}
+
+/// Writes the rows of a record with these identifiers and supplies, where it has no rows.
+/// `Unusable` where the series is not there; otherwise a fault is one of the store, or want of
+/// memory.
+pub fn write_record<S: Alter>(
+    alloc: Global,
+    work: &mut Work<'_, S>,
+    row: &RecordRow,
+    ids: &[ProductIdentifier],
+    supplies: &[ProductSupply],
+) -> Result<(), StoreFault>
+    ensures same_reference { work.new.tables.ghost_name ≡ work.old.tables.ghost_name }
+    ensures achieves { Achieves (λ rows _ after. HoldsEntry row.now.series row.now.reference None rows → AreStorable supplies.now
+        → Became row.now.series row.now.reference (Some (record { ids = ids.now; supplies = supplies.now })) rows after)
+        (state S.Store work.old.tables.now.connection) (state S.Store work.new.tables.now.connection) result }
+{
+    match put_identified(alloc, work, row, ids) {
+        Ok(()) => {}
+        Err(fault) => return Err(fault),
+    }
+    put_supplies(alloc, work, row, supplies)
+}
+
+/// Removes all rows of a record. A fault is one of the store.
+pub fn remove_record<S: Alter>(work: &mut Work<'_, S>, row: &RecordRow) -> Result<(), StoreFault>
+    ensures same_reference { work.new.tables.ghost_name ≡ work.old.tables.ghost_name }
+    ensures achieves { Achieves (λ rows _ after. Became row.now.series row.now.reference None rows after)
+        (state S.Store work.old.tables.now.connection) (state S.Store work.new.tables.now.connection) result }
+{
+    work.delete_record(&row.series, row.reference.as_str())
+}
+
+/// Puts these supplies in the place of all supplies of a record. `Unusable` where the record is not
+/// there; otherwise a fault is one of the store, or want of memory.
+pub fn replace_supplies<S: Alter>(
+    alloc: Global,
+    work: &mut Work<'_, S>,
+    row: &RecordRow,
+    supplies: &[ProductSupply],
+) -> Result<(), StoreFault>
+    ensures same_reference { work.new.tables.ghost_name ≡ work.old.tables.ghost_name }
+    ensures achieves { Achieves (λ rows _ after. (e : Entry) → HoldsEntry row.now.series row.now.reference (Some e) rows → AreStorable supplies.now
+        → Became row.now.series row.now.reference (Some (record e { supplies = supplies.now })) rows after)
+        (state S.Store work.old.tables.now.connection) (state S.Store work.new.tables.now.connection) result }
+{
+    match work.delete_offers(&row.series, row.reference.as_str()) {
+        Ok(()) => {}
+        Err(fault) => return Err(fault),
+    }
+    put_supplies(alloc, work, row, supplies)
+}

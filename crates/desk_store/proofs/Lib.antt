@@ -1,0 +1,14 @@
+mod Lookups
+mod CatalogueRows
+mod Folds
+mod Steps
+mod OneText
+mod Cuts
+mod Requests
+mod Applied
+mod NumberValues
+mod Fronts
+mod Again
+mod Answered
+mod Found
+mod Transactions

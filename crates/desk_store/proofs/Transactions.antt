@@ -1,0 +1,179 @@
+-- A request from the beginning of its transaction to its end.
+use Rattle.std.proofs.Common.{◌≡◌, Bool, true, false, List, ◌∷◌, Ok, Err, Result, IfOk, OnOk, OnErr, IsTrue, ◌⊎◌, inl, inr, refl, sym, ap, ◌∙◌, subst, arith}
+use Rattle.sqlite.specs.Effect.{Database}
+use Rattle.sqlite.specs.State.{State, HasCleanDisk, KeepsCommit, Survives}
+use Rattle.sqlite_trees.specs.Tree.{Trees}
+use Rattle.catalogue_store.specs.Achieves.{Achieves}
+use Rattle.desk_tables.specs.Refusals.{FailsOutside}
+use Rattle.desk_tables.specs.Rows.{DeskRows, Holds}
+use Rattle.desk_tables.specs.Schema.{desk_schema}
+use Rattle.desk_tables.specs.Transactions.{BeginsWork, EndsWork, IsForeign, IsUndone, LeavesOnly, NoTrees}
+use Rattle.onix_message.specs.declared.agreement.StoreFault.{StoreFault}
+use Rattle.series_rules.specs.declared.requests.Request.{Request}
+use Rattle.desk_store.specs.Desks.{Answers, AreRowsOf, HoldsRequests, IsAsked, KeepsRequests, changes}
+use Rattle.desk_store.specs.Stands.{StandsFor}
+
+-- ---- begun
+
+either : {P : Type 0} → P ⊎ ⊥ → P
+either (inl p) = p
+either (inr x) = absurd x
+
+-- what is known once a transaction is begun
+record IsBegun (L : List Request) (s0 s1 : State) : Type 0 where
+  was_open : IsTrue s0.is_open
+  now : HoldsRequests s1.now L
+  committed : HoldsRequests s1.committed L
+  schema : s1.now.schema ≡ desk_schema
+  crash : (d : Trees) → s1.may_leave d → s0.may_leave d
+
+is_begun : {W : Type 0} (w : W) (L : List Request) (s0 s1 : State) → HasCleanDisk s1 → BeginsWork {A = W} {E = StoreFault} s0 s1 (Ok w) → KeepsRequests s0 L → IsBegun L s0 s1
+is_begun w L s0 s1 clean begun keeps =
+    let shows = (begun.begun clean).0 in
+    let kept = keeps shows.was_open in
+    record {
+      was_open = shows.was_open;
+      now = subst (λ db. HoldsRequests db L) (sym shows.now_is) kept.1;
+      committed = subst (λ db. HoldsRequests db L) (sym shows.committed_is) kept.2;
+      schema = ap (λ (db : Database). db.schema) shows.now_is ∙ kept.1.1.schema;
+      crash = λ d may. either (begun.survives.crash clean d may);
+    }
+
+-- it was not begun
+pub asked_unbegun : {A W : Type 0} (r : Request) (answer : List Request → A) (s0 s1 : State) (e : StoreFault) → BeginsWork {A = W} {E = StoreFault} s0 s1 (Err e) → FailsOutside {A = W} {E = StoreFault} s0 s1 (Err e) → IsAsked {A = A} r answer s0 s1 (Err e)
+asked_unbegun r answer s0 s1 e begun outside = record {
+  premise = λ clean. omega (arith, begun.survives.clean);
+  ok = λ clean L keeps. tt;
+  err = λ clean L keeps. λ up. kept L clean up (keeps ((begun.refused clean).was_open up));
+  crash = λ clean L keeps d may. inl (either (begun.survives.crash clean d may));
+  alone = λ clean L keeps change. tt;
+}
+  where
+    seen : (L : List Request) → HoldsRequests s0.now L → HoldsRequests s0.committed L → (s1.now ≡ s0.now) ⊎ (s1.now ≡ s0.committed) → HoldsRequests s1.now L
+    seen L now committed (inl e) = subst (λ db. HoldsRequests db L) (sym e) now
+    seen L now committed (inr e) = subst (λ db. HoldsRequests db L) (sym e) committed
+
+    kept : (L : List Request) → HasCleanDisk s1 → IsTrue s1.is_open → (s0.in_transaction ≡ false) × HoldsRequests s0.now L × HoldsRequests s0.committed L → (s1.in_transaction ≡ false) × HoldsRequests s1.now L × HoldsRequests s1.committed L
+    kept L clean up was =
+        let stays = outside clean was.0 up in
+        (stays.0, seen L was.1 was.2 stays.1, subst (λ db. HoldsRequests db L) (sym ((begun.refused clean).committed up)) was.2)
+
+-- ---- undone
+
+-- the transaction is undone: what was committed before stands
+undone_keeps : (L : List Request) (s0 s1 s2 s3 : State) → IsBegun L s0 s1 → KeepsCommit s1 s2 → IsUndone s2 s3 → KeepsRequests s3 L
+undone_keeps L s0 s1 s2 s3 begun kept undone = λ up.
+    let open2 = undone.was_open up in
+    let committed = kept.committed open2 in (
+      undone.autocommit,
+      subst (λ db. HoldsRequests db L) (sym (undone.now up ∙ committed)) begun.committed,
+      subst (λ db. HoldsRequests db L) (sym (undone.committed up ∙ committed)) begun.committed,
+    )
+
+-- a crash in a transaction leaves what it could leave before
+crash_inside : (L : List Request) (s0 s1 s2 : State) (P : Type 0) (d : Trees) → IsBegun L s0 s1 → s1.may_leave d ⊎ IsForeign s1 d → s0.may_leave d ⊎ P
+crash_inside L s0 s1 s2 P d begun (inl may) = inl (begun.crash d may)
+crash_inside L s0 s1 s2 P d begun (inr foreign) = absurd (foreign begun.schema)
+
+-- a fault in it undoes it
+pub asked_failed : {A B W : Type 0} (w : W) (r : Request) (answer : List Request → A) (Post : DeskRows → B → DeskRows → Type 0) (s0 s1 s2 s3 : State) (e : StoreFault) → BeginsWork {A = W} {E = StoreFault} s0 s1 (Ok w) → Achieves {A = B} Post s1 s2 (Err e)
+    → (HasCleanDisk s3 → IsUndone s2 s3) → Survives s2 s3 NoTrees → IsAsked {A = A} r answer s0 s3 (Err e)
+asked_failed w r answer Post s0 s1 s2 s3 e begins done undone survives = record {
+  premise = λ clean. clean0 (clean1 (clean2 clean));
+  ok = λ clean L keeps. tt;
+  err = λ clean L keeps. let begun = is_begun w L s0 s1 (clean1 (clean2 clean)) begins keeps in undone_keeps L s0 s1 s2 s3 begun (done.kept (clean2 clean) begun.schema) (undone clean);
+  crash = λ clean L keeps d may.
+      let begun = is_begun w L s0 s1 (clean1 (clean2 clean)) begins keeps in
+      crash_inside L s0 s1 s2 _ d begun (done.survives.crash (clean2 clean) d (either (survives.crash clean d may)));
+  alone = λ clean L keeps change. tt;
+}
+  where
+    clean2 : HasCleanDisk s3 → HasCleanDisk s2
+    clean2 clean = omega (arith, survives.clean)
+
+    clean1 : HasCleanDisk s2 → HasCleanDisk s1
+    clean1 clean = omega (arith, done.survives.clean)
+
+    clean0 : HasCleanDisk s1 → HasCleanDisk s0
+    clean0 clean = omega (arith, begins.survives.clean)
+
+-- ---- done
+
+module _ {A W : Type 0} (w : W) (r : Request) (answer : List Request → A) (s0 s1 s2 s3 : State) (a : A) (spent : Bool) (begins : BeginsWork {A = W} {E = StoreFault} s0 s1 (Ok w)) (done : Achieves (Answers r answer) s1 s2 (Ok a)) where
+  clean1 : HasCleanDisk s2 → HasCleanDisk s1
+  clean1 clean = omega (arith, done.survives.clean)
+
+  clean0 : HasCleanDisk s1 → HasCleanDisk s0
+  clean0 clean = omega (arith, begins.survives.clean)
+
+  -- what stands in the transaction once it is done
+  stands_now : HasCleanDisk s2 → (L : List Request) → KeepsRequests s0 L → HoldsRequests s2.now (r ∷ L) × (a ≡ answer L)
+  stands_now clean L keeps =
+      let begun = is_begun w L s0 s1 (clean1 clean) begins keeps in
+      let gives = done.gives clean begun.now.0 begun.now.1 in
+      let post = gives.2 L begun.now.2 in
+      ((gives.0, gives.1, post.0), post.1)
+
+  -- a crash leaves what it could leave before, or the request
+  crash_done : {B E : Type 0} (result : Result B E) → EndsWork s2 s3 spent result → HasCleanDisk s3 → (L : List Request) → KeepsRequests s0 L → (d : Trees) → s3.may_leave d → s0.may_leave d ⊎ AreRowsOf d (r ∷ L)
+  crash_done result ends clean L keeps d may = go (ends.survives.crash clean d may)
+    where
+      clean2 : HasCleanDisk s2
+      clean2 = omega (arith, ends.survives.clean)
+
+      go : s2.may_leave d ⊎ ((spent ≡ false) × (d ≡ s2.now.trees)) → s0.may_leave d ⊎ AreRowsOf d (r ∷ L)
+      go (inl before) = crash_inside L s0 s1 s2 _ d (is_begun w L s0 s1 (clean1 clean2) begins keeps) (done.survives.crash clean2 d before)
+      go (inr now) = inr (s2.now, sym now.1, (stands_now clean2 L keeps).0)
+
+  -- it is committed
+  pub asked_done : {B : Type 0} (b : B) → EndsWork {E = StoreFault} s2 s3 spent (Ok b) → (HasCleanDisk s3 → LeavesOnly s3) → IsAsked r answer s0 s3 (Ok a)
+  asked_done b ends durable = record {
+    premise = λ clean. clean0 (clean1 (clean2 clean));
+    ok = λ clean L keeps.
+        let now = stands_now (clean2 clean) L keeps in
+        let committed = ends.committed clean in
+        (now.1, λ up. (committed.autocommit, subst (λ db. HoldsRequests db (r ∷ L)) (sym committed.now) now.0, subst (λ db. HoldsRequests db (r ∷ L)) (sym committed.committed) now.0));
+    err = λ clean L keeps. tt;
+    crash = crash_done (Ok b) ends;
+    alone = λ clean L keeps change. λ d may. (s2.now, sym (durable clean d may ∙ ap (λ (db : Database). db.trees) (ends.committed clean).committed), (stands_now (clean2 clean) L keeps).0);
+  }
+    where
+      clean2 : HasCleanDisk s3 → HasCleanDisk s2
+      clean2 clean = omega (arith, ends.survives.clean)
+
+  -- it is not committed
+  pub asked_refused : (e : StoreFault) {B : Type 0} → EndsWork {A = B} s2 s3 spent (Err e) → IsAsked {A = A} r answer s0 s3 (Err e)
+  asked_refused e ends = record {
+    premise = λ clean. clean0 (clean1 (clean2 clean));
+    ok = λ clean L keeps. tt;
+    err = λ clean L keeps. let begun = is_begun w L s0 s1 (clean1 (clean2 clean)) begins keeps in undone_keeps L s0 s1 s2 s3 begun (done.kept (clean2 clean) begun.schema) (ends.undone clean);
+    crash = crash_done (Err e) ends;
+    alone = λ clean L keeps change. tt;
+  }
+    where
+      clean2 : HasCleanDisk s3 → HasCleanDisk s2
+      clean2 clean = omega (arith, ends.survives.clean)
+
+-- ---- answered without a transaction
+
+-- a request that puts nothing anywhere is answered by what it is alone
+pub asked_alone : {A : Type 0} (r : Request) (answer : List Request → A) (s : State) (a : A) → ((L : List Request) → a ≡ answer L) → ((L : List Request) → changes L r ≡ false) → ((L : List Request) (rows : DeskRows) → StandsFor rows L → StandsFor rows (r ∷ L)) → IsAsked r answer s s (Ok a)
+asked_alone r answer s a is nothing stands = record {
+  premise = λ clean. clean;
+  ok = λ clean L keeps. (is L, λ up. let kept = keeps up in (kept.0, (kept.1.0, kept.1.1, stands L kept.1.0 kept.1.2), (kept.2.0, kept.2.1, stands L kept.2.0 kept.2.2)));
+  err = λ clean L keeps. tt;
+  crash = λ clean L keeps d may. inl may;
+  alone = λ clean L keeps change. absurd (differ (sym (nothing L) ∙ change));
+}
+  where
+    differ : false ≡ true → ⊥
+    differ e = absurd cc
+
+pub asked_unasked : {A : Type 0} (r : Request) (answer : List Request → A) (s : State) (e : StoreFault) → IsAsked {A = A} r answer s s (Err e)
+asked_unasked r answer s e = record {
+  premise = λ clean. clean;
+  ok = λ clean L keeps. tt;
+  err = λ clean L keeps. keeps;
+  crash = λ clean L keeps d may. inl may;
+  alone = λ clean L keeps change. tt;
+}

@@ -1,0 +1,4 @@
+pub mod Texts
+pub mod Stands
+pub mod Changes
+pub mod Desks

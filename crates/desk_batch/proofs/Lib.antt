@@ -1,3 +1,2 @@
 pub mod PieceLists
-pub mod Runs
 mod RecordLists

@@ -7,4 +7,6 @@ pub mod CatalogueText
 pub mod AnswerText
 pub mod Batch
 pub mod BatchSteps
+pub mod OneRequest
 pub mod BatchFaults
+pub mod RunLemmas

@@ -4,8 +4,9 @@ ghost use Rattle.std.specs.Prelude.{◌≡◌, ◌≤◌, ℕ, List, IfErr, if�
 ghost use Rattle.std.specs.Io.KnownBytes.{Appends};
 ghost use Rattle.csv_records.specs.Streams.{IsTold};
 ghost use Rattle.desk_batch.specs.Batch.{BatchFits, RunFits};
-ghost use Rattle.desk_batch.specs.BatchSteps.{RequestFits, RequestsFit, TextFits};
+ghost use Rattle.desk_batch.specs.BatchSteps.{RequestsFit, TextFits};
 ghost use Rattle.desk_batch.specs.BatchFaults.{IsBatchFaultOf, IsRequestFaultOf};
+ghost use Rattle.desk_batch.specs.OneRequest.{RequestFits};
 ghost use Rattle.series_rules.specs.declared.requests.Request.{Request};
 
 use crate::answer_text::{is_refusal, write_answer};
@@ -52,11 +53,19 @@ enum UnreadFault {
     Records(RecordFault),
 }
 
-/// Why one request has no answer that is written.
-#[derive(Drop)]
-enum RequestFault {
+/// Why one request has no answer that is written whole.
+#[derive(Debug, Drop, Error)]
+pub enum RequestFault {
+    /// The store failed. The request has had no effect.
+    #[error("the store failed: {0:?}")]
     Store(StoreFault),
+    /// A write failed or took nothing. The request has taken effect, and a part of its answer is
+    /// written, from its first byte on.
+    #[error("the answer cannot be written")]
     Write,
+    /// Memory ran out for the text of the answer. The request has taken effect, and nothing is
+    /// written.
+    #[error("out of memory at the answer")]
     Memory,
 }
 
@@ -87,8 +96,9 @@ fn read_batch<R: Read>(alloc: Global, reader: &mut R) -> Result<Items<Request>, 
     }
 }
 
-// Asks one request, writes its answer, and says whether that is a refusal.
-fn run_request<D: Desk, W: Write>(
+/// Asks one request under a precedence table, writes its answer, and says whether that is a
+/// refusal. A fault of the store is want of memory or one that the desk may give.
+pub fn run_request<D: Desk, W: Write>(
     alloc: Global,
     desk: &mut D,
     precedence: &Precedence,

@@ -1,6 +1,6 @@
 // The command `batch`: standard input to standard output.
 
-ghost use Rattle.std.specs.Prelude.{◌≤◌, ℕ, List, []};
+ghost use Rattle.std.specs.Prelude.{◌≤◌, ℕ, List};
 ghost use Rattle.std.specs.Io.KnownBytes.{Appends};
 ghost use Rattle.csv_records.specs.Streams.{IsTold};
 ghost use Rattle.onixdesk.specs.Ends.{Ends};
@@ -8,7 +8,6 @@ ghost use Rattle.series_rules.specs.declared.requests.Request.{Request};
 
 use crate::fault::{Fault, report};
 use desk_batch::batch::{BatchFault, run_batch};
-use desk_memory::desk::MemoryDesk;
 use price_rules::precedence::Precedence;
 use series_rules::desk::Desk;
 use std::alloc::Global;
@@ -26,8 +25,9 @@ impl From<BatchFault> for Fault {
     }
 }
 
-// Runs a batch over a desk, whatever requests it has seen.
-fn run_over<D: Desk, R: Read, W: Write, E: Write>(
+/// Runs a batch over a desk, whatever requests it has seen, under a precedence table. Gives 0, or
+/// 1 where an answer was a refusal, or 3 after a fault, which is reported.
+pub fn run<D: Desk, R: Read, W: Write, E: Write>(
     alloc: Global,
     desk: &mut D,
     precedence: &Precedence,
@@ -36,6 +36,7 @@ fn run_over<D: Desk, R: Read, W: Write, E: Write>(
     errors: &mut E,
 ) -> u8
     ensures status { result ≤ 3 }
+    ensures premise { D.is_sound desk.new → D.is_sound desk.old }
     // There is a text, that of the input where it tells its bytes, of which this is the status and
     // all answers, or a first part of them, are written.
     ensures end { (text : List ℕ) × IsTold (R.remaining input.old) text × ((L : List Request) → D.stands_for desk.old L → D.is_sound desk.new →
@@ -46,25 +47,4 @@ fn run_over<D: Desk, R: Read, W: Write, E: Write>(
         Ok(_) => 1,
         Err(fault) => report(&Fault::from(fault), errors),
     }
-}
-
-/// Runs a batch over a desk in memory, under a precedence table. Gives 0, or 1 where an answer was
-/// a refusal, or 3 after a fault, which is reported.
-pub fn run<R: Read, W: Write, E: Write>(
-    alloc: Global,
-    precedence: &Precedence,
-    input: &mut R,
-    output: &mut W,
-    errors: &mut E,
-) -> u8
-    ensures status { result ≤ 3 }
-    // There is a text, that of the input where it tells its bytes, of which this is the status and
-    // all answers, or a first part of them, are written.
-    ensures end { (text : List ℕ) × IsTold (R.remaining input.old) text
-        × Ends precedence.now [] text (Appends (W.contents output.old) (W.contents output.new)) result }
-{
-    let mut desk = MemoryDesk::new(alloc);
-    let status = run_over(alloc, &mut desk, precedence, input, output, errors);
-    desk.is_always_sound();
-    status
 }

@@ -1,22 +1,33 @@
-// The words of the command line, read by clap.
+// What the words of the command line ask for, read by clap.
 
 ghost use Rattle.std.specs.Prelude.{◌≤◌, ◌≡◌};
 
+use crate::commands::program;
 use crate::fault::{Fault, report};
 use clap::error::ErrorKind;
-use clap::{Arg, ArgAction, Command, Error};
+use clap::{ArgMatches, Error};
 use std::alloc::{AllocError, Global};
 use std::io::Write;
 
-/// The version that `--version` prints.
-const VERSION: &str = "0.1.0";
+/// A command, with its words.
+#[derive(Debug, Drop)]
+pub enum Task<'a> {
+    /// `batch`: requests from standard input, answers to standard output.
+    Batch,
+    /// `deliver FILE..`: one message a file, in order.
+    Deliver(Vec<&'a str>),
+    /// `gaps NAME`: which numbers a series lacks.
+    Gaps(&'a str),
+    /// `serve --port N --requests K`: the desk over HTTP, for so many connections.
+    Serve { port: u16, requests: u32 },
+}
 
-/// What the program is asked to do.
-#[derive(Clone, Copy, Debug)]
-pub enum Invocation<'a> {
-    /// `batch`: requests from standard input, answers to standard output, under the precedence
-    /// table of a file or under no rules.
-    Batch { rules: Option<&'a str> },
+/// What the program is asked to do: a command, under the precedence table of a file or under no
+/// rules.
+#[derive(Drop)]
+pub struct Invocation<'a> {
+    pub rules: Option<&'a str>,
+    pub task: Task<'a>,
 }
 
 /// How the words of the command line read.
@@ -29,44 +40,6 @@ pub enum Reading<'a> {
     Wrong(String),
     /// Memory ran out.
     Memory,
-}
-
-// The one command, `batch`.
-fn batch<'a>(alloc: Global) -> Command<'a> {
-    Command::new(alloc, "batch")
-        .about("Read requests from standard input, write their answers to standard output")
-        .long_about(
-            "Reads agreements, messages, waivers and questions as CSV records from standard input, up to 4,194,304 bytes of UTF-8, and writes the answer to each, in order, to standard output. The desk is kept in memory and ends with the batch. A precedence table is named before the command: onixdesk --rules FILE batch.",
-        )
-}
-
-// The option `--rules FILE`.
-fn rules<'a>(alloc: Global) -> Arg<'a> {
-    Arg::new(alloc, "rules")
-        .long("rules")
-        .value_name("FILE")
-        .action(ArgAction::Set)
-        .help(
-            "Choose among offers by the precedence table of this TOML file; it stands before the command, and without it there are no rules",
-        )
-}
-
-// The program's words, without its command and option.
-fn program<'a>(alloc: Global) -> Command<'a> {
-    Command::new(alloc, "onixdesk")
-        .version(VERSION)
-        .about(
-            "The intake of a bookshop's buying desk: numbered ONIX messages in, proved answers out",
-        )
-        .after_help(
-            "Exit status: 0; 1 where an answer was a refusal; 2 for a bad command line or rules file; 3 for a fault of storage, input or output, or for want of memory.",
-        )
-        .subcommand_required(true)
-        .disable_help_subcommand(true)
-}
-
-fn command<'a>(alloc: Global) -> Result<Command<'a>, AllocError> {
-    program(alloc).arg(rules(alloc))?.subcommand(batch(alloc))
 }
 
 // What clap could not read as an invocation.
@@ -84,15 +57,59 @@ fn refused<'a>(alloc: Global, error: &Error) -> Reading<'a> {
     }
 }
 
+// The files of `deliver`.
+fn deliver<'a>(alloc: Global, matches: &ArgMatches<'a>) -> Result<Option<Task<'a>>, AllocError> {
+    let Some(files) = matches.get_strs("file") else {
+        return Ok(None);
+    };
+    Ok(Some(Task::Deliver(files.to_vec(alloc)?)))
+}
+
+// The port and the number of connections of `serve`.
+fn serve<'a>(matches: &ArgMatches<'a>) -> Option<Task<'a>> {
+    Some(Task::Serve {
+        port: matches.get_one::<u16>("port")?,
+        requests: matches.get_one::<u32>("requests")?,
+    })
+}
+
+// The command of that name with its words, or none where one lacks, which clap does not let pass.
+fn task_of<'a>(
+    alloc: Global,
+    name: &str,
+    matches: &ArgMatches<'a>,
+) -> Result<Option<Task<'a>>, AllocError> {
+    match name {
+        "batch" => Ok(Some(Task::Batch)),
+        "deliver" => deliver(alloc, matches),
+        "gaps" => Ok(matches.get_str("name").map(Task::Gaps)),
+        "serve" => Ok(serve(matches)),
+        _ => Ok(None),
+    }
+}
+
+// What words that clap let pass ask for.
+fn asked_for<'a>(alloc: Global, matches: &ArgMatches<'a>) -> Reading<'a> {
+    let Some((name, words)) = matches.subcommand() else {
+        return Reading::Wrong(String::new(alloc));
+    };
+    match task_of(alloc, name, words) {
+        Ok(Some(task)) => Reading::Run(Invocation {
+            rules: matches.get_str("rules"),
+            task,
+        }),
+        Ok(None) => Reading::Wrong(String::new(alloc)),
+        Err(AllocError) => Reading::Memory,
+    }
+}
+
 /// Reads the words, of which the first is the program's name.
 pub fn read<'a>(alloc: Global, words: &'a [&'a str]) -> Reading<'a> {
-    let Ok(command) = command(alloc) else {
+    let Ok(program) = program(alloc) else {
         return Reading::Memory;
     };
-    match command.try_get_matches_from(words) {
-        Ok(matches) => Reading::Run(Invocation::Batch {
-            rules: matches.get_str("rules"),
-        }),
+    match program.try_get_matches_from(words) {
+        Ok(matches) => asked_for(alloc, &matches),
         Err(error) => refused(alloc, &error),
     }
 }

@@ -3,6 +3,7 @@
 ghost use Rattle.std.specs.Prelude.{◌≡◌};
 
 use csv_records::reading::RecordFault;
+use desk_batch::batch::RequestFault;
 use onix_message::agreement::StoreFault;
 use std::io::Write;
 use thiserror::Error;
@@ -18,6 +19,8 @@ pub enum Fault {
     InputRead,
     #[error("onixdesk: output\n")]
     Output,
+    #[error("onixdesk: port {0}\n")]
+    Port(u16),
     #[error("onixdesk: memory\n")]
     Memory,
     #[error("onixdesk: storage: memory\n")]
@@ -51,6 +54,16 @@ impl From<StoreFault> for Fault {
     }
 }
 
+impl From<RequestFault> for Fault {
+    fn from(fault: RequestFault) -> Fault {
+        match fault {
+            RequestFault::Store(fault) => Fault::from(fault),
+            RequestFault::Write => Fault::Output,
+            RequestFault::Memory => Fault::Memory,
+        }
+    }
+}
+
 /// Writes the line of a fault, and gives the status of a program that ends by it. A line that
 /// cannot be written is lost: there is nowhere left to say so.
 pub fn report<E: Write>(fault: &Fault, errors: &mut E) -> u8
@@ -58,4 +71,9 @@ pub fn report<E: Write>(fault: &Fault, errors: &mut E) -> u8
 {
     let _ = write!(errors, "{fault}");
     3
+}
+
+/// Writes the line of a file that cannot be read. As with `report`, it may be lost.
+pub fn report_file<E: Write>(name: &str, errors: &mut E) {
+    let _ = write!(errors, "onixdesk: file: {name}\n");
 }

@@ -5,7 +5,7 @@ ghost use Rattle.csv_records.specs.RecordTexts.{limit};
 ghost use Rattle.csv_records.specs.Streams.{IsTold};
 ghost use Rattle.onixdesk.specs.RulesFile.{RulesFit, status_of};
 
-use crate::fault::{Fault, report};
+use crate::fault::{Fault, report, report_file};
 use csv_records::reading::LIMIT;
 use csv_records::streams::{InputFault, read_input};
 use price_rules::precedence::{Precedence, PrecedenceFault};
@@ -76,10 +76,12 @@ pub fn open_table(rt: &HostRuntime, name: &str) -> Result<Precedence, RulesFault
 pub fn report_rules<E: Write>(fault: &RulesFault, name: &str, errors: &mut E) -> u8
     ensures { result ≡ status_of fault.now }
 {
-    let _ = match fault {
-        RulesFault::Unreadable => write!(errors, "onixdesk: file: {name}\n"),
+    match fault {
+        RulesFault::Unreadable => report_file(name, errors),
         RulesFault::Table(PrecedenceFault::Memory) => return report(&Fault::Memory, errors),
-        RulesFault::Table(fault) => write!(errors, "onixdesk: rules: {fault}\n"),
-    };
+        RulesFault::Table(fault) => {
+            let _ = write!(errors, "onixdesk: rules: {fault}\n");
+        }
+    }
     2
 }

@@ -1,6 +1,8 @@
 // The program run on tables of cases. What a case writes is taken from the desk's written rules.
 
 mod cases;
+mod commands;
+mod files;
 mod inputs;
 
 use self::cases::calendars::CALENDARS;

@@ -73,7 +73,7 @@ pub struct CommandLine {
     pub status: u8,
 }
 
-pub static COMMAND_LINES: [CommandLine; 12] = [
+pub static COMMAND_LINES: [CommandLine; 26] = [
     CommandLine {
         name: "no command",
         words: &["onixdesk"],
@@ -109,6 +109,97 @@ pub static COMMAND_LINES: [CommandLine; 12] = [
         words: &["onixdesk", "batch", "--help"],
         prints: true,
         status: 0,
+    },
+    CommandLine {
+        name: "the command help",
+        words: &["onixdesk", "help"],
+        prints: true,
+        status: 0,
+    },
+    CommandLine {
+        name: "the command help on a command",
+        words: &["onixdesk", "help", "serve"],
+        prints: true,
+        status: 0,
+    },
+    CommandLine {
+        name: "the command help on an unknown command",
+        words: &["onixdesk", "help", "frobnicate"],
+        prints: false,
+        status: 2,
+    },
+    CommandLine {
+        name: "help on deliver",
+        words: &["onixdesk", "deliver", "--help"],
+        prints: true,
+        status: 0,
+    },
+    CommandLine {
+        name: "no file to deliver",
+        words: &["onixdesk", "deliver"],
+        prints: false,
+        status: 2,
+    },
+    CommandLine {
+        name: "no series",
+        words: &["onixdesk", "gaps"],
+        prints: false,
+        status: 2,
+    },
+    CommandLine {
+        name: "two series",
+        words: &["onixdesk", "gaps", "north", "south"],
+        prints: false,
+        status: 2,
+    },
+    CommandLine {
+        name: "no port",
+        words: &["onixdesk", "serve", "--requests", "1"],
+        prints: false,
+        status: 2,
+    },
+    CommandLine {
+        name: "no number of requests",
+        words: &["onixdesk", "serve", "--port", "8080"],
+        prints: false,
+        status: 2,
+    },
+    CommandLine {
+        name: "port 0",
+        words: &["onixdesk", "serve", "--port", "0", "--requests", "1"],
+        prints: false,
+        status: 2,
+    },
+    CommandLine {
+        name: "port 65536",
+        words: &["onixdesk", "serve", "--port", "65536", "--requests", "1"],
+        prints: false,
+        status: 2,
+    },
+    CommandLine {
+        name: "a port that is a name",
+        words: &["onixdesk", "serve", "--port", "http", "--requests", "1"],
+        prints: false,
+        status: 2,
+    },
+    CommandLine {
+        name: "no requests",
+        words: &["onixdesk", "serve", "--port", "8080", "--requests", "0"],
+        prints: false,
+        status: 2,
+    },
+    CommandLine {
+        name: "1,000,001 requests",
+        words: &[
+            "onixdesk",
+            "serve",
+            "--port",
+            "8080",
+            "--requests",
+            "1000001",
+        ],
+        prints: false,
+        status: 2,
     },
     CommandLine {
         name: "a rules file without a command",

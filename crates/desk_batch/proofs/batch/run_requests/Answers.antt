@@ -4,7 +4,7 @@ use Rattle.std.specs.Io.KnownBytes.{Appends}
 use Rattle.std.specs.Vec.Iter.{into_iter_items, into_iter_len}
 use Rattle.series_rules.specs.Answers.{followed_by}
 use Rattle.desk_batch.specs.Batch.{output}
-use Rattle.desk_batch.proofs.Runs.{first_ones, next_ones, one_more}
+use Rattle.desk_batch.specs.RunLemmas.{first_ones, next_ones, one_more}
 use Rattle.desk_batch.proofs.batch.run_requests.Goals as goal
 
 pub loop-request-init : goal.loop-request-init

@@ -1,4 +1,4 @@
--- One more request of a run.
+-- Lemmas on runs of requests: one more request of a run.
 use Rattle.std.proofs.Common.{◌≡◌, ◌+◌, ℕ, List, [], ◌∷◌, ◌++◌, ◌≤◌, arith, length, length-append, take, refl, sym, ap, ◌∙◌, append_assoc, append-nil, cond, zero-add}
 use Rattle.std.proofs.lemmas.List.Sums.{sum_by-append}
 use Rattle.std.specs.Prelude.{count_by}

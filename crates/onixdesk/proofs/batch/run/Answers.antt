@@ -1,6 +1,6 @@
 use Rattle.std.specs.Io.KnownBytes.{Appends}
 use Rattle.onixdesk.proofs.Parts.{ends-by}
-use Rattle.onixdesk.proofs.batch.run_over.Goals as goal
+use Rattle.onixdesk.proofs.batch.run.Goals as goal
 
 pub returns-in-Err-clause-end : goal.returns-in-Err-clause-end
 returns-in-Err-clause-end g c =

@@ -1,0 +1,36 @@
+-- How connections are served.
+use Rattle.std.specs.Prelude.{◌≡◌, ◌≤◌, ◌++◌, ◌∷◌, ℕ, List, [], Option, Result, Ok, Err, IfSome, codes, length}
+use Rattle.std.specs.Fmt.{decimal}
+use Rattle.std.specs.Io.KnownBytes.{Appends, Keeps}
+use Rattle.std.specs.List.{flat_map}
+use Rattle.onix_message.specs.declared.agreement.StoreFault.{StoreFault}
+use Rattle.price_rules.specs.declared.precedence.Rule.{Rule}
+use Rattle.series_rules.specs.declared.requests.Request.{Request}
+use Rattle.desk_http.specs.Exchange.{Served, Unsent}
+use Rattle.desk_http.specs.Writing.{AppendsFront}
+use Rattle.desk_http.specs.declared.exchange.HttpFault.{HttpFault}
+use Rattle.desk_http.specs.declared.exchange.HttpFault.TheVariants as fault
+
+-- how the exchange of a connection can end after L. Sent: what the client sends, where that is known. Stands: the
+-- desk stands for that list. What the client was sent went from was to holds
+abbrev pub ExchangeEnds : List Rule → (StoreFault → Type 0) → List Request → Option (List ℕ) → (List Request → Type 0) → Option (List ℕ) → Option (List ℕ) → Result ℕ HttpFault → Type 0
+ExchangeEnds rules may_give L sent stands was holds (Ok status) =
+    IfSome sent (λ input. Served rules may_give L input stands (Appends was holds) status)
+ExchangeEnds rules may_give L sent stands was holds (Err (fault.Write status)) =
+    IfSome sent (λ input. Served rules may_give L input stands (AppendsFront was holds) status)
+ExchangeEnds rules may_give L sent stands was holds (Err fault.Read) = stands L × Keeps was holds
+ExchangeEnds rules may_give L sent stands was holds (Err (fault.Memory taken)) =
+    IfSome sent (λ input. Unsent L input stands taken) × Keeps was holds
+
+-- the line of a connection: the status of its reply, or that none was sent whole
+abbrev pub line_of : Result ℕ HttpFault → List ℕ
+line_of (Ok status) = decimal status ++ 10 ∷ []
+line_of (Err f) = codes "fault" ++ 10 ∷ []
+
+-- the lines of connections
+abbrev pub lines_of : List (Result ℕ HttpFault) → List ℕ
+lines_of outcomes = flat_map line_of outcomes
+
+-- what stands is L and at most so many requests more
+abbrev pub AtMostMore : ℕ → List Request → (List Request → Type 0) → Type 0
+AtMostMore count L stands = (more : List Request) × (length more ≤ count) × stands (more ++ L)

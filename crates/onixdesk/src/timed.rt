@@ -1,0 +1,54 @@
+// A connection whose reads and writes are limited in time.
+
+use std::io::{Read, Result, Write};
+use std::net::TcpStream;
+use std::time::{Duration, Instant};
+
+/// One way of a connection. All its reads, or all its writes, may take so long together, from the
+/// first on; over that each fails.
+#[derive(Drop)]
+pub struct Timed<'a> {
+    rt: &'a HostRuntime,
+    stream: &'a TcpStream,
+    patience: Duration,
+    began: Option<Instant>,
+}
+
+impl<'a> Timed<'a> {
+    pub fn new(rt: &'a HostRuntime, stream: &'a TcpStream, patience: Duration) -> Timed<'a> {
+        Timed {
+            rt,
+            stream,
+            patience,
+            began: None,
+        }
+    }
+
+    // How much of the time is left. With none left it is zero, which no socket takes as a limit.
+    fn left(&mut self) -> Result<Duration> {
+        let now = Instant::now(self.rt)?;
+        let began = self.began.unwrap_or(now);
+        self.began = Some(began);
+        Ok(self.patience.saturating_sub(now.duration_since(began)))
+    }
+}
+
+impl<'a> Read for Timed<'a> {
+    fn read(&mut self, buffer: &mut [u8]) -> Result<usize> {
+        let left = self.left()?;
+        self.stream.set_read_timeout(Some(left))?;
+        self.stream.read(buffer)
+    }
+}
+
+impl<'a> Write for Timed<'a> {
+    fn write(&mut self, bytes: &[u8]) -> Result<usize> {
+        let left = self.left()?;
+        self.stream.set_write_timeout(Some(left))?;
+        self.stream.write(bytes)
+    }
+
+    fn flush(&mut self) -> Result<()> {
+        Ok(())
+    }
+}

@@ -24,7 +24,7 @@ use Rattle.desk_store.specs.Stands.{StandsFor, IsFor, IsNew, stored_text}
 use Rattle.desk_store.specs.Texts.{IsReadable, TextsTellApart, standing_text}
 use Rattle.desk_store.proofs.Fronts.{stored_is}
 use Rattle.desk_store.proofs.Lookups.{same_bytes}
-use Rattle.desk_store.proofs.Requests.{cases_name, stands_by_content}
+use Rattle.desk_store.proofs.RequestRows.{cases_name, stands_by_content}
 
 -- ---- what stands at a number stays
 

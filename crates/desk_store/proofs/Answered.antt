@@ -23,7 +23,7 @@ use Rattle.desk_store.specs.Stands.{StandsFor, stored_text}
 use Rattle.desk_store.specs.Texts.{TextsTellApart, effect_row}
 use Rattle.desk_store.proofs.Again.{again_other, again_same, again_waived, against_same, nothing_stored, waived_again, waived_too_late}
 use Rattle.desk_store.proofs.Fronts.{placed_applied, placed_held}
-use Rattle.desk_store.proofs.Requests.{new_there, now_agreed}
+use Rattle.desk_store.proofs.RequestRows.{new_there, now_agreed}
 
 -- ---- what is stored
 

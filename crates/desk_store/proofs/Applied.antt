@@ -13,7 +13,7 @@ use Rattle.desk_store.specs.Changes.{Applies, AppliesAt, AppliesText, Drains, Dr
 use Rattle.desk_store.specs.Stands.{CutAt, StandsFor}
 use Rattle.desk_store.specs.Texts.{TextsTellApart, effect_row, standing_text}
 use Rattle.desk_store.proofs.Cuts.{step_moved, step_stopped}
-use Rattle.desk_store.proofs.Requests.{applied_cut, cut_stands, held_stands}
+use Rattle.desk_store.proofs.RequestRows.{applied_cut, cut_stands, held_stands}
 
 pub message_applied : (s : List ℕ) (h : Standing) (c : List Product) (effect : Effect) (e : EffectRow) (rows now : DeskRows) → h ≡ Message c → e ≡ effect_row effect → ((m : ByReference) → HoldsCatalogue s m rows → IsApplied s m c rows effect now) → Applies s h rows e now
 message_applied s h c effect e rows now is same done =

@@ -1,5 +1,5 @@
 -- A series that is found in the tables, and the requests that are answered by it alone.
-use Rattle.std.proofs.Common.{◌≡◌, ◌<◌, ◌≤◌, ◌+◌, ℕ, Bool, true, false, cond, List, [], ◌∷◌, Option, Some, None, refl, sym, ap, ◌∙◌, arith, subst}
+use Rattle.std.proofs.Common.{◌≡◌, ◌<◌, ◌≤◌, ℕ, true, false, cond, List, ◌∷◌, Option, Some, None, refl, sym, ap, ◌∙◌, arith, subst}
 use Rattle.std.specs.Prelude.{nat_lt, option_map}
 use Rattle.std.proofs.lemmas.Bool.Decides.{nat_tests}
 use Rattle.desk_tables.specs.Rows.{DeskRows, series_at, series_between}
@@ -21,12 +21,11 @@ use Rattle.series_rules.specs.declared.answers.WaiveAnswer.{WaiveAnswer}
 use Rattle.series_rules.specs.declared.answers.WaiveAnswer.TheVariants as waiver
 use Rattle.series_rules.specs.declared.requests.Request.{Request}
 use Rattle.series_rules.specs.declared.requests.Request.TheVariants.{Deliver, Waive}
-use Rattle.series_rules.specs.declared.requests.Standing.{Standing}
 use Rattle.series_rules.specs.declared.requests.Standing.TheVariants.{Message, Waived}
 use Rattle.desk_store.specs.Changes.{DeliversAt, WaivesAt}
 use Rattle.desk_store.specs.Desks.{Answers}
-use Rattle.desk_store.specs.Stands.{IsFor, StandsFor, agreement_at, series_of}
-use Rattle.desk_store.proofs.Requests.{stands_left}
+use Rattle.desk_store.specs.Stands.{IsFor, StandsFor, series_of}
+use Rattle.desk_store.proofs.RequestRows.{stands_left}
 
 abbrev agreement_in : SeriesRow → Agreement
 agreement_in r = r.agreement

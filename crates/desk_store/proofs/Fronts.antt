@@ -18,7 +18,7 @@ use Rattle.series_rules.specs.declared.requests.Standing.{Standing}
 use Rattle.desk_store.specs.Stands.{SeriesStands, Whole, StandsFor, applied_of, stored_text}
 use Rattle.desk_store.specs.Texts.{effect_row, standing_text}
 use Rattle.desk_store.proofs.Folds.{get_beyond, get_some}
-use Rattle.desk_store.proofs.Requests.{same_next}
+use Rattle.desk_store.proofs.RequestRows.{same_next}
 
 whole_front : (rows : DeskRows) (L : List Request) (a : Agreement) → (w : Whole (first_at L a.name) a rows) → w.0 ≡ front_of L a
 whole_front rows L a w = front_unique (first_at L a.name) a.first w.0 (front_of L a) (record { each = w.2.begins; ends = w.1 }) (front_is L a.name a.first)

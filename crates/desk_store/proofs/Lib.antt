@@ -4,11 +4,13 @@ mod Folds
 mod Steps
 mod OneText
 mod Cuts
-mod Requests
+mod RequestRows
 mod Applied
 mod NumberValues
 mod Fronts
 mod Again
 mod Answered
 mod Found
+mod Agreed
 mod Transactions
+mod Alone

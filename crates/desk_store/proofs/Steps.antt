@@ -1,12 +1,11 @@
 -- One more number is applied.
-use Rattle.std.proofs.Common.{◌≡◌, ◌+◌, ◌<◌, ◌++◌, ℕ, List, [], ◌∷◌, Option, Some, None, length, length-append, refl, sym, ap, ◌∙◌, arith, subst, ◌⊎◌, inl, inr, map}
+use Rattle.std.proofs.Common.{◌≡◌, ◌+◌, ◌<◌, ◌++◌, ℕ, List, [], ◌∷◌, Option, Some, None, length, length-append, refl, sym, ap, ◌∙◌, arith, subst, ◌⊎◌, inl, inr}
 use Rattle.std.specs.Prelude.{slice_get, option_map, find}
 use Rattle.std.specs.FinMap as fin
 use Rattle.std.proofs.lemmas.Bool.{cases_eq}
 use Rattle.catalogue_rows.specs.Holding.{HoldsCatalogue, other_catalogues}
 use Rattle.desk_tables.specs.Rows.{DeskRows, HeldRow, applied_part, series_at, held_at, applied_at, is_named, is_held, is_applied, with_applied, with_next}
 use Rattle.desk_tables.specs.declared.applied.EffectRow.{EffectRow}
-use Rattle.desk_tables.specs.declared.series.SeriesRow.{SeriesRow}
 use Rattle.onix_message.specs.declared.agreement.Agreement.{Agreement}
 use Rattle.series_rules.specs.FrontLemmas.{after_all_append, slice_get_front}
 use Rattle.series_rules.specs.Series.{after_all}

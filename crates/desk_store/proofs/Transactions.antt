@@ -1,11 +1,11 @@
 -- A request from the beginning of its transaction to its end.
-use Rattle.std.proofs.Common.{◌≡◌, Bool, true, false, List, ◌∷◌, Ok, Err, Result, IfOk, OnOk, OnErr, IsTrue, ◌⊎◌, inl, inr, refl, sym, ap, ◌∙◌, subst, arith}
+use Rattle.std.proofs.Common.{◌≡◌, Bool, true, false, List, ◌∷◌, Ok, Err, Result, IsTrue, ◌⊎◌, inl, inr, sym, ap, ◌∙◌, subst, arith}
 use Rattle.sqlite.specs.Effect.{Database}
 use Rattle.sqlite.specs.State.{State, HasCleanDisk, KeepsCommit, Survives}
 use Rattle.sqlite_trees.specs.Tree.{Trees}
 use Rattle.catalogue_store.specs.Achieves.{Achieves}
 use Rattle.desk_tables.specs.Refusals.{FailsOutside}
-use Rattle.desk_tables.specs.Rows.{DeskRows, Holds}
+use Rattle.desk_tables.specs.Rows.{DeskRows}
 use Rattle.desk_tables.specs.Schema.{desk_schema}
 use Rattle.desk_tables.specs.Transactions.{BeginsWork, EndsWork, IsForeign, IsUndone, LeavesOnly, NoTrees}
 use Rattle.onix_message.specs.declared.agreement.StoreFault.{StoreFault}

@@ -1,5 +1,5 @@
 -- One more file of those that were delivered, and the file at which a fault ended it.
-use Rattle.std.proofs.Common.{◌≡◌, ◌+◌, ◌<◌, ℕ, Bool, true, false, Option, List, [], ◌∷◌, ◌++◌, Err, Ok, refl, sym, ap, subst, ◌∙◌, arith, length, map, cond, nat_eq, not, add-zero, append-nil, inl, inr}
+use Rattle.std.proofs.Common.{◌≡◌, ◌+◌, ◌<◌, ℕ, Bool, true, false, Option, List, [], ◌∷◌, ◌++◌, Err, refl, sym, ap, subst, ◌∙◌, arith, length, cond, nat_eq, not, add-zero, append-nil, inl, inr}
 use Rattle.std.specs.Prelude.{◌||◌, if◌then◌else◌}
 use Rattle.std.specs.Io.KnownBytes.{Appends}
 use Rattle.std.proofs.KnownBytes.{Appends-nil, Appends-trans}
@@ -10,7 +10,7 @@ use Rattle.series_rules.specs.Answers.{answer_to, followed_by}
 use Rattle.series_rules.specs.declared.requests.Request.{Request}
 use Rattle.desk_batch.specs.AnswerText.{is_refused, text_of}
 use Rattle.desk_batch.specs.Batch.{output, refusals}
-use Rattle.desk_batch.specs.RunLemmas.{OneMore, one_more}
+use Rattle.desk_batch.specs.RunLemmas.{one_more}
 use Rattle.desk_batch.specs.declared.batch.RequestFault.TheVariants as request_fault
 use Rattle.onixdesk.specs.Deliveries.{AreStopped, DeliveryFits, IsUnasked, HaveRecords, deliveries, delivery_of}
 use Rattle.onixdesk.specs.Ends.{HasRecords}

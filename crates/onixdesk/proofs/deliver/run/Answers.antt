@@ -1,4 +1,4 @@
-use Rattle.std.proofs.Common.{◌≡◌, ◌+◌, ◌++◌, ◌∷◌, ◌∙◌, [], length, length-append, ap, arith, inl, inr, refl, sym}
+use Rattle.std.proofs.Common.{◌++◌, ◌∷◌, [], length, length-append, arith, inl, inr, refl}
 use Rattle.std.proofs.KnownBytes.{Appends-nil, Appends-trans}
 use Rattle.series_rules.specs.Answers.{followed_by}
 use Rattle.onixdesk.specs.Deliveries.{deliveries}

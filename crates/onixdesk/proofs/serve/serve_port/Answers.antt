@@ -1,4 +1,4 @@
-use Rattle.std.proofs.Common.{◌≡◌, ◌+◌, ◌++◌, ◌∷◌, [], length, length-append, arith, refl}
+use Rattle.std.proofs.Common.{◌++◌, ◌∷◌, [], length-append, arith, refl}
 use Rattle.std.proofs.KnownBytes.{Appends-nil}
 use Rattle.onixdesk.proofs.ServingLemmas.{one_more_line, one_more_stands}
 use Rattle.onixdesk.proofs.serve.serve_port.Goals as goal

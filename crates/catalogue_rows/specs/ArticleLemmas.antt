@@ -22,16 +22,11 @@ use Rattle.catalogue_rows.specs.EntryRows.{SuppliedDetail, article_row, detail_r
 use Rattle.catalogue_rows.specs.HeldLemmas.{held_details}
 use Rattle.catalogue_rows.specs.HeldPriceLemmas.{held_prices}
 use Rattle.catalogue_rows.specs.Holding.{HoldsEntry}
+use Rattle.catalogue_rows.specs.PlaceLemmas.{either-order}
 
 -- ---- whether a record has the article
 
-either-order : (a b : Bool) → (a && b) ≡ (b && a)
-either-order true true = refl
-either-order true false = refl
-either-order false true = refl
-either-order false false = refl
-
-any-filtered : {A : Type 0} (p q : A → Bool) (xs : List A) → list_any p (filter q xs) ≡ list_any (λ x. q x && p x) xs
+pub any-filtered : {A : Type 0} (p q : A → Bool) (xs : List A) → list_any p (filter q xs) ≡ list_any (λ x. q x && p x) xs
 any-filtered p q [] = refl
 any-filtered p q (x ∷ xs) = elim (q x) as (λ b. list_any p (cond b (x ∷ filter q xs) (filter q xs)) ≡ ((b && p x) || list_any (λ y. q y && p y) xs)) [ true ↦ ap (λ b. p x || b) (any-filtered p q xs) | false ↦ any-filtered p q xs ]
 

@@ -9,3 +9,6 @@ pub mod HeldLemmas
 pub mod HeldPriceLemmas
 pub mod StorableLemmas
 pub mod ArticleLemmas
+pub mod ArticleOffers
+pub mod KeyLemmas
+pub mod OfferLemmas

@@ -3,6 +3,7 @@
 ghost use Rattle.std.specs.Prelude.{◌≡◌, ℕ, All, List, Option, map};
 ghost use Rattle.std.specs.List.{AllZip};
 ghost use Rattle.catalogue_rules.specs.declared.entry.Entry.{Entry};
+ghost use Rattle.catalogue_rows.specs.ArticleOffers.{HeldOffersAreAnswered};
 ghost use Rattle.catalogue_rows.specs.EntryRows.{article_rows, detail_rows, ids_of, record_row, supplied_details, supplies_of};
 ghost use Rattle.catalogue_rows.specs.Holding.{HoldsEntry};
 ghost use Rattle.catalogue_rows.specs.Storable.{IsStorableProduct};
@@ -29,4 +30,10 @@ pub fn held_entries_are_answered()
     ensures prices { (series reference : List ℕ) (o : Option Entry) (rows : DeskRows) (got : List (List Price)) → HoldsEntry series reference o rows
         → AllZip (λ d prices. ArePricesAt d.series d.reference d.place rows prices) (detail_rows series reference (supplies_of o)) got
         → got ≡ map (λ d. d.detail.prices) (supplied_details (supplies_of o)) }
+{}
+
+/// Where the tables hold all catalogues, the queries for the offers of an article answer those that
+/// its records have in the catalogues, in order of series name, reference and place.
+pub fn held_offers_are_answered()
+    ensures { HeldOffersAreAnswered }
 {}

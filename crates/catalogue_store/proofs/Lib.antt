@@ -4,3 +4,4 @@ pub mod Additions
 pub mod ReadLemmas
 pub mod HoldingLemmas
 pub mod ProductLemmas
+pub mod CatalogueLemmas

@@ -1,0 +1,58 @@
+// The catalogue of a series, read.
+
+ghost use Rattle.std.specs.Prelude.{◌≡◌};
+ghost use Rattle.sqlite.specs.Held.{state};
+ghost use Rattle.catalogue_rules.specs.Records.{ByReference};
+ghost use Rattle.catalogue_rows.specs.Holding.{HoldsCatalogue};
+ghost use Rattle.catalogue_store.specs.Achieves.{Achieves};
+ghost use Rattle.catalogue_store.specs.ReadRecords.{AreReadOf};
+
+use crate::reading::read_record;
+use catalogue_rules::catalogue::Catalogue;
+use desk_tables::rows::RecordRow;
+use desk_tables::work::Work;
+use onix_message::agreement::StoreFault;
+use onix_terms::series_name::SeriesName;
+use sqlite::Alter;
+use std::alloc::Global;
+
+// The catalogue of these records alone.
+fn read_records<S: Alter>(
+    alloc: Global,
+    work: &mut Work<'_, S>,
+    records: &[RecordRow],
+) -> Result<Catalogue, StoreFault>
+    ensures same_reference { work.new.tables.ghost_name ≡ work.old.tables.ghost_name }
+    ensures achieves { Achieves (λ rows catalogue after. (after ≡ rows) × AreReadOf records.now rows catalogue)
+        (state S.Store work.old.tables.now.connection) (state S.Store work.new.tables.now.connection) result }
+{
+    let mut catalogue = Catalogue::new(alloc);
+    for record in records {
+        let entry = match read_record(alloc, work, record) {
+            Ok(entry) => entry,
+            Err(fault) => return Err(fault),
+        };
+        if catalogue.put(record.reference.as_str(), entry).is_err() {
+            return Err(StoreFault::Memory);
+        }
+    }
+    Ok(catalogue)
+}
+
+/// The catalogue of a series, which has no record where the series has no rows. `Unusable` where its
+/// rows cannot be read back; otherwise a fault is one of the store, or want of memory.
+pub fn read_catalogue<S: Alter>(
+    alloc: Global,
+    work: &mut Work<'_, S>,
+    series: &SeriesName,
+) -> Result<Catalogue, StoreFault>
+    ensures same_reference { work.new.tables.ghost_name ≡ work.old.tables.ghost_name }
+    ensures achieves { Achieves (λ rows catalogue after. (after ≡ rows) × ((m : ByReference) → HoldsCatalogue series.now m rows → catalogue ≡ m))
+        (state S.Store work.old.tables.now.connection) (state S.Store work.new.tables.now.connection) result }
+{
+    let records = match work.record_rows(series) {
+        Ok(records) => records,
+        Err(fault) => return Err(fault),
+    };
+    read_records(alloc, work, records.as_slice())
+}

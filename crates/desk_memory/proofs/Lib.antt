@@ -5,7 +5,6 @@ pub mod Numbers
 pub mod Kept
 pub mod InOrder
 pub mod AfterRequests
-pub mod LastKey
-pub mod Missing
+pub mod HeldWalk
 pub mod Folds
 pub mod Folding

@@ -8,6 +8,7 @@ use Rattle.std.specs.List.{AllByRecursion}
 use Rattle.std.specs.List.Sorted.{IsStrictlySortedBy}
 use Rattle.std.specs.declared.cmp.Ordering.TheVariants.{Less, Equal, Greater}
 use Rattle.std.proofs.lemmas.Bool.Decides.{nat_tests}
+use Rattle.series_rules.specs.Gaps.{AreRisingFrom}
 use Rattle.series_rules.specs.declared.requests.Standing.{Standing}
 
 -- the value at that number
@@ -16,8 +17,7 @@ at es k = lookup (is_at (nat_cmp k)) es
 
 -- the numbers rise, from n on
 abbrev pub Ascends : ℕ → List (ℕ × Standing) → Type 0
-Ascends n [] = Unit {0}
-Ascends n (e ∷ es) = (n ≤ e.0) × Ascends (e.0 + 1) es
+Ascends n es = AreRisingFrom n (keys_of es)
 
 -- es is what f has from n on, in order
 pub record Rest (f : ℕ → Option Standing) (n : ℕ) (es : List (ℕ × Standing)) : Type 0 where

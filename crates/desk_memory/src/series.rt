@@ -14,7 +14,7 @@ ghost use Rattle.series_rules.specs.Gaps.{IsGreatest, report_by};
 ghost use Rattle.series_rules.specs.Series.{IsFront, after_all};
 
 use crate::fold::Fold;
-use crate::gaps::gaps_in;
+use crate::gaps::held_numbers;
 use catalogue_rules::catalogue::Catalogue;
 use onix_message::agreement::Agreement;
 use onix_message::parts::Contents;
@@ -24,13 +24,14 @@ use onix_terms::number::Number;
 use onix_terms::series_name::SeriesName;
 use price_rules::offer::Offer;
 use series_rules::answers::{DeliveryAnswer, GapReport, WaiveAnswer};
+use series_rules::gaps::gap_report;
 use series_rules::requests::Standing;
 use std::alloc::{AllocError, Global};
 use std::collections::BTreeMap;
 use std::marker::Model;
 
 /// An agreed series and what stands at its numbers, which contracts see, with the fold of its
-/// first numbers, so that each message is applied once.
+/// first numbers, so that each message is applied once. Below its first number nothing stands.
 #[derive(Drop)]
 pub(crate) struct Series {
     agreement: Agreement,
@@ -43,12 +44,13 @@ impl Model for Series {
     ghost use Rattle.std.specs.Ordering.{nat_cmp};
     ghost use Rattle.desk_memory.specs.Folded.{IsFolded};
     ghost use Rattle.desk_memory.specs.KeptSeries.{KeptSeries};
+    ghost use Rattle.series_rules.specs.Gaps.{NoneBelow};
 
     ghost Value = { KeptSeries };
 
     ghost view = { λ s. record { agreement = s.agreement; numbers = s.numbers.entries } };
 
-    ghost invariant = { λ s. IsFolded (get nat_cmp s.numbers) s.agreement.first s.fold };
+    ghost invariant = { λ s. IsFolded (get nat_cmp s.numbers) s.agreement.first s.fold × NoneBelow (get nat_cmp s.numbers) s.agreement.first };
 }
 
 // Takes out what stands at a number.
@@ -187,6 +189,7 @@ impl Series {
 
     /// Waives a number, unless something stands there, and gives the answer to the waiver.
     pub(crate) fn waive(&mut self, number: Number) -> Result<WaiveAnswer, AllocError>
+        requires { self.old.agreement.first ≤ number }
         ensures agreement { self.new.agreement ≡ self.old.agreement }
         ensures ok { OnOk result ((n : ℕ) → stands_at self.new.numbers n ≡ with_standing (stands_at self.old.numbers) number Standing.Waived n) }
         ensures answer { IfOk result (λ a. a ≡ waived_by (stands_at self.new.numbers number)) }
@@ -203,12 +206,9 @@ impl Series {
         ensures { (hs : List Standing) (greatest : Option ℕ) → IsFront (stands_at self.now.numbers) self.now.agreement.first hs → IsGreatest (stands_at self.now.numbers) greatest →
             IfOk result (λ r. r ≡ report_by self.now.agreement.name (stands_at self.now.numbers) self.now.agreement.first (self.now.agreement.first + length hs) greatest) }
     {
-        gaps_in(
-            alloc,
-            &self.numbers,
-            self.agreement.name,
-            self.agreement.first,
-        )
+        let first = self.agreement.first;
+        let (next, held) = held_numbers(alloc, &self.numbers, first)?;
+        gap_report(alloc, self.agreement.name, first, next, &held)
     }
 
     // Its catalogue, folded anew.

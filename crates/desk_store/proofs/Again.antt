@@ -20,11 +20,12 @@ use Rattle.series_rules.specs.declared.requests.Request.{Request}
 use Rattle.series_rules.specs.declared.requests.Standing.{Standing}
 use Rattle.series_rules.specs.declared.requests.Standing.TheVariants.{Message, Waived}
 use Rattle.desk_store.specs.Changes.{IsDelivered}
+use Rattle.desk_store.specs.ContentLemmas.{stands_by_content}
 use Rattle.desk_store.specs.Stands.{StandsFor, IsFor, IsNew, stored_text}
 use Rattle.desk_store.specs.Texts.{IsReadable, TextsTellApart, standing_text}
 use Rattle.desk_store.proofs.Fronts.{stored_is}
 use Rattle.desk_store.proofs.Lookups.{same_bytes}
-use Rattle.desk_store.proofs.RequestRows.{cases_name, stands_by_content}
+use Rattle.desk_store.proofs.RequestRows.{cases_name}
 
 -- ---- what stands at a number stays
 

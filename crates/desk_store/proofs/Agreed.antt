@@ -22,13 +22,14 @@ use Rattle.series_rules.specs.declared.requests.Standing.TheVariants.{Message, W
 use Rattle.onix_message.specs.Message.{message_of}
 use Rattle.onix_message.specs.declared.parts.Header.{Header}
 use Rattle.onix_message.specs.declared.parts.Product.{Product}
+use Rattle.desk_store.specs.ContentLemmas.{whole_same}
 use Rattle.desk_store.specs.Desks.{Answers}
 use Rattle.desk_store.specs.Stands.{StandsFor, Whole, IsBare, agreement_at, series_of}
 use Rattle.desk_store.specs.Texts.{IsReadable, standing_text}
 use Rattle.desk_store.proofs.CatalogueRows.{KeepsCatalogues, catalogue_kept}
 use Rattle.desk_store.proofs.Found.{named_row, no_parties, no_row, parties_row}
 use Rattle.desk_store.proofs.Lookups.{other_bytes, same_bytes}
-use Rattle.desk_store.proofs.RequestRows.{stands_left, whole_same}
+use Rattle.desk_store.proofs.RequestRows.{stands_left}
 
 or_none : {A : Type 0} (o : Option A) → option_or o None ≡ o
 or_none None = refl

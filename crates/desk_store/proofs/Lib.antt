@@ -14,3 +14,7 @@ mod Found
 mod Agreed
 mod Transactions
 mod Alone
+mod QuestionRows
+mod GapRows
+mod FoundTables
+mod FoundFiles

@@ -10,15 +10,14 @@ use Rattle.desk_tables.specs.Rows.{DeskRows, series_at, held_at, with_held}
 use Rattle.desk_tables.specs.declared.applied.EffectRow.{EffectRow}
 use Rattle.desk_tables.specs.declared.series.SeriesRow.{SeriesRow}
 use Rattle.onix_message.specs.declared.agreement.Agreement.{Agreement}
-use Rattle.series_rules.specs.AgreementLemmas.{agreements_are_distinct, between_by_name}
 use Rattle.series_rules.specs.Agreements.{agreements_of, named, between}
-use Rattle.series_rules.specs.Content.{SameContent}
 use Rattle.series_rules.specs.FirstLemmas.{first_left, first_other, first_there}
 use Rattle.series_rules.specs.Firsts.{Placement, admitted, first_at}
 use Rattle.series_rules.specs.Series.{after_all}
 use Rattle.series_rules.specs.declared.requests.Request.{Request}
 use Rattle.series_rules.specs.declared.requests.Standing.{Standing}
 use Rattle.desk_store.specs.Stands.{SeriesStands, SameElsewhere, CutAt, Whole, IsAppliedAt, IsBare, StandsFor, IsFor, IsNew, agreement_at, series_of}
+use Rattle.desk_store.specs.ContentLemmas.{stands_by_content, whole_same}
 use Rattle.desk_store.specs.Texts.{CanBeKept, IsReadable, standing_text}
 use Rattle.desk_store.proofs.CatalogueRows.{catalogue_kept}
 use Rattle.desk_store.proofs.Folds.{get_some}
@@ -33,28 +32,7 @@ cases_name s t = go (bytes_eq s t) refl
     go true e = inl ((bytes_eq-Decides s t).0 e)
     go false e = inr (λ i. let yes : bytes_eq s t ≡ true = ap (bytes_eq s) (sym i) ∙ same_bytes s in absurd cc)
 
--- ---- what stands, told of another function or of other rows
-
-pub kept_same : (f g : ℕ → Option Standing) → ((n : ℕ) → g n ≡ f n) → CanBeKept f → CanBeKept g
-kept_same f g same kept = record {
-  readable = λ n. subst (λ o. IfSome o IsReadable) (sym (same n)) (kept.readable n);
-  small = λ n le. same n ∙ kept.small n le;
-}
-
-stands_same : (f g : ℕ → Option Standing) (a : Agreement) (hs : List Standing) (rows : DeskRows) → ((n : ℕ) → g n ≡ f n) → SeriesStands f a hs rows → SeriesStands g a hs rows
-stands_same f g a hs rows same s = record {
-  can_be_kept = kept_same f g same s.can_be_kept;
-  begins = λ j lt. same (a.first + j) ∙ s.begins j lt;
-  row = s.row;
-  applied = s.applied;
-  none_applied = s.none_applied;
-  held = λ n le. s.held n le ∙ ap (option_map standing_text) (sym (same n));
-  none_held = s.none_held;
-  catalogue = s.catalogue;
-}
-
-pub whole_same : (f g : ℕ → Option Standing) (a : Agreement) (rows : DeskRows) → ((n : ℕ) → g n ≡ f n) → Whole f a rows → Whole g a rows
-whole_same f g a rows same w = (w.0, same (a.first + length w.0) ∙ w.1, stands_same f g a w.0 rows same w.2)
+-- ---- what stands, told of other rows
 
 stands_elsewhere : (f : ℕ → Option Standing) (b : Agreement) (hs : List Standing) (s : List ℕ) (rows now : DeskRows) → ¬ (b.name ≡ s) → SameElsewhere s rows now → SeriesStands f b hs rows → SeriesStands f b hs now
 stands_elsewhere f b hs s rows now other same w = record {
@@ -73,16 +51,6 @@ bare_elsewhere t s rows now other same bare = record {
   held = λ n. same.held t n other ∙ bare.held n;
   applied = λ n. same.applied t n other ∙ bare.applied n;
   catalogue = same.catalogues t _ other bare.catalogue;
-}
-
--- lists that come to the same are stood for alike
-pub stands_by_content : (rows : DeskRows) (L M : List Request) → SameContent L M → StandsFor rows L → StandsFor rows M
-stands_by_content rows L M same stands = record {
-  version = stands.version;
-  by_name = λ s. stands.by_name s ∙ same.agreements s;
-  by_parties = λ x y. stands.by_parties x y ∙ ap (λ o. series_of o rows) (between_by_name (agreements_of L) (agreements_of M) (agreements_are_distinct L) (agreements_are_distinct M) same.agreements x y);
-  series = λ a found. whole_same (first_at L a.name) (first_at M a.name) a rows (λ n. sym (same.firsts a.name n)) (stands.series a (same.agreements a.name ∙ found));
-  others = λ s none. stands.others s (same.agreements s ∙ none);
 }
 
 -- a request that puts nothing anywhere and leaves the agreements

@@ -1,16 +1,15 @@
 -- A request from the beginning of its transaction to its end.
-use Rattle.std.proofs.Common.{◌≡◌, Bool, true, false, List, ◌∷◌, Ok, Err, Result, IsTrue, ◌⊎◌, inl, inr, sym, ap, ◌∙◌, subst, arith}
+use Rattle.std.proofs.Common.{◌≡◌, Bool, true, false, List, ◌∷◌, Ok, Err, Result, IfOk, IsTrue, ◌⊎◌, inl, inr, sym, ap, ◌∙◌, subst, arith}
 use Rattle.sqlite.specs.Effect.{Database}
 use Rattle.sqlite.specs.State.{State, HasCleanDisk, KeepsCommit, Survives}
 use Rattle.sqlite_trees.specs.Tree.{Trees}
 use Rattle.catalogue_store.specs.Achieves.{Achieves}
-use Rattle.desk_tables.specs.Refusals.{FailsOutside}
-use Rattle.desk_tables.specs.Rows.{DeskRows}
+use Rattle.desk_tables.specs.Rows.{DeskRows, Holds}
 use Rattle.desk_tables.specs.Schema.{desk_schema}
 use Rattle.desk_tables.specs.Transactions.{BeginsWork, EndsWork, IsForeign, IsUndone, LeavesOnly, NoTrees}
 use Rattle.onix_message.specs.declared.agreement.StoreFault.{StoreFault}
 use Rattle.series_rules.specs.declared.requests.Request.{Request}
-use Rattle.desk_store.specs.Desks.{Answers, AreRowsOf, HoldsRequests, IsAsked, KeepsRequests, changes}
+use Rattle.desk_store.specs.Desks.{Answers, AreRowsOf, HoldsRequests, IsAsked, IsQuestioned, KeepsRequests, Tells, changes}
 use Rattle.desk_store.specs.Stands.{StandsFor}
 
 -- ---- begun
@@ -38,25 +37,6 @@ is_begun w L s0 s1 clean begun keeps =
       schema = ap (λ (db : Database). db.schema) shows.now_is ∙ kept.1.1.schema;
       crash = λ d may. either (begun.survives.crash clean d may);
     }
-
--- it was not begun
-pub asked_unbegun : {A W : Type 0} (r : Request) (answer : List Request → A) (s0 s1 : State) (e : StoreFault) → BeginsWork {A = W} {E = StoreFault} s0 s1 (Err e) → FailsOutside {A = W} {E = StoreFault} s0 s1 (Err e) → IsAsked {A = A} r answer s0 s1 (Err e)
-asked_unbegun r answer s0 s1 e begun outside = record {
-  premise = λ clean. omega (arith, begun.survives.clean);
-  ok = λ clean L keeps. tt;
-  err = λ clean L keeps. λ up. kept L clean up (keeps ((begun.refused clean).was_open up));
-  crash = λ clean L keeps d may. inl (either (begun.survives.crash clean d may));
-  alone = λ clean L keeps change. tt;
-}
-  where
-    seen : (L : List Request) → HoldsRequests s0.now L → HoldsRequests s0.committed L → (s1.now ≡ s0.now) ⊎ (s1.now ≡ s0.committed) → HoldsRequests s1.now L
-    seen L now committed (inl e) = subst (λ db. HoldsRequests db L) (sym e) now
-    seen L now committed (inr e) = subst (λ db. HoldsRequests db L) (sym e) committed
-
-    kept : (L : List Request) → HasCleanDisk s1 → IsTrue s1.is_open → (s0.in_transaction ≡ false) × HoldsRequests s0.now L × HoldsRequests s0.committed L → (s1.in_transaction ≡ false) × HoldsRequests s1.now L × HoldsRequests s1.committed L
-    kept L clean up was =
-        let stays = outside clean was.0 up in
-        (stays.0, seen L was.1 was.2 stays.1, subst (λ db. HoldsRequests db L) (sym ((begun.refused clean).committed up)) was.2)
 
 -- ---- undone
 
@@ -177,3 +157,33 @@ asked_unasked r answer s e = record {
   crash = λ clean L keeps d may. inl may;
   alone = λ clean L keeps change. tt;
 }
+
+-- ---- questions
+
+crash_unchanged : (L : List Request) (s0 s1 : State) (d : Trees) → IsBegun L s0 s1 → s1.may_leave d ⊎ IsForeign s1 d → s0.may_leave d
+crash_unchanged L s0 s1 d begun (inl may) = begun.crash d may
+crash_unchanged L s0 s1 d begun (inr foreign) = absurd (foreign begun.schema)
+
+pub questioned : {A W : Type 0} (w : W) (answer : List Request → A) (s0 s1 s2 s3 : State) (result : Result A StoreFault) → BeginsWork {A = W} {E = StoreFault} s0 s1 (Ok w) → Achieves (Tells answer) s1 s2 result → (HasCleanDisk s3 → IsUndone s2 s3) → Survives s2 s3 NoTrees
+    → IsQuestioned answer s0 s3 result
+questioned {A} w answer s0 s1 s2 s3 result begins done undone survives = record {
+  premise = λ clean. clean0 (clean1 (clean2 clean));
+  ok = λ clean L keeps. let begun = is_begun w L s0 s1 (clean1 (clean2 clean)) begins keeps in told L begun.now.0 begun.now.2 result (done.gives (clean2 clean) begun.now.0 begun.now.1);
+  left = λ clean L keeps. let begun = is_begun w L s0 s1 (clean1 (clean2 clean)) begins keeps in undone_keeps L s0 s1 s2 s3 begun (done.kept (clean2 clean) begun.schema) (undone clean);
+  crash = λ clean L keeps d may.
+      let begun = is_begun w L s0 s1 (clean1 (clean2 clean)) begins keeps in
+      crash_unchanged L s0 s1 d begun (done.survives.crash (clean2 clean) d (either (survives.crash clean d may)));
+}
+  where
+    clean2 : HasCleanDisk s3 → HasCleanDisk s2
+    clean2 clean = omega (arith, survives.clean)
+
+    clean1 : HasCleanDisk s2 → HasCleanDisk s1
+    clean1 clean = omega (arith, done.survives.clean)
+
+    clean0 : HasCleanDisk s1 → HasCleanDisk s0
+    clean0 clean = omega (arith, begins.survives.clean)
+
+    told : (L : List Request) (rows : DeskRows) → StandsFor rows L → (r : Result A StoreFault) → IfOk r (λ a. (after : DeskRows) × Holds s2.now after × Tells answer rows a after) → IfOk r (λ a. a ≡ answer L)
+    told L rows stands (Ok a) h = h.2.1 L stands
+    told L rows stands (Err e) h = tt

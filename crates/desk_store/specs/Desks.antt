@@ -1,5 +1,5 @@
 -- The desk in the tables against a list of requests, and what a crash may leave of it.
-use Rattle.std.specs.Prelude.{◌≡◌, ◌⊎◌, Bool, true, false, not, List, ◌∷◌, Option, Some, None, IsTrue, IfOk, OnErr, OnOk, Result, is_none}
+use Rattle.std.specs.Prelude.{◌≡◌, ◌⊎◌, ℕ, Bool, true, false, not, List, ◌∷◌, Option, Some, None, IsTrue, IfOk, OnErr, OnOk, Result, is_none}
 use Rattle.sqlite.specs.Effect.{Database}
 use Rattle.sqlite.specs.State.{State, HasCleanDisk}
 use Rattle.sqlite_trees.specs.Tree.{Trees}
@@ -7,8 +7,12 @@ use Rattle.desk_tables.specs.Rows.{DeskRows, Holds}
 use Rattle.onix_message.specs.declared.agreement.StoreFault.{StoreFault}
 use Rattle.series_rules.specs.Agreements.{agreements_of, clashes}
 use Rattle.series_rules.specs.Firsts.{Placement, admitted, first_at}
+use Rattle.series_rules.specs.Gaps.{AreHeldFrom, IsGreatest, NoneBelow, report_by}
+use Rattle.series_rules.specs.Series.{IsNext}
+use Rattle.series_rules.specs.declared.answers.GapReport.{GapReport}
 use Rattle.series_rules.specs.declared.requests.Request.{Request}
 use Rattle.series_rules.specs.declared.requests.Request.TheVariants.{Agree}
+use Rattle.series_rules.specs.declared.requests.Standing.{Standing}
 use Rattle.desk_store.specs.Stands.{StandsFor}
 
 -- the database holds what those requests come to
@@ -46,3 +50,18 @@ pub record IsAsked {A : Type 0} (r : Request) (answer : List Request → A) (old
 -- what a request does in a transaction
 abbrev pub Answers : {A : Type 0} → Request → (List Request → A) → DeskRows → A → DeskRows → Type 0
 Answers r answer rows a now = (L : List Request) → StandsFor rows L → StandsFor now (r ∷ L) × (a ≡ answer L)
+
+-- A question was asked, with that answer after each list: it changes nothing.
+pub record IsQuestioned {A : Type 0} (answer : List Request → A) (old new : State) (result : Result A StoreFault) : Type 0 where
+  pub premise : HasCleanDisk new → HasCleanDisk old
+  pub ok : HasCleanDisk new → (L : List Request) → KeepsRequests old L → IfOk result (λ a. a ≡ answer L)
+  pub left : HasCleanDisk new → (L : List Request) → KeepsRequests old L → KeepsRequests new L
+  pub crash : HasCleanDisk new → (L : List Request) → KeepsRequests old L → (d : Trees) → new.may_leave d → old.may_leave d
+
+-- what a question does in a transaction
+abbrev pub Tells : {A : Type 0} → (List Request → A) → DeskRows → A → DeskRows → Type 0
+Tells answer rows a now = (now ≡ rows) × ((L : List Request) → StandsFor rows L → a ≡ answer L)
+
+-- the report is that on whatever stands so in the series
+abbrev pub Reports : List ℕ → ℕ → ℕ → List ℕ → GapReport → Type 0
+Reports s first next numbers report = (f : ℕ → Option Standing) (greatest : Option ℕ) → NoneBelow f first → IsNext f first next → AreHeldFrom f next numbers → IsGreatest f greatest → report ≡ report_by s f first next greatest

@@ -2,3 +2,5 @@ pub mod Texts
 pub mod Stands
 pub mod Changes
 pub mod Desks
+pub mod ContentLemmas
+pub mod Openings

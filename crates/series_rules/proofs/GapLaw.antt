@@ -30,7 +30,7 @@ with_rises n (p ∷ ps) rises = go (nat_eq p.0 (n + 1)) refl
     go true e = (omega arith, (let low : n + 1 ≤ p.0 = rises.0 in let high : p.0 ≤ p.1 = rises.1 in omega arith), rises.2)
     go false e = (omega arith, omega arith, ((let low : n + 1 ≤ p.0 = rises.0 in grind (arith, nat_tests)), rises.1, rises.2))
 
-ranges_rise : (ns : List ℕ) (n : ℕ) → AreRisingFrom n ns → AreRangesFrom n (ranges_of ns)
+pub ranges_rise : (ns : List ℕ) (n : ℕ) → AreRisingFrom n ns → AreRangesFrom n (ranges_of ns)
 ranges_rise [] n rises = tt
 ranges_rise (m ∷ ms) n rises = ranges_lower (with_number m (ranges_of ms)) n m rises.0 (with_rises m (ranges_of ms) (ranges_rise ms (m + 1) rises.1))
 
@@ -80,7 +80,7 @@ rises_lower : (ns : List ℕ) (n m : ℕ) → n ≤ m → AreRisingFrom m ns →
 rises_lower [] n m le rises = tt
 rises_lower (k ∷ ks) n m le rises = (let low : m ≤ k = rises.0 in omega arith, rises.1)
 
-picked_rises : (p : ℕ → Bool) (len from : ℕ) → AreRisingFrom from (filter p (range_with_len from len))
+pub picked_rises : (p : ℕ → Bool) (len from : ℕ) → AreRisingFrom from (filter p (range_with_len from len))
 picked_rises p zero from = tt
 picked_rises p (suc len) from = go (picked_rises p len (from + 1)) (p from)
   where
@@ -129,7 +129,7 @@ all_of P [] each = All-nil P
 all_of P (k ∷ ks) each = All-cons P k ks (each k (inl refl)) (all_of P ks (λ m h. each m (inr h)))
 
 -- the greatest number that has something is not below it
-not_above : (f : ℕ → Option Standing) (g : Option ℕ) → IsGreatest f g → (n : ℕ) → IsSome (f n) → IsUpTo n g
+pub not_above : (f : ℕ → Option Standing) (g : Option ℕ) → IsGreatest f g → (n : ℕ) → IsSome (f n) → IsUpTo n g
 not_above f None is n some = let none = is n in absurd cc
 not_above f (Some g) is n some = go (cases_lt g n)
   where
@@ -141,7 +141,7 @@ some_is : (o : Option Standing) → is_some o ≡ true → IsSome o
 some_is None e = absurd cc
 some_is (Some h) e = refl
 
-is_some_is : (o : Option Standing) → IsSome o → is_some o ≡ true
+pub is_some_is : (o : Option Standing) → IsSome o → is_some o ≡ true
 is_some_is None s = absurd cc
 is_some_is (Some h) s = refl
 
@@ -151,9 +151,11 @@ held_is f from g is =
     let len = numbers_up_to from g in
     record {
       numbers = filter p (range_with_len from len);
-      in_order = picked_rises p len from;
-      all_held = λ n low some. contained (filter p (range_with_len from len)) n (is_picked p len from n low (up_to from n g low (not_above f g is n some)) (is_some_is (f n) some));
-      only_held = all_of (λ n. IsSome (f n)) (filter p (range_with_len from len)) (λ n h. let only = picked_only p len from n h in some_is (f n) only.2);
+      are_held = record {
+        in_order = picked_rises p len from;
+        all_held = λ n low some. contained (filter p (range_with_len from len)) n (is_picked p len from n low (up_to from n g low (not_above f g is n some)) (is_some_is (f n) some));
+        only_held = all_of (λ n. IsSome (f n)) (filter p (range_with_len from len)) (λ n h. let only = picked_only p len from n h in some_is (f n) only.2);
+      };
       counted = refl;
     }
 

@@ -1,15 +1,14 @@
 -- The proofs of the laws.
-use Rattle.std.proofs.Common.{◌≡◌, ◌+◌, ◌-◌, ◌<◌, ◌≤◌, ℕ, zero, suc, true, false, List, [], ◌∷◌, ◌++◌, Option, Some, None, length, refl, sym, ap, ◌∙◌, subst, arith, cond, ◌||◌, IsSome}
-use Rattle.std.specs.Prelude.{slice_get, find, option_map, is_some}
+use Rattle.std.proofs.Common.{◌≡◌, ◌+◌, ◌-◌, ◌≤◌, ℕ, zero, suc, List, ◌∷◌, ◌++◌, Option, Some, None, length, refl, ap, ◌∙◌, arith, ◌||◌}
+use Rattle.std.specs.Prelude.{option_map, is_some}
 use Rattle.std.specs.FinMap as map
 use Rattle.std.specs.Option.{option_or}
-use Rattle.std.proofs.lemmas.List.Folds.{find-append}
 use Rattle.onix_terms.specs.declared.party.Party.{Party}
 use Rattle.onix_message.specs.Message.{message_of, bad_row}
 use Rattle.onix_message.specs.declared.parts.Header.{Header}
 use Rattle.onix_message.specs.declared.parts.Product.{Product}
 use Rattle.onix_message.specs.declared.agreement.Agreement.{Agreement}
-use Rattle.series_rules.specs.Agreements.{agreements_of, named, between, clashes, has_name}
+use Rattle.series_rules.specs.Agreements.{agreements_of, named, between}
 use Rattle.series_rules.specs.Firsts.{first_at, put_at, admitted, admitted_at, admitted_number, admitted_message}
 use Rattle.series_rules.specs.Series.{in_front_of, without_gap, front_of, kept_of, after_all, catalogue_of}
 use Rattle.series_rules.specs.Gaps.{gaps_of}
@@ -23,29 +22,16 @@ use Rattle.series_rules.specs.declared.requests.Request.{Request}
 use Rattle.series_rules.specs.declared.requests.Request.TheVariants.{Agree, Deliver, Waive, AskPrice, AskChoice, AskCalendar, AskGaps, AskCatalogue, Malformed}
 use Rattle.series_rules.specs.declared.requests.Standing.{Standing}
 use Rattle.series_rules.specs.declared.requests.Standing.TheVariants.{Message, Waived}
-use Rattle.series_rules.specs.AgreementLemmas.{agreements_are_distinct, between_by_name, named_with}
+use Rattle.series_rules.specs.AgreementLemmas.{agreements_are_distinct, between_by_name, named_stays, named_with}
 use Rattle.series_rules.specs.GapLemmas.{report_same}
 use Rattle.series_rules.specs.OfferLemmas.{same_offers}
 use Rattle.series_rules.specs.FirstLemmas.{first_again}
-use Rattle.series_rules.specs.FrontLemmas.{front_is, front_same, front_unique, kept_front}
+use Rattle.series_rules.specs.FrontLemmas.{front_is, front_next, front_same, front_unique, kept_front}
 
 -- the next number
 
-some_within : (hs : List Standing) (k : ℕ) (o : Option Standing) → k < length hs → o ≡ slice_get hs k → IsSome o
-some_within [] k o lt e = absurd (omega arith)
-some_within (h ∷ hs) zero o lt e = subst IsSome (sym e) refl
-some_within (h ∷ hs) (suc k) o lt e = some_within hs k o (omega arith) e
-
 pub next_is_least : NextIsLeast
-next_is_least L a =
-    let is = front_is L a.name a.first in
-    record {
-      above = omega arith;
-      below = λ k le lt.
-          let place : a.first + (k - a.first) ≡ k = omega arith in
-          some_within (front_of L a) (k - a.first) (first_at L a.name k) (omega arith) (ap (first_at L a.name) (sym place) ∙ is.each (k - a.first) (omega arith));
-      lacks = is.ends;
-    }
+next_is_least L a = front_next (first_at L a.name) a.first (front_of L a) (front_is L a.name a.first)
 
 -- the front
 
@@ -56,14 +42,6 @@ front_is_exact = record {
 }
 
 -- it only grows
-
-pub named_stays : (L : List Request) (r : Request) (s : List ℕ) (a : Agreement) → named (agreements_of L) s ≡ Some a → named (agreements_of (r ∷ L)) s ≡ Some a
-named_stays L (Agree b) s a e =
-    elim (clashes (agreements_of L) b) as (λ t. named (cond t (agreements_of L) (agreements_of L ++ b ∷ [])) s ≡ Some a) [
-      | true ↦ e
-      | false ↦ find-append (has_name s) (agreements_of L) (b ∷ []) ∙ ap (λ o. option_or o (find (has_name s) (b ∷ []))) e
-    ]
-named_stays L _ s a e = e
 
 grows_onto : (g : ℕ → Option Standing) (n : ℕ) (rest rest' : List Standing) → ((more : List Standing) × (rest' ≡ rest ++ more)) → (o : Option Standing) → ((h : Standing) → o ≡ Some h → g n ≡ Some h) → (more : List Standing) × (in_front_of (g n) rest' ≡ in_front_of o rest ++ more)
 grows_onto g n rest rest' ih None ext = (in_front_of (g n) rest', refl)

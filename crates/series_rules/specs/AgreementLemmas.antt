@@ -128,3 +128,12 @@ named_with as' bs b clash same name =
       | true ↦ same name
       | false ↦ find-append (has_name name) as' (b ∷ []) ∙ ap (λ o. option_or o (find (has_name name) (b ∷ []))) (same name) ∙ sym (find-append (has_name name) bs (b ∷ []))
     ]
+
+-- what is agreed stays
+pub named_stays : (L : List Request) (r : Request) (s : List ℕ) (a : Agreement) → named (agreements_of L) s ≡ Some a → named (agreements_of (r ∷ L)) s ≡ Some a
+named_stays L (Agree b) s a e =
+    elim (clashes (agreements_of L) b) as (λ t. named (cond t (agreements_of L) (agreements_of L ++ b ∷ [])) s ≡ Some a) [
+      | true ↦ e
+      | false ↦ find-append (has_name s) (agreements_of L) (b ∷ []) ∙ ap (λ o. option_or o (find (has_name s) (b ∷ []))) e
+    ]
+named_stays L _ s a e = e

@@ -1,5 +1,5 @@
 -- Lemmas on fronts: what stands from a number on without a gap, and what it comes to.
-use Rattle.std.proofs.Common.{◌≡◌, ◌≢◌, ◌+◌, ◌<◌, ◌≤◌, ℕ, zero, suc, List, [], ◌∷◌, ◌++◌, Option, Some, None, length, refl, sym, ap, ◌∙◌, arith, add-zero, ◌⊎◌, inl, inr, nat_eq, cond, ◌&&◌, true, false}
+use Rattle.std.proofs.Common.{◌≡◌, ◌≢◌, ◌+◌, ◌-◌, ◌<◌, ◌≤◌, ℕ, zero, suc, List, [], ◌∷◌, ◌++◌, Option, Some, None, IsSome, length, refl, sym, subst, ap, ◌∙◌, arith, add-zero, ◌⊎◌, inl, inr, nat_eq, cond, ◌&&◌, true, false}
 use Rattle.std.specs.Prelude.{slice_get, bytes_eq}
 use Rattle.std.proofs.lemmas.Bool.{cases_lt, cases_eq}
 use Rattle.std.specs.Option.{option_or}
@@ -10,7 +10,7 @@ use Rattle.onix_message.specs.declared.agreement.Agreement.{Agreement}
 use Rattle.series_rules.specs.Content.{SameContent}
 use Rattle.series_rules.specs.Agreements.{agreements_of}
 use Rattle.series_rules.specs.Firsts.{first_at, placed_at, put_at, admitted}
-use Rattle.series_rules.specs.Series.{BeginsWith, in_front_of, without_gap, front_of, IsFront, after_all, after_standing, kept_of}
+use Rattle.series_rules.specs.Series.{BeginsWith, in_front_of, without_gap, front_of, IsFront, IsNext, after_all, after_standing, kept_of}
 use Rattle.series_rules.specs.declared.requests.Request.{Request}
 use Rattle.series_rules.specs.Firsts.{Placement}
 use Rattle.series_rules.specs.declared.requests.Standing.{Standing}
@@ -102,6 +102,36 @@ front_unique f from hs gs is other =
 
 pub is_front_same : (f g : ℕ → Option Standing) → ((n : ℕ) → f n ≡ g n) → (from : ℕ) (hs : List Standing) → IsFront g from hs → IsFront f from hs
 is_front_same f g same from hs is = record { each = λ k lt. same (from + k) ∙ is.each k lt; ends = same (from + length hs) ∙ is.ends }
+
+-- the least number that has nothing
+
+some_within : (hs : List Standing) (k : ℕ) (o : Option Standing) → k < length hs → o ≡ slice_get hs k → IsSome o
+some_within [] k o lt e = absurd (omega arith)
+some_within (h ∷ hs) zero o lt e = subst IsSome (sym e) refl
+some_within (h ∷ hs) (suc k) o lt e = some_within hs k o (omega arith) e
+
+-- the front ends there
+pub front_next : (f : ℕ → Option Standing) (from : ℕ) (hs : List Standing) → IsFront f from hs → IsNext f from (from + length hs)
+front_next f from hs is = record {
+  above = omega arith;
+  below = λ k le lt.
+      let place : from + (k - from) ≡ k = omega arith in
+      some_within hs (k - from) (f k) (omega arith) (ap f (sym place) ∙ is.each (k - from) (omega arith));
+  lacks = is.ends;
+}
+
+not_before : (f : ℕ → Option Standing) (from n m : ℕ) → IsNext f from n → IsNext f from m → m ≤ n
+not_before f from n m is other = go (cases_lt n m)
+  where
+    go : (n < m) ⊎ (m ≤ n) → m ≤ n
+    go (inl lt) = let some = other.below n is.above lt in let none = is.lacks in absurd cc
+    go (inr le) = le
+
+pub next_unique : (f : ℕ → Option Standing) (from n m : ℕ) → IsNext f from n → IsNext f from m → n ≡ m
+next_unique f from n m is other =
+    let low = not_before f from n m is other in
+    let high = not_before f from m n other is in
+    omega arith
 
 -- there are no more numbers that have something than there are requests
 

@@ -93,12 +93,20 @@ abbrev pub AreRisingFrom : ℕ → List ℕ → Type 0
 AreRisingFrom n [] = Unit {0}
 AreRisingFrom n (m ∷ ms) = (n ≤ m) × AreRisingFrom (m + 1) ms
 
--- it is how many numbers from one on have something: a rising list has just these, and is as long
-pub record IsHeldCount (f : ℕ → Option Standing) (from held : ℕ) : Type 0 where
-  pub numbers : List ℕ
+-- they are the numbers from one on that have something, in order
+pub record AreHeldFrom (f : ℕ → Option Standing) (from : ℕ) (numbers : List ℕ) : Type 0 where
   pub in_order : AreRisingFrom from numbers
   pub all_held : (n : ℕ) → from ≤ n → IsSome (f n) → Contains numbers n
   pub only_held : All (λ n. IsSome (f n)) numbers
+
+-- no number below that one has something
+abbrev pub NoneBelow : (ℕ → Option Standing) → ℕ → Type 0
+NoneBelow f from = (n : ℕ) → n < from → f n ≡ None
+
+-- it is how many numbers from one on have something
+pub record IsHeldCount (f : ℕ → Option Standing) (from held : ℕ) : Type 0 where
+  pub numbers : List ℕ
+  pub are_held : AreHeldFrom f from numbers
   pub counted : held ≡ length numbers
 
 -- the report is true of what stands in an agreed series: its name, its first number, the first number that has nothing, the greatest that has something, how many from the next on have something, and the numbers up to the greatest that have nothing

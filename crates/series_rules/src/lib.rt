@@ -6,14 +6,16 @@
 //! `Offers` and `PriceAnswers` (what is answered about an article), `Answers` (the answer to each
 //! request), `Runs` (a run of requests) and `Content` (what two lists of requests have in common);
 //! `laws` says what they come to. Code meets them through the trait `desk::Desk`; this crate has no
-//! desk of its own. What a desk's proof needs of them stands beside them, in
-//! `AgreementLemmas`, `FirstLemmas`, `FrontLemmas`, `GapLemmas` and `OfferLemmas`.
+//! desk of its own. `gaps` makes the report on a series, for any desk. What a desk's proof needs of
+//! the definitions stands beside them, in `AgreementLemmas`, `FirstLemmas`, `FrontLemmas`,
+//! `GapLemmas` and `OfferLemmas`.
 #![tactic(auto)]
 
 pub mod answering;
 pub mod answers;
 pub mod delivery;
 pub mod desk;
+pub mod gaps;
 pub mod laws;
 mod price_answers;
 pub mod requests;

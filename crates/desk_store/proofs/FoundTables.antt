@@ -1,0 +1,168 @@
+-- What is found where a desk is opened, against the lists of requests.
+use Rattle.std.proofs.Common.{◌≡◌, ◌⊎◌, inl, inr, ℕ, false, List, [], Option, Some, None, Ok, Err, Result, IsTrue, refl, sym, ap, ◌∙◌, subst}
+use Rattle.std.specs.Prelude.{⊤}
+use Rattle.std.specs.FinMap as fin
+use Rattle.std.specs.FinMap.{get-empty}
+use Rattle.std.specs.Cmp.Lexicographic.{slice_cmp}
+use Rattle.std.specs.Ordering.{nat_cmp}
+use Rattle.std.specs.List.{list_any}
+use Rattle.std.proofs.lemmas.List.Sorted.{IsPermutation-refl}
+use Rattle.sqlite.specs.Effect.{Database}
+use Rattle.sqlite.specs.State.{State, HasCleanDisk}
+use Rattle.sqlite_trees.specs.Tree.{Trees}
+use Rattle.catalogue_rules.specs.declared.entry.Entry.{Entry}
+use Rattle.catalogue_rows.specs.Holding.{HoldsCatalogue, HoldsEntry}
+use Rattle.desk_tables.specs.Rows.{DeskRows, Holds, first_rows, version_in}
+use Rattle.desk_tables.specs.Schema.{is_meta, schema_0}
+use Rattle.desk_tables.specs.Transactions.{IsEmptied}
+use Rattle.onix_message.specs.declared.agreement.StoreFault.{StoreFault}
+use Rattle.series_rules.specs.declared.requests.Request.{Request}
+use Rattle.desk_store.specs.Desks.{AreRowsOf, HoldsRequests, KeepsRequests}
+use Rattle.desk_store.specs.Openings.{AreFirstRows, IsCreated, IsFoundFor, IsKnown, IsReady, IsVersionRead, ShowsOnly}
+use Rattle.desk_store.specs.Stands.{StandsFor}
+use Rattle.desk_store.specs.declared.opening.OpenFault.TheVariants.{Store, OtherVersion}
+
+-- ---- tables without requests
+
+no_entry : (s reference : List ℕ) → HoldsEntry s reference None first_rows
+no_entry s reference = record { storable = tt; records = IsPermutation-refl []; articles = IsPermutation-refl []; offers = IsPermutation-refl []; prices = IsPermutation-refl []; minimums = IsPermutation-refl [] }
+
+no_records : (s : List ℕ) → HoldsCatalogue s fin.empty first_rows
+no_records s = λ reference. subst (λ (o : Option Entry). HoldsEntry s reference o first_rows) (sym (get-empty (slice_cmp nat_cmp) reference)) (no_entry s reference)
+
+pub first_stand : StandsFor first_rows []
+first_stand = record {
+  version = refl;
+  by_name = λ name. refl;
+  by_parties = λ sender addressee. refl;
+  series = λ a found. absurd cc;
+  others = λ name none. record { held = λ n. refl; applied = λ n. refl; catalogue = no_records name };
+}
+
+-- ---- what is found
+
+version_of_requests : (rows : DeskRows) (L : List Request) → StandsFor rows L → version_in rows ≡ Some 2
+version_of_requests rows L stands = rw stands.version refl
+
+no_meta : (db : Database) → IsEmptied schema_0 db → list_any is_meta db.schema.tables ≡ false
+no_meta db emptied = rw emptied.schema_is refl
+
+pub known_if_found : (db : Database) (L : List Request) → IsFoundFor db L → IsKnown db
+known_if_found db L (inl held) = inr (held.0, inl held.1)
+known_if_found db L (inr none) = inl (no_meta db none.0)
+
+keeps_found : (db : Database) (L : List Request) (s : State) → ShowsOnly db s → HoldsRequests db L → KeepsRequests s L
+keeps_found db L s only held = λ up. let is = only up in (is.0, subst (λ d. HoldsRequests d L) (sym is.1) held, subst (λ d. HoldsRequests d L) (sym is.2) held)
+
+-- ---- ready
+
+-- while the connection is open, a crash leaves what was committed
+abbrev IsSettled : State → Type 0
+IsSettled s = (d : Trees) → IsTrue s.is_open → s.may_leave d → d ≡ s.committed.trees
+
+-- the tables are of version 2
+pub ready_as_found : (s0 s1 : State) → IsSettled s0 → IsVersionRead s0 s1 (Ok (Some 2)) → IsReady s0 s1 (Ok tt)
+ready_as_found s0 s1 settled read = record {
+  premise = read.premise;
+  ok = λ clean db only L found. held db L s1 (read.left clean db only (known_if_found db L found)) (here clean db only L found);
+  err = λ clean db only L found. tt;
+  fault = λ clean db only rows any. tt;
+  crash = λ clean db only L found d may. inl (read.crash clean db only (known_if_found db L found) d may);
+  alone = λ clean db only L found. λ d may.
+      let up = read.was_open clean in
+      let before = read.crash clean db only (known_if_found db L found) d may in
+      (db, sym (settled d up before ∙ ap (λ (x : Database). x.trees) (only up).2), here clean db only L found);
+}
+  where
+    held : (db : Database) (L : List Request) (s : State) → ShowsOnly db s → HoldsRequests db L → KeepsRequests s L
+    held = keeps_found
+
+    differ : ◌≡◌ {A = Option ℕ} (Some 2) None → ⊥
+    differ e = absurd cc
+
+    here : HasCleanDisk s1 → (db : Database) → ShowsOnly db s0 → (L : List Request) → IsFoundFor db L → HoldsRequests db L
+    here clean db only L (inl it) = it
+    here clean db only L (inr none) = absurd (differ (read.absent clean db only (no_meta db none.0)))
+
+-- they are of another version
+pub ready_other : (s0 s1 : State) (found : ℕ) → ¬ (found ≡ 2) → IsVersionRead s0 s1 (Ok (Some found)) → IsReady s0 s1 (Err (OtherVersion found))
+ready_other s0 s1 found other read = record {
+  premise = read.premise;
+  ok = λ clean db only L it. tt;
+  err = λ clean db only L it. read.left clean db only (known_if_found db L it);
+  fault = λ clean db only rows any. (sym (read.present clean db only rows any), other);
+  crash = λ clean db only L it d may. inl (read.crash clean db only (known_if_found db L it) d may);
+  alone = λ clean db only L it. tt;
+}
+
+pub ready_unread : (s0 s1 : State) (e : StoreFault) → IsVersionRead s0 s1 (Err e) → IsReady s0 s1 (Err (Store e))
+ready_unread s0 s1 e read = record {
+  premise = read.premise;
+  ok = λ clean db only L it. tt;
+  err = λ clean db only L it. read.left clean db only (known_if_found db L it);
+  fault = λ clean db only rows any. tt;
+  crash = λ clean db only L it d may. inl (read.crash clean db only (known_if_found db L it) d may);
+  alone = λ clean db only L it. tt;
+}
+
+-- there are none, and they are made
+module _ (s0 s1 s2 : State) (read : IsVersionRead s0 s1 (Ok None)) where
+  differ : ◌≡◌ {A = Option ℕ} None (Some 2) → ⊥
+  differ e = absurd cc
+
+  -- so the database is empty, and the list too
+  emptied_here : HasCleanDisk s1 → (db : Database) → ShowsOnly db s0 → (L : List Request) → IsFoundFor db L → IsEmptied schema_0 db × (L ≡ [])
+  emptied_here clean db only L (inl held) = absurd (differ (read.present clean db only held.0 (inl held.1) ∙ version_of_requests held.0 L held.2))
+  emptied_here clean db only L (inr none) = none
+
+  left_here : HasCleanDisk s1 → (db : Database) → ShowsOnly db s0 → (L : List Request) → IsFoundFor db L → ShowsOnly db s1
+  left_here clean db only L it = read.left clean db only (known_if_found db L it)
+
+  first_requests : (made : Database) (L : List Request) → L ≡ [] → Holds made first_rows → HoldsRequests made L
+  first_requests made L none held = subst (HoldsRequests made) (sym none) (first_rows, held, first_stand)
+
+  crash_here : (result : Result ⊤ StoreFault) → IsCreated s1 s2 result → HasCleanDisk s2 → (db : Database) → ShowsOnly db s0 → (L : List Request) → IsFoundFor db L → (d : Trees) → s2.may_leave d → s0.may_leave d ⊎ AreRowsOf d L
+  crash_here result created clean db only L it d may = go (created.crash clean db (left_here clean1 db only L it) none.0 d may)
+    where
+      clean1 : HasCleanDisk s1
+      clean1 = created.premise clean
+
+      none : IsEmptied schema_0 db × (L ≡ [])
+      none = emptied_here clean1 db only L it
+
+      go : s1.may_leave d ⊎ AreFirstRows d → s0.may_leave d ⊎ AreRowsOf d L
+      go (inl before) = inl (read.crash clean1 db only (known_if_found db L it) d before)
+      go (inr first) = inr (first.0, first.1, first_requests first.0 L none.1 first.2)
+
+  pub ready_created : IsCreated s1 s2 (Ok tt) → IsReady s0 s2 (Ok tt)
+  ready_created created = record {
+    premise = λ clean. read.premise (created.premise clean);
+    ok = λ clean db only L it. (now clean db only L it).1;
+    err = λ clean db only L it. tt;
+    fault = λ clean db only rows any. tt;
+    crash = crash_here (Ok tt) created;
+    alone = λ clean db only L it. λ d may.
+        let done = now clean db only L it in
+        let sure = created.alone clean in
+        (done.0, sym (sure.1 d may ∙ ap (λ (x : Database). x.trees) (done.2.0 sure.0).2), done.2.1);
+  }
+    where
+      now : HasCleanDisk s2 → (db : Database) → ShowsOnly db s0 → (L : List Request) → IsFoundFor db L → (made : Database) × KeepsRequests s2 L × (ShowsOnly made s2 × HoldsRequests made L)
+      now clean db only L it =
+          let clean1 = created.premise clean in
+          let none = emptied_here clean1 db only L it in
+          let ok = created.ok clean db (left_here clean1 db only L it) none.0 in
+          let held = first_requests ok.0 L none.1 ok.2 in
+          (ok.0, keeps_found ok.0 L s2 ok.1 held, (ok.1, held))
+
+  pub ready_uncreated : (e : StoreFault) → IsCreated s1 s2 (Err e) → IsReady s0 s2 (Err (Store e))
+  ready_uncreated e created = record {
+    premise = λ clean. read.premise (created.premise clean);
+    ok = λ clean db only L it. tt;
+    err = λ clean db only L it.
+        let clean1 = created.premise clean in
+        created.err clean db (left_here clean1 db only L it) (emptied_here clean1 db only L it).0;
+    fault = λ clean db only rows any. tt;
+    crash = crash_here (Err e) created;
+    alone = λ clean db only L it. tt;
+  }

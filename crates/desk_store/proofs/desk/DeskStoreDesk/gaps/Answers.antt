@@ -1,0 +1,4 @@
+use Rattle.desk_store.proofs.desk.DeskStoreDesk.gaps.Goals as goal
+
+pub returns-clause-left : goal.returns-clause-left
+returns-clause-left g c = λ L keeps clean. c.ask_gaps.ensures.left clean L keeps

@@ -1,0 +1,81 @@
+-- What is found where a desk is opened, and what opening it leaves.
+use Rattle.std.specs.Prelude.{◌≡◌, ◌⊎◌, ℕ, false, List, [], Option, Some, None, Result, IfOk, IfErr, OnOk, OnErr, IsTrue, ⊤}
+use Rattle.std.specs.List.{list_any}
+use Rattle.sqlite.specs.Effect.{Database, IsDatabase}
+use Rattle.sqlite.specs.Files.{AreFoundIn, HoldsDatabase}
+use Rattle.sqlite.specs.State.{State, HasCleanDisk}
+use Rattle.sqlite_trees.specs.Tree.{Trees}
+use Rattle.sqlite_wal.specs.Recovery.{Image}
+use Rattle.desk_tables.specs.Rows.{DeskRows, Holds, HoldsFirst, first_rows, version_in}
+use Rattle.desk_tables.specs.Schema.{is_meta, schema_0}
+use Rattle.desk_tables.specs.Transactions.{IsEmptied, LeavesOnly}
+use Rattle.onix_message.specs.declared.agreement.StoreFault.{StoreFault}
+use Rattle.series_rules.specs.declared.requests.Request.{Request}
+use Rattle.desk_store.specs.Desks.{AreRowsOf, HoldsRequests, KeepsRequests}
+use Rattle.desk_store.specs.declared.opening.OpenFault.{OpenFault}
+use Rattle.desk_store.specs.declared.opening.OpenFault.TheVariants.{Store, OtherVersion}
+
+-- while the connection is open, it is in no transaction, and that database is what it shows and what was committed
+abbrev pub ShowsOnly : Database → State → Type 0
+ShowsOnly db s = IsTrue s.is_open → (s.in_transaction ≡ false) × (s.now ≡ db) × (s.committed ≡ db)
+
+-- the database is a desk's, of version 2 or of version 1, with these rows
+abbrev pub HoldsAny : Database → DeskRows → Type 0
+HoldsAny db rows = Holds db rows ⊎ HoldsFirst db rows
+
+-- the database is a desk's, or it has no table `meta` of a desk
+abbrev pub IsKnown : Database → Type 0
+IsKnown db = (list_any is_meta db.schema.tables ≡ false) ⊎ ((rows : DeskRows) × HoldsAny db rows)
+
+-- the database holds what those requests come to, or it has no table and they are none
+abbrev pub IsFoundFor : Database → List Request → Type 0
+IsFoundFor db L = HoldsRequests db L ⊎ (IsEmptied schema_0 db × (L ≡ []))
+
+-- The version of the tables was asked for: it changes nothing.
+pub record IsVersionRead (old new : State) (result : Result (Option ℕ) StoreFault) : Type 0 where
+  pub premise : HasCleanDisk new → HasCleanDisk old
+  pub was_open : HasCleanDisk new → OnOk result (IsTrue old.is_open)
+  pub absent : HasCleanDisk new → (db : Database) → ShowsOnly db old → list_any is_meta db.schema.tables ≡ false → IfOk result (λ version. version ≡ None)
+  pub present : HasCleanDisk new → (db : Database) → ShowsOnly db old → (rows : DeskRows) → HoldsAny db rows → IfOk result (λ version. version ≡ version_in rows)
+  pub left : HasCleanDisk new → (db : Database) → ShowsOnly db old → IsKnown db → ShowsOnly db new
+  pub crash : HasCleanDisk new → (db : Database) → ShowsOnly db old → IsKnown db → (d : Trees) → new.may_leave d → old.may_leave d
+
+-- a desk's database with those trees has no rows yet
+abbrev pub AreFirstRows : Trees → Type 0
+AreFirstRows d = (db : Database) × (db.trees ≡ d) × Holds db first_rows
+
+-- The tables were made in a database that had none: all of them or none.
+pub record IsCreated (old new : State) (result : Result ⊤ StoreFault) : Type 0 where
+  pub premise : HasCleanDisk new → HasCleanDisk old
+  pub ok : HasCleanDisk new → (db : Database) → ShowsOnly db old → IsEmptied schema_0 db → OnOk result ((made : Database) × ShowsOnly made new × Holds made first_rows)
+  pub err : HasCleanDisk new → (db : Database) → ShowsOnly db old → IsEmptied schema_0 db → OnErr result (ShowsOnly db new)
+  pub crash : HasCleanDisk new → (db : Database) → ShowsOnly db old → IsEmptied schema_0 db → (d : Trees) → new.may_leave d → old.may_leave d ⊎ AreFirstRows d
+  pub alone : HasCleanDisk new → OnOk result (IsTrue new.is_open × LeavesOnly new)
+
+-- the fault is true of the rows: another version is theirs, and not 2
+abbrev pub IsFaultFor : DeskRows → OpenFault → Type 0
+IsFaultFor rows (Store fault) = ⊤
+IsFaultFor rows (OtherVersion found) = (version_in rows ≡ Some found) × ¬ (found ≡ 2)
+
+-- A connection that was just opened was made ready for a desk: what was found stands for the same requests.
+pub record IsReady (old new : State) (result : Result ⊤ OpenFault) : Type 0 where
+  pub premise : HasCleanDisk new → HasCleanDisk old
+  pub ok : HasCleanDisk new → (db : Database) → ShowsOnly db old → (L : List Request) → IsFoundFor db L → OnOk result (KeepsRequests new L)
+  pub err : HasCleanDisk new → (db : Database) → ShowsOnly db old → (L : List Request) → IsFoundFor db L → OnErr result (ShowsOnly db new)
+  pub fault : HasCleanDisk new → (db : Database) → ShowsOnly db old → (rows : DeskRows) → HoldsAny db rows → IfErr result (IsFaultFor rows)
+  -- a crash leaves what it could leave before, or the tables of no request where there were none
+  pub crash : HasCleanDisk new → (db : Database) → ShowsOnly db old → (L : List Request) → IsFoundFor db L → (d : Trees) → new.may_leave d → old.may_leave d ⊎ AreRowsOf d L
+  -- once it is ready, a crash leaves the rows of the requests and nothing else
+  pub alone : HasCleanDisk new → (db : Database) → ShowsOnly db old → (L : List Request) → IsFoundFor db L → OnOk result ((d : Trees) → new.may_leave d → AreRowsOf d L)
+
+-- ---- files
+
+-- The two files hold what those requests come to, or they hold an empty database and the requests are none.
+abbrev pub AreFilesOf : Image → List Request → Type 0
+AreFilesOf image L =
+    ((trees : Trees) × ∥ HoldsDatabase image trees ∥₁ × AreRowsOf trees L)
+    ⊎ (((db : Database) → IsDatabase db → AreFoundIn image db.trees → IsEmptied schema_0 db) × (L ≡ []))
+
+-- the files hold a desk's database, of version 2 or of version 1, with these rows
+abbrev pub AreFilesWith : Image → DeskRows → Type 0
+AreFilesWith image rows = (db : Database) × ∥ HoldsDatabase image db.trees ∥₁ × HoldsAny db rows

@@ -1,0 +1,224 @@
+// The desk in a SQLite file.
+
+ghost use Rattle.std.specs.Prelude.{◌≡◌, ◌↔◌, [], List, IfOk, IfErr, IfSome, IsTrue, Ok, Err};
+ghost use Rattle.sqlite.specs.Files.{file_state, image_of, IsCleanLeft};
+ghost use Rattle.sqlite.specs.Held.{state};
+ghost use Rattle.sqlite.specs.State.{HasCleanDisk};
+ghost use Rattle.sqlite.specs.Steps.{over_memory};
+ghost use Rattle.sqlite_trees.specs.Tree.{Trees};
+ghost use Rattle.sqlite_wal.specs.Files.{image_at};
+ghost use Rattle.sqlite_wal.specs.Reads.{AreClean};
+ghost use Rattle.desk_store.specs.Desks.{AreRowsOf, IsAsked, IsQuestioned, KeepsRequests};
+ghost use Rattle.desk_store.specs.Openings.{AreFilesOf, AreFilesWith, IsFaultFor, IsReady};
+ghost use Rattle.desk_tables.specs.Rows.{DeskRows};
+ghost use Rattle.series_rules.specs.Answers.{agree_answer, catalogue_answer, delivery_answer, gaps_answer, waive_answer};
+ghost use Rattle.series_rules.specs.Offers.{offers_after};
+ghost use Rattle.series_rules.specs.declared.requests.Request.{Request};
+
+use crate::asking::{ask_agree, ask_deliver, ask_waive};
+use crate::fault::fault_of;
+use crate::opening::{OpenFault, prepare};
+use crate::questions::{ask_catalogue, ask_gaps, ask_offers};
+use catalogue_rules::catalogue::Catalogue;
+use csv_records::records::Records;
+use desk_tables::laws::same_trees_hold_the_same_rows;
+use desk_tables::tables::Tables;
+use onix_message::agreement::{Agreement, StoreFault};
+use onix_terms::isbn13::Isbn13;
+use onix_terms::items::Items;
+use onix_terms::number::Number;
+use onix_terms::series_name::SeriesName;
+use price_rules::offer::Offer;
+use series_rules::answers::{AgreeAnswer, DeliveryAnswer, GapReport, WaiveAnswer};
+use series_rules::desk::Desk;
+use sqlite::{Alter, Connection, FileFrom, FileStore, Files, Leftover, MemStore, Options, Start};
+use sqlite_disk::Disk;
+use std::alloc::Global;
+use std::rt::HostRuntime;
+
+/// A desk in a SQLite file. Each agreement, delivery and waiver is a transaction: once it is
+/// answered, a crash leaves all of it, and before that all of it or nothing. After a fault the desk
+/// stands for what it did. All this rests on a clean disk.
+#[derive(Drop)]
+pub struct DeskStore<S: Alter> {
+    alloc: Global,
+    tables: Tables<S>,
+}
+
+impl<S: Alter> DeskStore<S> {
+    // The desk over a connection that was just opened, or the connection beside the fault.
+    fn over(
+        alloc: Global,
+        connection: Connection<S>,
+    ) -> Result<DeskStore<S>, (OpenFault, Connection<S>)>
+        ensures ok { IfOk result (λ d. IsReady (state S.Store connection) (state S.Store d.tables.connection) (Ok tt)) }
+        ensures err { IfErr result (λ e. IsReady (state S.Store connection) (state S.Store e.1) (Err e.0)) }
+    {
+        let mut tables = Tables::new(connection);
+        match prepare(&mut tables) {
+            Ok(()) => Ok(DeskStore { alloc, tables }),
+            Err(fault) => Err((fault, tables.into_connection())),
+        }
+    }
+
+    /// What the desk is against its tables: its premise is a clean disk, and it stands for a list of
+    /// requests exactly where, while its store is open, the tables hold what those come to.
+    pub fn is_by_its_tables(&self)
+        ensures premise { ⟦<DeskStore<S> as Desk>⟧.is_sound self.now ↔ HasCleanDisk (state S.Store self.now.tables.connection) }
+        ensures stands { (L : List Request) → ⟦<DeskStore<S> as Desk>⟧.stands_for self.now L ↔ KeepsRequests (state S.Store self.now.tables.connection) L }
+    {}
+
+    /// While its store is open, a crash leaves the rows of the requests that the desk stands for, and
+    /// nothing else.
+    pub fn leaves_its_requests(&self)
+        ensures { IsTrue (state S.Store self.now.tables.connection).is_open → (L : List Request) → KeepsRequests (state S.Store self.now.tables.connection) L →
+            (left : Trees) → (state S.Store self.now.tables.connection).may_leave left → AreRowsOf left L }
+    {}
+}
+
+impl DeskStore<MemStore> {
+    /// A desk whose tables are in memory. It has seen no request.
+    pub fn open_in_memory(alloc: Global) -> Result<DeskStore<MemStore>, OpenFault>
+        ensures stands { IfOk result (λ d. KeepsRequests (state over_memory d.tables.connection) []) }
+    {
+        let connection = match Connection::open_in_memory(alloc) {
+            Ok(connection) => connection,
+            Err(_) => return Err(OpenFault::Store(StoreFault::Memory)),
+        };
+        match DeskStore::over(alloc, connection) {
+            Ok(desk) => Ok(desk),
+            Err((fault, _)) => Err(fault),
+        }
+    }
+}
+
+impl<D: Disk + Drop> DeskStore<FileStore<D>> {
+    /// The desk in two files, the database and its log. What they hold stands; in an empty database
+    /// the tables are made. A database without a table `meta` of a desk counts as empty, and is
+    /// `Unusable` where one of the desk's tables is there. A fault comes with what is left of the
+    /// files.
+    pub fn open_files(
+        alloc: Global,
+        files: Files<D>,
+        options: Options,
+    ) -> Result<DeskStore<FileStore<D>>, (OpenFault, Leftover<D>)>
+        requires log { IsTrue (D.Disk.is_usable files.log) }
+        requires db { IsTrue (D.Disk.is_usable files.db) }
+        ensures stands { IfOk result (λ d. HasCleanDisk (file_state d.tables.connection) → (L : List Request) → AreFilesOf (image_of D.Disk files) L → KeepsRequests (file_state d.tables.connection) L) }
+        ensures alone { IfOk result (λ d. HasCleanDisk (file_state d.tables.connection) → (L : List Request) → AreFilesOf (image_of D.Disk files) L → (left : Trees) → (file_state d.tables.connection).may_leave left → AreRowsOf left L) }
+        ensures fault { IfErr result (λ e. IsCleanLeft e.1 → (rows : DeskRows) → AreFilesWith (image_of D.Disk files) rows → IsFaultFor rows e.0) }
+    {
+        same_trees_hold_the_same_rows();
+        let connection = match Connection::open_files(alloc, files, options) {
+            Ok(connection) => connection,
+            Err((error, left)) => return Err((OpenFault::Store(fault_of(error)), left)),
+        };
+        match DeskStore::over(alloc, connection) {
+            Ok(desk) => Ok(desk),
+            Err((fault, connection)) => Err((fault, Leftover::Store(connection.into_store()))),
+        }
+    }
+
+    /// The files, which hold what the desk stood for. The desk is gone, with a fault too.
+    pub fn close_files(self) -> Result<Files<D>, StoreFault>
+        ensures usable { IfOk result (λ files. IsTrue (D.Disk.is_usable files.log) × IsTrue (D.Disk.is_usable files.db)) }
+        ensures holds { IfOk result (λ files. AreClean D.Disk files.log files.db → (L : List Request) → KeepsRequests (file_state self.tables.connection) L → AreFilesOf (image_of D.Disk files) L) }
+    {
+        let DeskStore { alloc: _, tables } = self;
+        match tables.into_connection().close_files() {
+            Ok(files) => Ok(files),
+            Err((error, store)) => {
+                drop(store.close());
+                Err(fault_of(error))
+            }
+        }
+    }
+}
+
+impl<S: Start> DeskStore<FileStore<FileFrom<S>>> {
+    /// The desk in the file of that path, with its log beside it; what is missing is made. `start`
+    /// stands for what the two files hold. Otherwise it is as `open_files`; nothing is left of files
+    /// that could not be opened.
+    pub fn open(
+        rt: &HostRuntime,
+        path: &str,
+        start: S,
+    ) -> Result<DeskStore<FileStore<FileFrom<S>>>, (OpenFault, Option<Leftover<FileFrom<S>>>)>
+        ensures stands { IfOk result (λ d. HasCleanDisk (file_state d.tables.connection) → (L : List Request) → AreFilesOf (image_at S.Start) L → KeepsRequests (file_state d.tables.connection) L) }
+        ensures alone { IfOk result (λ d. HasCleanDisk (file_state d.tables.connection) → (L : List Request) → AreFilesOf (image_at S.Start) L → (left : Trees) → (file_state d.tables.connection).may_leave left → AreRowsOf left L) }
+        ensures fault { IfErr result (λ e. IfSome e.1 (λ left. IsCleanLeft left → (rows : DeskRows) → AreFilesWith (image_at S.Start) rows → IsFaultFor rows e.0)) }
+    {
+        same_trees_hold_the_same_rows();
+        let connection = match Connection::open_from(rt, path, false, start) {
+            Ok(connection) => connection,
+            Err((error, left)) => return Err((OpenFault::Store(fault_of(error)), left)),
+        };
+        match DeskStore::over(rt.alloc(), connection) {
+            Ok(desk) => Ok(desk),
+            Err((fault, connection)) => {
+                Err((fault, Some(Leftover::Store(connection.into_store()))))
+            }
+        }
+    }
+}
+
+impl<S: Alter> Desk for DeskStore<S> {
+    ghost use Rattle.std.specs.Prelude.{⊤};
+    ghost use Rattle.sqlite.specs.Held.{state};
+    ghost use Rattle.sqlite.specs.State.{HasCleanDisk};
+    ghost use Rattle.desk_store.specs.Desks.{KeepsRequests};
+    ghost use Rattle.desk_store.specs.ContentLemmas.{keeps_by_content};
+
+    ghost is_sound = { λ d. HasCleanDisk (state S.Store d.tables.connection) };
+
+    ghost stands_for = { λ d L. KeepsRequests (state S.Store d.tables.connection) L };
+
+    ghost may_give = { λ f. ⊤ };
+
+    ghost by_content = { λ d L M same keeps. keeps_by_content _ _ _ _ L M same keeps };
+
+    fn agree(&mut self, agreement: &Agreement) -> Result<AgreeAnswer, StoreFault>
+        ensures asked { IsAsked (Request.Agree agreement.now) (λ L. agree_answer L agreement.now)
+            (state S.Store self.old.tables.connection) (state S.Store self.new.tables.connection) result }
+    {
+        ask_agree(&mut self.tables, agreement)
+    }
+
+    fn deliver(&mut self, records: &Records<'_>) -> Result<DeliveryAnswer, StoreFault>
+        ensures asked { IsAsked (Request.Deliver records.now) (λ L. delivery_answer L records.now)
+            (state S.Store self.old.tables.connection) (state S.Store self.new.tables.connection) result }
+    {
+        ask_deliver(self.alloc, &mut self.tables, records)
+    }
+
+    fn waive(&mut self, series: &SeriesName, number: Number) -> Result<WaiveAnswer, StoreFault>
+        ensures asked { IsAsked (Request.Waive series.now number) (λ L. waive_answer L series.now number)
+            (state S.Store self.old.tables.connection) (state S.Store self.new.tables.connection) result }
+    {
+        ask_waive(self.alloc, &mut self.tables, series, number)
+    }
+
+    fn offers_of(&mut self, isbn: &Isbn13) -> Result<Items<Offer>, StoreFault>
+        ensures left { (L : List Request) → KeepsRequests (state S.Store self.old.tables.connection) L → HasCleanDisk (state S.Store self.new.tables.connection) → KeepsRequests (state S.Store self.new.tables.connection) L }
+        ensures questioned { IsQuestioned (λ L. offers_after L isbn.now)
+            (state S.Store self.old.tables.connection) (state S.Store self.new.tables.connection) result }
+    {
+        ask_offers(&mut self.tables, isbn)
+    }
+
+    fn gaps(&mut self, series: &SeriesName) -> Result<Option<GapReport>, StoreFault>
+        ensures left { (L : List Request) → KeepsRequests (state S.Store self.old.tables.connection) L → HasCleanDisk (state S.Store self.new.tables.connection) → KeepsRequests (state S.Store self.new.tables.connection) L }
+        ensures questioned { IsQuestioned (λ L. gaps_answer L series.now)
+            (state S.Store self.old.tables.connection) (state S.Store self.new.tables.connection) result }
+    {
+        ask_gaps(self.alloc, &mut self.tables, series)
+    }
+
+    fn catalogue(&mut self, series: &SeriesName) -> Result<Option<Catalogue>, StoreFault>
+        ensures left { (L : List Request) → KeepsRequests (state S.Store self.old.tables.connection) L → HasCleanDisk (state S.Store self.new.tables.connection) → KeepsRequests (state S.Store self.new.tables.connection) L }
+        ensures questioned { IsQuestioned (λ L. catalogue_answer L series.now)
+            (state S.Store self.old.tables.connection) (state S.Store self.new.tables.connection) result }
+    {
+        ask_catalogue(self.alloc, &mut self.tables, series)
+    }
+}

@@ -1,0 +1,148 @@
+// Questions, each in a transaction that is let go.
+
+ghost use Rattle.std.specs.Prelude.{◌≡◌, IfOk, IsTrue};
+ghost use Rattle.sqlite.specs.Held.{state};
+ghost use Rattle.catalogue_store.specs.Achieves.{Achieves};
+ghost use Rattle.desk_store.specs.Desks.{IsQuestioned, Reports, Tells};
+ghost use Rattle.series_rules.specs.Answers.{catalogue_answer, gaps_answer};
+ghost use Rattle.series_rules.specs.Gaps.{AreRisingFrom};
+ghost use Rattle.series_rules.specs.Offers.{offers_after};
+
+use catalogue_rules::catalogue::Catalogue;
+use catalogue_store::catalogues::read_catalogue;
+use desk_tables::series::SeriesRow;
+use desk_tables::tables::Tables;
+use desk_tables::work::Work;
+use onix_message::agreement::StoreFault;
+use onix_terms::isbn13::Isbn13;
+use onix_terms::items::Items;
+use onix_terms::number::Number;
+use onix_terms::series_name::SeriesName;
+use price_rules::offer::Offer;
+use series_rules::answers::GapReport;
+use series_rules::gaps::gap_report;
+use sqlite::Alter;
+use std::alloc::{AllocError, Global};
+
+// The catalogue of a series, or `None` where no agreement has the name.
+fn catalogue_in<S: Alter>(
+    alloc: Global,
+    work: &mut Work<'_, S>,
+    series: &SeriesName,
+) -> Result<Option<Catalogue>, StoreFault>
+    ensures same_reference { work.new.tables.ghost_name ≡ work.old.tables.ghost_name }
+    ensures achieves { Achieves (Tells (λ L. catalogue_answer L series.now))
+        (state S.Store work.old.tables.now.connection) (state S.Store work.new.tables.now.connection) result }
+{
+    let found = match work.series_by_name(series) {
+        Ok(found) => found,
+        Err(fault) => return Err(fault),
+    };
+    let Some(_row) = &found else {
+        return Ok(None);
+    };
+    match read_catalogue(alloc, work, series) {
+        Ok(catalogue) => Ok(Some(catalogue)),
+        Err(fault) => Err(fault),
+    }
+}
+
+/// Asks for the catalogue of a series.
+pub(crate) fn ask_catalogue<S: Alter>(
+    alloc: Global,
+    tables: &mut Tables<S>,
+    series: &SeriesName,
+) -> Result<Option<Catalogue>, StoreFault>
+    ensures { IsQuestioned (λ L. catalogue_answer L series.now)
+        (state S.Store tables.old.connection) (state S.Store tables.new.connection) result }
+{
+    let mut work = tables.work()?;
+    catalogue_in(alloc, &mut work, series)
+}
+
+/// Asks for the offers of an article.
+pub(crate) fn ask_offers<S: Alter>(
+    tables: &mut Tables<S>,
+    isbn: &Isbn13,
+) -> Result<Items<Offer>, StoreFault>
+    ensures { IsQuestioned (λ L. offers_after L isbn.now)
+        (state S.Store tables.old.connection) (state S.Store tables.new.connection) result }
+{
+    let mut work = tables.work()?;
+    work.offers_by_article(isbn)
+}
+
+// The numbers rise, from the first one on.
+fn are_rising(from: u32, numbers: &[Number]) -> bool
+    ensures { IsTrue result → AreRisingFrom from numbers.now }
+{
+    let mut least = from;
+    for number in numbers {
+        if number.value() < least {
+            return false;
+        }
+        least = number.value() + 1;
+    }
+    true
+}
+
+// The report on the series of a row whose held numbers are these. `Unusable` where the numbers are
+// those of no series.
+fn report_of(
+    alloc: Global,
+    series: SeriesName,
+    row: &SeriesRow,
+    held: &[Number],
+) -> Result<GapReport, StoreFault>
+    ensures { IfOk result (λ report. AreRisingFrom row.now.next held.now × Reports series row.now.agreement.first row.now.next held.now report) }
+{
+    let first = row.agreement.first;
+    let next = row.next;
+    if next < first.value() || next > 1_000_000_000 || !are_rising(next, held) {
+        return Err(StoreFault::Unusable);
+    }
+    match gap_report(alloc, series, first, next, held) {
+        Ok(report) => Ok(report),
+        Err(AllocError) => Err(StoreFault::Memory),
+    }
+}
+
+// Which numbers a series lacks, or `None` where no agreement has the name.
+fn gaps_in<S: Alter>(
+    alloc: Global,
+    work: &mut Work<'_, S>,
+    series: &SeriesName,
+) -> Result<Option<GapReport>, StoreFault>
+    ensures same_reference { work.new.tables.ghost_name ≡ work.old.tables.ghost_name }
+    ensures achieves { Achieves (Tells (λ L. gaps_answer L series.now))
+        (state S.Store work.old.tables.now.connection) (state S.Store work.new.tables.now.connection) result }
+{
+    let found = match work.series_by_name(series) {
+        Ok(found) => found,
+        Err(fault) => return Err(fault),
+    };
+    let Some(row) = &found else {
+        return Ok(None);
+    };
+    let held = match work.gap_rows(series) {
+        Ok(held) => held,
+        Err(fault) => return Err(fault),
+    };
+    match report_of(alloc, *series, row, held.as_slice()) {
+        Ok(report) => Ok(Some(report)),
+        Err(fault) => Err(fault),
+    }
+}
+
+/// Asks which numbers a series lacks.
+pub(crate) fn ask_gaps<S: Alter>(
+    alloc: Global,
+    tables: &mut Tables<S>,
+    series: &SeriesName,
+) -> Result<Option<GapReport>, StoreFault>
+    ensures { IsQuestioned (λ L. gaps_answer L series.now)
+        (state S.Store tables.old.connection) (state S.Store tables.new.connection) result }
+{
+    let mut work = tables.work()?;
+    gaps_in(alloc, &mut work, series)
+}

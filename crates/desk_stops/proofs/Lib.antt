@@ -1,0 +1,4 @@
+pub mod RunLemmas
+pub mod WholeLists
+pub mod ConnectionLaws
+pub mod ClauseLemmas

@@ -1,0 +1,5 @@
+pub mod Events
+pub mod Runs
+pub mod Effective
+pub mod Connections
+pub mod Clauses

@@ -1,0 +1,42 @@
+//! Laws that tie the runs to what the desk's methods promise: each clause of theirs is what an event
+//! of a run asks for.
+
+ghost use Rattle.std.specs.Prelude.{List};
+ghost use Rattle.desk_stops.specs.Clauses.{ClosingsAreEvents, OpeningsAreEvents, QuestionsAreEvents, RequestsAreEvents, StopsAreEvents, UnaskedAreEvents};
+ghost use Rattle.price_rules.specs.declared.precedence.Rule.{Rule};
+
+use sqlite::Alter;
+use sqlite_disk::Disk;
+
+/// What `agree`, `deliver` and `waive` promise makes each answer, and each fault, an event of a run.
+pub fn requests_are_events<S: Alter>()
+    ensures { (rules : List Rule) → RequestsAreEvents S.Store rules }
+{}
+
+/// So does what `offers_of`, `gaps` and `catalogue` promise, with each answer that is made of what
+/// they give, and with a fault after they gave it.
+pub fn questions_are_events<S: Alter>()
+    ensures { (rules : List Rule) → QuestionsAreEvents S.Store rules }
+{}
+
+/// A request that was answered or faulted before the desk was asked is an event too.
+pub fn unasked_are_events<S: Alter>()
+    ensures { (rules : List Rule) → UnaskedAreEvents S.Store rules }
+{}
+
+/// What the opening of a desk promises makes it an event of a run, with a desk or without one.
+pub fn openings_are_events<S: Alter>()
+    ensures { (rules : List Rule) → OpeningsAreEvents S.Store rules }
+{}
+
+/// What the closing of a desk's files promises makes it an event of a run, where the next opening
+/// is of these files. A closing that fails, or that a stop comes into, is a stop.
+pub fn closings_are_events<D: Disk>()
+    ensures { (rules : List Rule) → ClosingsAreEvents D.Disk rules }
+{}
+
+/// What a stop leaves of a desk's files makes it an event of a run: a connection that is opened on
+/// them finds one of the databases that the stop may leave.
+pub fn stops_are_events<D: Disk, E: Disk>()
+    ensures { (rules : List Rule) → StopsAreEvents D.Disk E.Disk rules }
+{}

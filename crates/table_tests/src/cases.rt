@@ -1,14 +1,15 @@
 // The tests, each by its name.
 
 use crate::calls::calls;
+use crate::little_memory::{calls_again, migrates_again};
 use crate::migration::migration;
 use crate::refusals::refusals;
 use crate::strangers::{has_no_offers, has_no_series, has_no_version, has_version, makes_tables};
 use desk_tables::tables::Tables;
+use onix_message::agreement::StoreFault;
 use sqlite::Alter;
 use std::alloc::Global;
 use std::process::Abort;
-use std::test::Fail;
 
 #[derive(Clone, Copy)]
 pub enum Case {
@@ -28,6 +29,10 @@ pub enum Case {
     NoOffers,
     /// The series cannot be read.
     NoSeries,
+    /// Each call, once more where memory was refused.
+    LittleMemory,
+    /// From version 1 to version 2, once more where memory was refused.
+    MigrationAgain,
 }
 
 /// Runs a test on these tables.
@@ -36,7 +41,7 @@ pub fn run<S: Alter>(
     rt: &impl Abort,
     tables: &mut Tables<S>,
     case: Case,
-) -> Result<(), Fail> {
+) -> Result<(), StoreFault> {
     match case {
         Case::Calls => calls(alloc, rt, tables),
         Case::Refusals => refusals(alloc, rt, tables),
@@ -46,5 +51,7 @@ pub fn run<S: Alter>(
         Case::MakesTables => makes_tables(alloc, rt, tables),
         Case::NoOffers => has_no_offers(alloc, rt, tables),
         Case::NoSeries => has_no_series(alloc, rt, tables),
+        Case::LittleMemory => calls_again(alloc, rt, tables),
+        Case::MigrationAgain => migrates_again(rt, tables),
     }
 }

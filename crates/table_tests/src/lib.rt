@@ -1,7 +1,7 @@
 //! Tests of `desk_tables` by its public calls: the calls over the store in memory and over files on
-//! disks in memory, what is refused, databases with tables of strangers, and the way from version 1
-//! to version 2. They stand in a crate of their
-//! own, since a library with tests is proved once more with them.
+//! disks in memory, files that are opened again, disks that fail, memory that is refused, what is
+//! refused, databases with tables of strangers, and the way from version 1 to version 2. They stand in
+//! a crate of their own, since a library with tests is proved once more with them.
 #![tactic(auto)]
 
 #[cfg(test)]
@@ -9,7 +9,13 @@ mod calls;
 #[cfg(test)]
 mod cases;
 #[cfg(test)]
+mod failing_disks;
+#[cfg(test)]
+mod little_memory;
+#[cfg(test)]
 mod migration;
+#[cfg(test)]
+mod queries;
 #[cfg(test)]
 mod refusals;
 #[cfg(test)]

@@ -1,7 +1,7 @@
 // Tables of version 1, made by the test's own statements, are taken to version 2.
 
-use crate::calls::{finds_offer, has_offer, has_prices};
 use crate::cases::Case;
+use crate::queries::{finds_offer, has_offer, has_prices};
 use crate::sample::{expect, name, number, put_price};
 use crate::stores::{Before, over_memory};
 use desk_tables::tables::Tables;
@@ -12,7 +12,7 @@ use std::alloc::Global;
 use std::process::Abort;
 use std::test::Fail;
 
-const VERSION_1: &str = "
+pub const VERSION_1: &str = "
 CREATE TABLE meta (item TEXT NOT NULL PRIMARY KEY, amount INTEGER NOT NULL) STRICT;
 CREATE TABLE series (name TEXT NOT NULL PRIMARY KEY, sender_type TEXT NOT NULL, sender_value TEXT NOT NULL, addressee_type TEXT NOT NULL, addressee_value TEXT NOT NULL, first_number INTEGER NOT NULL, next_number INTEGER NOT NULL, UNIQUE (sender_type, sender_value, addressee_type, addressee_value)) STRICT;
 CREATE TABLE held (series TEXT NOT NULL REFERENCES series (name), number INTEGER NOT NULL, contents TEXT NOT NULL, PRIMARY KEY (series, number)) STRICT;
@@ -45,39 +45,43 @@ fn migrates_again<S: Alter>(tables: &mut Tables<S>) -> Result<bool, StoreFault> 
     Ok(matches!(work.migrate(), Err(StoreFault::Unusable)))
 }
 
-fn has_next<S: Alter>(work: &mut Work<'_, S>) -> Result<bool, Fail> {
+fn has_next<S: Alter>(work: &mut Work<'_, S>) -> Result<bool, StoreFault> {
     match work.series_by_name(&name("north")?)? {
         Some(series) => Ok(series.next == 2),
         None => Ok(false),
     }
 }
 
-fn has_held<S: Alter>(work: &mut Work<'_, S>) -> Result<bool, Fail> {
+fn has_held<S: Alter>(work: &mut Work<'_, S>) -> Result<bool, StoreFault> {
     match work.next_held(&name("north")?, number("5")?)? {
         Some(held) => Ok(held.as_str() == "later"),
         None => Ok(false),
     }
 }
 
-fn has_applied<S: Alter>(work: &mut Work<'_, S>) -> Result<bool, Fail> {
+fn has_applied<S: Alter>(work: &mut Work<'_, S>) -> Result<bool, StoreFault> {
     match work.applied_at(&name("north")?, number("1")?)? {
         Some((text, counts)) => Ok(text.as_str() == "first" && counts.replaced == 1),
         None => Ok(false),
     }
 }
 
-fn takes_minimum<S: Alter>(alloc: Global, work: &mut Work<'_, S>) -> Result<bool, Fail> {
-    put_price(alloc, work, 1, 2, 10)??;
+fn takes_minimum<S: Alter>(alloc: Global, work: &mut Work<'_, S>) -> Result<bool, StoreFault> {
+    put_price(alloc, work, 1, 2, 10)?;
     has_prices(alloc, work, &[1, 10])
 }
 
-fn holds<S: Alter>(alloc: Global, rt: &impl Abort, work: &mut Work<'_, S>) -> Result<(), Fail> {
+fn holds<S: Alter>(
+    alloc: Global,
+    rt: &impl Abort,
+    work: &mut Work<'_, S>,
+) -> Result<(), StoreFault> {
     expect(rt, has_next(work)?, "the next number");
     expect(rt, has_held(work)?, "a held number");
     expect(rt, has_applied(work)?, "an applied number");
     expect(rt, has_offer(alloc, work)?, "the offer");
     expect(rt, has_prices(alloc, work, &[1])?, "the price");
-    expect(rt, finds_offer(alloc, work, 1)?, "the article");
+    expect(rt, finds_offer(alloc, work, &[1])?, "the article");
     expect(rt, takes_minimum(alloc, work)?, "a minimum");
     Ok(())
 }
@@ -87,7 +91,7 @@ pub fn migration<S: Alter>(
     alloc: Global,
     rt: &impl Abort,
     tables: &mut Tables<S>,
-) -> Result<(), Fail> {
+) -> Result<(), StoreFault> {
     expect(rt, migrates(tables)?, "the version");
     expect(rt, migrates_again(tables)?, "a second time");
     let mut work = tables.work()?;

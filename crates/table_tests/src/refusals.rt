@@ -1,7 +1,7 @@
 // What is refused, and that it changes nothing.
 
-use crate::calls::{has_offer, has_prices};
 use crate::cases::Case;
+use crate::queries::has_sample;
 use crate::sample::{
     CONTENTS, EFFECT, expect, name, number, put_article, put_offer, put_price, put_series,
 };
@@ -23,10 +23,10 @@ fn refused_number<S: Alter>(
     alloc: Global,
     work: &mut Work<'_, S>,
     case: &str,
-) -> Result<bool, Fail> {
+) -> Result<bool, StoreFault> {
     let outcome = match case {
-        "a name that is taken" => put_series(alloc, work, "north", "1")?,
-        "parties that are taken" => { put_series(alloc, work, "south", "4012345000009")? },
+        "a name that is taken" => put_series(alloc, work, "north", "1"),
+        "parties that are taken" => { put_series(alloc, work, "south", "4012345000009") },
         "a held number" => work.put_held(&name("north")?, number("1")?, "other"),
         "an applied number" => work.put_applied(&name("north")?, number("2")?, "other", &EFFECT),
         "held of no series" => work.put_held(&name("west")?, number("1")?, CONTENTS),
@@ -41,41 +41,36 @@ fn refused_number<S: Alter>(
 }
 
 // The same for what a record has.
-fn refused_part<S: Alter>(alloc: Global, work: &mut Work<'_, S>, case: &str) -> Result<bool, Fail> {
+fn refused_part<S: Alter>(
+    alloc: Global,
+    work: &mut Work<'_, S>,
+    case: &str,
+) -> Result<bool, StoreFault> {
     let outcome = match case {
         "a record of no series" => work.put_record(&name("west")?, "R1"),
-        "an article's place" => put_article(alloc, work, "R1", 1, "03")?,
-        "an article of no record" => put_article(alloc, work, "R2", 1, "03")?,
-        "an offer's place" => put_offer(alloc, work, "R1")?,
-        "an offer of no record" => put_offer(alloc, work, "R2")?,
-        "a price's place" => put_price(alloc, work, 1, 2, 1)?,
-        "a price of no offer" => put_price(alloc, work, 2, 1, 10)?,
+        "an article's place" => put_article(alloc, work, "R1", 1, "03"),
+        "an article of no record" => put_article(alloc, work, "R2", 1, "03"),
+        "an offer's place" => put_offer(alloc, work, "R1"),
+        "an offer of no record" => put_offer(alloc, work, "R2"),
+        "a price's place" => put_price(alloc, work, 1, 2, 1),
+        "a price of no offer" => put_price(alloc, work, 2, 1, 10),
         _ => Ok(()),
     };
     Ok(is_unusable(outcome))
 }
 
-fn has_numbers<S: Alter>(work: &mut Work<'_, S>) -> Result<bool, Fail> {
-    let series = work.series_rows()?;
-    let count = series.len();
-    drop(series);
-    let held = work.next_held(&name("north")?, number("1")?)?;
-    Ok(count == 1 && held.is_some())
-}
-
 // The rows are those of the sample.
-fn is_as_before<S: Alter>(alloc: Global, tables: &mut Tables<S>) -> Result<bool, Fail> {
+fn is_as_before<S: Alter>(alloc: Global, tables: &mut Tables<S>) -> Result<bool, StoreFault> {
     let mut work = tables.work()?;
-    Ok(
-        work.version()? == Some(2)
-            && has_numbers(&mut work)?
-            && has_offer(alloc, &mut work)?
-            && has_prices(alloc, &mut work, &[1, 10])?,
-    )
+    has_sample(alloc, &mut work)
 }
 
 // The call is refused, and so is each later one, `commit` too.
-fn refuses<S: Alter>(alloc: Global, tables: &mut Tables<S>, case: &str) -> Result<bool, Fail> {
+fn refuses<S: Alter>(
+    alloc: Global,
+    tables: &mut Tables<S>,
+    case: &str,
+) -> Result<bool, StoreFault> {
     let mut work = tables.work()?;
     work.delete_offers(&name("north")?, "R9")?;
     let refused = refused_number(alloc, &mut work, case)? || refused_part(alloc, &mut work, case)?;
@@ -83,21 +78,20 @@ fn refuses<S: Alter>(alloc: Global, tables: &mut Tables<S>, case: &str) -> Resul
     Ok(refused && next && is_unusable(work.commit()))
 }
 
-fn changes<S: Alter>(alloc: Global, tables: &mut Tables<S>) -> Result<(), Fail> {
+fn changes<S: Alter>(alloc: Global, tables: &mut Tables<S>) -> Result<(), StoreFault> {
     let mut work = tables.work()?;
-    put_series(alloc, &mut work, "south", "1")??;
+    put_series(alloc, &mut work, "south", "1")?;
     work.delete_record(&name("north")?, "R1")?;
     Ok(())
 }
 
-fn changes_nothing<S: Alter>(tables: &mut Tables<S>) -> Result<(), Fail> {
+fn changes_nothing<S: Alter>(tables: &mut Tables<S>) -> Result<(), StoreFault> {
     let mut work = tables.work()?;
     work.set_next(&name("west")?, 7)?;
     work.delete_articles(&name("north")?, "R2")?;
     work.delete_offers(&name("north")?, "R2")?;
     work.delete_record(&name("north")?, "R2")?;
-    work.commit()?;
-    Ok(())
+    work.commit()
 }
 
 /// What is refused changes nothing, nor does what is let go without `commit`, nor what is not there.
@@ -105,7 +99,7 @@ pub fn refusals<S: Alter>(
     alloc: Global,
     rt: &impl Abort,
     tables: &mut Tables<S>,
-) -> Result<(), Fail> {
+) -> Result<(), StoreFault> {
     for case in [
         "a name that is taken",
         "parties that are taken",

@@ -13,12 +13,11 @@ use onix_terms::number::Number;
 use onix_terms::party::Party;
 use onix_terms::quantity::Quantity;
 use onix_terms::series_name::SeriesName;
-use onix_terms::territory::Territory;
+use onix_terms::territory::{TermFault, Territory};
 use onix_terms::text::Text;
 use sqlite::Alter;
 use std::alloc::Global;
 use std::process::Abort;
-use std::test::Fail;
 
 pub const CONTENTS: &str =
     "Product,R1,03,15,9781234567897\nProductSupply,GB IE,,\nSupplyDetail,04,06,4012345000009,North Books,21,\nPrice,02,12.990,GBP,,WORLD,,,\n";
@@ -38,30 +37,53 @@ pub fn expect(rt: &impl Abort, holds: bool, case: &str) {
     }
 }
 
-pub fn name(text: &str) -> Result<SeriesName, Fail> {
-    Ok(SeriesName::read(text).ok_or("name")?)
+// A term of the sample. Where its text is none the fault is `Size`, which no call gives here.
+fn term<T>(term: Option<T>) -> Result<T, StoreFault> {
+    match term {
+        Some(term) => Ok(term),
+        None => Err(StoreFault::Size),
+    }
 }
 
-pub fn number(text: &str) -> Result<Number, Fail> {
-    Ok(Number::read(text).ok_or("number")?)
+pub fn name(text: &str) -> Result<SeriesName, StoreFault> {
+    term(SeriesName::read(text))
 }
 
-pub fn isbn(text: &str) -> Result<Isbn13, Fail> {
-    Ok(Isbn13::read(text).ok_or("isbn")?)
+pub fn number(text: &str) -> Result<Number, StoreFault> {
+    term(Number::read(text))
 }
 
-fn code(text: &str) -> Result<Code2, Fail> {
-    Ok(Code2::read(text).ok_or("code")?)
+pub fn isbn(text: &str) -> Result<Isbn13, StoreFault> {
+    term(Isbn13::read(text))
 }
 
-fn party(alloc: Global, value: &str) -> Result<Party, Fail> {
+fn code(text: &str) -> Result<Code2, StoreFault> {
+    term(Code2::read(text))
+}
+
+pub fn text(alloc: Global, text: &str) -> Result<Text, StoreFault> {
+    match Text::from_str(alloc, text) {
+        Ok(text) => Ok(text),
+        Err(_) => Err(StoreFault::Memory),
+    }
+}
+
+fn territory(alloc: Global, included: &str, regions: &str) -> Result<Territory, StoreFault> {
+    match Territory::read(alloc, included, regions, "") {
+        Ok(territory) => Ok(territory),
+        Err(TermFault::Memory) => Err(StoreFault::Memory),
+        Err(TermFault::NotATerm) => Err(StoreFault::Size),
+    }
+}
+
+fn party(alloc: Global, value: &str) -> Result<Party, StoreFault> {
     Ok(Party {
         id_type: code("06")?,
-        id_value: Text::from_str(alloc, value)?,
+        id_value: text(alloc, value)?,
     })
 }
 
-pub fn agreement(alloc: Global, series: &str, sender: &str) -> Result<Agreement, Fail> {
+pub fn agreement(alloc: Global, series: &str, sender: &str) -> Result<Agreement, StoreFault> {
     Ok(Agreement {
         name: name(series)?,
         sender: party(alloc, sender)?,
@@ -75,31 +97,31 @@ pub fn article(
     reference: &str,
     place: u32,
     id_type: &str,
-) -> Result<ArticleRow, Fail> {
+) -> Result<ArticleRow, StoreFault> {
     Ok(ArticleRow {
         series: name("north")?,
-        reference: Text::from_str(alloc, reference)?,
+        reference: text(alloc, reference)?,
         id_place: place,
         id_type: code(id_type)?,
-        id_value: Text::from_str(alloc, "9781234567897")?,
+        id_value: text(alloc, "9781234567897")?,
     })
 }
 
-fn supplier(alloc: Global) -> Result<Supplier, Fail> {
+fn supplier(alloc: Global) -> Result<Supplier, StoreFault> {
     Ok(Supplier {
         role: code("04")?,
         party: Some(party(alloc, "4012345000009")?),
-        name: Text::from_str(alloc, "North Books")?,
+        name: text(alloc, "North Books")?,
     })
 }
 
-pub fn offer(alloc: Global, reference: &str, place: u32) -> Result<OfferRow, Fail> {
+pub fn offer(alloc: Global, reference: &str, place: u32) -> Result<OfferRow, StoreFault> {
     Ok(OfferRow {
         series: name("north")?,
-        reference: Text::from_str(alloc, reference)?,
+        reference: text(alloc, reference)?,
         place,
         supply: 1,
-        market: Territory::read(alloc, "GB IE", "", "")?,
+        market: territory(alloc, "GB IE", "")?,
         supplier: supplier(alloc)?,
         availability: code("21")?,
         unpriced: None,
@@ -107,22 +129,27 @@ pub fn offer(alloc: Global, reference: &str, place: u32) -> Result<OfferRow, Fai
 }
 
 /// The price 12.99 from so many copies on.
-fn price_from(alloc: Global, minimum: u32) -> Result<Price, Fail> {
+pub fn price_from(alloc: Global, minimum: u32) -> Result<Price, StoreFault> {
     Ok(Price {
         price_type: code("02")?,
-        amount: Amount::read("12.99").ok_or("amount")?,
-        currency: Currency::read("GBP").ok_or("currency")?,
-        territory: Territory::read(alloc, "", "WORLD", "")?,
-        minimum: Quantity::from_value(minimum).ok_or("minimum")?,
+        amount: term(Amount::read("12.99"))?,
+        currency: term(Currency::read("GBP"))?,
+        territory: territory(alloc, "", "WORLD")?,
+        minimum: term(Quantity::from_value(minimum))?,
         from: None,
         until: None,
     })
 }
 
-pub fn price(alloc: Global, place: u32, price_place: u32, minimum: u32) -> Result<PriceRow, Fail> {
+pub fn price(
+    alloc: Global,
+    place: u32,
+    price_place: u32,
+    minimum: u32,
+) -> Result<PriceRow, StoreFault> {
     Ok(PriceRow {
         series: name("north")?,
-        reference: Text::from_str(alloc, "R1")?,
+        reference: text(alloc, "R1")?,
         place,
         price_place,
         price: price_from(alloc, minimum)?,
@@ -156,11 +183,11 @@ pub fn put_series<S: Alter>(
     work: &mut Work<'_, S>,
     series: &str,
     sender: &str,
-) -> Result<Result<(), StoreFault>, Fail> {
+) -> Result<(), StoreFault> {
     let row = agreement(alloc, series, sender)?;
     let put = work.put_series(&row);
     drop(row);
-    Ok(put)
+    put
 }
 
 pub fn put_article<S: Alter>(
@@ -169,22 +196,22 @@ pub fn put_article<S: Alter>(
     reference: &str,
     place: u32,
     id_type: &str,
-) -> Result<Result<(), StoreFault>, Fail> {
+) -> Result<(), StoreFault> {
     let row = article(alloc, reference, place, id_type)?;
     let put = work.put_article(&row);
     drop(row);
-    Ok(put)
+    put
 }
 
 pub fn put_offer<S: Alter>(
     alloc: Global,
     work: &mut Work<'_, S>,
     reference: &str,
-) -> Result<Result<(), StoreFault>, Fail> {
+) -> Result<(), StoreFault> {
     let row = offer(alloc, reference, 1)?;
     let put = work.put_offer(&row);
     drop(row);
-    Ok(put)
+    put
 }
 
 pub fn put_price<S: Alter>(
@@ -193,36 +220,47 @@ pub fn put_price<S: Alter>(
     place: u32,
     price_place: u32,
     minimum: u32,
-) -> Result<Result<(), StoreFault>, Fail> {
+) -> Result<(), StoreFault> {
     let row = price(alloc, place, price_place, minimum)?;
     let put = work.put_price(&row);
     drop(row);
-    Ok(put)
+    put
 }
 
 // The rows of a record, with a second price from ten copies on.
-fn put_record_rows<S: Alter>(alloc: Global, work: &mut Work<'_, S>) -> Result<(), Fail> {
+fn put_record_rows<S: Alter>(alloc: Global, work: &mut Work<'_, S>) -> Result<(), StoreFault> {
     work.put_record(&name("north")?, "R1")?;
-    put_article(alloc, work, "R1", 1, "15")??;
-    put_offer(alloc, work, "R1")??;
-    put_price(alloc, work, 1, 1, 1)??;
-    put_price(alloc, work, 1, 2, 10)??;
+    put_article(alloc, work, "R1", 1, "15")?;
+    put_offer(alloc, work, "R1")?;
+    put_price(alloc, work, 1, 1, 1)?;
+    put_price(alloc, work, 1, 2, 10)?;
     Ok(())
 }
 
-fn put_rows<S: Alter>(alloc: Global, work: &mut Work<'_, S>) -> Result<(), Fail> {
-    work.create()?;
-    put_series(alloc, work, "north", "4012345000009")??;
+fn put_rows<S: Alter>(alloc: Global, work: &mut Work<'_, S>) -> Result<(), StoreFault> {
+    put_series(alloc, work, "north", "4012345000009")?;
     work.put_held(&name("north")?, number("1")?, CONTENTS)?;
     work.put_applied(&name("north")?, number("2")?, CONTENTS, &EFFECT)?;
     put_record_rows(alloc, work)
 }
 
-/// Makes the tables in one transaction, with the series, the message held at 1 and applied at 2, and
-/// its record.
-pub fn fill<S: Alter>(alloc: Global, tables: &mut Tables<S>) -> Result<(), Fail> {
+/// Makes the tables, in one transaction.
+pub fn make<S: Alter>(tables: &mut Tables<S>) -> Result<(), StoreFault> {
+    let mut work = tables.work()?;
+    work.create()?;
+    work.commit()
+}
+
+/// Puts the rows of the sample into tables without rows, in one transaction: the series, the message
+/// held at 1 and applied at 2, and its record.
+pub fn put_sample<S: Alter>(alloc: Global, tables: &mut Tables<S>) -> Result<(), StoreFault> {
     let mut work = tables.work()?;
     put_rows(alloc, &mut work)?;
-    work.commit()?;
-    Ok(())
+    work.commit()
+}
+
+/// Makes the tables and puts the rows of the sample.
+pub fn fill<S: Alter>(alloc: Global, tables: &mut Tables<S>) -> Result<(), StoreFault> {
+    make(tables)?;
+    put_sample(alloc, tables)
 }

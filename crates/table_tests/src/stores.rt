@@ -31,7 +31,7 @@ fn put_sample<S: Alter>(
     before: Before<'_>,
 ) -> Result<(), Fail> {
     if before.has_sample {
-        return fill(alloc, tables);
+        fill(alloc, tables)?;
     }
     Ok(())
 }
@@ -44,7 +44,7 @@ fn run_over<S: Alter + Drop>(
 ) -> Result<(), Fail> {
     let outcome = run(alloc, rt, &mut tables, case);
     drop(tables);
-    outcome
+    Ok(outcome?)
 }
 
 fn run_after<S: Alter + Drop>(

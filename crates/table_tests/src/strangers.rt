@@ -10,7 +10,7 @@ use std::alloc::Global;
 use std::process::Abort;
 use std::test::Fail;
 
-fn version<S: Alter>(tables: &mut Tables<S>) -> Result<Option<u32>, StoreFault> {
+pub fn version<S: Alter>(tables: &mut Tables<S>) -> Result<Option<u32>, StoreFault> {
     let mut work = tables.work()?;
     work.version()
 }
@@ -20,7 +20,7 @@ pub fn has_version<S: Alter>(
     rt: &impl Abort,
     tables: &mut Tables<S>,
     wanted: Option<u32>,
-) -> Result<(), Fail> {
+) -> Result<(), StoreFault> {
     expect(rt, version(tables)? == wanted, "a version");
     Ok(())
 }
@@ -29,7 +29,7 @@ pub fn has_no_version<S: Alter>(
     alloc: Global,
     rt: &impl Abort,
     tables: &mut Tables<S>,
-) -> Result<(), Fail> {
+) -> Result<(), StoreFault> {
     expect(
         rt,
         matches!(version(tables), Err(StoreFault::Unusable)),
@@ -48,26 +48,26 @@ pub fn makes_tables<S: Alter>(
     alloc: Global,
     rt: &impl Abort,
     tables: &mut Tables<S>,
-) -> Result<(), Fail> {
+) -> Result<(), StoreFault> {
     made(tables)?;
     expect(rt, version(tables)? == Some(2), "tables that were made");
     Ok(())
 }
 
-fn lists_offers<S: Alter>(tables: &mut Tables<S>) -> Result<Result<(), StoreFault>, Fail> {
+fn lists_offers<S: Alter>(tables: &mut Tables<S>) -> Result<(), StoreFault> {
     let series = name("north")?;
     let mut work = tables.work()?;
-    Ok(work.offer_rows(&series).map(drop))
+    work.offer_rows(&series).map(drop)
 }
 
 pub fn has_no_offers<S: Alter>(
     alloc: Global,
     rt: &impl Abort,
     tables: &mut Tables<S>,
-) -> Result<(), Fail> {
+) -> Result<(), StoreFault> {
     expect(
         rt,
-        matches!(lists_offers(tables)?, Err(StoreFault::Unusable)),
+        matches!(lists_offers(tables), Err(StoreFault::Unusable)),
         "an offer that cannot be read",
     );
     Ok(())
@@ -82,7 +82,7 @@ pub fn has_no_series<S: Alter>(
     alloc: Global,
     rt: &impl Abort,
     tables: &mut Tables<S>,
-) -> Result<(), Fail> {
+) -> Result<(), StoreFault> {
     expect(
         rt,
         matches!(lists_series(tables), Err(StoreFault::Unusable)),

@@ -1,0 +1,228 @@
+// Files that are closed and opened again, and disks that fail: what two transactions leave of files
+// of which one fails from some call on.
+
+use crate::queries::{counts, has_sample};
+use crate::sample::{expect, make, put_sample};
+use desk_tables::tables::Tables;
+use desk_tables::work::Work;
+use onix_message::agreement::StoreFault;
+use sqlite::{Alter, Connection, FileStore, Files, Options};
+use sqlite_disk::{Crash, Disk, Fuse, Memory};
+use std::alloc::Global;
+use std::process::Abort;
+use std::test::Fail;
+
+// So few pages in memory, and so short a log, that pages of a transaction go to the log before its
+// commit, and the log is copied into the database file before the next one.
+const OPTIONS: Options = Options {
+    cache_pages: 8,
+    spill_pages: 8,
+    checkpoint_frames: 8,
+    seed: 1,
+};
+
+// A connection to files, or the files where they cannot be opened.
+fn connect<D: Disk + Drop>(
+    alloc: Global,
+    files: Files<D>,
+) -> Result<Connection<FileStore<D>>, Files<D>> {
+    if !files.may_be_used() {
+        return Err(files);
+    }
+    match Connection::open_files(alloc, files, OPTIONS) {
+        Ok(connection) => Ok(connection),
+        Err((_, left)) => Err(left.into_files()),
+    }
+}
+
+// Closes files, whether or not their log can be copied.
+fn disconnect<D: Disk + Drop>(connection: Connection<FileStore<D>>) -> Files<D> {
+    match connection.close_files() {
+        Ok(files) => files,
+        Err((_, store)) => store.close(),
+    }
+}
+
+// How many transactions were answered of the two that make the tables and put the rows of the
+// sample; none where a fault is not one of the disk.
+fn fill<S: Alter>(alloc: Global, tables: &mut Tables<S>) -> Option<u32> {
+    match make(tables) {
+        Ok(()) => {}
+        Err(StoreFault::Disk) => return Some(0),
+        Err(_) => return None,
+    }
+    match put_sample(alloc, tables) {
+        Ok(()) => Some(2),
+        Err(StoreFault::Disk) => Some(1),
+        Err(_) => None,
+    }
+}
+
+fn fill_and_close<D: Disk + Drop>(
+    alloc: Global,
+    mut tables: Tables<FileStore<D>>,
+) -> (Files<D>, Option<u32>) {
+    let answered = fill(alloc, &mut tables);
+    (disconnect(tables.into_connection()), answered)
+}
+
+// Opens files, does the two transactions and closes them: the files, and how many were answered.
+fn fill_files<D: Disk + Drop>(alloc: Global, files: Files<D>) -> (Files<D>, Option<u32>) {
+    match connect(alloc, files) {
+        Ok(connection) => fill_and_close(alloc, Tables::new(connection)),
+        Err(files) => (files, Some(0)),
+    }
+}
+
+// Of how many of the two the tables hold what they did, and nothing more; none where they hold
+// something else.
+fn held<S: Alter>(alloc: Global, work: &mut Work<'_, S>) -> Result<Option<u32>, StoreFault> {
+    if work.version()?.is_none() {
+        work.create()?;
+        return Ok(Some(0));
+    }
+    if counts(work)? == [0; 8] {
+        return Ok(Some(1));
+    }
+    if has_sample(alloc, work)? {
+        return Ok(Some(2));
+    }
+    Ok(None)
+}
+
+fn held_in<S: Alter + Drop>(
+    alloc: Global,
+    mut tables: Tables<S>,
+) -> Result<Option<u32>, StoreFault> {
+    let outcome = match tables.work() {
+        Ok(mut work) => held(alloc, &mut work),
+        Err(fault) => Err(fault),
+    };
+    drop(tables);
+    outcome
+}
+
+// The same of files, which are opened.
+fn held_by<D: Disk + Drop>(alloc: Global, files: Files<D>) -> Result<Option<u32>, StoreFault> {
+    match connect(alloc, files) {
+        Ok(connection) => held_in(alloc, Tables::new(connection)),
+        Err(files) => {
+            drop(files);
+            Err(StoreFault::Disk)
+        }
+    }
+}
+
+fn copy_of(alloc: Global, disk: &Fuse<Memory>) -> Result<Memory, StoreFault> {
+    let mut copy = Memory::new(alloc);
+    match copy.write_at(0, disk.inner().bytes()) {
+        Ok(()) => Ok(copy),
+        Err(_) => Err(StoreFault::Memory),
+    }
+}
+
+// The same of all that was written to files, whether or not it was synced.
+fn held_by_written(alloc: Global, files: &Files<Fuse<Memory>>) -> Result<Option<u32>, StoreFault> {
+    let log = copy_of(alloc, &files.log)?;
+    let db = copy_of(alloc, &files.db)?;
+    held_by(alloc, Files { log, db })
+}
+
+// Whether a disk has passed on all the calls that it was made for.
+fn is_blown(disk: &mut Fuse<Memory>) -> bool {
+    !disk.may_be_used() || disk.len().is_err()
+}
+
+// What came of a run over failing disks.
+#[derive(Drop)]
+struct Outcome {
+    is_blown: bool,
+    answered: Option<u32>,
+    // What the files hold where the process ended, and where the machine stopped.
+    written: Result<Option<u32>, StoreFault>,
+    synced: Result<Option<u32>, StoreFault>,
+}
+
+fn run(alloc: Global, files: Files<Fuse<Memory>>) -> Outcome {
+    let (mut files, answered) = fill_files(alloc, files);
+    let is_log_blown = is_blown(&mut files.log);
+    let is_db_blown = is_blown(&mut files.db);
+    let written = held_by_written(alloc, &files);
+    files.log.crash();
+    files.db.crash();
+    let synced = held_by(alloc, files);
+    Outcome {
+        is_blown: is_log_blown || is_db_blown,
+        answered,
+        written,
+        synced,
+    }
+}
+
+// Whether files hold what was answered, or the transaction after it as well.
+fn is_whole(held: &Result<Option<u32>, StoreFault>, answered: u32) -> bool {
+    match held {
+        Ok(Some(held)) => matches!(held.checked_sub(answered), Some(0 | 1)),
+        _ => false,
+    }
+}
+
+// Whether each transaction is there whole or not at all, and a fault had a cause.
+fn is_right(outcome: &Outcome) -> bool {
+    match outcome.answered {
+        Some(answered) if answered <= 2 => {
+            (outcome.is_blown || answered == 2)
+                && is_whole(&outcome.written, answered)
+                && is_whole(&outcome.synced, answered)
+        }
+        _ => false,
+    }
+}
+
+fn fused(alloc: Global, log_calls: u64, db_calls: u64) -> Files<Fuse<Memory>> {
+    Files {
+        log: Fuse::new(Memory::new(alloc), log_calls),
+        db: Fuse::new(Memory::new(alloc), db_calls),
+    }
+}
+
+// Fails from each call of a file on in turn, until no call is left: the log, or the database.
+fn fails_at_each_call(alloc: Global, rt: &impl Abort, of_log: bool) {
+    for calls in 0..2_000u64 {
+        let (log, db) = if of_log {
+            (calls, u64::MAX)
+        } else {
+            (u64::MAX, calls)
+        };
+        let outcome = run(alloc, fused(alloc, log, db));
+        expect(rt, is_right(&outcome), "a disk that fails");
+        if !outcome.is_blown {
+            return;
+        }
+    }
+    rt.panic("each run had too few calls");
+}
+
+#[test]
+fn failing_disks(rt: HostRuntime) -> Result<(), Fail> {
+    fails_at_each_call(rt.alloc(), &rt, true);
+    fails_at_each_call(rt.alloc(), &rt, false);
+    Ok(())
+}
+
+#[test]
+fn files_opened_again(rt: HostRuntime) -> Result<(), Fail> {
+    let alloc = rt.alloc();
+    let files = Files {
+        log: Memory::new(alloc),
+        db: Memory::new(alloc),
+    };
+    let (files, answered) = fill_files(alloc, files);
+    let held = held_by(alloc, files)?;
+    expect(
+        &rt,
+        answered == Some(2) && held == Some(2),
+        "files that are opened again",
+    );
+    Ok(())
+}

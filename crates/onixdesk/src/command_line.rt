@@ -22,10 +22,11 @@ pub enum Task<'a> {
     Serve { port: u16, requests: u32 },
 }
 
-/// What the program is asked to do: a command, under the precedence table of a file or under no
-/// rules.
+/// What the program is asked to do: a command, over the desk in a database file or over one in
+/// memory, under the precedence table of a file or under no rules.
 #[derive(Drop)]
 pub struct Invocation<'a> {
+    pub db: Option<&'a str>,
     pub rules: Option<&'a str>,
     pub task: Task<'a>,
 }
@@ -95,6 +96,7 @@ fn asked_for<'a>(alloc: Global, matches: &ArgMatches<'a>) -> Reading<'a> {
     };
     match task_of(alloc, name, words) {
         Ok(Some(task)) => Reading::Run(Invocation {
+            db: matches.get_str("db"),
             rules: matches.get_str("rules"),
             task,
         }),

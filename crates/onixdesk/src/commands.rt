@@ -11,7 +11,7 @@ fn batch<'a>(alloc: Global) -> Command<'a> {
     Command::new(alloc, "batch")
         .about("Read requests from standard input, write their answers to standard output")
         .long_about(
-            "Reads agreements, messages, waivers and questions as CSV records from standard input, up to 4,194,304 bytes of UTF-8, and writes the answer to each, in order, to standard output. The desk is kept in memory and ends with the batch. A precedence table is named before the command: onixdesk --rules FILE batch.",
+            "Reads agreements, messages, waivers and questions as CSV records from standard input, up to 4,194,304 bytes of UTF-8, and writes the answer to each, in order, to standard output. A database file and a precedence table are named before the command: onixdesk --db FILE --rules FILE batch. Without a database file the desk ends with the batch.",
         )
 }
 
@@ -25,7 +25,7 @@ fn deliver<'a>(alloc: Global) -> Result<Command<'a>, AllocError> {
     Command::new(alloc, "deliver")
         .about("Deliver the message of each file, write the answer to each")
         .long_about(
-            "Delivers the message that each file holds, from its record Message to its record EndMessage, in the order of the files, and writes the answer to each to standard output. A file that cannot be read, or a fault, ends the command with status 3; the answers before it stand. The desk is kept in memory and has no agreements, so every whole message is answered refused,unknown-series; a batch has the agreements with the messages.",
+            "Delivers the message that each file holds, from its record Message to its record EndMessage, in the order of the files, and writes the answer to each to standard output. A file that cannot be read, or a fault, ends the command with status 3; the answers before it stand. The agreements are those of the database file: onixdesk --db FILE deliver FILE. Without one there are none, and a whole message with a number is answered refused,unknown-series.",
         )
         .arg(files)
 }
@@ -68,10 +68,21 @@ fn serve<'a>(alloc: Global) -> Result<Command<'a>, AllocError> {
     Command::new(alloc, "serve")
         .about("Answer requests over HTTP on a port of this machine")
         .long_about(
-            "Listens at a port of 127.0.0.1, which only programs on this machine reach, writes the line 'listening N', and serves connections one after the other, one request each. For each connection a line is written: the status of the reply, or 'fault' where none was sent whole. A client has 10 seconds to send its request and 10 seconds to take the reply; over that the connection is a fault, and serving goes on. The desk is kept in memory and ends with the program. A port that cannot be listened at ends the program with status 3. TLS and access control are left to a proxy before it.",
+            "Listens at a port of 127.0.0.1, which only programs on this machine reach, writes the line 'listening N', and serves connections one after the other, one request each. For each connection a line is written: the status of the reply, or 'fault' where none was sent whole. A client has 10 seconds to send its request and 10 seconds to take the reply; over that the connection is a fault, and serving goes on. The desk is that of the database file: onixdesk --db FILE serve; without one it begins without agreements and ends with the program. A port that cannot be listened at ends the program with status 3. TLS and access control are left to a proxy before it.",
         )
         .arg(port(alloc))?
         .arg(requests(alloc))
+}
+
+// The option `--db FILE`, which stands before the command.
+fn db<'a>(alloc: Global) -> Arg<'a> {
+    Arg::new(alloc, "db")
+        .long("db")
+        .value_name("FILE")
+        .action(ArgAction::Set)
+        .help(
+            "Keep the desk in this SQLite file, which is made where it is missing; it stands before the command, and without it the desk is in memory and ends with the program. One program at a time may use the file",
+        )
 }
 
 // The option `--rules FILE`, which stands before the command.
@@ -101,6 +112,7 @@ fn named<'a>(alloc: Global) -> Command<'a> {
 /// The program with all its commands. Without memory there is none.
 pub fn program<'a>(alloc: Global) -> Result<Command<'a>, AllocError> {
     named(alloc)
+        .arg(db(alloc))?
         .arg(rules(alloc))?
         .subcommand(batch(alloc))?
         .subcommand(deliver(alloc)?)?

@@ -4,6 +4,7 @@ ghost use Rattle.std.specs.Prelude.{◌≡◌};
 
 use csv_records::reading::RecordFault;
 use desk_batch::batch::RequestFault;
+use desk_store::opening::OpenFault;
 use onix_message::agreement::StoreFault;
 use std::io::Write;
 use thiserror::Error;
@@ -31,6 +32,8 @@ pub enum Fault {
     StorageDisk,
     #[error("onixdesk: storage: unusable\n")]
     StorageUnusable,
+    #[error("onixdesk: storage: other version {0}\n")]
+    StorageOtherVersion(u32),
 }
 
 impl From<RecordFault> for Fault {
@@ -50,6 +53,15 @@ impl From<StoreFault> for Fault {
             StoreFault::Size => Fault::StorageSize,
             StoreFault::Disk => Fault::StorageDisk,
             StoreFault::Unusable => Fault::StorageUnusable,
+        }
+    }
+}
+
+impl From<OpenFault> for Fault {
+    fn from(fault: OpenFault) -> Fault {
+        match fault {
+            OpenFault::Store(fault) => Fault::from(fault),
+            OpenFault::OtherVersion { found } => Fault::StorageOtherVersion(found),
         }
     }
 }

@@ -1,11 +1,11 @@
 //! The program `onixdesk`: the intake of a bookshop's buying desk on the command line.
 //! `command_line` reads its words by the `commands` of clap, `rules` reads the precedence table, and
 //! `fault` has the texts of what can go wrong. The commands are `batch`, `deliver`, `gaps` and
-//! `serve`, each over any desk; the desk is one in memory. What each request is answered is proved
+//! `serve`, each over any desk; the desk is one in a database file, or in memory. What each request is answered is proved
 //! in `series_rules`.
 #![tactic(auto)]
 
-ghost use Rattle.std.specs.Prelude.{◌≤◌, [], IfOk};
+ghost use Rattle.std.specs.Prelude.{◌≡◌, ◌≤◌, ◌⊎◌, ℕ, [], IfOk};
 ghost use Rattle.std.specs.Io.KnownBytes.{Appends};
 ghost use Rattle.desk_memory.specs.declared.desk.MemoryDesk.{MemoryDesk};
 ghost use Rattle.onixdesk.specs.TaskEnds.{TaskEnds};
@@ -24,11 +24,14 @@ mod tests;
 mod timed;
 
 use crate::command_line::{Invocation, Reading, Task};
-use crate::fault::report;
+use crate::fault::{Fault, report};
 use crate::rules::{open_table, report_rules};
 use desk_memory::desk::MemoryDesk;
+use desk_store::desk::DeskStore;
 use price_rules::precedence::Precedence;
 use series_rules::desk::Desk;
+use sqlite::{FileStore, Start, Unknown};
+use sqlite_disk::Disk;
 use std::alloc::AllocError;
 use std::io::{ErrorKind, Read, Write};
 use std::process::ExitCode;
@@ -44,6 +47,7 @@ fn run_task<D: Desk, R: Read, W: Write, E: Write>(
     errors: &mut E,
 ) -> u8
     ensures status { result ≤ 3 }
+    ensures premise { D.is_sound desk.new → D.is_sound desk.old }
     ensures end { TaskEnds precedence.now task.now (R.remaining input.old) (D.stands_for desk.old) (D.is_sound desk.new)
         (Appends (W.contents output.old) (W.contents output.new)) (D.stands_for desk.new) result }
 {
@@ -80,6 +84,48 @@ fn run_in_memory<R: Read, W: Write, E: Write>(
     status
 }
 
+// Runs a command over a desk in a file, and closes the file.
+fn run_and_close<D: Disk + Drop, R: Read, W: Write, E: Write>(
+    rt: &HostRuntime,
+    mut desk: DeskStore<FileStore<D>>,
+    precedence: &Precedence,
+    task: &Task<'_>,
+    input: &mut R,
+    output: &mut W,
+    errors: &mut E,
+) -> u8
+    ensures status { result ≤ 3 }
+    // The command ends as over any desk, but that the status is 3 where the file cannot be closed.
+    ensures end { (left : _) × (status : ℕ) × ((result ≡ status) ⊎ (result ≡ 3)) × (⟦<DeskStore<FileStore<D>> as Desk>⟧.is_sound left → ⟦<DeskStore<FileStore<D>> as Desk>⟧.is_sound desk)
+        × TaskEnds precedence.now task.now (R.remaining input.old) (⟦<DeskStore<FileStore<D>> as Desk>⟧.stands_for desk) (⟦<DeskStore<FileStore<D>> as Desk>⟧.is_sound left)
+        (Appends (W.contents output.old) (W.contents output.new)) (⟦<DeskStore<FileStore<D>> as Desk>⟧.stands_for left) status }
+{
+    let status = run_task(rt, &mut desk, precedence, task, input, output, errors);
+    match desk.close_files() {
+        Ok(_) => status,
+        Err(fault) => report(&Fault::from(fault), errors),
+    }
+}
+
+// Runs a command over the desk in the database file of that name, which `start` stands for.
+fn run_in_file<S: Start, R: Read, W: Write, E: Write>(
+    rt: &HostRuntime,
+    name: &str,
+    start: S,
+    precedence: &Precedence,
+    task: &Task<'_>,
+    input: &mut R,
+    output: &mut W,
+    errors: &mut E,
+) -> u8
+    ensures { result ≤ 3 }
+{
+    match DeskStore::open(rt, name, start) {
+        Ok(desk) => run_and_close(rt, desk, precedence, task, input, output, errors),
+        Err((fault, _)) => report(&Fault::from(fault), errors),
+    }
+}
+
 // Runs a command under the rules of a file or under none.
 fn run_invocation<R: Read, W: Write, E: Write>(
     rt: &HostRuntime,
@@ -97,7 +143,11 @@ fn run_invocation<R: Read, W: Write, E: Write>(
             Err(fault) => return report_rules(&fault, name, errors),
         },
     };
-    let status = run_in_memory(rt, &precedence, &invocation.task, input, output, errors);
+    let task = &invocation.task;
+    let status = match invocation.db {
+        None => run_in_memory(rt, &precedence, task, input, output, errors),
+        Some(name) => run_in_file(rt, name, Unknown, &precedence, task, input, output, errors),
+    };
     drop(precedence);
     status
 }
@@ -120,7 +170,7 @@ pub fn run<R: Read, W: Write, E: Write>(
         Reading::Run(invocation) => run_invocation(rt, &invocation, input, output, errors),
         Reading::Help(text) => command_line::print_help(text.as_str(), output, errors),
         Reading::Wrong(text) => command_line::print_wrong(text.as_str(), errors),
-        Reading::Memory => report(&fault::Fault::Memory, errors),
+        Reading::Memory => report(&Fault::Memory, errors),
     }
 }
 
@@ -145,10 +195,10 @@ fn main(rt: HostRuntime) -> std::io::Result<ExitCode> {
     let status = match std::env::args(&rt) {
         Ok(words) => match run_words(&rt, words) {
             Ok(status) => status,
-            Err(_) => report(&fault::Fault::Memory, &mut errors),
+            Err(_) => report(&Fault::Memory, &mut errors),
         },
         Err(error) => match error.kind() {
-            ErrorKind::OutOfMemory => report(&fault::Fault::Memory, &mut errors),
+            ErrorKind::OutOfMemory => report(&Fault::Memory, &mut errors),
             _ => command_line::print_wrong("error: a word is not UTF-8\n", &mut errors),
         },
     };

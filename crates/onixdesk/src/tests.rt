@@ -2,6 +2,7 @@
 
 mod cases;
 mod commands;
+mod databases;
 mod files;
 mod inputs;
 
@@ -14,6 +15,7 @@ use self::cases::prices::PRICES;
 use self::cases::questions::QUESTIONS;
 use self::cases::rules_files::{RULES_TEXTS, RulesText};
 use self::cases::{Case, read_case, read_ruled_case};
+use self::databases::{DATABASE, remove_database};
 use self::inputs::{COMMAND_LINES, CommandLine, INPUTS, Input};
 use crate::run;
 use csv_records::reading::RecordReader;
@@ -108,12 +110,13 @@ fn answered(alloc: Global, precedence: &Precedence, text: &[u8]) -> Result<Vec<u
     texts_of(alloc, outcomes.as_slice())
 }
 
-// Runs a case as a batch of the program, and as a list of requests that goes on after storage
-// faults.
+// Runs a case as a batch of the program, over a desk in memory and over one in a new database, and
+// as a list of requests that goes on after storage faults.
 fn run_case(
     rt: &HostRuntime,
     stop: &impl Abort,
     words: &[&str],
+    kept: &[&str],
     precedence: &Precedence,
     case: &Case,
 ) -> Result<(), Fail> {
@@ -123,16 +126,28 @@ fn run_case(
     expect(stop, "answers", case.name, texts.as_slice(), wanted);
     let ran = run_on(rt, words, &mut case.batch.as_bytes());
     expect_run(stop, case.name, &ran, wanted, b"", case.status);
+    remove_database(rt);
+    let ran = run_on(rt, kept, &mut case.batch.as_bytes());
+    expect_run(stop, case.name, &ran, wanted, b"", case.status);
+    remove_database(rt);
     Ok(())
 }
 
 // Runs cases without rules.
 fn run_cases(rt: &HostRuntime, stop: &impl Abort, texts: &[&str]) -> Result<(), Fail> {
     let words = ["onixdesk", "batch"];
+    let kept = ["onixdesk", "--db", DATABASE, "batch"];
     let precedence = Precedence::none(rt.alloc());
     for text in texts {
         let case = read_case(text).ok_or("a text that is no case")?;
-        run_case(rt, stop, words.as_slice(), &precedence, &case)?;
+        run_case(
+            rt,
+            stop,
+            words.as_slice(),
+            kept.as_slice(),
+            &precedence,
+            &case,
+        )?;
     }
     Ok(())
 }
@@ -170,10 +185,18 @@ fn questions_about_calendars(rt: HostRuntime) -> Result<(), Fail> {
 // Runs a case under the rules of this file.
 fn run_ruled(rt: &HostRuntime, stop: &impl Abort, file: &str, text: &str) -> Result<(), Fail> {
     let words = ["onixdesk", "--rules", file, "batch"];
+    let kept = ["onixdesk", "--db", DATABASE, "--rules", file, "batch"];
     let (rules, case) = read_ruled_case(text).ok_or("a text that is no case")?;
     fs::write(rt, file, rules)?;
     let precedence = Precedence::read(rt.alloc(), rules)?;
-    run_case(rt, stop, words.as_slice(), &precedence, &case)
+    run_case(
+        rt,
+        stop,
+        words.as_slice(),
+        kept.as_slice(),
+        &precedence,
+        &case,
+    )
 }
 
 #[test]

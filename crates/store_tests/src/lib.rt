@@ -1,8 +1,10 @@
-//! Tests of `catalogue_store` by its public calls, over a store in memory: what messages make of the
-//! catalogue of a series. They stand in a crate of their own, since a library with tests is proved
-//! once more with them.
+//! Tests of `catalogue_store` and `desk_store` by their public calls: what messages make of the
+//! catalogue of a series, and what the desk in tables answers, before and after its files were closed.
+//! They stand in a crate of their own, since a library with tests is proved once more with them.
 #![tactic(auto)]
 
+#[cfg(test)]
+mod desks;
 #[cfg(test)]
 mod messages;
 #[cfg(test)]

@@ -73,7 +73,19 @@ pub struct CommandLine {
     pub status: u8,
 }
 
-pub static COMMAND_LINES: [CommandLine; 26] = [
+pub static COMMAND_LINES: [CommandLine; 28] = [
+    CommandLine {
+        name: "a database behind the command",
+        words: &["onixdesk", "batch", "--db", "shop.db"],
+        prints: false,
+        status: 2,
+    },
+    CommandLine {
+        name: "a database without a name",
+        words: &["onixdesk", "--db"],
+        prints: false,
+        status: 2,
+    },
     CommandLine {
         name: "no command",
         words: &["onixdesk"],

@@ -182,11 +182,11 @@ fn tables_after_a_batch(rt: HostRuntime) -> Result<(), Fail> {
     Ok(())
 }
 
-// The messages of these numbers, from the last to the first.
-fn backwards(rt: &HostRuntime, first: u32, last: u32) -> Result<String, Fail> {
+// So many messages, the one of that number first and then each of the number below.
+fn backwards(rt: &HostRuntime, from: u32, count: u32) -> Result<String, Fail> {
     let mut text = String::new(rt.alloc());
-    for below in first..last + 1 {
-        let number = first + last - below;
+    for back in 0..count {
+        let number = from.saturating_sub(back);
         write!(
             text,
             "Message,1,06,4012345000009,06,5012345678900,{number},,,,\nEndMessage,1\n"
@@ -207,7 +207,7 @@ fn forty_messages_backwards(rt: HostRuntime) -> Result<(), Fail> {
     let ran = run_on(
         &rt,
         batch.as_slice(),
-        &mut backwards(&rt, 2, 41)?.as_bytes(),
+        &mut backwards(&rt, 41, 40)?.as_bytes(),
     );
     expect(&rt, "status", "first day", ran.status, 0);
     expect_numbers(&rt, &rt, "first day", APPLIED, &[])?;

@@ -12,5 +12,3 @@ pub mod assemble;
 pub mod build;
 pub mod laws;
 pub mod same;
-#[cfg(test)]
-mod tests;

@@ -34,6 +34,4 @@ pub mod routes;
 mod routing;
 mod scan;
 pub mod serve;
-#[cfg(test)]
-mod tests;
 mod values;

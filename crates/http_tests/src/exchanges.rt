@@ -1,19 +1,15 @@
 // Exchanges over memory and a socket, by tables of cases. What is replied is taken from the desk's
 // written rules.
 
-mod cases;
-mod desks;
-mod streams;
-
-use self::cases::{
+use crate::cases::{
     APPLIED, BAD_QUERIES, Case, DELIVERIES, DELIVERY, FAULT_KINDS, INPUTS, LONG_INPUTS, LongCase,
     MOST_INPUT, NO_NUMBERS, NO_PATHS, NO_SERIES, NOT_ALLOWED, ONE_NUMBER, OPEN_INPUTS, QUESTIONS,
 };
-use self::desks::{BrokenDesk, agreed_desk};
-use self::streams::{FailingReader, FailingWriter, OneByte};
-use crate::answer_reply::reply_of;
-use crate::exchange::HttpFault;
-use crate::serve::serve_one;
+use crate::desks::{BrokenDesk, agreed_desk};
+use crate::streams::{FailingReader, FailingWriter, OneByte};
+use desk_http::answer_reply::reply_of;
+use desk_http::exchange::HttpFault;
+use desk_http::serve::serve_one;
 use onix_terms::number::Number;
 use onix_terms::series_name::SeriesName;
 use price_rules::precedence::Precedence;

@@ -1,5 +1,7 @@
-use crate::assemble::entry_of;
-use crate::build::{article_rows, detail_rows, price_rows};
+// The rows of a record, and what is read back from them.
+
+use catalogue_rows::assemble::entry_of;
+use catalogue_rows::build::{article_rows, detail_rows, price_rows};
 use onix_message::contents::read_contents;
 use onix_message::parts::{Price, ProductSupply};
 use onix_terms::items::Items;

@@ -12,9 +12,12 @@ use Rattle.sqlite_trees.specs.View.{doubt}
 use Rattle.sqlite_wal.specs.Recovery.{Image}
 use Rattle.desk_tables.specs.Rows.{DeskRows, Holds, HoldsFirst}
 use Rattle.desk_tables.specs.Schema.{schema_0}
+use Rattle.desk_tables.specs.Transactions.{IsEmptied}
 use Rattle.series_rules.specs.declared.requests.Request.{Request}
 use Rattle.desk_store.specs.Desks.{AreRowsOf, KeepsRequests}
-use Rattle.desk_store.specs.Openings.{AreFilesOf, AreFilesWith, HoldsAny, IsFaultFor, IsFoundFor, IsReady, ShowsOnly}
+use Rattle.desk_store.specs.Migrations.{AreFilesOfEither, IsOfRequests, IsTrueAnswer}
+use Rattle.desk_store.specs.Openings.{AreEmptyFiles, AreFilesOf, AreFilesWith, HoldsAny, IsFaultFor, IsFoundFor, IsReady, ShowsOnly}
+use Rattle.desk_store.specs.declared.migrating.MigrateAnswer.{MigrateAnswer}
 use Rattle.desk_store.specs.declared.opening.OpenFault.{OpenFault}
 
 -- a connection that was just opened
@@ -36,13 +39,36 @@ module _ (image : Image) (s0 s1 : State) (opened : HasCleanDisk s0 → Opens s0 
   same_trees : HasCleanDisk s0 → (trees : Trees) → ∥ HoldsDatabase image trees ∥₁ → s0.now.trees ≡ trees
   same_trees clean trees both = ap (λ (db : Database). db.trees) (opened clean).0.clean ∙ ∥∥₁_elim both (Trees-set _ _) (holds clean trees)
 
+  found_empty : HasCleanDisk s0 → AreEmptyFiles image → IsEmptied schema_0 s0.now
+  found_empty clean empty = empty s0.now (live clean) (subst (AreFoundIn image) (sym (ap (λ (db : Database). db.trees) (opened clean).0.clean)) (reads clean))
+
   found_for : HasCleanDisk s0 → (L : List Request) → AreFilesOf image L → IsFoundFor s0.now L
   found_for clean L (inl (trees, both, rows)) = inl (rows.2.0, second rows.0 s0.now rows.2.0 rows.2.1 (live clean) (same_trees clean trees both ∙ sym rows.1), rows.2.2)
-  found_for clean L (inr (empty, none)) = inr (empty s0.now (live clean) (subst (AreFoundIn image) (sym (ap (λ (db : Database). db.trees) (opened clean).0.clean)) (reads clean)), none)
+  found_for clean L (inr (empty, none)) = inr (found_empty clean empty, none)
 
   found_with : HasCleanDisk s0 → (rows : DeskRows) → AreFilesWith image rows → HoldsAny s0.now rows
   found_with clean rows (db, both, inl held) = inl (second db s0.now rows held (live clean) (same_trees clean db.trees both))
   found_with clean rows (db, both, inr held) = inr (first db s0.now rows held (live clean) (same_trees clean db.trees both))
+
+  found_either : HasCleanDisk s0 → (L : List Request) → AreFilesOfEither image L → IsOfRequests s0.now L
+  found_either clean L (inl (db, both, old)) = inl (old.0, first db s0.now old.0 old.1 (live clean) (same_trees clean db.trees both), old.2, old.3)
+  found_either clean L (inr are) = inr (found_for clean L are)
+
+  -- what holds of a database that is of the requests holds of the files
+  pub files_either : {P : Type 0} → HasCleanDisk s0 → (L : List Request) → AreFilesOfEither image L → ((db : Database) → ShowsOnly db s0 → IsOfRequests db L → P) → P
+  files_either clean L are then = then s0.now (opened_shows s0 (opened clean).0) (found_either clean L are)
+
+  -- what is true of the database that was found is true of the files
+  pub files_answer : HasCleanDisk s0 → (answer : MigrateAnswer) → ((db : Database) → ShowsOnly db s0 → IsTrueAnswer (HoldsAny db) (IsEmptied schema_0 db) answer) → IsTrueAnswer (AreFilesWith image) (AreEmptyFiles image) answer
+  files_answer clean answer true_of =
+      let is = true_of s0.now (opened_shows s0 (opened clean).0) in
+      record {
+        version = λ rows are. is.version rows (found_with clean rows are);
+        made = λ empty. is.made (found_empty clean empty);
+      }
+
+  pub files_with : {P : Type 0} → HasCleanDisk s0 → (rows : DeskRows) → AreFilesWith image rows → ((db : Database) → ShowsOnly db s0 → HoldsAny db rows → P) → P
+  files_with clean rows are then = then s0.now (opened_shows s0 (opened clean).0) (found_with clean rows are)
 
   pub files_stand : IsReady s0 s1 (Ok tt) → HasCleanDisk s1 → (L : List Request) → AreFilesOf image L → KeepsRequests s1 L
   files_stand ready clean L are = let clean0 = ready.premise clean in ready.ok clean s0.now (opened_shows s0 (opened clean0).0) L (found_for clean0 L are)

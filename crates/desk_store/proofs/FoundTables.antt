@@ -18,7 +18,7 @@ use Rattle.desk_tables.specs.Transactions.{IsEmptied}
 use Rattle.onix_message.specs.declared.agreement.StoreFault.{StoreFault}
 use Rattle.series_rules.specs.declared.requests.Request.{Request}
 use Rattle.desk_store.specs.Desks.{AreRowsOf, HoldsRequests, KeepsRequests}
-use Rattle.desk_store.specs.Openings.{AreFirstRows, IsCreated, IsFoundFor, IsKnown, IsReady, IsVersionRead, ShowsOnly}
+use Rattle.desk_store.specs.Openings.{IsCreated, IsFoundFor, IsKnown, IsReady, IsVersionRead, ShowsOnly}
 use Rattle.desk_store.specs.Stands.{StandsFor}
 use Rattle.desk_store.specs.declared.opening.OpenFault.TheVariants.{Store, OtherVersion}
 
@@ -41,23 +41,23 @@ first_stand = record {
 
 -- ---- what is found
 
-version_of_requests : (rows : DeskRows) (L : List Request) → StandsFor rows L → version_in rows ≡ Some 2
+pub version_of_requests : (rows : DeskRows) (L : List Request) → StandsFor rows L → version_in rows ≡ Some 2
 version_of_requests rows L stands = rw stands.version refl
 
-no_meta : (db : Database) → IsEmptied schema_0 db → list_any is_meta db.schema.tables ≡ false
+pub no_meta : (db : Database) → IsEmptied schema_0 db → list_any is_meta db.schema.tables ≡ false
 no_meta db emptied = rw emptied.schema_is refl
 
 pub known_if_found : (db : Database) (L : List Request) → IsFoundFor db L → IsKnown db
 known_if_found db L (inl held) = inr (held.0, inl held.1)
 known_if_found db L (inr none) = inl (no_meta db none.0)
 
-keeps_found : (db : Database) (L : List Request) (s : State) → ShowsOnly db s → HoldsRequests db L → KeepsRequests s L
+pub keeps_found : (db : Database) (L : List Request) (s : State) → ShowsOnly db s → HoldsRequests db L → KeepsRequests s L
 keeps_found db L s only held = λ up. let is = only up in (is.0, subst (λ d. HoldsRequests d L) (sym is.1) held, subst (λ d. HoldsRequests d L) (sym is.2) held)
 
 -- ---- ready
 
 -- while the connection is open, a crash leaves what was committed
-abbrev IsSettled : State → Type 0
+abbrev pub IsSettled : State → Type 0
 IsSettled s = (d : Trees) → IsTrue s.is_open → s.may_leave d → d ≡ s.committed.trees
 
 -- the tables are of version 2
@@ -130,7 +130,7 @@ module _ (s0 s1 s2 : State) (read : IsVersionRead s0 s1 (Ok None)) where
       none : IsEmptied schema_0 db × (L ≡ [])
       none = emptied_here clean1 db only L it
 
-      go : s1.may_leave d ⊎ AreFirstRows d → s0.may_leave d ⊎ AreRowsOf d L
+      go : s1.may_leave d ⊎ ((made : Database) × (made.trees ≡ d) × Holds made first_rows) → s0.may_leave d ⊎ AreRowsOf d L
       go (inl before) = inl (read.crash clean1 db only (known_if_found db L it) d before)
       go (inr first) = inr (first.0, first.1, first_requests first.0 L none.1 first.2)
 

@@ -18,3 +18,8 @@ mod QuestionRows
 mod GapRows
 mod FoundTables
 mod FoundFiles
+mod MigratedTables
+mod MadeTables
+mod FirstForm
+mod FirstEntries
+mod NoMinimums

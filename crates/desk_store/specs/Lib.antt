@@ -4,3 +4,5 @@ pub mod Changes
 pub mod Desks
 pub mod ContentLemmas
 pub mod Openings
+pub mod Migrations
+pub mod FirstForm

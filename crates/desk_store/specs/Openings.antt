@@ -40,17 +40,17 @@ pub record IsVersionRead (old new : State) (result : Result (Option ℕ) StoreFa
   pub left : HasCleanDisk new → (db : Database) → ShowsOnly db old → IsKnown db → ShowsOnly db new
   pub crash : HasCleanDisk new → (db : Database) → ShowsOnly db old → IsKnown db → (d : Trees) → new.may_leave d → old.may_leave d
 
--- a desk's database with those trees has no rows yet
-abbrev pub AreFirstRows : Trees → Type 0
-AreFirstRows d = (db : Database) × (db.trees ≡ d) × Holds db first_rows
+-- Tables were made in one transaction: a database that was `Before` became one that is `After`, all at once.
+pub record MakesAll (Before After : Database → Type 0) (old new : State) (result : Result ⊤ StoreFault) : Type 0 where
+  pub premise : HasCleanDisk new → HasCleanDisk old
+  pub ok : HasCleanDisk new → (db : Database) → ShowsOnly db old → Before db → OnOk result ((made : Database) × ShowsOnly made new × After made)
+  pub err : HasCleanDisk new → (db : Database) → ShowsOnly db old → Before db → OnErr result (ShowsOnly db new)
+  pub crash : HasCleanDisk new → (db : Database) → ShowsOnly db old → Before db → (d : Trees) → new.may_leave d → old.may_leave d ⊎ ((made : Database) × (made.trees ≡ d) × After made)
+  pub alone : HasCleanDisk new → OnOk result (IsTrue new.is_open × LeavesOnly new)
 
 -- The tables were made in a database that had none: all of them or none.
-pub record IsCreated (old new : State) (result : Result ⊤ StoreFault) : Type 0 where
-  pub premise : HasCleanDisk new → HasCleanDisk old
-  pub ok : HasCleanDisk new → (db : Database) → ShowsOnly db old → IsEmptied schema_0 db → OnOk result ((made : Database) × ShowsOnly made new × Holds made first_rows)
-  pub err : HasCleanDisk new → (db : Database) → ShowsOnly db old → IsEmptied schema_0 db → OnErr result (ShowsOnly db new)
-  pub crash : HasCleanDisk new → (db : Database) → ShowsOnly db old → IsEmptied schema_0 db → (d : Trees) → new.may_leave d → old.may_leave d ⊎ AreFirstRows d
-  pub alone : HasCleanDisk new → OnOk result (IsTrue new.is_open × LeavesOnly new)
+abbrev pub IsCreated : State → State → Result ⊤ StoreFault → Type 0
+IsCreated old new result = MakesAll (IsEmptied schema_0) (λ db. Holds db first_rows) old new result
 
 -- the fault is true of the rows: another version is theirs, and not 2
 abbrev pub IsFaultFor : DeskRows → OpenFault → Type 0
@@ -70,11 +70,13 @@ pub record IsReady (old new : State) (result : Result ⊤ OpenFault) : Type 0 wh
 
 -- ---- files
 
+-- the two files hold an empty database
+abbrev pub AreEmptyFiles : Image → Type 0
+AreEmptyFiles image = (db : Database) → IsDatabase db → AreFoundIn image db.trees → IsEmptied schema_0 db
+
 -- The two files hold what those requests come to, or they hold an empty database and the requests are none.
 abbrev pub AreFilesOf : Image → List Request → Type 0
-AreFilesOf image L =
-    ((trees : Trees) × ∥ HoldsDatabase image trees ∥₁ × AreRowsOf trees L)
-    ⊎ (((db : Database) → IsDatabase db → AreFoundIn image db.trees → IsEmptied schema_0 db) × (L ≡ []))
+AreFilesOf image L = ((trees : Trees) × ∥ HoldsDatabase image trees ∥₁ × AreRowsOf trees L) ⊎ (AreEmptyFiles image × (L ≡ []))
 
 -- the files hold a desk's database, of version 2 or of version 1, with these rows
 abbrev pub AreFilesWith : Image → DeskRows → Type 0

@@ -1,7 +1,7 @@
 // The desk in a SQLite file.
 
 ghost use Rattle.std.specs.Prelude.{◌≡◌, ◌↔◌, [], List, IfOk, IfErr, IfSome, IsTrue, Ok, Err};
-ghost use Rattle.sqlite.specs.Files.{file_state, image_of, IsCleanLeft};
+ghost use Rattle.sqlite.specs.Files.{file_state, image_of, IsCleanLeft, IsClosed};
 ghost use Rattle.sqlite.specs.Held.{state};
 ghost use Rattle.sqlite.specs.State.{HasCleanDisk};
 ghost use Rattle.sqlite.specs.Steps.{over_memory};
@@ -119,18 +119,17 @@ impl<D: Disk + Drop> DeskStore<FileStore<D>> {
         }
     }
 
-    /// The files, which hold what the desk stood for. The desk is gone, with a fault too.
-    pub fn close_files(self) -> Result<Files<D>, StoreFault>
+    /// The files, which hold what the desk stood for. The desk is gone, with a fault too, which comes
+    /// with what is left of the files: a crash then leaves of them what it could leave before.
+    pub fn close_files(self) -> Result<Files<D>, (StoreFault, FileStore<D>)>
         ensures usable { IfOk result (λ files. IsTrue (D.Disk.is_usable files.log) × IsTrue (D.Disk.is_usable files.db)) }
         ensures holds { IfOk result (λ files. AreClean D.Disk files.log files.db → (L : List Request) → KeepsRequests (file_state self.tables.connection) L → AreFilesOf (image_of D.Disk files) L) }
+        ensures left { IfErr result (λ e. IsClosed self.tables.connection e.1) }
     {
         let DeskStore { alloc: _, tables } = self;
         match tables.into_connection().close_files() {
             Ok(files) => Ok(files),
-            Err((error, store)) => {
-                drop(store.close());
-                Err(fault_of(error))
-            }
+            Err((error, store)) => Err((fault_of(error), store)),
         }
     }
 }

@@ -15,6 +15,7 @@ mod drain;
 mod effects;
 mod fault;
 pub mod laws;
+pub mod migrating;
 mod numbers;
 pub mod opening;
 mod questions;

@@ -2,14 +2,14 @@
 // batches, before and after its files were closed and opened again.
 
 ghost use Rattle.std.specs.Prelude.{IfOk, IsTrue};
-ghost use Rattle.sqlite_disk.specs.Memory.{memory_is_usable};
 
+use crate::disks::new_files;
 use desk_batch::batch::run_batch;
 use desk_store::desk::DeskStore;
 use price_rules::precedence::Precedence;
 use series_rules::desk::Desk;
 use sqlite::{Files, Options};
-use sqlite_disk::Memory;
+use sqlite_disk::Disk;
 use std::alloc::Global;
 use std::process::Abort;
 use std::test::Fail;
@@ -95,17 +95,19 @@ fn desk_over_memory(rt: HostRuntime) -> Result<(), Fail> {
     expect_answers(alloc, &rt, &mut desk, SECOND)
 }
 
-// Opens the desk in the files, asks it, and closes them.
-fn ask_files(
+/// Opens the desk in the files, asks it, and closes them. Files that may not be used fail the test.
+pub fn ask_files<D: Disk + Drop>(
     alloc: Global,
     stop: &impl Abort,
-    files: Files<Memory>,
+    files: Files<D>,
     case: (&str, &str),
-) -> Result<Files<Memory>, Fail>
-    requires log { IsTrue (memory_is_usable files.log) }
-    requires db { IsTrue (memory_is_usable files.db) }
-    ensures usable { IfOk result (λ files. IsTrue (memory_is_usable files.log) × IsTrue (memory_is_usable files.db)) }
+) -> Result<Files<D>, Fail>
+    ensures usable { IfOk result (λ files. IsTrue (D.Disk.is_usable files.log) × IsTrue (D.Disk.is_usable files.db)) }
 {
+    if !files.may_be_used() {
+        drop(files);
+        return Err("files that may not be used")?;
+    }
     let mut desk = match DeskStore::open_files(alloc, files, Options::new(1)) {
         Ok(desk) => desk,
         Err((fault, left)) => {
@@ -116,18 +118,17 @@ fn ask_files(
     expect_answers(alloc, stop, &mut desk, case)?;
     match desk.close_files() {
         Ok(files) => Ok(files),
-        Err(fault) => Err(fault)?,
+        Err((fault, left)) => {
+            drop(left);
+            Err(fault)?
+        }
     }
 }
 
 #[test]
 fn desk_over_files(rt: HostRuntime) -> Result<(), Fail> {
     let alloc = rt.alloc();
-    let files = Files {
-        log: Memory::new(alloc),
-        db: Memory::new(alloc),
-    };
-    let files = ask_files(alloc, &rt, files, FIRST)?;
+    let files = ask_files(alloc, &rt, new_files(alloc), FIRST)?;
     drop(ask_files(alloc, &rt, files, SECOND)?);
     Ok(())
 }

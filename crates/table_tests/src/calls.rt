@@ -182,7 +182,7 @@ pub fn calls<S: Alter>(
 
 const EMPTY: Before<'static> = Before {
     has_sample: false,
-    statements: "",
+    statements: &[],
 };
 
 #[test]

@@ -24,3 +24,4 @@ mod sample;
 mod stores;
 #[cfg(test)]
 mod strangers;
+pub mod version_1;

@@ -3,7 +3,7 @@
 // each request for memory of these tests in turn.
 
 use crate::cases::Case;
-use crate::migration::VERSION_1;
+use crate::migration::ROWS;
 use crate::queries::{counts, has_sample, is_contents};
 use crate::sample::{
     CONTENTS, EFFECT, expect, make, name, number, put_article, put_offer, put_price, put_sample,
@@ -11,6 +11,7 @@ use crate::sample::{
 };
 use crate::stores::{Before, over_memory};
 use crate::strangers::version;
+use crate::version_1::TABLES;
 use desk_tables::tables::Tables;
 use desk_tables::work::Work;
 use onix_message::agreement::StoreFault;
@@ -184,7 +185,7 @@ pub fn migrates_again<S: Alter>(rt: &impl Abort, tables: &mut Tables<S>) -> Resu
 fn calls_with_little_memory(rt: HostRuntime) -> Result<(), Fail> {
     let before = Before {
         has_sample: false,
-        statements: "",
+        statements: &[],
     };
     over_memory(rt.alloc(), &rt, before, Case::LittleMemory)
 }
@@ -193,7 +194,7 @@ fn calls_with_little_memory(rt: HostRuntime) -> Result<(), Fail> {
 fn migration_with_little_memory(rt: HostRuntime) -> Result<(), Fail> {
     let before = Before {
         has_sample: false,
-        statements: VERSION_1,
+        statements: &[TABLES, ROWS],
     };
     over_memory(rt.alloc(), &rt, before, Case::MigrationAgain)
 }

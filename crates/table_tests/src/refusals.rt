@@ -131,7 +131,7 @@ pub fn refusals<S: Alter>(
 fn refuses_what_does_not_fit(rt: HostRuntime) -> Result<(), Fail> {
     let before = Before {
         has_sample: true,
-        statements: "",
+        statements: &[],
     };
     over_memory(rt.alloc(), &rt, before, Case::Refusals)
 }

@@ -17,11 +17,16 @@ use std::test::Fail;
 #[derive(Clone, Copy)]
 pub struct Before<'a> {
     pub has_sample: bool,
-    pub statements: &'a str,
+    pub statements: &'a [&'a str],
 }
 
-fn run_statements<S: Alter>(connection: &mut Connection<S>, statements: &str) -> Result<(), Fail> {
-    connection.execute_batch(statements)?;
+fn run_statements<S: Alter>(
+    connection: &mut Connection<S>,
+    statements: &[&str],
+) -> Result<(), Fail> {
+    for statement in statements {
+        connection.execute_batch(statement)?;
+    }
     Ok(())
 }
 
@@ -51,7 +56,7 @@ fn run_after<S: Alter + Drop>(
     alloc: Global,
     rt: &impl Abort,
     mut connection: Connection<S>,
-    statements: &str,
+    statements: &[&str],
     case: Case,
 ) -> Result<(), Fail> {
     match run_statements(&mut connection, statements) {

@@ -112,7 +112,7 @@ fn versions(rt: HostRuntime) -> Result<(), Fail> {
     ] {
         let before = Before {
             has_sample: false,
-            statements,
+            statements: &[statements],
         };
         over_memory(rt.alloc(), &rt, before, case)?;
     }
@@ -133,7 +133,7 @@ fn values_that_are_no_terms(rt: HostRuntime) -> Result<(), Fail> {
     ] {
         let before = Before {
             has_sample: true,
-            statements,
+            statements: &[statements],
         };
         over_memory(rt.alloc(), &rt, before, case)?;
     }

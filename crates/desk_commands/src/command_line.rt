@@ -1,0 +1,167 @@
+// What the words of the command line ask for, read by clap.
+
+ghost use Rattle.std.specs.Prelude.{◌≤◌, ◌≡◌};
+
+use crate::commands::program;
+use crate::fault::{Fault, report};
+use clap::error::ErrorKind;
+use clap::{ArgMatches, Error};
+use std::alloc::{AllocError, Global};
+use std::io::Write;
+
+/// A command over a desk, with its words.
+#[derive(Debug, Drop)]
+pub enum Task<'a> {
+    /// `batch`: requests from standard input, answers to standard output.
+    Batch,
+    /// `deliver FILE..`: one message a file, in order.
+    Deliver(Vec<&'a str>),
+    /// `gaps NAME`: which numbers a series lacks.
+    Gaps(&'a str),
+    /// `serve --port N --requests K`: the desk over HTTP, for so many connections.
+    Serve { port: u16, requests: u32 },
+}
+
+/// What is done with which desk.
+#[derive(Debug, Drop)]
+pub enum Action<'a> {
+    /// A command over a new desk in memory.
+    InMemory(Task<'a>),
+    /// A command over the desk in this database file.
+    InFile { db: &'a str, task: Task<'a> },
+    /// `migrate`: the desk in this database file is brought to version 2.
+    Migrate { db: &'a str },
+}
+
+/// What the program is asked to do, under the precedence table of a file or under no rules.
+#[derive(Drop)]
+pub struct Invocation<'a> {
+    pub rules: Option<&'a str>,
+    pub action: Action<'a>,
+}
+
+/// How the words of the command line read.
+#[derive(Drop)]
+pub enum Reading<'a> {
+    Run(Invocation<'a>),
+    /// Help or the version, where asked for.
+    Help(String),
+    /// A fault of the command line, as clap words it.
+    Wrong(String),
+    /// `migrate` without a database file.
+    NoDatabase,
+    /// Memory ran out.
+    Memory,
+}
+
+// What clap could not read as an invocation.
+fn refused<'a>(alloc: Global, error: &Error) -> Reading<'a> {
+    if error.kind() == ErrorKind::OutOfMemory {
+        return Reading::Memory;
+    }
+    let Ok(text) = error.to_string(alloc) else {
+        return Reading::Memory;
+    };
+    if error.use_stderr() {
+        Reading::Wrong(text)
+    } else {
+        Reading::Help(text)
+    }
+}
+
+// The files of `deliver`.
+fn deliver<'a>(alloc: Global, matches: &ArgMatches<'a>) -> Result<Option<Task<'a>>, AllocError> {
+    let Some(files) = matches.get_strs("file") else {
+        return Ok(None);
+    };
+    Ok(Some(Task::Deliver(files.to_vec(alloc)?)))
+}
+
+// The port and the number of connections of `serve`.
+fn serve<'a>(matches: &ArgMatches<'a>) -> Option<Task<'a>> {
+    Some(Task::Serve {
+        port: matches.get_one::<u16>("port")?,
+        requests: matches.get_one::<u32>("requests")?,
+    })
+}
+
+// The command of that name with its words, or none where one lacks, which clap does not let pass.
+fn task_of<'a>(
+    alloc: Global,
+    name: &str,
+    matches: &ArgMatches<'a>,
+) -> Result<Option<Task<'a>>, AllocError> {
+    match name {
+        "batch" => Ok(Some(Task::Batch)),
+        "deliver" => deliver(alloc, matches),
+        "gaps" => Ok(matches.get_str("name").map(Task::Gaps)),
+        "serve" => Ok(serve(matches)),
+        _ => Ok(None),
+    }
+}
+
+// What a command over a desk asks for.
+fn over_desk<'a>(rules: Option<&'a str>, db: Option<&'a str>, task: Task<'a>) -> Reading<'a> {
+    let action = match db {
+        Some(db) => Action::InFile { db, task },
+        None => Action::InMemory(task),
+    };
+    Reading::Run(Invocation { rules, action })
+}
+
+// What `migrate` asks for.
+fn migration<'a>(rules: Option<&'a str>, db: Option<&'a str>) -> Reading<'a> {
+    match db {
+        Some(db) => Reading::Run(Invocation {
+            rules,
+            action: Action::Migrate { db },
+        }),
+        None => Reading::NoDatabase,
+    }
+}
+
+// What words that clap let pass ask for.
+fn asked_for<'a>(alloc: Global, matches: &ArgMatches<'a>) -> Reading<'a> {
+    let Some((name, words)) = matches.subcommand() else {
+        return Reading::Wrong(String::new(alloc));
+    };
+    let rules = matches.get_str("rules");
+    let db = matches.get_str("db");
+    if name == "migrate" {
+        return migration(rules, db);
+    }
+    match task_of(alloc, name, words) {
+        Ok(Some(task)) => over_desk(rules, db, task),
+        Ok(None) => Reading::Wrong(String::new(alloc)),
+        Err(AllocError) => Reading::Memory,
+    }
+}
+
+/// Reads the words, of which the first is the program's name.
+pub fn read<'a>(alloc: Global, words: &'a [&'a str]) -> Reading<'a> {
+    let Ok(program) = program(alloc) else {
+        return Reading::Memory;
+    };
+    match program.try_get_matches_from(words) {
+        Ok(matches) => asked_for(alloc, &matches),
+        Err(error) => refused(alloc, &error),
+    }
+}
+
+/// Writes help or the version, which was asked for, and gives the status.
+pub fn print_help<W: Write, E: Write>(text: &str, output: &mut W, errors: &mut E) -> u8
+    ensures { result ≤ 3 }
+{
+    match output.write_all(text.as_bytes()) {
+        Ok(()) => 0,
+        Err(_) => report(&Fault::Output, errors),
+    }
+}
+
+/// Writes a fault of the command line, and gives the status.
+pub fn print_wrong<E: Write>(text: &str, errors: &mut E) -> u8
+    ensures { result ≡ 2 }
+{
+    let _ = errors.write_all(text.as_bytes());
+    2
+}

@@ -1,0 +1,192 @@
+-- What bringing the tables to version 2 leaves, against the lists of requests.
+use Rattle.std.proofs.Common.{◌≡◌, ◌⊎◌, inl, inr, ℕ, List, [], Option, Some, None, Ok, Err, Result, refl, sym, ap, ◌∙◌, subst}
+use Rattle.std.specs.Prelude.{⊤}
+use Rattle.sqlite.specs.Effect.{Database}
+use Rattle.sqlite.specs.State.{State, HasCleanDisk}
+use Rattle.sqlite_trees.specs.Tree.{Trees}
+use Rattle.desk_tables.specs.Rows.{DeskRows, Holds, HoldsFirst, first_rows, version_in, with_version}
+use Rattle.desk_tables.specs.Schema.{schema_0}
+use Rattle.desk_tables.specs.Transactions.{IsEmptied}
+use Rattle.onix_message.specs.declared.agreement.StoreFault.{StoreFault}
+use Rattle.series_rules.specs.declared.requests.Request.{Request}
+use Rattle.desk_store.specs.Desks.{AreRowsOf, HoldsRequests}
+use Rattle.desk_store.specs.Migrations.{HoldsFirstRequests, IsMigrated, IsOfRequests}
+use Rattle.desk_store.specs.Openings.{IsCreated, IsFoundFor, IsKnown, IsReady, IsVersionRead, MakesAll, ShowsOnly}
+use Rattle.desk_store.specs.declared.migrating.MigrateAnswer.TheVariants.{Migrated, AlreadyTwo}
+use Rattle.desk_store.specs.declared.opening.OpenFault.TheVariants.{Store, OtherVersion}
+use Rattle.desk_store.proofs.FoundTables.{IsSettled, first_stand, keeps_found, known_if_found, no_meta, ready_as_found, version_of_requests}
+
+known_if_of : (db : Database) (L : List Request) → IsOfRequests db L → IsKnown db
+known_if_of db L (inl first) = inr (first.0, inr first.1)
+known_if_of db L (inr found) = known_if_found db L found
+
+some_is : (m n : ℕ) → ◌≡◌ {A = Option ℕ} (Some m) (Some n) → m ≡ n
+some_is m n e = cc
+
+none_is : (n : ℕ) → ◌≡◌ {A = Option ℕ} None (Some n) → ⊥
+none_is n e = absurd cc
+
+one_two : ◌≡◌ {A = ℕ} 1 2 → ⊥
+one_two e = absurd cc
+
+-- ---- what the version says of what was found
+
+module _ (s0 s1 : State) (version : Option ℕ) (read : IsVersionRead s0 s1 (Ok version)) (clean : HasCleanDisk s1) (db : Database) (only : ShowsOnly db s0) where
+  second_says : (L : List Request) → HoldsRequests db L → version ≡ Some 2
+  second_says L held = read.present clean db only held.0 (inl held.1) ∙ version_of_requests held.0 L held.2
+
+  first_says : (L : List Request) → HoldsFirstRequests db L → version ≡ Some 1
+  first_says L first = read.present clean db only first.0 (inr first.1) ∙ first.2
+
+  none_says : IsEmptied schema_0 db → version ≡ None
+  none_says emptied = read.absent clean db only (no_meta db emptied)
+
+-- ---- the tables are of version 2
+
+pub migrated_already : (s0 s1 : State) → IsSettled s0 → IsVersionRead s0 s1 (Ok (Some 2)) → IsMigrated s0 s1 (Ok AlreadyTwo)
+migrated_already s0 s1 settled read = record {
+  premise = read.premise;
+  ok = λ clean db only L of. ready.ok clean db only L (inl (held clean db only L of));
+  err = λ clean db only L of. tt;
+  answer = λ clean db only. record {
+    version = λ rows any. sym (read.present clean db only rows any);
+    made = λ emptied. absurd (none_is 2 (sym (none_says s0 s1 (Some 2) read clean db only emptied)));
+  };
+  fault = λ clean db only rows any. tt;
+  crash = λ clean db only L of d may. inl (read.crash clean db only (known_if_of db L of) d may);
+  alone = λ clean db only L of. ready.alone clean db only L (inl (held clean db only L of));
+}
+  where
+    ready : IsReady s0 s1 (Ok tt)
+    ready = ready_as_found s0 s1 settled read
+
+    held : HasCleanDisk s1 → (db : Database) → ShowsOnly db s0 → (L : List Request) → IsOfRequests db L → HoldsRequests db L
+    held clean db only L (inl first) = absurd (one_two (sym (some_is 2 1 (first_says s0 s1 (Some 2) read clean db only L first))))
+    held clean db only L (inr (inl it)) = it
+    held clean db only L (inr (inr none)) = absurd (none_is 2 (sym (none_says s0 s1 (Some 2) read clean db only none.0)))
+
+-- they are of another one
+pub migrated_other : (s0 s1 : State) (found : ℕ) → ¬ (found ≡ 1) → ¬ (found ≡ 2) → IsVersionRead s0 s1 (Ok (Some found)) → IsMigrated s0 s1 (Err (OtherVersion found))
+migrated_other s0 s1 found not_one not_two read = record {
+  premise = read.premise;
+  ok = λ clean db only L of. tt;
+  err = λ clean db only L of. read.left clean db only (known_if_of db L of);
+  answer = λ clean db only. tt;
+  fault = λ clean db only rows any. (sym (read.present clean db only rows any), not_one, not_two);
+  crash = λ clean db only L of d may. inl (read.crash clean db only (known_if_of db L of) d may);
+  alone = λ clean db only L of. tt;
+}
+
+pub migrated_unread : (s0 s1 : State) (e : StoreFault) → IsVersionRead s0 s1 (Err e) → IsMigrated s0 s1 (Err (Store e))
+migrated_unread s0 s1 e read = record {
+  premise = read.premise;
+  ok = λ clean db only L of. tt;
+  err = λ clean db only L of. read.left clean db only (known_if_of db L of);
+  answer = λ clean db only. tt;
+  fault = λ clean db only rows any. tt;
+  crash = λ clean db only L of d may. inl (read.crash clean db only (known_if_of db L of) d may);
+  alone = λ clean db only L of. tt;
+}
+
+-- ---- they are of version 1
+
+module _ (s0 s1 s2 : State) (read : IsVersionRead s0 s1 (Ok (Some 1))) where
+  first_here : HasCleanDisk s1 → (db : Database) → ShowsOnly db s0 → (L : List Request) → IsOfRequests db L → HoldsFirstRequests db L
+  first_here clean db only L (inl first) = first
+  first_here clean db only L (inr (inl held)) = absurd (one_two (some_is 1 2 (second_says s0 s1 (Some 1) read clean db only L held)))
+  first_here clean db only L (inr (inr none)) = absurd (none_is 1 (sym (none_says s0 s1 (Some 1) read clean db only none.0)))
+
+  first_left : HasCleanDisk s1 → (db : Database) → ShowsOnly db s0 → (L : List Request) → IsOfRequests db L → ShowsOnly db s1
+  first_left clean db only L of = read.left clean db only (known_if_of db L of)
+
+  held_then : (db made : Database) (L : List Request) (first : HoldsFirstRequests db L) → Holds made (with_version 2 first.0) → HoldsRequests made L
+  held_then db made L first held = (with_version 2 first.0, held, first.3)
+
+  abbrev Makes : Result ⊤ StoreFault → Type 0
+  Makes result = (rows : DeskRows) → MakesAll (λ db. HoldsFirst db rows) (λ db. Holds db (with_version 2 rows)) s1 s2 result
+
+  first_crash : (result : Result ⊤ StoreFault) → Makes result → HasCleanDisk s2 → (db : Database) → ShowsOnly db s0 → (L : List Request) → IsOfRequests db L → (d : Trees) → s2.may_leave d → s0.may_leave d ⊎ AreRowsOf d L
+  first_crash result makes clean db only L of d may =
+      let clean1 = (makes first_rows).premise clean in
+      let first = first_here clean1 db only L of in
+      go clean1 first ((makes first.0).crash clean db (first_left clean1 db only L of) first.1 d may)
+    where
+      go : HasCleanDisk s1 → (first : HoldsFirstRequests db L) → s1.may_leave d ⊎ ((made : Database) × (made.trees ≡ d) × Holds made (with_version 2 first.0)) → s0.may_leave d ⊎ AreRowsOf d L
+      go clean1 first (inl before) = inl (read.crash clean1 db only (known_if_of db L of) d before)
+      go clean1 first (inr made) = inr (made.0, made.1, held_then db made.0 L first made.2)
+
+  pub migrated_first : Makes (Ok tt) → IsMigrated s0 s2 (Ok Migrated)
+  migrated_first makes = record {
+    premise = λ clean. read.premise ((makes first_rows).premise clean);
+    ok = λ clean db only L of. let now = made_now clean db only L of in keeps_found now.0 L s2 now.1 now.2;
+    err = λ clean db only L of. tt;
+    answer = λ clean db only.
+        let clean1 = (makes first_rows).premise clean in
+        record {
+          version = λ rows any found is. sym (some_is 1 found (read.present clean1 db only rows any ∙ is));
+          made = λ emptied. refl;
+        };
+    fault = λ clean db only rows any. tt;
+    crash = first_crash (Ok tt) makes;
+    alone = λ clean db only L of. λ d may.
+        let now = made_now clean db only L of in
+        let sure = (makes first_rows).alone clean in
+        (now.0, sym (sure.1 d may ∙ ap (λ (x : Database). x.trees) (now.1 sure.0).2), now.2);
+  }
+    where
+      made_now : HasCleanDisk s2 → (db : Database) → ShowsOnly db s0 → (L : List Request) → IsOfRequests db L → (made : Database) × ShowsOnly made s2 × HoldsRequests made L
+      made_now clean db only L of =
+          let clean1 = (makes first_rows).premise clean in
+          let first = first_here clean1 db only L of in
+          let ok = (makes first.0).ok clean db (first_left clean1 db only L of) first.1 in
+          (ok.0, ok.1, held_then db ok.0 L first ok.2)
+
+  pub migrate_failed : (e : StoreFault) → Makes (Err e) → IsMigrated s0 s2 (Err (Store e))
+  migrate_failed e makes = record {
+    premise = λ clean. read.premise ((makes first_rows).premise clean);
+    ok = λ clean db only L of. tt;
+    err = λ clean db only L of.
+        let clean1 = (makes first_rows).premise clean in
+        let first = first_here clean1 db only L of in
+        (makes first.0).err clean db (first_left clean1 db only L of) first.1;
+    answer = λ clean db only. tt;
+    fault = λ clean db only rows any. tt;
+    crash = first_crash (Err e) makes;
+    alone = λ clean db only L of. tt;
+  }
+
+-- ---- there are none
+
+module _ (s0 s1 s2 : State) (read : IsVersionRead s0 s1 (Ok None)) where
+  none_here : HasCleanDisk s1 → (db : Database) → ShowsOnly db s0 → (L : List Request) → IsOfRequests db L → IsEmptied schema_0 db × (L ≡ [])
+  none_here clean db only L (inl first) = absurd (none_is 1 (first_says s0 s1 None read clean db only L first))
+  none_here clean db only L (inr (inl held)) = absurd (none_is 2 (second_says s0 s1 None read clean db only L held))
+  none_here clean db only L (inr (inr none)) = none
+
+  found_here : HasCleanDisk s1 → (db : Database) → ShowsOnly db s0 → (L : List Request) → IsOfRequests db L → IsFoundFor db L
+  found_here clean db only L of = inr (none_here clean db only L of)
+
+  pub migrated_none : IsCreated s1 s2 (Ok tt) → IsReady s0 s2 (Ok tt) → IsMigrated s0 s2 (Ok Migrated)
+  migrated_none created ready = record {
+    premise = ready.premise;
+    ok = λ clean db only L of. ready.ok clean db only L (found_here (created.premise clean) db only L of);
+    err = λ clean db only L of. tt;
+    answer = λ clean db only. record {
+      version = λ rows any found is. absurd (none_is found (read.present (created.premise clean) db only rows any ∙ is));
+      made = λ emptied. refl;
+    };
+    fault = λ clean db only rows any. tt;
+    crash = λ clean db only L of. ready.crash clean db only L (found_here (created.premise clean) db only L of);
+    alone = λ clean db only L of. ready.alone clean db only L (found_here (created.premise clean) db only L of);
+  }
+
+  pub uncreated_none : (e : StoreFault) → IsCreated s1 s2 (Err e) → IsReady s0 s2 (Err (Store e)) → IsMigrated s0 s2 (Err (Store e))
+  uncreated_none e created ready = record {
+    premise = ready.premise;
+    ok = λ clean db only L of. tt;
+    err = λ clean db only L of. ready.err clean db only L (found_here (created.premise clean) db only L of);
+    answer = λ clean db only. tt;
+    fault = λ clean db only rows any. tt;
+    crash = λ clean db only L of. ready.crash clean db only L (found_here (created.premise clean) db only L of);
+    alone = λ clean db only L of. tt;
+  }

@@ -1,0 +1,57 @@
+-- What is found where a desk of version 1 is brought to version 2, and what that leaves.
+use Rattle.std.specs.Prelude.{◌≡◌, ◌⊎◌, ℕ, List, Some, Result, IfOk, IfErr, OnErr, OnOk, ⊤}
+use Rattle.sqlite.specs.Effect.{Database}
+use Rattle.sqlite.specs.Files.{HoldsDatabase}
+use Rattle.sqlite.specs.State.{State, HasCleanDisk}
+use Rattle.sqlite_trees.specs.Tree.{Trees}
+use Rattle.sqlite_wal.specs.Recovery.{Image}
+use Rattle.desk_tables.specs.Rows.{DeskRows, HoldsFirst, version_in, with_version}
+use Rattle.desk_tables.specs.Schema.{schema_0}
+use Rattle.desk_tables.specs.Transactions.{IsEmptied}
+use Rattle.series_rules.specs.declared.requests.Request.{Request}
+use Rattle.desk_store.specs.Desks.{AreRowsOf, KeepsRequests}
+use Rattle.desk_store.specs.Openings.{AreFilesOf, HoldsAny, IsFoundFor, ShowsOnly}
+use Rattle.desk_store.specs.Stands.{StandsFor}
+use Rattle.desk_store.specs.declared.migrating.MigrateAnswer.{MigrateAnswer}
+use Rattle.desk_store.specs.declared.migrating.MigrateAnswer.TheVariants.{Migrated, AlreadyTwo}
+use Rattle.desk_store.specs.declared.opening.OpenFault.{OpenFault}
+use Rattle.desk_store.specs.declared.opening.OpenFault.TheVariants.{Store, OtherVersion}
+
+-- the database is one of version 1, and but for the version its rows are what those requests come to
+abbrev pub HoldsFirstRequests : Database → List Request → Type 0
+HoldsFirstRequests db L = (rows : DeskRows) × HoldsFirst db rows × (version_in rows ≡ Some 1) × StandsFor (with_version 2 rows) L
+
+-- the database is of those requests, in version 1 or in version 2, or it has no table and they are none
+abbrev pub IsOfRequests : Database → List Request → Type 0
+IsOfRequests db L = HoldsFirstRequests db L ⊎ IsFoundFor db L
+
+-- the answer is true of the rows that were found
+abbrev pub IsAnswerFor : DeskRows → MigrateAnswer → Type 0
+IsAnswerFor rows Migrated = (found : ℕ) → version_in rows ≡ Some found → found ≡ 1
+IsAnswerFor rows AlreadyTwo = version_in rows ≡ Some 2
+
+-- The answer is true of what was found: a desk's tables with certain rows, or nothing.
+pub record IsTrueAnswer (Has : DeskRows → Type 0) (IsEmpty : Type 0) (answer : MigrateAnswer) : Type 0 where
+  pub version : (rows : DeskRows) → Has rows → IsAnswerFor rows answer
+  pub made : IsEmpty → answer ≡ Migrated
+
+-- the fault is true of the rows: another version is theirs, and neither 1 nor 2
+abbrev pub IsMigrateFaultFor : DeskRows → OpenFault → Type 0
+IsMigrateFaultFor rows (Store fault) = ⊤
+IsMigrateFaultFor rows (OtherVersion found) = (version_in rows ≡ Some found) × ¬ (found ≡ 1) × ¬ (found ≡ 2)
+
+-- The tables of a connection that was just opened were brought to version 2: they are of the same requests.
+pub record IsMigrated (old new : State) (result : Result MigrateAnswer OpenFault) : Type 0 where
+  pub premise : HasCleanDisk new → HasCleanDisk old
+  pub ok : HasCleanDisk new → (db : Database) → ShowsOnly db old → (L : List Request) → IsOfRequests db L → OnOk result (KeepsRequests new L)
+  pub err : HasCleanDisk new → (db : Database) → ShowsOnly db old → (L : List Request) → IsOfRequests db L → OnErr result (ShowsOnly db new)
+  pub answer : HasCleanDisk new → (db : Database) → ShowsOnly db old → IfOk result (IsTrueAnswer (HoldsAny db) (IsEmptied schema_0 db))
+  pub fault : HasCleanDisk new → (db : Database) → ShowsOnly db old → (rows : DeskRows) → HoldsAny db rows → IfErr result (IsMigrateFaultFor rows)
+  -- a crash leaves what it could leave before, or the tables of those requests
+  pub crash : HasCleanDisk new → (db : Database) → ShowsOnly db old → (L : List Request) → IsOfRequests db L → (d : Trees) → new.may_leave d → old.may_leave d ⊎ AreRowsOf d L
+  -- once they are brought there, a crash leaves the rows of the requests and nothing else
+  pub alone : HasCleanDisk new → (db : Database) → ShowsOnly db old → (L : List Request) → IsOfRequests db L → OnOk result ((d : Trees) → new.may_leave d → AreRowsOf d L)
+
+-- The two files hold a desk of those requests, in version 1 or in version 2, or an empty database and the requests are none.
+abbrev pub AreFilesOfEither : Image → List Request → Type 0
+AreFilesOfEither image L = ((db : Database) × ∥ HoldsDatabase image db.trees ∥₁ × HoldsFirstRequests db L) ⊎ AreFilesOf image L

@@ -1,6 +1,0 @@
-pub mod RulesFile
-pub mod Ends
-pub mod Deliveries
-pub mod GapsEnd
-pub mod Serving
-pub mod TaskEnds

@@ -33,7 +33,6 @@ pub struct EffectRow {
 fn applied_row(row: &Row) -> Result<(Text, EffectRow), StoreFault>
     ensures { IfOk result (λ applied. applied_part_columns applied ≡ six_columns row.now) }
 {
-    let contents = text_column(row, 0)?;
     let effect = EffectRow {
         replaced: whole_column(row, 1)?,
         updated: whole_column(row, 2)?,
@@ -41,6 +40,7 @@ fn applied_row(row: &Row) -> Result<(Text, EffectRow), StoreFault>
         unknown: whole_column(row, 4)?,
         ignored: whole_column(row, 5)?,
     };
+    let contents = text_column(row, 0)?;
     Ok((contents, effect))
 }
 

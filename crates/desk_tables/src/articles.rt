@@ -20,12 +20,17 @@ use sqlite::{Alter, Row, params};
 fn article_row(row: &Row) -> Result<ArticleRow, StoreFault>
     ensures { IfOk result (λ r. article_columns r ≡ five_columns row.now) }
 {
+    let series = name_column(row, 0)?;
+    let id_place = whole_column(row, 2)?;
+    let id_type = code_column(row, 3)?;
+    let reference = text_column(row, 1)?;
+    let id_value = text_column(row, 4)?;
     Ok(ArticleRow {
-        series: name_column(row, 0)?,
-        reference: text_column(row, 1)?,
-        id_place: whole_column(row, 2)?,
-        id_type: code_column(row, 3)?,
-        id_value: text_column(row, 4)?,
+        series,
+        reference,
+        id_place,
+        id_type,
+        id_value,
     })
 }
 

@@ -134,8 +134,8 @@ pub(crate) fn territory_columns(
 ) -> Result<Territory, StoreFault>
     ensures { IfOk result (λ t. territory_at row.now included_at world_at excluded_at ≡ Some t) }
 {
-    let included = text_column(row, included_at)?;
     let world = bool_column(row, world_at)?;
+    let included = text_column(row, included_at)?;
     let excluded = text_column(row, excluded_at)?;
     let regions = if world { "WORLD" } else { "" };
     match Territory::read(alloc, included.as_str(), regions, excluded.as_str()) {

@@ -42,15 +42,24 @@ fn supplier_columns(row: &Row) -> Result<Supplier, StoreFault>
 fn offer_row(alloc: Global, row: &Row) -> Result<OfferRow, StoreFault>
     ensures { IfOk result (λ r. read_offer row.now ≡ Some r) }
 {
+    // What takes no memory comes first, so that few ways out let go of anything.
+    let series = name_column(row, 0)?;
+    let place = whole_column(row, 2)?;
+    let supply = whole_column(row, 3)?;
+    let availability = code_column(row, 11)?;
+    let unpriced = optional_code_column(row, 12)?;
+    let reference = text_column(row, 1)?;
+    let market = territory_columns(alloc, row, 4, 5, 6)?;
+    let supplier = supplier_columns(row)?;
     Ok(OfferRow {
-        series: name_column(row, 0)?,
-        reference: text_column(row, 1)?,
-        place: whole_column(row, 2)?,
-        supply: whole_column(row, 3)?,
-        market: territory_columns(alloc, row, 4, 5, 6)?,
-        supplier: supplier_columns(row)?,
-        availability: code_column(row, 11)?,
-        unpriced: optional_code_column(row, 12)?,
+        series,
+        reference,
+        place,
+        supply,
+        market,
+        supplier,
+        availability,
+        unpriced,
     })
 }
 

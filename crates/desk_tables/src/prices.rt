@@ -30,12 +30,17 @@ use std::alloc::Global;
 fn minimum_row(row: &Row) -> Result<MinimumRow, StoreFault>
     ensures { IfOk result (λ r. minimum_columns r ≡ five_columns row.now) }
 {
+    let series = name_column(row, 0)?;
+    let place = whole_column(row, 2)?;
+    let price_place = whole_column(row, 3)?;
+    let minimum = whole_column(row, 4)?;
+    let reference = text_column(row, 1)?;
     Ok(MinimumRow {
-        series: name_column(row, 0)?,
-        reference: text_column(row, 1)?,
-        place: whole_column(row, 2)?,
-        price_place: whole_column(row, 3)?,
-        minimum: whole_column(row, 4)?,
+        series,
+        reference,
+        place,
+        price_place,
+        minimum,
     })
 }
 
@@ -115,14 +120,20 @@ fn price_of(alloc: Global, row: &Row, minimum: Quantity) -> Result<Price, StoreF
     ensures from { IfOk result (λ p. day_in (column row.now 10) ≡ Some p.from) }
     ensures until { IfOk result (λ p. day_in (column row.now 11) ≡ Some p.until) }
 {
+    let price_type = code_column(row, 4)?;
+    let amount = amount_column(row, 5)?;
+    let currency = currency_column(row, 6)?;
+    let from = day_column(row, 10)?;
+    let until = day_column(row, 11)?;
+    let territory = territory_columns(alloc, row, 7, 8, 9)?;
     Ok(Price {
-        price_type: code_column(row, 4)?,
-        amount: amount_column(row, 5)?,
-        currency: currency_column(row, 6)?,
-        territory: territory_columns(alloc, row, 7, 8, 9)?,
+        price_type,
+        amount,
+        currency,
+        territory,
         minimum,
-        from: day_column(row, 10)?,
-        until: day_column(row, 11)?,
+        from,
+        until,
     })
 }
 

@@ -27,16 +27,19 @@ fn series_row(row: &Row) -> Result<SeriesRow, StoreFault>
     ensures columns { IfOk result (λ series. series_columns series ≡ seven_columns row.now) }
     ensures told { IfOk result (λ series. IsAddressee series.agreement.addressee) }
 {
+    // What takes no memory comes first, so that few ways out let go of anything.
+    let name = name_column(row, 0)?;
+    let first = number_column(row, 5)?;
+    let next = whole_column(row, 6)?;
+    let sender = party_columns(row, 1, 2)?;
+    let addressee = addressee_columns(row, 3, 4)?;
     let agreement = Agreement {
-        name: name_column(row, 0)?,
-        sender: party_columns(row, 1, 2)?,
-        addressee: addressee_columns(row, 3, 4)?,
-        first: number_column(row, 5)?,
+        name,
+        sender,
+        addressee,
+        first,
     };
-    Ok(SeriesRow {
-        agreement,
-        next: whole_column(row, 6)?,
-    })
+    Ok(SeriesRow { agreement, next })
 }
 
 fn first_series(rows: &Vec<Row>) -> Result<Option<SeriesRow>, StoreFault>

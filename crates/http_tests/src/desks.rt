@@ -2,46 +2,33 @@
 
 use catalogue_rules::catalogue::Catalogue;
 use csv_records::records::Records;
+use desk_batch::batch::run_batch;
 use desk_memory::desk::MemoryDesk;
 use onix_message::agreement::{Agreement, StoreFault};
-use onix_terms::code::Code2;
 use onix_terms::isbn13::Isbn13;
 use onix_terms::items::Items;
 use onix_terms::number::Number;
-use onix_terms::party::Party;
 use onix_terms::series_name::SeriesName;
-use onix_terms::text::Text;
 use price_rules::offer::Offer;
+use price_rules::precedence::Precedence;
 use series_rules::answers::{AgreeAnswer, DeliveryAnswer, GapReport, WaiveAnswer};
 use series_rules::desk::Desk;
 use std::alloc::Global;
 use std::test::Fail;
 
-fn party(alloc: Global, id: &str) -> Option<Party> {
-    Some(Party {
-        id_type: Code2::read("06")?,
-        id_value: Text::from_str(alloc, id).ok()?,
-    })
-}
-
-fn agreement(alloc: Global, name: &str, sender: &str, first: u32) -> Option<Agreement> {
-    Some(Agreement {
-        name: SeriesName::read(name)?,
-        sender: party(alloc, sender)?,
-        addressee: Some(party(alloc, "5012345678900")?),
-        first: Number::from_value(first)?,
-    })
-}
+const AGREEMENTS: &str = "Agree,north,06,4012345000009,06,5012345678900,1
+Agree,south,06,5000000000005,06,5012345678900,5
+Waive,south,7
+";
 
 /// A desk with the agreements `north`, from number 1 on, and `south`, from number 5 on, of which 7
 /// is waived.
 pub fn agreed_desk(alloc: Global) -> Result<MemoryDesk, Fail> {
     let mut desk = MemoryDesk::new(alloc);
-    let north = agreement(alloc, "north", "4012345000009", 1).ok_or("no agreement")?;
-    let south = agreement(alloc, "south", "5000000000005", 5).ok_or("no agreement")?;
-    desk.agree(&north)?;
-    desk.agree(&south)?;
-    desk.waive(&south.name, Number::from_value(7).ok_or("no number")?)?;
+    let mut input = AGREEMENTS.as_bytes();
+    let mut output = Vec::new(alloc);
+    let precedence = Precedence::none(alloc);
+    run_batch(alloc, &mut desk, &precedence, &mut input, &mut output)?;
     Ok(desk)
 }
 

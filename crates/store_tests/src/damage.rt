@@ -1,21 +1,14 @@
 // Files in which another program has left values that no desk has: the call that meets one is
 // `Unusable`, nothing of its request is kept, and once the value is put right the desk goes on.
 
-ghost use Rattle.std.specs.Prelude.{IfOk, IsTrue};
-ghost use Rattle.sqlite_disk.specs.Memory.{memory_is_usable};
-
-use crate::desks::ask_files;
-use crate::disks::{OPTIONS, new_files, with_statements};
-use desk_batch::batch::{BatchFault, run_batch};
-use desk_store::desk::DeskStore;
+use crate::desks::{Asked, ask_files, expect_files};
+use crate::disks::{new_files, with_statements};
+use desk_batch::batch::BatchFault;
 use onix_message::agreement::StoreFault;
-use price_rules::precedence::Precedence;
-use series_rules::desk::Desk;
 use sqlite::Files;
 use sqlite_disk::Memory;
 use std::alloc::Global;
 use std::process::Abort;
-use std::test::Fail;
 
 // What the desk is asked before, and what it answers.
 const BEFORE: (&str, &str) = (
@@ -111,65 +104,41 @@ const CASES: [Case; 7] = [
     ),
 ];
 
-// Whether a batch ends with its first request, by a store that is `Unusable`, and writes nothing.
-fn is_refused<D: Desk>(alloc: Global, desk: &mut D, text: &str) -> bool {
-    let precedence = Precedence::none(alloc);
-    let mut output = Vec::new(alloc);
-    let ran = run_batch(alloc, desk, &precedence, &mut text.as_bytes(), &mut output);
+// Whether a batch ended with its first request, by a store that is `Unusable`, and nothing was written.
+fn is_refused(asked: &Asked) -> bool {
     let is_unusable = matches!(
-        ran,
+        asked.ended,
         Err(BatchFault::Store {
             done: 0,
             fault: StoreFault::Unusable
         })
     );
-    is_unusable && output.is_empty()
+    is_unusable && asked.output.is_empty()
 }
 
-// The same of the desk in files, twice.
-fn refuses(
-    alloc: Global,
-    stop: &impl Abort,
-    files: Files<Memory>,
-    text: &str,
-) -> Result<Files<Memory>, Fail>
-    requires log { IsTrue (memory_is_usable files.log) }
-    requires db { IsTrue (memory_is_usable files.db) }
-    ensures usable { IfOk result (λ files. IsTrue (memory_is_usable files.log) × IsTrue (memory_is_usable files.db)) }
-{
-    let mut desk = match DeskStore::open_files(alloc, files, OPTIONS) {
-        Ok(desk) => desk,
-        Err((fault, left)) => {
-            drop(left);
-            return Err(fault)?;
-        }
+fn refuses(alloc: Global, stop: &impl Abort, files: Files<Memory>, text: &str) -> Files<Memory> {
+    let (files, asked) = ask_files(alloc, files, text);
+    let is_right = match asked {
+        Ok(asked) => is_refused(&asked),
+        Err(_) => false,
     };
-    let is_first_refused = is_refused(alloc, &mut desk, text);
-    let is_second_refused = is_refused(alloc, &mut desk, text);
-    assert!(stop; is_first_refused && is_second_refused, "{text}");
-    match desk.close_files() {
-        Ok(files) => Ok(files),
-        Err((fault, left)) => {
-            drop(left);
-            Err(fault)?
-        }
-    }
+    assert!(stop; is_right, "{text}");
+    files
 }
 
-fn run_case(alloc: Global, stop: &impl Abort, case: &Case) -> Result<(), Fail> {
-    let (damage, repair, (asked, answered)) = *case;
-    let files = ask_files(alloc, stop, new_files(alloc), BEFORE)?;
-    let files = with_statements(alloc, files, &[damage])?;
-    let files = refuses(alloc, stop, files, asked)?;
-    let files = with_statements(alloc, files, &[repair])?;
-    drop(ask_files(alloc, stop, files, (asked, answered))?);
-    Ok(())
+fn run_case(alloc: Global, stop: &impl Abort, case: &Case) {
+    let (damage, repair, (asked, answers)) = *case;
+    let files = expect_files(alloc, stop, new_files(alloc), BEFORE);
+    let files = with_statements(alloc, stop, files, &[damage]);
+    let files = refuses(alloc, stop, files, asked);
+    let files = refuses(alloc, stop, files, asked);
+    let files = with_statements(alloc, stop, files, &[repair]);
+    drop(expect_files(alloc, stop, files, (asked, answers)));
 }
 
 #[test]
-fn values_that_no_desk_has(rt: HostRuntime) -> Result<(), Fail> {
+fn values_that_no_desk_has(rt: HostRuntime) {
     for case in CASES.as_slice() {
-        run_case(rt.alloc(), &rt, case)?;
+        run_case(rt.alloc(), &rt, case);
     }
-    Ok(())
 }

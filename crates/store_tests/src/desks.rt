@@ -1,14 +1,14 @@
 // The desk in tables, over a store in memory and over files on disks in memory: what it answers to
 // batches, before and after its files were closed and opened again.
 
-ghost use Rattle.std.specs.Prelude.{IfOk, IsTrue};
-
-use crate::disks::new_files;
-use desk_batch::batch::run_batch;
+use crate::disks::{OPTIONS, new_files};
+use desk_batch::batch::{BatchFault, run_batch};
 use desk_store::desk::DeskStore;
+use desk_store::opening::OpenFault;
+use onix_message::agreement::StoreFault;
 use price_rules::precedence::Precedence;
 use series_rules::desk::Desk;
-use sqlite::{Files, Options};
+use sqlite::{FileStore, Files};
 use sqlite_disk::Disk;
 use std::alloc::Global;
 use std::process::Abort;
@@ -67,68 +67,87 @@ offer,north,R1,1,21,12.990
 ",
 );
 
-// Ends the test where a desk does not answer a batch so.
-fn expect_answers<D: Desk>(
+/// What a desk wrote to a batch, and how the batch ended.
+#[derive(Drop)]
+pub struct Asked {
+    pub output: Vec<u8>,
+    pub ended: Result<u64, BatchFault>,
+}
+
+/// Asks a desk a batch.
+pub fn ask<D: Desk>(alloc: Global, desk: &mut D, text: &str) -> Asked {
+    let precedence = Precedence::none(alloc);
+    let mut output = Vec::new(alloc);
+    let ended = run_batch(alloc, desk, &precedence, &mut text.as_bytes(), &mut output);
+    Asked { output, ended }
+}
+
+// Asks a desk a batch, and closes its files.
+fn ask_and_close<D: Disk + Drop>(
+    alloc: Global,
+    mut desk: DeskStore<FileStore<D>>,
+    text: &str,
+) -> (Files<D>, Asked) {
+    let asked = ask(alloc, &mut desk, text);
+    match desk.close_files() {
+        Ok(files) => (files, asked),
+        Err((_, store)) => (store.close(), asked),
+    }
+}
+
+/// Opens the desk in files, asks it a batch, and closes them: the files, and what came of it, or why the
+/// desk was not opened. All tests over files open them here: a function that owns a desk over files is
+/// dear to prove.
+pub fn ask_files<D: Disk + Drop>(
+    alloc: Global,
+    files: Files<D>,
+    text: &str,
+) -> (Files<D>, Result<Asked, OpenFault>) {
+    if !files.may_be_used() {
+        return (files, Err(OpenFault::Store(StoreFault::Disk)));
+    }
+    match DeskStore::open_files(alloc, files, OPTIONS) {
+        Ok(desk) => {
+            let (files, asked) = ask_and_close(alloc, desk, text);
+            (files, Ok(asked))
+        }
+        Err((fault, left)) => (left.into_files(), Err(fault)),
+    }
+}
+
+/// Ends the test where these are not the answers to a batch.
+pub fn expect_asked(stop: &impl Abort, asked: &Asked, answers: &str) {
+    assert_eq!(stop; asked.output.as_slice(), answers.as_bytes());
+    assert!(stop; asked.ended.is_ok(), "a batch that ends in a fault");
+}
+
+/// Asks the desk in files a batch, and ends the test where these are not its answers.
+pub fn expect_files<D: Disk + Drop>(
     alloc: Global,
     stop: &impl Abort,
-    desk: &mut D,
+    files: Files<D>,
     case: (&str, &str),
-) -> Result<(), Fail> {
-    let mut output = Vec::new(alloc);
-    let precedence = Precedence::none(alloc);
-    run_batch(
-        alloc,
-        desk,
-        &precedence,
-        &mut case.0.as_bytes(),
-        &mut output,
-    )?;
-    assert_eq!(stop; output.as_slice(), case.1.as_bytes());
-    Ok(())
+) -> Files<D> {
+    let (files, asked) = ask_files(alloc, files, case.0);
+    match asked {
+        Ok(asked) => expect_asked(stop, &asked, case.1),
+        Err(_) => stop.panic("files that are no desk's"),
+    }
+    files
 }
 
 #[test]
 fn desk_over_memory(rt: HostRuntime) -> Result<(), Fail> {
     let alloc = rt.alloc();
     let mut desk = DeskStore::open_in_memory(alloc)?;
-    expect_answers(alloc, &rt, &mut desk, FIRST)?;
-    expect_answers(alloc, &rt, &mut desk, SECOND)
-}
-
-/// Opens the desk in the files, asks it, and closes them. Files that may not be used fail the test.
-pub fn ask_files<D: Disk + Drop>(
-    alloc: Global,
-    stop: &impl Abort,
-    files: Files<D>,
-    case: (&str, &str),
-) -> Result<Files<D>, Fail>
-    ensures usable { IfOk result (λ files. IsTrue (D.Disk.is_usable files.log) × IsTrue (D.Disk.is_usable files.db)) }
-{
-    if !files.may_be_used() {
-        drop(files);
-        return Err("files that may not be used")?;
-    }
-    let mut desk = match DeskStore::open_files(alloc, files, Options::new(1)) {
-        Ok(desk) => desk,
-        Err((fault, left)) => {
-            drop(left);
-            return Err(fault)?;
-        }
-    };
-    expect_answers(alloc, stop, &mut desk, case)?;
-    match desk.close_files() {
-        Ok(files) => Ok(files),
-        Err((fault, left)) => {
-            drop(left);
-            Err(fault)?
-        }
-    }
+    expect_asked(&rt, &ask(alloc, &mut desk, FIRST.0), FIRST.1);
+    expect_asked(&rt, &ask(alloc, &mut desk, SECOND.0), SECOND.1);
+    Ok(())
 }
 
 #[test]
-fn desk_over_files(rt: HostRuntime) -> Result<(), Fail> {
+fn desk_over_files(rt: HostRuntime) {
     let alloc = rt.alloc();
-    let files = ask_files(alloc, &rt, new_files(alloc), FIRST)?;
-    drop(ask_files(alloc, &rt, files, SECOND)?);
-    Ok(())
+    let files = expect_files(alloc, &rt, new_files(alloc), FIRST);
+    drop(expect_files(alloc, &rt, files, SECOND));
 }

@@ -1,12 +1,9 @@
 // Files, by the test's own statements, and files that fail from some call on.
 
-ghost use Rattle.std.specs.Prelude.{IfOk, IsTrue};
-ghost use Rattle.sqlite_disk.specs.Memory.{memory_is_usable};
-
-use sqlite::{Alter, Connection, Files, Options};
+use sqlite::{Alter, Connection, FileStore, Files, Options};
 use sqlite_disk::{Crash, Disk, Fuse, Memory};
 use std::alloc::Global;
-use std::test::Fail;
+use std::process::Abort;
 
 /// So few pages in memory, and so short a log, that a transaction meets the disks more than once.
 pub const OPTIONS: Options = Options {
@@ -44,49 +41,56 @@ pub fn stop_machine(files: &mut Files<Fuse<Memory>>) -> bool {
 }
 
 /// New files.
-pub fn new_files(alloc: Global) -> Files<Memory>
-    ensures log { IsTrue (memory_is_usable result.log) }
-    ensures db { IsTrue (memory_is_usable result.db) }
-{
+pub fn new_files(alloc: Global) -> Files<Memory> {
     Files {
         log: Memory::new(alloc),
         db: Memory::new(alloc),
     }
 }
 
-fn execute<S: Alter>(connection: &mut Connection<S>, statements: &[&str]) -> Result<(), Fail> {
+// Whether all the statements could be executed.
+fn executes<S: Alter>(connection: &mut Connection<S>, statements: &[&str]) -> bool {
     for statement in statements {
-        connection.execute_batch(statement)?;
+        if connection.execute_batch(statement).is_err() {
+            return false;
+        }
     }
-    Ok(())
+    true
 }
 
-/// Runs statements over files, which are opened for it and closed again.
-pub fn with_statements(
-    alloc: Global,
-    files: Files<Memory>,
+fn execute_and_close<D: Disk + Drop>(
+    mut connection: Connection<FileStore<D>>,
     statements: &[&str],
-) -> Result<Files<Memory>, Fail>
-    requires log { IsTrue (memory_is_usable files.log) }
-    requires db { IsTrue (memory_is_usable files.db) }
-    ensures usable { IfOk result (λ files. IsTrue (memory_is_usable files.log) × IsTrue (memory_is_usable files.db)) }
-{
-    let mut connection = match Connection::open_files(alloc, files, OPTIONS) {
-        Ok(connection) => connection,
-        Err((error, left)) => {
-            drop(left);
-            return Err(error)?;
-        }
-    };
-    if let Err(fail) = execute(&mut connection, statements) {
-        drop(connection);
-        return Err(fail);
-    }
+) -> (Files<D>, bool) {
+    let is_done = executes(&mut connection, statements);
     match connection.close_files() {
-        Ok(files) => Ok(files),
-        Err((error, left)) => {
-            drop(left);
-            Err(error)?
-        }
+        Ok(files) => (files, is_done),
+        Err((_, store)) => (store.close(), false),
     }
+}
+
+fn execute<D: Disk + Drop>(
+    alloc: Global,
+    files: Files<D>,
+    statements: &[&str],
+) -> (Files<D>, bool) {
+    if !files.may_be_used() {
+        return (files, false);
+    }
+    match Connection::open_files(alloc, files, OPTIONS) {
+        Ok(connection) => execute_and_close(connection, statements),
+        Err((_, left)) => (left.into_files(), false),
+    }
+}
+
+/// Executes statements over files, which are opened for it and closed again.
+pub fn with_statements<D: Disk + Drop>(
+    alloc: Global,
+    stop: &impl Abort,
+    files: Files<D>,
+    statements: &[&str],
+) -> Files<D> {
+    let (files, is_done) = execute(alloc, files, statements);
+    assert!(stop; is_done, "statements that are not executed");
+    files
 }

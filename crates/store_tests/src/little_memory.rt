@@ -2,35 +2,34 @@
 // the same request, made again, is answered as it is to be. `bench/refused_memory` refuses each request
 // for memory of these tests in turn.
 
-use crate::disks::{OPTIONS, new_files};
-use crate::stops::{REPORT, STEPS, is_near};
+use crate::desks::{Asked, ask, ask_files, expect_asked};
+use crate::disks::new_files;
+use crate::stops::{REPORT, STEPS, begins_near};
 use csv_records::reading::RecordFault;
-use desk_batch::batch::{BatchFault, run_batch};
+use desk_batch::batch::BatchFault;
 use desk_memory::desk::MemoryDesk;
 use desk_store::desk::DeskStore;
+use desk_store::opening::OpenFault;
 use onix_message::agreement::StoreFault;
-use price_rules::precedence::Precedence;
 use series_rules::desk::Desk;
+use sqlite::Files;
+use sqlite_disk::Memory;
 use std::alloc::Global;
 use std::process::Abort;
 use std::test::Fail;
 
-fn ask<D: Desk>(alloc: Global, desk: &mut D, text: &str) -> Result<Vec<u8>, BatchFault> {
-    let precedence = Precedence::none(alloc);
-    let mut output = Vec::new(alloc);
-    run_batch(alloc, desk, &precedence, &mut text.as_bytes(), &mut output)?;
-    Ok(output)
-}
-
-fn is_memory(fault: &BatchFault) -> bool {
+// Whether a batch ended by want of memory.
+fn lacked_memory(asked: &Asked) -> bool {
     matches!(
-        fault,
-        BatchFault::Records(RecordFault::Memory)
-            | BatchFault::Memory { .. }
-            | BatchFault::Store {
-                fault: StoreFault::Memory,
-                ..
-            }
+        asked.ended,
+        Err(
+            BatchFault::Records(RecordFault::Memory)
+                | BatchFault::Memory { .. }
+                | BatchFault::Store {
+                    fault: StoreFault::Memory,
+                    ..
+                }
+        )
     )
 }
 
@@ -42,48 +41,84 @@ fn ask_again<D: Desk>(
     desk: &mut D,
     text: &str,
     count: usize,
-) -> Result<Vec<u8>, Fail> {
-    match ask(alloc, desk, text) {
-        Ok(output) => Ok(output),
-        Err(fault) => {
-            assert!(stop; is_memory(&fault), "{text}");
-            let report = ask(alloc, desk, REPORT)?;
-            assert!(stop; is_near(report.as_slice(), count), "{text}");
-            Ok(ask(alloc, desk, text)?)
-        }
+) -> Asked {
+    let asked = ask(alloc, desk, text);
+    if !lacked_memory(&asked) {
+        return asked;
     }
+    drop(asked);
+    let report = ask(alloc, desk, REPORT);
+    assert!(stop; begins_near(report.output.as_slice(), count), "{text}");
+    drop(report);
+    ask(alloc, desk, text)
 }
 
-fn answers_all<D: Desk>(alloc: Global, stop: &impl Abort, desk: &mut D) -> Result<(), Fail> {
+fn answers_all<D: Desk>(alloc: Global, stop: &impl Abort, desk: &mut D) {
     for (count, (request, answer, report)) in STEPS.as_slice().iter().enumerate() {
-        let text = ask_again(alloc, stop, desk, request, count)?;
-        assert!(stop; text.as_slice() == answer.as_bytes(), "{request}");
-        let text = ask_again(alloc, stop, desk, REPORT, count.saturating_add(1))?;
-        assert!(stop; text.as_slice() == report.as_bytes(), "{request}");
+        let asked = ask_again(alloc, stop, desk, request, count);
+        expect_asked(stop, &asked, answer);
+        let asked = ask_again(alloc, stop, desk, REPORT, count.saturating_add(1));
+        expect_asked(stop, &asked, report);
     }
-    Ok(())
 }
 
 #[test]
-fn desk_in_memory(rt: HostRuntime) -> Result<(), Fail> {
-    let mut desk = MemoryDesk::new(rt.alloc());
-    answers_all(rt.alloc(), &rt, &mut desk)
+fn desk_in_memory(rt: HostRuntime) {
+    answers_all(rt.alloc(), &rt, &mut MemoryDesk::new(rt.alloc()));
 }
 
 #[test]
 fn tables_in_memory(rt: HostRuntime) -> Result<(), Fail> {
     let mut desk = DeskStore::open_in_memory(rt.alloc())?;
-    answers_all(rt.alloc(), &rt, &mut desk)
+    answers_all(rt.alloc(), &rt, &mut desk);
+    Ok(())
+}
+
+// Whether want of memory came in the way of a batch over files.
+fn lacked_memory_of(asked: &Result<Asked, OpenFault>) -> bool {
+    match asked {
+        Ok(asked) => lacked_memory(asked),
+        Err(OpenFault::Store(StoreFault::Memory)) => true,
+        Err(_) => false,
+    }
+}
+
+// Asks the desk in files, which are opened and closed for it; where memory is refused, once more.
+fn ask_files_again(
+    alloc: Global,
+    files: Files<Memory>,
+    text: &str,
+) -> (Files<Memory>, Result<Asked, OpenFault>) {
+    let (files, asked) = ask_files(alloc, files, text);
+    if !lacked_memory_of(&asked) {
+        return (files, asked);
+    }
+    drop(asked);
+    ask_files(alloc, files, text)
+}
+
+fn expect_again(
+    alloc: Global,
+    stop: &impl Abort,
+    files: Files<Memory>,
+    text: &str,
+    answers: &str,
+) -> Files<Memory> {
+    let (files, asked) = ask_files_again(alloc, files, text);
+    match asked {
+        Ok(asked) => expect_asked(stop, &asked, answers),
+        Err(_) => stop.panic("files that are no desk's"),
+    }
+    files
 }
 
 #[test]
-fn tables_in_files(rt: HostRuntime) -> Result<(), Fail> {
+fn tables_in_files(rt: HostRuntime) {
     let alloc = rt.alloc();
-    match DeskStore::open_files(alloc, new_files(alloc), OPTIONS) {
-        Ok(mut desk) => answers_all(alloc, &rt, &mut desk),
-        Err((fault, left)) => {
-            drop(left);
-            Err(fault)?
-        }
+    let mut files = new_files(alloc);
+    for (request, answer, report) in STEPS.as_slice() {
+        files = expect_again(alloc, &rt, files, request, answer);
+        files = expect_again(alloc, &rt, files, REPORT, report);
     }
+    drop(files);
 }

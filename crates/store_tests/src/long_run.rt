@@ -1,11 +1,9 @@
 // Two hundred messages backwards with questions in between, over the desk in tables and over the desk
 // in memory, which answer alike.
 
-use desk_batch::batch::run_batch;
+use crate::desks::ask;
 use desk_memory::desk::MemoryDesk;
 use desk_store::desk::DeskStore;
-use price_rules::precedence::Precedence;
-use series_rules::desk::Desk;
 use std::alloc::Global;
 use std::fmt::Write;
 use std::test::Fail;
@@ -35,23 +33,17 @@ fn batch(alloc: Global) -> Result<String, Fail> {
     Ok(text)
 }
 
-fn answers<D: Desk>(alloc: Global, desk: &mut D, text: &str) -> Result<Vec<u8>, Fail> {
-    let precedence = Precedence::none(alloc);
-    let mut output = Vec::new(alloc);
-    run_batch(alloc, desk, &precedence, &mut text.as_bytes(), &mut output)?;
-    Ok(output)
-}
-
 #[test]
 fn two_hundred_numbers_backwards(rt: HostRuntime) -> Result<(), Fail> {
     let alloc = rt.alloc();
     let text = batch(alloc)?;
-    let mut desk = MemoryDesk::new(alloc);
-    let wanted = answers(alloc, &mut desk, text.as_str())?;
+    let in_memory = ask(alloc, &mut MemoryDesk::new(alloc), text.as_str());
     let mut desk = DeskStore::open_in_memory(alloc)?;
-    let output = answers(alloc, &mut desk, text.as_str())?;
-    assert!(rt; output.as_slice() == wanted.as_slice());
+    let in_tables = ask(alloc, &mut desk, text.as_str());
+    let output = in_tables.output.as_slice();
+    assert!(rt; in_tables.ended.is_ok());
+    assert!(rt; output == in_memory.output.as_slice());
     let last = b"gaps,north,first=1,next=201,greatest=200,held=0,missing=0\n";
-    assert!(rt; output.as_slice().ends_with(last.as_slice()));
+    assert!(rt; output.ends_with(last.as_slice()));
     Ok(())
 }

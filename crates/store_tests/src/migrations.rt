@@ -1,12 +1,8 @@
 // Files of version 1, made by the test's own statements, are brought to version 2, and the desk in
 // them goes on: what it answers then, and what is left where a disk fails on the way.
 
-ghost use Rattle.std.specs.Prelude.{IfOk, IsTrue};
-ghost use Rattle.sqlite_disk.specs.Memory.{memory_is_usable};
-
-use crate::desks::ask_files;
+use crate::desks::{ask_files, expect_files};
 use crate::disks::{OPTIONS, failing, new_files, stop_machine, with_statements};
-use desk_store::desk::DeskStore;
 use desk_store::migrating::{MigrateAnswer, migrate_files};
 use desk_store::opening::OpenFault;
 use onix_message::agreement::StoreFault;
@@ -193,49 +189,26 @@ fn messages(alloc: Global, count: u32) -> Result<String, Fail> {
 }
 
 // Files of version 1 with the rows of a case.
-fn first_files(alloc: Global, case: &Case) -> Result<Files<Memory>, Fail>
-    ensures usable { IfOk result (λ files. IsTrue (memory_is_usable files.log) × IsTrue (memory_is_usable files.db)) }
-{
+fn first_files(alloc: Global, stop: &impl Abort, case: &Case) -> Result<Files<Memory>, Fail> {
     let (series, count, rows, _, _) = *case;
     let messages = messages(alloc, count)?;
-    with_statements(
-        alloc,
-        new_files(alloc),
-        &[TABLES, series, messages.as_str(), rows],
-    )
-}
-
-// The version of files that are not opened as a desk's.
-fn other_version(alloc: Global, files: Files<Memory>) -> Option<u32>
-    requires log { IsTrue (memory_is_usable files.log) }
-    requires db { IsTrue (memory_is_usable files.db) }
-{
-    match DeskStore::open_files(alloc, files, OPTIONS) {
-        Err((OpenFault::OtherVersion { found }, left)) => {
-            drop(left);
-            Some(found)
-        }
-        Err((_, left)) => {
-            drop(left);
-            None
-        }
-        Ok(desk) => {
-            drop(desk);
-            None
-        }
-    }
+    let statements = [TABLES, series, messages.as_str(), rows];
+    let files = with_statements(alloc, stop, new_files(alloc), statements.as_slice());
+    Ok(files)
 }
 
 #[test]
 fn version_1_is_not_opened(rt: HostRuntime) -> Result<(), Fail> {
     for case in CASES.as_slice() {
-        let files = first_files(rt.alloc(), case)?;
-        assert_eq!(rt; other_version(rt.alloc(), files), Some(1));
+        let files = first_files(rt.alloc(), &rt, case)?;
+        let (files, asked) = ask_files(rt.alloc(), files, "");
+        drop(files);
+        assert!(rt; matches!(asked, Err(OpenFault::OtherVersion { found: 1 })));
     }
     Ok(())
 }
 
-// Brings files to version 2: what was answered, or none where a disk failed, and the files.
+// Brings files to version 2: the files, and what was answered.
 fn migrate<D: Disk + Drop>(
     alloc: Global,
     files: Files<D>,
@@ -260,23 +233,19 @@ fn migrate_again<D: Disk + Drop>(
     }
 }
 
-fn answers<D: Disk + Drop>(
-    alloc: Global,
-    stop: &impl Abort,
-    files: Files<D>,
-    case: &Case,
-) -> Result<Files<D>, Fail> {
-    let (_, _, _, asked, answered) = *case;
-    ask_files(alloc, stop, files, (asked, answered))
+// Migrates files that are to be migrated, twice.
+fn migrates(alloc: Global, stop: &impl Abort, files: Files<Memory>) -> Files<Memory> {
+    let (files, first) = migrate_again(alloc, files);
+    assert!(stop; matches!(first, Ok(MigrateAnswer::Migrated)), "migrated");
+    let (files, second) = migrate_again(alloc, files);
+    assert!(stop; matches!(second, Ok(MigrateAnswer::AlreadyTwo)), "schema 2");
+    files
 }
 
 fn goes_on(alloc: Global, stop: &impl Abort, case: &Case) -> Result<(), Fail> {
-    let files = first_files(alloc, case)?;
-    let (files, first) = migrate_again(alloc, files);
-    let (files, second) = migrate_again(alloc, files);
-    drop(answers(alloc, stop, files, case)?);
-    assert!(stop; matches!(first, Ok(MigrateAnswer::Migrated)));
-    assert!(stop; matches!(second, Ok(MigrateAnswer::AlreadyTwo)));
+    let files = migrates(alloc, stop, first_files(alloc, stop, case)?);
+    let (_, _, _, asked, answers) = *case;
+    drop(expect_files(alloc, stop, files, (asked, answers)));
     Ok(())
 }
 
@@ -290,32 +259,21 @@ fn desks_of_version_1_go_on(rt: HostRuntime) -> Result<(), Fail> {
 
 // An empty database gets the tables, once.
 #[test]
-fn empty_files(rt: HostRuntime) -> Result<(), Fail> {
-    let alloc = rt.alloc();
-    let (files, first) = migrate_again(alloc, new_files(alloc));
-    let (files, second) = migrate_again(alloc, files);
-    drop(files);
-    assert!(rt; matches!(first, Ok(MigrateAnswer::Migrated)));
-    assert!(rt; matches!(second, Ok(MigrateAnswer::AlreadyTwo)));
-    Ok(())
+fn empty_files(rt: HostRuntime) {
+    drop(migrates(rt.alloc(), &rt, new_files(rt.alloc())));
 }
 
 // Migrates files of which one fails, stops the machine, and migrates what is left: whether a disk
 // failed. The desk answers as ever.
-fn stops(
-    alloc: Global,
-    stop: &impl Abort,
-    files: Files<Fuse<Memory>>,
-    case: &Case,
-) -> Result<bool, Fail> {
+fn stops(alloc: Global, stop: &impl Abort, files: Files<Fuse<Memory>>, case: &Case) -> bool {
     let (mut files, first) = migrate(alloc, files);
     let failed = stop_machine(&mut files);
+    assert!(stop; failed || first.is_ok(), "a fault without a cause");
     let (files, second) = migrate(alloc, files);
-    drop(answers(alloc, stop, files, case)?);
-    assert!(stop; failed || matches!(first, Ok(MigrateAnswer::Migrated)));
-    assert!(stop; first.is_err() || matches!(second, Ok(MigrateAnswer::AlreadyTwo)));
-    assert!(stop; second.is_ok());
-    Ok(failed)
+    assert!(stop; second.is_ok(), "what is left is migrated");
+    let (_, _, _, asked, answers) = *case;
+    drop(expect_files(alloc, stop, files, (asked, answers)));
+    failed
 }
 
 // Fails from each call of a file on in turn, until no call is left: the log, or the database.
@@ -326,8 +284,8 @@ fn stops_at_each_call(
     is_log: bool,
 ) -> Result<(), Fail> {
     for calls in 0..1_000u64 {
-        let files = failing(first_files(alloc, case)?, calls, is_log);
-        if !stops(alloc, stop, files, case)? {
+        let files = failing(first_files(alloc, stop, case)?, calls, is_log);
+        if !stops(alloc, stop, files, case) {
             return Ok(());
         }
     }

@@ -1,15 +1,15 @@
 // The desk over files of which one fails from some call on: what stands after the machine has stopped,
 // and that the requests can then be made again.
 
-use crate::disks::{OPTIONS, failing, new_files, stop_machine};
-use desk_batch::batch::{BatchFault, run_batch};
-use desk_store::desk::DeskStore;
-use price_rules::precedence::Precedence;
-use series_rules::desk::Desk;
-use sqlite::{FileStore, Files};
-use sqlite_disk::{Disk, Fuse, Memory};
-use std::alloc::Global;
+use crate::desks::{Asked, ask_files};
+use crate::disks::{failing, new_files, stop_machine};
+use desk_batch::batch::BatchFault;
+use desk_store::opening::OpenFault;
+use sqlite::Files;
+use sqlite_disk::{Fuse, Memory};
+use std::alloc::{AllocError, Global};
 use std::process::Abort;
+use std::test::Fail;
 
 /// Asks for what the requests before it left.
 pub const REPORT: &str = "AskGaps,north\nAskPrice,9781234567897,20250301,GB,GBP,02\n";
@@ -94,56 +94,6 @@ EndMessage,5
     ),
 ];
 
-// What a desk answers, or none after a fault of its store. Any other fault ends the test.
-fn ask<D: Desk>(alloc: Global, stop: &impl Abort, desk: &mut D, text: &str) -> Option<Vec<u8>> {
-    let precedence = Precedence::none(alloc);
-    let mut output = Vec::new(alloc);
-    match run_batch(alloc, desk, &precedence, &mut text.as_bytes(), &mut output) {
-        Ok(_) => Some(output),
-        Err(BatchFault::Store { .. }) => None,
-        Err(_) => stop.panic("a fault that is not the store's"),
-    }
-}
-
-// How many of the requests are answered before a fault, each as it is to be.
-fn answered<D: Desk>(alloc: Global, stop: &impl Abort, desk: &mut D) -> usize {
-    for (count, (request, answer, _)) in STEPS.as_slice().iter().enumerate() {
-        let Some(text) = ask(alloc, stop, desk, request) else {
-            return count;
-        };
-        assert!(stop; text.as_slice() == answer.as_bytes(), "{request}");
-    }
-    STEPS.len()
-}
-
-// Lets a desk answer what it can, and closes its files.
-fn run<D: Disk + Drop>(
-    alloc: Global,
-    stop: &impl Abort,
-    mut desk: DeskStore<FileStore<D>>,
-) -> (Files<D>, usize) {
-    let count = answered(alloc, stop, &mut desk);
-    match desk.close_files() {
-        Ok(files) => (files, count),
-        Err((_, store)) => (store.close(), count),
-    }
-}
-
-// The same, over files that are opened first; where they cannot be, no request is answered.
-fn run_files<D: Disk + Drop>(
-    alloc: Global,
-    stop: &impl Abort,
-    files: Files<D>,
-) -> (Files<D>, usize) {
-    if !files.may_be_used() {
-        return (files, 0);
-    }
-    match DeskStore::open_files(alloc, files, OPTIONS) {
-        Ok(desk) => run(alloc, stop, desk),
-        Err((_, left)) => (left.into_files(), 0),
-    }
-}
-
 // What is reported after so many requests.
 fn report_after(count: usize) -> Option<&'static str> {
     match count.checked_sub(1) {
@@ -155,81 +105,125 @@ fn report_after(count: usize) -> Option<&'static str> {
     }
 }
 
-// Whether a report is the one after so many requests.
-fn is_after(report: &[u8], count: usize) -> bool {
+// Whether a text begins with the report after so many requests.
+fn begins_after(text: &[u8], count: usize) -> bool {
     match report_after(count) {
-        Some(wanted) => report == wanted.as_bytes(),
+        Some(report) => text.starts_with(report.as_bytes()),
         None => false,
     }
 }
 
-/// Whether a report is the one after so many requests, or after one more.
-pub fn is_near(report: &[u8], count: usize) -> bool {
-    is_after(report, count) || is_after(report, count.saturating_add(1))
+// Whether it ends with that report.
+fn ends_after(text: &[u8], count: usize) -> bool {
+    match report_after(count) {
+        Some(report) => text.ends_with(report.as_bytes()),
+        None => false,
+    }
 }
 
-// What was reported, and how it goes on: all requests are made again, some of them answered by what
-// stands already, and the last report is that of a desk that was never stopped.
-fn goes_on<D: Desk>(alloc: Global, stop: &impl Abort, desk: &mut D) -> Option<Vec<u8>> {
-    let report = ask(alloc, stop, desk, REPORT);
+/// Whether a text begins with the report after so many requests, or after one more.
+pub fn begins_near(text: &[u8], count: usize) -> bool {
+    begins_after(text, count) || begins_after(text, count.saturating_add(1))
+}
+
+fn push_requests(text: &mut String) -> Result<(), AllocError> {
     for (request, _, _) in STEPS.as_slice() {
-        let is_answered = ask(alloc, stop, desk, request).is_some();
-        assert!(stop; is_answered, "{request}");
+        text.push_str(request)?;
     }
-    match ask(alloc, stop, desk, REPORT) {
-        Some(last) => assert!(stop; is_after(last.as_slice(), STEPS.len()), "the last report"),
-        None => stop.panic("no last report"),
-    }
-    report
+    Ok(())
 }
 
-fn report_of<D: Disk + Drop>(alloc: Global, stop: &impl Abort, files: Files<D>) -> Option<Vec<u8>> {
-    if !files.may_be_used() {
-        drop(files);
-        return None;
+// All requests, one after the other.
+fn requests(alloc: Global) -> Result<String, AllocError> {
+    let mut text = String::new(alloc);
+    push_requests(&mut text)?;
+    Ok(text)
+}
+
+// A report, all requests, and a report.
+fn requests_again(alloc: Global) -> Result<String, AllocError> {
+    let mut text = String::new(alloc);
+    text.push_str(REPORT)?;
+    push_requests(&mut text)?;
+    text.push_str(REPORT)?;
+    Ok(text)
+}
+
+// To how many of the requests these are the answers, or none where one is wrong.
+fn answered(output: &[u8]) -> Option<usize> {
+    let mut rest = output;
+    for (count, (_, answer, _)) in STEPS.as_slice().iter().enumerate() {
+        match rest.strip_prefix(answer.as_bytes()) {
+            Some(more) => rest = more,
+            None => return rest.is_empty().then_some(count),
+        }
     }
-    match DeskStore::open_files(alloc, files, OPTIONS) {
-        Ok(mut desk) => {
-            let report = goes_on(alloc, stop, &mut desk);
-            drop(desk);
-            report
+    rest.is_empty().then_some(STEPS.len())
+}
+
+// How many of the requests were answered before a fault of the store; where the files were not opened,
+// none was. No other fault may come.
+fn count_of(stop: &impl Abort, asked: &Result<Asked, OpenFault>) -> usize {
+    let Ok(asked) = asked else {
+        return 0;
+    };
+    let is_store = matches!(asked.ended, Ok(_) | Err(BatchFault::Store { .. }));
+    assert!(stop; is_store, "a fault that is not the store's");
+    match answered(asked.output.as_slice()) {
+        Some(count) => count,
+        None => stop.panic("a wrong answer"),
+    }
+}
+
+// Whether a report is the one after so many requests, or after one more, all requests are answered when
+// they are made again, and the last report is that of a desk that was never stopped.
+fn goes_on(asked: &Result<Asked, OpenFault>, count: usize) -> bool {
+    match asked {
+        Ok(asked) => {
+            let output = asked.output.as_slice();
+            asked.ended.is_ok() && begins_near(output, count) && ends_after(output, STEPS.len())
         }
-        Err((_, left)) => {
-            drop(left);
-            None
-        }
+        Err(_) => false,
     }
 }
 
 // Runs over files of which one fails, and stops the machine: whether a file had failed.
-fn stops(alloc: Global, stop: &impl Abort, files: Files<Fuse<Memory>>) -> bool {
-    let (mut files, count) = run_files(alloc, stop, files);
+fn stops(
+    alloc: Global,
+    stop: &impl Abort,
+    files: Files<Fuse<Memory>>,
+    texts: (&str, &str),
+) -> bool {
+    let (mut files, asked) = ask_files(alloc, files, texts.0);
+    let count = count_of(stop, &asked);
+    drop(asked);
     let failed = stop_machine(&mut files);
-    let is_right = match report_of(alloc, stop, files) {
-        Some(report) => is_near(report.as_slice(), count),
-        None => false,
-    };
-    assert!(stop; is_right, "what stands after a stop");
     assert!(stop; failed || count == STEPS.len(), "a fault without a cause");
+    let (files, asked) = ask_files(alloc, files, texts.1);
+    drop(files);
+    assert!(stop; goes_on(&asked, count), "what stands after a stop");
     failed
 }
 
 // Fails from each call of a file on in turn, until no call is left.
-fn stops_at_each_call(alloc: Global, stop: &impl Abort, is_log: bool) {
+fn stops_at_each_call(alloc: Global, stop: &impl Abort, is_log: bool) -> Result<(), Fail> {
+    let first = requests(alloc)?;
+    let again = requests_again(alloc)?;
     for calls in 0..2_000u64 {
-        if !stops(alloc, stop, failing(new_files(alloc), calls, is_log)) {
-            return;
+        let files = failing(new_files(alloc), calls, is_log);
+        if !stops(alloc, stop, files, (first.as_str(), again.as_str())) {
+            return Ok(());
         }
     }
     stop.panic("each run had too few calls")
 }
 
 #[test]
-fn stops_of_the_log(rt: HostRuntime) {
+fn stops_of_the_log(rt: HostRuntime) -> Result<(), Fail> {
     stops_at_each_call(rt.alloc(), &rt, true)
 }
 
 #[test]
-fn stops_of_the_database(rt: HostRuntime) {
+fn stops_of_the_database(rt: HostRuntime) -> Result<(), Fail> {
     stops_at_each_call(rt.alloc(), &rt, false)
 }

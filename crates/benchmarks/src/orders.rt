@@ -1,26 +1,15 @@
 // Batches of small messages in number order and reversed, and twice as many of them.
 
+use crate::batches::time_of_batch;
 use crate::texts::small_messages;
-use crate::times::{print_ratio, used};
-use desk_batch::batch::run_batch;
+use crate::times::print_ratio;
 use desk_memory::desk::MemoryDesk;
-use price_rules::precedence::Precedence;
 
 // The time of a batch of so many messages, in microseconds.
 fn time_of(rt: &HostRuntime, count: u32, is_reversed: bool) -> anyhow::Result<u64> {
-    let alloc = rt.alloc();
-    let text = small_messages(alloc, count, is_reversed)?;
-    let mut input = text.as_bytes();
-    let mut output = Vec::new(alloc);
-    let mut desk = MemoryDesk::new(alloc);
-    let precedence = Precedence::none(alloc);
-    let start = used(rt)?;
-    match run_batch(alloc, &mut desk, &precedence, &mut input, &mut output) {
-        Ok(0) => {}
-        _ => anyhow::bail!("the batch was not answered"),
-    }
-    let end = used(rt)?;
-    Ok(end.saturating_sub(start))
+    let text = small_messages(rt.alloc(), count, is_reversed)?;
+    let mut desk = MemoryDesk::new(rt.alloc());
+    time_of_batch(rt, &mut desk, text.as_str())
 }
 
 /// Prints how the time grows from 2,000 messages to 4,000, in both orders.

@@ -1,27 +1,11 @@
 // Questions about a catalogue of 5,000 records, and one copy of it.
 
+use crate::batches::time_of_batch;
 use crate::texts::{large_catalogue, repeated};
 use crate::times::{print_ratio, used};
-use desk_batch::batch::run_batch;
 use desk_memory::desk::MemoryDesk;
 use onix_terms::series_name::SeriesName;
-use price_rules::precedence::Precedence;
 use series_rules::desk::Desk;
-
-// The time of a batch, in microseconds.
-fn time_of(rt: &HostRuntime, desk: &mut MemoryDesk, text: &str) -> anyhow::Result<u64> {
-    let alloc = rt.alloc();
-    let mut input = text.as_bytes();
-    let mut output = Vec::new(alloc);
-    let precedence = Precedence::none(alloc);
-    let start = used(rt)?;
-    match run_batch(alloc, desk, &precedence, &mut input, &mut output) {
-        Ok(0) => {}
-        _ => anyhow::bail!("the batch was not answered"),
-    }
-    let end = used(rt)?;
-    Ok(end.saturating_sub(start))
-}
 
 // The time of one copy of the catalogue of the series, in microseconds.
 fn time_of_copy(rt: &HostRuntime, desk: &mut MemoryDesk) -> anyhow::Result<u64> {
@@ -42,10 +26,10 @@ fn time_of_copy(rt: &HostRuntime, desk: &mut MemoryDesk) -> anyhow::Result<u64> 
 pub fn report(rt: &HostRuntime) -> anyhow::Result<()> {
     let alloc = rt.alloc();
     let mut desk = MemoryDesk::new(alloc);
-    time_of(rt, &mut desk, large_catalogue(alloc)?.as_str())?;
+    time_of_batch(rt, &mut desk, large_catalogue(alloc)?.as_str())?;
     let questions = repeated(alloc, "AskPrice,9780000000042,20250301,GB,GBP,02\n", 100)?;
-    let prices = time_of(rt, &mut desk, questions.as_str())?;
-    let catalogue = time_of(rt, &mut desk, "AskCatalogue,north\n")?;
+    let prices = time_of_batch(rt, &mut desk, questions.as_str())?;
+    let catalogue = time_of_batch(rt, &mut desk, "AskCatalogue,north\n")?;
     let copy = time_of_copy(rt, &mut desk)?;
     println!(rt; "100 price questions: {prices} microseconds of processor time")?;
     print_ratio(

@@ -214,8 +214,8 @@ fn remove(rt: &HostRuntime, name: &str) {
     }
 }
 
-// Removes a file and its log.
-fn remove_both(rt: &HostRuntime, name: &str) -> anyhow::Result<()> {
+/// Removes a file and its log.
+pub fn remove_both(rt: &HostRuntime, name: &str) -> anyhow::Result<()> {
     let log = format!(in rt.alloc(); "{name}-wal")?;
     remove(rt, name);
     remove(rt, log.as_str());

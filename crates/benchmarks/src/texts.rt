@@ -87,17 +87,63 @@ fn push_offer(text: &mut String, number: u32) -> Result<(), AllocError> {
     Ok(())
 }
 
+// A message of that number, with so many products after that one.
+fn push_offers(text: &mut String, number: u32, after: u32, count: u32) -> Result<(), AllocError> {
+    write!(text, "{OPENING},{number},1,20250301,,\n")?;
+    for product in 0..count {
+        push_offer(text, after.saturating_add(product).saturating_add(1))?;
+    }
+    let rows = count.saturating_mul(4).saturating_add(1);
+    write!(text, "EndMessage,{rows}\n")?;
+    Ok(())
+}
+
 /// A batch of an agreement and 5 messages of 1,000 products each, with the ISBNs 9780000000001 to
 /// 9780000005000.
 pub fn large_catalogue(alloc: Global) -> Result<String, AllocError> {
     let mut text = String::from_str(alloc, AGREEMENT)?;
     for message in 0..5u32 {
-        let number = message + 1;
-        write!(text, "{OPENING},{number},1,20250301,,\n")?;
-        for product in 0..1_000u32 {
-            push_offer(&mut text, message * 1_000 + product + 1)?;
-        }
-        text.push_str("EndMessage,4001\n")?;
+        push_offers(&mut text, message + 1, message * 1_000, 1_000)?;
+    }
+    Ok(text)
+}
+
+/// A batch of an agreement and so many messages from that number on, in the order of their numbers
+/// or reversed. Each has 20 products: the least number those with the ISBNs 9780000000001 to
+/// 9780000000020, the next one those after them.
+pub fn offers(
+    alloc: Global,
+    first: u32,
+    count: u32,
+    is_reversed: bool,
+) -> Result<String, AllocError> {
+    let mut text = String::from_str(alloc, AGREEMENT)?;
+    for place in 0..count {
+        let at = if is_reversed {
+            count - 1 - place
+        } else {
+            place
+        };
+        push_offers(
+            &mut text,
+            first.saturating_add(at),
+            at.saturating_mul(20),
+            20,
+        )?;
+    }
+    Ok(text)
+}
+
+/// A batch of 10,000 price questions about the products of `offers`, of which there are so many. Each
+/// lies far from the one before it.
+pub fn scattered_questions(alloc: Global, products: u32) -> Result<String, AllocError> {
+    let mut text = String::new(alloc);
+    for place in 0..10_000u32 {
+        let Some(product) = (place * 7_919).checked_rem(products) else {
+            break;
+        };
+        let number = product.saturating_add(1);
+        write!(text, "AskPrice,978{number:010},20250301,GB,GBP,02\n")?;
     }
     Ok(text)
 }

@@ -1,0 +1,39 @@
+// Questions about prices in a file of few records and in one of many.
+
+use crate::batches::time_of_batch;
+use crate::files::open_desk;
+use crate::texts::{offers, scattered_questions};
+use crate::times::print_ratio;
+
+// The least time of three times 10,000 questions about the products of so many messages, in
+// microseconds.
+fn time_of(rt: &HostRuntime, name: &str, messages: u32, pages: usize) -> anyhow::Result<u64> {
+    let alloc = rt.alloc();
+    let mut desk = open_desk(rt, name, pages)?;
+    time_of_batch(rt, &mut desk, offers(alloc, 1, messages, false)?.as_str())?;
+    let questions = scattered_questions(alloc, messages.saturating_mul(20))?;
+    let mut least = u64::MAX;
+    for _ in 0..3u32 {
+        least = least.min(time_of_batch(rt, &mut desk, questions.as_str())?);
+    }
+    Ok(least)
+}
+
+/// Prints what a price question costs in a file of this name, which is made anew, among 20,000
+/// records to among 5,000, and the same where the file has more room in memory.
+pub fn report(rt: &HostRuntime, name: &str) -> anyhow::Result<()> {
+    let few = time_of(rt, name, 250, 2_000)?;
+    let many = time_of(rt, name, 1_000, 2_000)?;
+    let roomy = time_of(rt, name, 1_000, 8_000)?;
+    println!(rt;
+        "10,000 price questions about 20,000 records: {many} microseconds of processor time"
+    )?;
+    print_ratio(
+        rt,
+        "a question among 20,000 records, to among 5,000",
+        many,
+        few,
+    )?;
+    print_ratio(rt, "the same with 8,000 pages in memory", roomy, few)?;
+    Ok(())
+}

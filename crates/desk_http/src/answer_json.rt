@@ -192,14 +192,12 @@ fn missing_list(alloc: Global, ranges: &[(Number, Number)]) -> Result<Vec<Value>
 fn gaps_json(alloc: Global, report: &GapReport) -> Result<Value, AllocError>
     ensures { IfOk result (λ v. view v ≡ json.gaps report.now) }
 {
-    let greatest = number_or_null(report.greatest);
-    let missing = Value::Array(missing_list(alloc, report.missing.as_slice())?);
     json!(in alloc; {
         "answer": "gaps",
         "first": report.first.value(),
-        "greatest": greatest,
+        "greatest": number_or_null(report.greatest),
         "held": report.held,
-        "missing": missing,
+        "missing": Value::Array(missing_list(alloc, report.missing.as_slice())?),
         "next": report.next,
         "series": report.series.as_str()
     })

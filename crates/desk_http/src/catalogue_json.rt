@@ -43,26 +43,24 @@ fn party_or_null(alloc: Global, party: &Option<Party>) -> Result<Value, AllocErr
 fn territory_json(alloc: Global, territory: &Territory) -> Result<Value, AllocError>
     ensures { IfOk result (λ v. view v ≡ json.territory territory.now) }
 {
-    let excluded = Value::Array(countries_json(alloc, territory.excluded.as_slice())?);
-    let included = Value::Array(countries_json(alloc, territory.included.as_slice())?);
-    json!(in alloc; {"excluded": excluded, "included": included, "world": territory.world})
+    json!(in alloc; {
+        "excluded": Value::Array(countries_json(alloc, territory.excluded.as_slice())?),
+        "included": Value::Array(countries_json(alloc, territory.included.as_slice())?),
+        "world": territory.world
+    })
 }
 
 fn price_json(alloc: Global, price: &Price) -> Result<Value, AllocError>
     ensures { IfOk result (λ v. view v ≡ json.price price.now) }
 {
-    let amount = amount_json(alloc, price.amount)?;
-    let from = day_or_null(alloc, price.from)?;
-    let territory = territory_json(alloc, &price.territory)?;
-    let until = day_or_null(alloc, price.until)?;
     json!(in alloc; {
-        "amount": amount,
+        "amount": amount_json(alloc, price.amount)?,
         "currency": price.currency.as_str(),
-        "from": from,
+        "from": day_or_null(alloc, price.from)?,
         "minimum": price.minimum.value(),
-        "territory": territory,
+        "territory": territory_json(alloc, &price.territory)?,
         "type": price.price_type.as_str(),
-        "until": until
+        "until": day_or_null(alloc, price.until)?
     })
 }
 
@@ -79,16 +77,13 @@ fn price_list(alloc: Global, prices: &[Price]) -> Result<Vec<Value>, AllocError>
 fn detail_json(alloc: Global, detail: &SupplyDetail) -> Result<Value, AllocError>
     ensures { IfOk result (λ v. view v ≡ json.detail detail.now) }
 {
-    let prices = Value::Array(price_list(alloc, detail.prices.as_slice())?);
-    let supplier = party_or_null(alloc, &detail.supplier.party)?;
-    let unpriced = code_or_null(alloc, &detail.unpriced)?;
     json!(in alloc; {
         "availability": detail.availability.as_str(),
         "name": detail.supplier.name.as_str(),
-        "prices": prices,
+        "prices": Value::Array(price_list(alloc, detail.prices.as_slice())?),
         "role": detail.supplier.role.as_str(),
-        "supplier": supplier,
-        "unpriced": unpriced
+        "supplier": party_or_null(alloc, &detail.supplier.party)?,
+        "unpriced": code_or_null(alloc, &detail.unpriced)?
     })
 }
 

@@ -18,13 +18,14 @@ use std::alloc::Global;
 use std::process::Abort;
 use std::test::Fail;
 
-// Whether a batch ended by want of memory.
+// Whether a batch ended by want of memory, of the desk or of the text that the test lets it write to.
 fn lacked_memory(asked: &Asked) -> bool {
     matches!(
         asked.ended,
         Err(
             BatchFault::Records(RecordFault::Memory)
                 | BatchFault::Memory { .. }
+                | BatchFault::Write { .. }
                 | BatchFault::Store {
                     fault: StoreFault::Memory,
                     ..

@@ -75,13 +75,24 @@ fn tables_in_memory(rt: HostRuntime) -> Result<(), Fail> {
     Ok(())
 }
 
-// Whether want of memory came in the way of a batch over files.
+// Whether want of memory came in the way of a batch over files. Their disks lie in memory, so one that
+// cannot grow fails.
 fn lacked_memory_of(asked: &Result<Asked, OpenFault>) -> bool {
     match asked {
-        Ok(asked) => lacked_memory(asked),
-        Err(OpenFault::Store(StoreFault::Memory)) => true,
+        Ok(asked) => lacked_memory(asked) || has_failed_disk(asked),
+        Err(OpenFault::Store(StoreFault::Memory | StoreFault::Disk)) => true,
         Err(_) => false,
     }
+}
+
+fn has_failed_disk(asked: &Asked) -> bool {
+    matches!(
+        asked.ended,
+        Err(BatchFault::Store {
+            fault: StoreFault::Disk,
+            ..
+        })
+    )
 }
 
 // Asks the desk in files, which are opened and closed for it; where memory is refused, once more.

@@ -131,7 +131,7 @@ pub fn expect_files<D: Disk + Drop>(
     let (files, asked) = ask_files(alloc, files, case.0);
     match asked {
         Ok(asked) => expect_asked(stop, &asked, case.1),
-        Err(_) => stop.panic("files that are no desk's"),
+        Err(fault) => stop.panic(fault),
     }
     files
 }

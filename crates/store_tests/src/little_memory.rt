@@ -4,7 +4,7 @@
 
 use crate::desks::{Asked, ask, ask_files, expect_asked};
 use crate::disks::new_files;
-use crate::stops::{REPORT, STEPS, begins_near};
+use crate::stops::{REPORT, STEPS, Step, begins_near};
 use csv_records::reading::RecordFault;
 use desk_batch::batch::BatchFault;
 use desk_memory::desk::MemoryDesk;
@@ -109,28 +109,46 @@ fn ask_files_again(
     ask_files(alloc, files, text)
 }
 
+// The files, or none where a disk has failed to keep what it was given: it may not be used again.
 fn expect_again(
     alloc: Global,
     stop: &impl Abort,
     files: Files<Memory>,
     text: &str,
     answers: &str,
-) -> Files<Memory> {
+) -> Option<Files<Memory>> {
     let (files, asked) = ask_files_again(alloc, files, text);
+    if !files.may_be_used() {
+        drop(files);
+        return None;
+    }
     match asked {
         Ok(asked) => expect_asked(stop, &asked, answers),
-        Err(_) => stop.panic("files that are no desk's"),
+        Err(fault) => stop.panic(fault),
     }
-    files
+    Some(files)
+}
+
+fn expect_step(
+    alloc: Global,
+    stop: &impl Abort,
+    files: Files<Memory>,
+    step: &Step,
+) -> Option<Files<Memory>> {
+    let (request, answer, report) = *step;
+    let files = expect_again(alloc, stop, files, request, answer)?;
+    expect_again(alloc, stop, files, REPORT, report)
 }
 
 #[test]
 fn tables_in_files(rt: HostRuntime) {
     let alloc = rt.alloc();
-    let mut files = new_files(alloc);
-    for (request, answer, report) in STEPS.as_slice() {
-        files = expect_again(alloc, &rt, files, request, answer);
-        files = expect_again(alloc, &rt, files, REPORT, report);
+    let mut files = Some(new_files(alloc));
+    for step in STEPS.as_slice() {
+        files = match files {
+            Some(files) => expect_step(alloc, &rt, files, step),
+            None => return,
+        };
     }
     drop(files);
 }

@@ -6,13 +6,19 @@ use crate::times::{print_ratio, used};
 use desk_tables::rows::PriceRow;
 use desk_tables::tables::Tables;
 use onix_terms::isbn13::Isbn13;
-use sqlite::{Alter, Connection, Error, params};
+use sqlite::{Alter, Connection, Error, File, FileStore, Options, Unknown, params};
 use std::alloc::Global;
 use std::fs;
 
 // The statement of `put_price`.
 const INSERT_PRICE: &str =
     "INSERT INTO price (series, reference, place, price_place, price_type, amount, currency, included, world, excluded, from_day, until_day) VALUES (?1, ?2, ?3, ?4, ?5, ?6, ?7, ?8, ?9, ?10, ?11, ?12)";
+
+// How many pages of a file a connection keeps in memory that is opened by its path.
+const PAGES: usize = 2_000;
+
+// As many as all files here have.
+const ALL_PAGES: usize = 8_000;
 
 // What is measured in tables of so many records.
 #[derive(Clone, Copy)]
@@ -222,13 +228,29 @@ pub fn remove_both(rt: &HostRuntime, name: &str) -> anyhow::Result<()> {
     Ok(())
 }
 
-// The time that is measured in tables of so many records, in a file of this name that is made anew,
-// in microseconds.
-fn time_of(rt: &HostRuntime, name: &str, measure: Measure, records: u32) -> anyhow::Result<u64> {
+// A connection to a file of this name that is made anew, with so many pages of it in memory.
+fn open(rt: &HostRuntime, name: &str, pages: usize) -> anyhow::Result<Connection<FileStore<File>>> {
     remove_both(rt, name)?;
-    match Connection::open(rt, name) {
+    let mut options = Options::new(0);
+    options.cache_pages = pages;
+    let files = sqlite_std_file::open(rt, name, Unknown)?;
+    match Connection::open_files(rt.alloc(), files, options) {
+        Ok(connection) => Ok(connection),
+        Err((error, _)) => Err(error)?,
+    }
+}
+
+// The time that is measured in tables of so many records, in such a file, in microseconds.
+fn time_of(
+    rt: &HostRuntime,
+    name: &str,
+    measure: Measure,
+    records: u32,
+    pages: usize,
+) -> anyhow::Result<u64> {
+    match open(rt, name, pages) {
         Ok(connection) => time_over(rt, Tables::new(connection), measure, records),
-        Err(error) => Err(error)?,
+        Err(error) => Err(error),
     }
 }
 
@@ -236,8 +258,8 @@ fn report_puts(rt: &HostRuntime, name: &str) -> anyhow::Result<()> {
     let mut work = u64::MAX;
     let mut sqlite = u64::MAX;
     for _ in 0..3u32 {
-        work = work.min(time_of(rt, name, Measure::Work, 15_000)?);
-        sqlite = sqlite.min(time_of(rt, name, Measure::Sqlite, 15_000)?);
+        work = work.min(time_of(rt, name, Measure::Work, 15_000, PAGES)?);
+        sqlite = sqlite.min(time_of(rt, name, Measure::Sqlite, 15_000, PAGES)?);
     }
     println!(rt; "60,000 prices put: {work} microseconds of processor time")?;
     print_ratio(
@@ -250,16 +272,18 @@ fn report_puts(rt: &HostRuntime, name: &str) -> anyhow::Result<()> {
 }
 
 fn report_listing(rt: &HostRuntime, name: &str) -> anyhow::Result<()> {
-    let half = time_of(rt, name, Measure::Listing, 2_500)?;
-    let whole = time_of(rt, name, Measure::Listing, 5_000)?;
+    let half = time_of(rt, name, Measure::Listing, 2_500, PAGES)?;
+    let whole = time_of(rt, name, Measure::Listing, 5_000, PAGES)?;
     println!(rt; "20,000 prices with minimums listed: {whole} microseconds of processor time")?;
     print_ratio(rt, "20,000 prices listed, to 10,000", whole, half)?;
     Ok(())
 }
 
+// With all pages in memory; and with as many as a connection keeps that is opened by its path, of
+// which those of 80,000 articles do not all find a place.
 fn report_questions(rt: &HostRuntime, name: &str) -> anyhow::Result<()> {
-    let few = time_of(rt, name, Measure::Questions, 20_000)?;
-    let many = time_of(rt, name, Measure::Questions, 80_000)?;
+    let few = time_of(rt, name, Measure::Questions, 20_000, ALL_PAGES)?;
+    let many = time_of(rt, name, Measure::Questions, 80_000, ALL_PAGES)?;
     println!(rt; "1,000 articles of 80,000 asked for: {many} microseconds of processor time")?;
     print_ratio(
         rt,
@@ -267,6 +291,8 @@ fn report_questions(rt: &HostRuntime, name: &str) -> anyhow::Result<()> {
         many,
         few,
     )?;
+    let read_again = time_of(rt, name, Measure::Questions, 80_000, PAGES)?;
+    print_ratio(rt, "the same with 2,000 pages in memory", read_again, few)?;
     Ok(())
 }
 

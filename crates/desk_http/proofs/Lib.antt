@@ -1,20 +1,12 @@
-pub mod AnswerDepths
-pub mod AnswerFloats
 pub mod AskLemmas
 pub mod AsksLaws
 pub mod BufferLemmas
-pub mod CatalogueDepths
-pub mod CatalogueFloats
-pub mod Depths
 pub mod EmptyLineLemmas
 pub mod ExchangeLemmas
 pub mod FieldLemmas
 pub mod HeadLemmas
 pub mod InsertLemmas
 pub mod KnownLemmas
-pub mod NoFloats
-pub mod OfferDepths
-pub mod OfferFloats
 pub mod PlaceLemmas
 pub mod PostedLemmas
 pub mod RefusalLemmas
@@ -22,5 +14,4 @@ pub mod SegmentLemmas
 pub mod SizeLemmas
 pub mod Statuses
 pub mod TableLemmas
-pub mod ValueLists
 pub mod WalkLemmas

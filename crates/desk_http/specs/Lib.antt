@@ -1,16 +1,12 @@
-pub mod AnswerJson
 pub mod AnswerReply
 pub mod Asks
-pub mod CatalogueJson
 pub mod Exchange
 pub mod ExchangeSteps
 pub mod Fields
 pub mod Head
 pub mod HeadRead
-pub mod Json
 pub mod Keys
 pub mod Laws
-pub mod OfferJson
 pub mod Place
 pub mod Posted
 pub mod Query

@@ -3,10 +3,10 @@
 ghost use Rattle.std.specs.Prelude.{◌≡◌, IfOk, Some};
 ghost use Rattle.std.specs.String.{string_bytes};
 ghost use Rattle.serde_json.specs.Read.{read};
-ghost use Rattle.desk_http.specs.AnswerJson.{answer_json};
+ghost use Rattle.desk_json.specs.AnswerJson.{answer_json};
 ghost use Rattle.desk_http.specs.AnswerReply.{agree_status, delivery_status, fault_kind, reply_of_answer, status_of, waiver_status};
 
-use crate::answer_json::answer_json;
+use desk_json::answer_json::answer_text;
 use onix_message::agreement::StoreFault;
 use series_rules::answers::{AgreeAnswer, Answer, DeliveryAnswer, WaiveAnswer};
 use std::alloc::{AllocError, Global};
@@ -69,8 +69,7 @@ pub fn reply_of(alloc: Global, answer: &Answer) -> Result<(u16, String), AllocEr
     ensures body { IfOk result (λ r. string_bytes r.1 ≡ (reply_of_answer answer.now).body) }
     ensures reads { IfOk result (λ r. read (string_bytes r.1) ≡ Some (answer_json answer.now)) }
 {
-    let value = answer_json(alloc, answer)?;
-    let body = value.to_string(alloc)?;
+    let body = answer_text(alloc, answer)?;
     Ok((status_of(answer), body))
 }
 

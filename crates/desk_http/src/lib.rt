@@ -5,24 +5,21 @@
 //! `specs/Asks.antt` says what the bytes of a connection ask for. Its parts: `Head` (the head among
 //! the bytes, or why there is none), `Routing` over `Place`, `Keys` and `Table` (the path and the
 //! method), `Posted` over `Fields` (the body of a POST), `Questions` over `Query` (what a GET asks).
-//! `AnswerReply` over `AnswerJson` and `Refusals` say what is replied, `Reply` has the text of a
-//! reply, and `Exchange` puts both together. `laws` has what these definitions come to.
+//! `AnswerReply` and `Refusals` say what is replied, `Reply` has the text of a reply, and `Exchange`
+//! puts both together. `laws` has what these definitions come to.
 //!
 //! It stands beside `desk_batch` over the same desks. The bytes of a body are read and those of a
-//! reply written by `csv_records`, which reads the records of a body too.
+//! reply written by `csv_records`, which reads the records of a body too; the JSON of a reply is
+//! that of `desk_json`.
 #![tactic(auto)]
 
-pub mod answer_json;
 pub mod answer_reply;
-pub mod bodies;
 mod body;
-mod catalogue_json;
 pub mod exchange;
 mod fault;
 mod fields;
 mod head;
 pub mod laws;
-mod offer_json;
 mod parts;
 mod query;
 mod questions;
@@ -34,4 +31,3 @@ pub mod routes;
 mod routing;
 mod scan;
 pub mod serve;
-mod values;

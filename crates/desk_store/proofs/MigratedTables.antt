@@ -1,10 +1,10 @@
 -- What bringing the tables to version 2 leaves, against the lists of requests.
-use Rattle.std.proofs.Common.{◌≡◌, ◌⊎◌, inl, inr, ℕ, List, [], Option, Some, None, Ok, Err, Result, refl, sym, ap, ◌∙◌, subst}
+use Rattle.std.proofs.Common.{◌≡◌, ◌⊎◌, inl, inr, ℕ, List, [], Option, Some, None, Ok, Err, Result, refl, sym, ap, ◌∙◌}
 use Rattle.std.specs.Prelude.{⊤}
 use Rattle.sqlite.specs.Effect.{Database}
 use Rattle.sqlite.specs.State.{State, HasCleanDisk}
 use Rattle.sqlite_trees.specs.Tree.{Trees}
-use Rattle.desk_tables.specs.Rows.{DeskRows, Holds, HoldsFirst, first_rows, version_in, with_version}
+use Rattle.desk_tables.specs.Rows.{DeskRows, Holds, HoldsFirst, first_rows, with_version}
 use Rattle.desk_tables.specs.Schema.{schema_0}
 use Rattle.desk_tables.specs.Transactions.{IsEmptied}
 use Rattle.onix_message.specs.declared.agreement.StoreFault.{StoreFault}
@@ -14,7 +14,7 @@ use Rattle.desk_store.specs.Migrations.{HoldsFirstRequests, IsMigrated, IsOfRequ
 use Rattle.desk_store.specs.Openings.{IsCreated, IsFoundFor, IsKnown, IsReady, IsVersionRead, MakesAll, ShowsOnly}
 use Rattle.desk_store.specs.declared.migrating.MigrateAnswer.TheVariants.{Migrated, AlreadyTwo}
 use Rattle.desk_store.specs.declared.opening.OpenFault.TheVariants.{Store, OtherVersion}
-use Rattle.desk_store.proofs.FoundTables.{IsSettled, first_stand, keeps_found, known_if_found, no_meta, ready_as_found, version_of_requests}
+use Rattle.desk_store.proofs.FoundTables.{IsSettled, keeps_found, known_if_found, no_meta, ready_as_found, version_of_requests}
 
 known_if_of : (db : Database) (L : List Request) → IsOfRequests db L → IsKnown db
 known_if_of db L (inl first) = inr (first.0, inr first.1)

@@ -1,6 +1,6 @@
 // A desk's tables brought from version 1 to version 2.
 
-ghost use Rattle.std.specs.Prelude.{◌≡◌, List, IfErr, IfOk, IfSome, IsTrue};
+ghost use Rattle.std.specs.Prelude.{◌≡◌, List, Err, IfErr, IfOk, IfSome, IsTrue, Ok};
 ghost use Rattle.sqlite.specs.Effect.{Database};
 ghost use Rattle.sqlite.specs.Files.{file_state, image_of, IsCleanLeft};
 ghost use Rattle.sqlite.specs.Held.{state};
@@ -64,6 +64,20 @@ pub(crate) fn bring_to_two<S: Alter>(tables: &mut Tables<S>) -> Result<MigrateAn
     }
 }
 
+// Brings the tables of a connection to version 2.
+fn migrate_tables<S: Alter>(
+    connection: Connection<S>,
+) -> Result<(MigrateAnswer, Connection<S>), (OpenFault, Connection<S>)>
+    ensures ok { IfOk result (λ a. IsMigrated (state S.Store connection) (state S.Store a.1) (Ok a.0)) }
+    ensures err { IfErr result (λ e. IsMigrated (state S.Store connection) (state S.Store e.1) (Err e.0)) }
+{
+    let mut tables = Tables::new(connection);
+    match bring_to_two(&mut tables) {
+        Ok(answer) => Ok((answer, tables.into_connection())),
+        Err(fault) => Err((fault, tables.into_connection())),
+    }
+}
+
 // Brings the tables of a connection over files to version 2, and closes the files.
 fn migrate_connection<D: Disk + Drop>(
     connection: Connection<FileStore<D>>,
@@ -75,17 +89,12 @@ fn migrate_connection<D: Disk + Drop>(
     ensures answer { IfOk result (λ a. AreClean D.Disk a.1.log a.1.db → (db : Database) → ShowsOnly db (file_state connection) → IsTrueAnswer (HoldsAny db) (IsEmptied schema_0 db) a.0) }
     ensures fault { IfErr result (λ e. IsCleanLeft e.1 → (db : Database) → ShowsOnly db (file_state connection) → (rows : DeskRows) → HoldsAny db rows → IsMigrateFaultFor rows e.0) }
 {
-    let mut tables = Tables::new(connection);
-    let answer = match bring_to_two(&mut tables) {
-        Ok(answer) => answer,
-        Err(fault) => {
-            let store = tables.into_connection().into_store();
-            return Err((fault, Leftover::Store(store)));
-        }
-    };
-    match tables.into_connection().close_files() {
-        Ok(files) => Ok((answer, files)),
-        Err((error, store)) => Err((OpenFault::Store(fault_of(error)), Leftover::Store(store))),
+    match migrate_tables(connection) {
+        Ok((answer, migrated)) => match migrated.close_files() {
+            Ok(files) => Ok((answer, files)),
+            Err((error, store)) => Err((OpenFault::Store(fault_of(error)), Leftover::Store(store))),
+        },
+        Err((fault, left)) => Err((fault, Leftover::Store(left.into_store()))),
     }
 }
 

@@ -140,6 +140,8 @@ fn close_to_products(products: &mut Items<Product>, part: Part) -> Result<(), St
     }
 }
 
+// What stood open is let go of by `drop` here and below: an assignment would do it part by part,
+// which is dear to prove.
 pub(crate) fn add_product(draft: &mut Draft, product: Product) -> Result<(), StepFault>
     requires bare { product.supplies ≡ [] }
     requires details { DraftHasDetails draft.old }
@@ -149,7 +151,7 @@ pub(crate) fn add_product(draft: &mut Draft, product: Product) -> Result<(), Ste
     let part = mem::replace(&mut draft.part, Part::Nothing);
     match close_to_products(&mut draft.products, part) {
         Ok(()) => {
-            draft.part = Part::InProduct(product);
+            drop(mem::replace(&mut draft.part, Part::InProduct(product)));
             Ok(())
         }
         Err(fault) => {
@@ -166,7 +168,7 @@ pub(crate) fn add_end(draft: &mut Draft, count: u32) -> Result<(), StepFault>
 {
     let part = mem::replace(&mut draft.part, Part::Nothing);
     close_to_products(&mut draft.products, part)?;
-    draft.part = Part::Ended(count);
+    drop(mem::replace(&mut draft.part, Part::Ended(count)));
     Ok(())
 }
 
@@ -208,7 +210,10 @@ pub(crate) fn add_supply(draft: &mut Draft, supply: ProductSupply) -> Result<(),
     }
     match mem::replace(&mut draft.part, Part::Nothing) {
         Part::InProduct(product) => {
-            draft.part = Part::InSupply(product, supply, None);
+            drop(mem::replace(
+                &mut draft.part,
+                Part::InSupply(product, supply, None),
+            ));
             Ok(())
         }
         other => {

@@ -4,7 +4,7 @@ use crate::calls::calls;
 use crate::little_memory::{calls_again, migrates_again};
 use crate::migration::migration;
 use crate::refusals::refusals;
-use crate::strangers::{has_no_offers, has_no_series, has_no_version, has_version, makes_tables};
+use crate::strangers::{Query, has_version, is_unreadable, makes_tables};
 use desk_tables::tables::Tables;
 use onix_message::agreement::StoreFault;
 use sqlite::Alter;
@@ -21,14 +21,10 @@ pub enum Case {
     Migration,
     /// The version is this.
     Version(Option<u32>),
-    /// The version cannot be read.
-    NoVersion,
     /// Tables can be made, of version 2.
     MakesTables,
-    /// The offers cannot be read.
-    NoOffers,
-    /// The series cannot be read.
-    NoSeries,
+    /// This cannot be read.
+    Unreadable(Query),
     /// Each call, once more where memory was refused.
     LittleMemory,
     /// From version 1 to version 2, once more where memory was refused.
@@ -46,11 +42,9 @@ pub fn run<S: Alter>(
         Case::Calls => calls(alloc, rt, tables),
         Case::Refusals => refusals(alloc, rt, tables),
         Case::Migration => migration(alloc, rt, tables),
-        Case::Version(version) => has_version(alloc, rt, tables, version),
-        Case::NoVersion => has_no_version(alloc, rt, tables),
-        Case::MakesTables => makes_tables(alloc, rt, tables),
-        Case::NoOffers => has_no_offers(alloc, rt, tables),
-        Case::NoSeries => has_no_series(alloc, rt, tables),
+        Case::Version(version) => has_version(rt, tables, version),
+        Case::MakesTables => makes_tables(rt, tables),
+        Case::Unreadable(query) => is_unreadable(rt, tables, query),
         Case::LittleMemory => calls_again(alloc, rt, tables),
         Case::MigrationAgain => migrates_again(rt, tables),
     }

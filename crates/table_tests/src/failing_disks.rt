@@ -58,22 +58,6 @@ fn fill<S: Alter>(alloc: Global, tables: &mut Tables<S>) -> Option<u32> {
     }
 }
 
-fn fill_and_close<D: Disk + Drop>(
-    alloc: Global,
-    mut tables: Tables<FileStore<D>>,
-) -> (Files<D>, Option<u32>) {
-    let answered = fill(alloc, &mut tables);
-    (disconnect(tables.into_connection()), answered)
-}
-
-// Opens files, does the two transactions and closes them: the files, and how many were answered.
-fn fill_files<D: Disk + Drop>(alloc: Global, files: Files<D>) -> (Files<D>, Option<u32>) {
-    match connect(alloc, files) {
-        Ok(connection) => fill_and_close(alloc, Tables::new(connection)),
-        Err(files) => (files, Some(0)),
-    }
-}
-
 // Of how many of the two the tables hold what they did, and nothing more; none where they hold
 // something else.
 fn held<S: Alter>(alloc: Global, work: &mut Work<'_, S>) -> Result<Option<u32>, StoreFault> {
@@ -90,27 +74,59 @@ fn held<S: Alter>(alloc: Global, work: &mut Work<'_, S>) -> Result<Option<u32>, 
     Ok(None)
 }
 
-fn held_in<S: Alter + Drop>(
-    alloc: Global,
-    mut tables: Tables<S>,
-) -> Result<Option<u32>, StoreFault> {
-    let outcome = match tables.work() {
-        Ok(mut work) => held(alloc, &mut work),
-        Err(fault) => Err(fault),
-    };
-    drop(tables);
-    outcome
+fn held_in<S: Alter>(alloc: Global, tables: &mut Tables<S>) -> Result<Option<u32>, StoreFault> {
+    let mut work = tables.work()?;
+    held(alloc, &mut work)
 }
 
-// The same of files, which are opened.
-fn held_by<D: Disk + Drop>(alloc: Global, files: Files<D>) -> Result<Option<u32>, StoreFault> {
-    match connect(alloc, files) {
-        Ok(connection) => held_in(alloc, Tables::new(connection)),
-        Err(files) => {
-            drop(files);
-            Err(StoreFault::Disk)
-        }
+// What is done with tables over files: the two transactions, or a look at what they hold.
+#[derive(Clone, Copy)]
+enum Task {
+    Fill,
+    Look,
+}
+
+fn perform<S: Alter>(
+    alloc: Global,
+    tables: &mut Tables<S>,
+    task: Task,
+) -> Result<Option<u32>, StoreFault> {
+    match task {
+        Task::Fill => Ok(fill(alloc, tables)),
+        Task::Look => held_in(alloc, tables),
     }
+}
+
+fn perform_and_close<D: Disk + Drop>(
+    alloc: Global,
+    mut tables: Tables<FileStore<D>>,
+    task: Task,
+) -> (Files<D>, Result<Option<u32>, StoreFault>) {
+    let outcome = perform(alloc, &mut tables, task);
+    (disconnect(tables.into_connection()), outcome)
+}
+
+// Opens files, does the task and closes them. Where they cannot be opened no transaction is answered,
+// and what they hold is not known.
+fn perform_on<D: Disk + Drop>(
+    alloc: Global,
+    files: Files<D>,
+    task: Task,
+) -> (Files<D>, Result<Option<u32>, StoreFault>) {
+    match connect(alloc, files) {
+        Ok(connection) => perform_and_close(alloc, Tables::new(connection), task),
+        Err(files) => match task {
+            Task::Fill => (files, Ok(Some(0))),
+            Task::Look => (files, Err(StoreFault::Disk)),
+        },
+    }
+}
+
+// Of how many of the two these files hold what they did.
+fn held_by<D: Disk + Drop>(alloc: Global, files: Files<D>) -> Result<Option<u32>, StoreFault> {
+    let (files, held) = perform_on(alloc, files, Task::Look);
+    drop(files);
+    held
 }
 
 fn copy_of(alloc: Global, disk: &Fuse<Memory>) -> Result<Memory, StoreFault> {
@@ -137,14 +153,14 @@ fn is_blown(disk: &mut Fuse<Memory>) -> bool {
 #[derive(Drop)]
 struct Outcome {
     is_blown: bool,
-    answered: Option<u32>,
+    answered: Result<Option<u32>, StoreFault>,
     // What the files hold where the process ended, and where the machine stopped.
     written: Result<Option<u32>, StoreFault>,
     synced: Result<Option<u32>, StoreFault>,
 }
 
 fn run(alloc: Global, files: Files<Fuse<Memory>>) -> Outcome {
-    let (mut files, answered) = fill_files(alloc, files);
+    let (mut files, answered) = perform_on(alloc, files, Task::Fill);
     let is_log_blown = is_blown(&mut files.log);
     let is_db_blown = is_blown(&mut files.db);
     let written = held_by_written(alloc, &files);
@@ -170,7 +186,7 @@ fn is_whole(held: &Result<Option<u32>, StoreFault>, answered: u32) -> bool {
 // Whether each transaction is there whole or not at all, and a fault had a cause.
 fn is_right(outcome: &Outcome) -> bool {
     match outcome.answered {
-        Some(answered) if answered <= 2 => {
+        Ok(Some(answered)) if answered <= 2 => {
             (outcome.is_blown || answered == 2)
                 && is_whole(&outcome.written, answered)
                 && is_whole(&outcome.synced, answered)
@@ -217,12 +233,10 @@ fn files_opened_again(rt: HostRuntime) -> Result<(), Fail> {
         log: Memory::new(alloc),
         db: Memory::new(alloc),
     };
-    let (files, answered) = fill_files(alloc, files);
-    let held = held_by(alloc, files)?;
-    expect(
-        &rt,
-        answered == Some(2) && held == Some(2),
-        "files that are opened again",
-    );
+    let (files, answered) = perform_on(alloc, files, Task::Fill);
+    let (files, held) = perform_on(alloc, files, Task::Look);
+    drop(files);
+    let is_whole = answered? == Some(2) && held? == Some(2);
+    expect(&rt, is_whole, "files that are opened again");
     Ok(())
 }

@@ -3,7 +3,7 @@
 // each request for memory of these tests in turn.
 
 use crate::cases::Case;
-use crate::migration::ROWS;
+use crate::migration::{ROWS, migrate};
 use crate::queries::{counts, has_sample, is_contents};
 use crate::sample::{
     CONTENTS, EFFECT, expect, make, name, number, put_article, put_offer, put_price, put_sample,
@@ -15,6 +15,7 @@ use crate::version_1::TABLES;
 use desk_tables::tables::Tables;
 use desk_tables::work::Work;
 use onix_message::agreement::StoreFault;
+use onix_terms::series_name::SeriesName;
 use sqlite::Alter;
 use std::alloc::Global;
 use std::process::Abort;
@@ -39,50 +40,54 @@ const CALLS: [(&str, [usize; 8]); 15] = [
     ("delete_record", [2, 7, 1, 2, 1, 0, 0, 0]),
 ];
 
-fn calls_number<S: Alter>(
-    alloc: Global,
-    work: &mut Work<'_, S>,
-    call: &str,
-) -> Result<bool, StoreFault> {
-    match call {
-        "put_series" => put_series(alloc, work, "south", "1")?,
-        "set_next" => work.set_next(&name("north")?, 7)?,
-        "put_held" => work.put_held(&name("north")?, number("3")?, CONTENTS)?,
-        "take_held" => {
-            let taken = work.take_held(&name("north")?, number("3")?)?;
-            return Ok(is_contents(&taken));
-        }
-        "put_applied" => work.put_applied(&name("north")?, number("1")?, CONTENTS, &EFFECT)?,
-        _ => return Ok(false),
-    }
-    Ok(true)
+fn takes_held<S: Alter>(work: &mut Work<'_, S>, north: &SeriesName) -> Result<bool, StoreFault> {
+    let taken = work.take_held(north, number("3")?)?;
+    Ok(is_contents(&taken))
 }
 
-fn calls_record<S: Alter>(
+fn put_numbered<S: Alter>(
+    work: &mut Work<'_, S>,
+    north: &SeriesName,
+    call: &str,
+) -> Result<(), StoreFault> {
+    let at = number(if call == "put_held" { "3" } else { "1" })?;
+    if call == "put_held" {
+        return work.put_held(north, at, CONTENTS);
+    }
+    work.put_applied(north, at, CONTENTS, &EFFECT)
+}
+
+fn make_call<S: Alter>(
     alloc: Global,
     work: &mut Work<'_, S>,
+    north: &SeriesName,
     call: &str,
-) -> Result<bool, StoreFault> {
+) -> Result<(), StoreFault> {
     match call {
-        "put_record" => work.put_record(&name("north")?, "R2")?,
-        "put_article" => put_article(alloc, work, "R2", 1, "15")?,
-        "put_offer" => put_offer(alloc, work, "R2")?,
-        "put_price" => put_price(alloc, work, 1, 3, 100)?,
-        "delete_articles" => work.delete_articles(&name("north")?, "R2")?,
-        "delete_offers" => work.delete_offers(&name("north")?, "R2")?,
-        "put_record again" => work.put_record(&name("north")?, "R2")?,
-        "delete_record" => work.delete_record(&name("north")?, "R1")?,
-        _ => return Ok(false),
+        "put_series" => put_series(alloc, work, "south", "1"),
+        "set_next" => work.set_next(north, 7),
+        "put_held" | "put_applied" => put_numbered(work, north, call),
+        "put_article" => put_article(alloc, work, "R2", 1, "15"),
+        "put_offer" => put_offer(alloc, work, "R2"),
+        "put_price" => put_price(alloc, work, 1, 3, 100),
+        "delete_articles" => work.delete_articles(north, "R2"),
+        "delete_offers" => work.delete_offers(north, "R2"),
+        "delete_record" => work.delete_record(north, "R1"),
+        _ => work.put_record(north, "R2"),
     }
-    Ok(true)
 }
 
 // Makes a call in a transaction of its own: whether its answer is right.
 fn calls<S: Alter>(alloc: Global, tables: &mut Tables<S>, call: &str) -> Result<bool, StoreFault> {
     let mut work = tables.work()?;
+    let north = name("north")?;
     let is_right = match call {
         "all queries" => has_sample(alloc, &mut work)?,
-        _ => calls_number(alloc, &mut work, call)? || calls_record(alloc, &mut work, call)?,
+        "take_held" => takes_held(&mut work, &north)?,
+        _ => {
+            make_call(alloc, &mut work, &north, call)?;
+            true
+        }
     };
     work.commit()?;
     Ok(is_right)
@@ -160,12 +165,6 @@ pub fn calls_again<S: Alter>(
         before = after;
     }
     Ok(())
-}
-
-fn migrate<S: Alter>(tables: &mut Tables<S>) -> Result<(), StoreFault> {
-    let mut work = tables.work()?;
-    work.migrate()?;
-    work.commit()
 }
 
 /// `migrate`, in tables of version 1.

@@ -33,9 +33,11 @@ fn migrates<S: Alter>(tables: &mut Tables<S>) -> Result<bool, StoreFault> {
     Ok(before == Some(1) && after == Some(2))
 }
 
-fn migrates_again<S: Alter>(tables: &mut Tables<S>) -> Result<bool, StoreFault> {
+/// Takes tables of version 1 to version 2.
+pub fn migrate<S: Alter>(tables: &mut Tables<S>) -> Result<(), StoreFault> {
     let mut work = tables.work()?;
-    Ok(matches!(work.migrate(), Err(StoreFault::Unusable)))
+    work.migrate()?;
+    work.commit()
 }
 
 fn has_next<S: Alter>(work: &mut Work<'_, S>) -> Result<bool, StoreFault> {
@@ -86,7 +88,8 @@ pub fn migration<S: Alter>(
     tables: &mut Tables<S>,
 ) -> Result<(), StoreFault> {
     expect(rt, migrates(tables)?, "the version");
-    expect(rt, migrates_again(tables)?, "a second time");
+    let is_refused = matches!(migrate(tables), Err(StoreFault::Unusable));
+    expect(rt, is_refused, "a second time");
     let mut work = tables.work()?;
     holds(alloc, rt, &mut work)
 }

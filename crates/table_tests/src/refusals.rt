@@ -9,6 +9,7 @@ use crate::stores::{Before, over_memory};
 use desk_tables::tables::Tables;
 use desk_tables::work::Work;
 use onix_message::agreement::StoreFault;
+use onix_terms::series_name::SeriesName;
 use sqlite::Alter;
 use std::alloc::Global;
 use std::process::Abort;
@@ -19,44 +20,41 @@ fn is_unusable(outcome: Result<(), StoreFault>) -> bool {
 }
 
 // A call for the numbers of a series that is refused: its key is there, or its series is not.
-fn refused_number<S: Alter>(
-    alloc: Global,
+fn put_numbered<S: Alter>(
     work: &mut Work<'_, S>,
+    north: &SeriesName,
     case: &str,
-) -> Result<bool, StoreFault> {
-    let outcome = match case {
-        "a name that is taken" => put_series(alloc, work, "north", "1"),
-        "parties that are taken" => { put_series(alloc, work, "south", "4012345000009") },
-        "a held number" => work.put_held(&name("north")?, number("1")?, "other"),
-        "an applied number" => work.put_applied(&name("north")?, number("2")?, "other", &EFFECT),
-        "held of no series" => work.put_held(&name("west")?, number("1")?, CONTENTS),
-        "applied of no series" => {
-            work.put_applied(&name("west")?, number("1")?, CONTENTS, &EFFECT)
-        }
-        "tables that are there" => work.create(),
-        "a version that is not 1" => work.migrate(),
-        _ => Ok(()),
-    };
-    Ok(is_unusable(outcome))
+) -> Result<(), StoreFault> {
+    let west = name("west")?;
+    let one = number("1")?;
+    match case {
+        "a held number" => work.put_held(north, one, "other"),
+        "an applied number" => work.put_applied(north, number("2")?, "other", &EFFECT),
+        "held of no series" => work.put_held(&west, one, CONTENTS),
+        "applied of no series" => work.put_applied(&west, one, CONTENTS, &EFFECT),
+        _ => work.put_record(&west, "R1"),
+    }
 }
 
-// The same for what a record has.
-fn refused_part<S: Alter>(
+fn make_call<S: Alter>(
     alloc: Global,
     work: &mut Work<'_, S>,
+    north: &SeriesName,
     case: &str,
-) -> Result<bool, StoreFault> {
-    let outcome = match case {
-        "a record of no series" => work.put_record(&name("west")?, "R1"),
+) -> Result<(), StoreFault> {
+    match case {
+        "a name that is taken" => put_series(alloc, work, "north", "1"),
+        "parties that are taken" => put_series(alloc, work, "south", "4012345000009"),
+        "tables that are there" => work.create(),
+        "a version that is not 1" => work.migrate(),
         "an article's place" => put_article(alloc, work, "R1", 1, "03"),
         "an article of no record" => put_article(alloc, work, "R2", 1, "03"),
         "an offer's place" => put_offer(alloc, work, "R1"),
         "an offer of no record" => put_offer(alloc, work, "R2"),
         "a price's place" => put_price(alloc, work, 1, 2, 1),
         "a price of no offer" => put_price(alloc, work, 2, 1, 10),
-        _ => Ok(()),
-    };
-    Ok(is_unusable(outcome))
+        _ => put_numbered(work, north, case),
+    }
 }
 
 // The rows are those of the sample.
@@ -71,10 +69,11 @@ fn refuses<S: Alter>(
     tables: &mut Tables<S>,
     case: &str,
 ) -> Result<bool, StoreFault> {
+    let north = name("north")?;
     let mut work = tables.work()?;
-    work.delete_offers(&name("north")?, "R9")?;
-    let refused = refused_number(alloc, &mut work, case)? || refused_part(alloc, &mut work, case)?;
-    let next = is_unusable(work.set_next(&name("north")?, 7));
+    work.delete_offers(&north, "R9")?;
+    let refused = is_unusable(make_call(alloc, &mut work, &north, case));
+    let next = is_unusable(work.set_next(&north, 7));
     Ok(refused && next && is_unusable(work.commit()))
 }
 

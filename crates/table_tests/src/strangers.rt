@@ -1,12 +1,11 @@
 // Databases that are not the desk's, or that hold what no desk has put.
 
 use crate::cases::Case;
-use crate::sample::{expect, name};
+use crate::sample::{expect, make, name};
 use crate::stores::{Before, over_memory};
 use desk_tables::tables::Tables;
 use onix_message::agreement::StoreFault;
 use sqlite::Alter;
-use std::alloc::Global;
 use std::process::Abort;
 use std::test::Fail;
 
@@ -16,7 +15,6 @@ pub fn version<S: Alter>(tables: &mut Tables<S>) -> Result<Option<u32>, StoreFau
 }
 
 pub fn has_version<S: Alter>(
-    alloc: Global,
     rt: &impl Abort,
     tables: &mut Tables<S>,
     wanted: Option<u32>,
@@ -25,69 +23,37 @@ pub fn has_version<S: Alter>(
     Ok(())
 }
 
-pub fn has_no_version<S: Alter>(
-    alloc: Global,
-    rt: &impl Abort,
-    tables: &mut Tables<S>,
-) -> Result<(), StoreFault> {
-    expect(
-        rt,
-        matches!(version(tables), Err(StoreFault::Unusable)),
-        "no version",
-    );
-    Ok(())
-}
-
-fn made<S: Alter>(tables: &mut Tables<S>) -> Result<(), StoreFault> {
-    let mut work = tables.work()?;
-    work.create()?;
-    work.commit()
-}
-
-pub fn makes_tables<S: Alter>(
-    alloc: Global,
-    rt: &impl Abort,
-    tables: &mut Tables<S>,
-) -> Result<(), StoreFault> {
-    made(tables)?;
+pub fn makes_tables<S: Alter>(rt: &impl Abort, tables: &mut Tables<S>) -> Result<(), StoreFault> {
+    make(tables)?;
     expect(rt, version(tables)? == Some(2), "tables that were made");
     Ok(())
 }
 
-fn lists_offers<S: Alter>(tables: &mut Tables<S>) -> Result<(), StoreFault> {
-    let series = name("north")?;
-    let mut work = tables.work()?;
-    work.offer_rows(&series).map(drop)
+/// What is asked of a database that is not a desk's.
+#[derive(Clone, Copy)]
+pub enum Query {
+    Version,
+    Offers,
+    Series,
 }
 
-pub fn has_no_offers<S: Alter>(
-    alloc: Global,
+fn ask<S: Alter>(tables: &mut Tables<S>, query: Query) -> Result<(), StoreFault> {
+    let north = name("north")?;
+    let mut work = tables.work()?;
+    match query {
+        Query::Version => work.version().map(drop),
+        Query::Offers => work.offer_rows(&north).map(drop),
+        Query::Series => work.series_rows().map(drop),
+    }
+}
+
+pub fn is_unreadable<S: Alter>(
     rt: &impl Abort,
     tables: &mut Tables<S>,
+    query: Query,
 ) -> Result<(), StoreFault> {
-    expect(
-        rt,
-        matches!(lists_offers(tables), Err(StoreFault::Unusable)),
-        "an offer that cannot be read",
-    );
-    Ok(())
-}
-
-fn lists_series<S: Alter>(tables: &mut Tables<S>) -> Result<(), StoreFault> {
-    let mut work = tables.work()?;
-    work.series_rows().map(drop)
-}
-
-pub fn has_no_series<S: Alter>(
-    alloc: Global,
-    rt: &impl Abort,
-    tables: &mut Tables<S>,
-) -> Result<(), StoreFault> {
-    expect(
-        rt,
-        matches!(lists_series(tables), Err(StoreFault::Unusable)),
-        "a series that cannot be read",
-    );
+    let is_unusable = matches!(ask(tables, query), Err(StoreFault::Unusable));
+    expect(rt, is_unusable, "what cannot be read");
     Ok(())
 }
 
@@ -102,11 +68,11 @@ fn versions(rt: HostRuntime) -> Result<(), Fail> {
         ("CREATE TABLE meta (title TEXT)", Case::Version(None)),
         (
             "CREATE TABLE meta (item TEXT NOT NULL PRIMARY KEY, amount INTEGER NOT NULL) STRICT",
-            Case::NoVersion,
+            Case::Unreadable(Query::Version),
         ),
         (
             "CREATE TABLE meta (item TEXT, amount TEXT); INSERT INTO meta VALUES ('version', 'two')",
-            Case::NoVersion,
+            Case::Unreadable(Query::Version),
         ),
         ("CREATE TABLE book (title TEXT)", Case::MakesTables),
     ] {
@@ -122,14 +88,26 @@ fn versions(rt: HostRuntime) -> Result<(), Fail> {
 #[test]
 fn values_that_are_no_terms(rt: HostRuntime) -> Result<(), Fail> {
     for (statements, case) in [
-        ("UPDATE offer SET included = 'gb'", Case::NoOffers),
-        ("UPDATE offer SET world = 2", Case::NoOffers),
+        (
+            "UPDATE offer SET included = 'gb'",
+            Case::Unreadable(Query::Offers),
+        ),
+        (
+            "UPDATE offer SET world = 2",
+            Case::Unreadable(Query::Offers),
+        ),
         (
             "DELETE FROM price; UPDATE offer SET place = -1",
-            Case::NoOffers,
+            Case::Unreadable(Query::Offers),
         ),
-        ("UPDATE offer SET availability = '2'", Case::NoOffers),
-        ("UPDATE series SET first_number = 0", Case::NoSeries),
+        (
+            "UPDATE offer SET availability = '2'",
+            Case::Unreadable(Query::Offers),
+        ),
+        (
+            "UPDATE series SET first_number = 0",
+            Case::Unreadable(Query::Series),
+        ),
     ] {
         let before = Before {
             has_sample: true,

@@ -1,7 +1,6 @@
 use Rattle.std.proofs.Common.{Ok, Some, subst}
 use Rattle.sqlite.specs.Held.{state}
-use Rattle.desk_tables.specs.Rows.{DeskRows, Holds, HoldsFirst, with_version}
-use Rattle.desk_store.specs.Openings.{IsVersionRead, MakesAll}
+use Rattle.desk_store.specs.Openings.{IsVersionRead}
 use Rattle.desk_store.proofs.FoundTables.{ready_created, ready_uncreated}
 use Rattle.desk_store.proofs.MigratedTables.{migrate_failed, migrated_already, migrated_first, migrated_none, migrated_other, migrated_unread, uncreated_none}
 use Rattle.desk_store.proofs.migrating.bring_to_two.Goals as goal

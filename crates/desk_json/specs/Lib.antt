@@ -1,0 +1,4 @@
+pub mod AnswerJson
+pub mod CatalogueJson
+pub mod Json
+pub mod OfferJson

@@ -1,0 +1,244 @@
+// The JSON of answers.
+
+ghost use Rattle.std.specs.Prelude.{◌≡◌, IfOk, Some, map};
+ghost use Rattle.std.specs.String.{string_bytes};
+ghost use Rattle.serde_json.specs.Read.{read};
+ghost use Rattle.serde_json.specs.View.{view};
+ghost use Rattle.serde_json.specs.Written.{compact_text};
+ghost use Rattle.desk_json.specs.AnswerJson as json;
+
+use crate::bodies::refused_json;
+use crate::catalogue_json::catalogue_json;
+use crate::offer_json::{calendar_json, choice_json, price_json};
+use crate::values::number_or_null;
+use catalogue_rules::effect::Effect;
+use onix_terms::number::Number;
+use onix_terms::series_name::SeriesName;
+use serde_json::{Value, json};
+use series_rules::answers::{AgreeAnswer, Answer, DeliveryAnswer, GapReport, WaiveAnswer};
+use std::alloc::{AllocError, Global};
+
+fn malformed_json(alloc: Global, row: u32) -> Result<Value, AllocError>
+    ensures { IfOk result (λ v. view v ≡ json.malformed row) }
+{
+    json!(in alloc; {"answer": "refused", "reason": "malformed", "row": row})
+}
+
+fn before_first_json(
+    alloc: Global,
+    series: &SeriesName,
+    number: Number,
+    first: Number,
+) -> Result<Value, AllocError>
+    ensures { IfOk result (λ v. view v ≡ json.before_first series.now number first) }
+{
+    json!(in alloc; {
+        "answer": "refused",
+        "first": first.value(),
+        "number": number.value(),
+        "reason": "before-first",
+        "series": series.as_str()
+    })
+}
+
+fn not_agreed_json(alloc: Global, reason: &str, series: &SeriesName) -> Result<Value, AllocError>
+    ensures { IfOk result (λ v. view v ≡ json.not_agreed reason.now series.now) }
+{
+    json!(in alloc; {"answer": "refused", "reason": reason, "series": series.as_str()})
+}
+
+fn number_refused_json(
+    alloc: Global,
+    reason: &str,
+    series: &SeriesName,
+    number: Number,
+) -> Result<Value, AllocError>
+    ensures { IfOk result (λ v. view v ≡ json.number_refused reason.now series.now number) }
+{
+    json!(in alloc; {
+        "answer": "refused",
+        "number": number.value(),
+        "reason": reason,
+        "series": series.as_str()
+    })
+}
+
+fn agreed_json(alloc: Global, series: &SeriesName, first: Number) -> Result<Value, AllocError>
+    ensures { IfOk result (λ v. view v ≡ json.agreed series.now first) }
+{
+    json!(in alloc; {"answer": "agreed", "first": first.value(), "series": series.as_str()})
+}
+
+fn agreement_json(
+    alloc: Global,
+    name: &SeriesName,
+    first: Number,
+    answer: &AgreeAnswer,
+) -> Result<Value, AllocError>
+    ensures { IfOk result (λ v. view v ≡ json.agreement name.now first answer.now) }
+{
+    match answer {
+        AgreeAnswer::Agreed => agreed_json(alloc, name, first),
+        AgreeAnswer::NameTaken => not_agreed_json(alloc, "name-taken", name),
+        AgreeAnswer::SeriesTaken { name: holder } => not_agreed_json(alloc, "series-taken", holder),
+    }
+}
+
+fn applied_json(
+    alloc: Global,
+    series: &SeriesName,
+    number: Number,
+    effect: &Effect,
+) -> Result<Value, AllocError>
+    ensures { IfOk result (λ v. view v ≡ json.applied series.now number effect.now) }
+{
+    json!(in alloc; {
+        "answer": "applied",
+        "deleted": effect.deleted,
+        "ignored": effect.ignored,
+        "number": number.value(),
+        "replaced": effect.replaced,
+        "series": series.as_str(),
+        "unknown": effect.unknown,
+        "updated": effect.updated
+    })
+}
+
+fn held_json(
+    alloc: Global,
+    series: &SeriesName,
+    number: Number,
+    next: u32,
+) -> Result<Value, AllocError>
+    ensures { IfOk result (λ v. view v ≡ json.held series.now number next) }
+{
+    json!(in alloc; {
+        "answer": "held",
+        "number": number.value(),
+        "series": series.as_str(),
+        "waiting_for": next
+    })
+}
+
+fn delivered_json(alloc: Global, answer: &DeliveryAnswer) -> Result<Value, AllocError>
+    ensures { IfOk result (λ v. view v ≡ json.delivered answer.now) }
+{
+    match answer {
+        DeliveryAnswer::Malformed { row } => malformed_json(alloc, *row),
+        DeliveryAnswer::Unnumbered => refused_json(alloc, "unnumbered"),
+        DeliveryAnswer::UnknownSeries => refused_json(alloc, "unknown-series"),
+        DeliveryAnswer::BeforeFirst {
+            series,
+            number,
+            first,
+        } => before_first_json(alloc, series, *number, *first),
+        DeliveryAnswer::Waived { series, number } => number_refused_json(
+            alloc, "waived", series, *number,
+        ),
+        DeliveryAnswer::OtherContents { series, number } => number_refused_json(
+            alloc,
+            "other-contents",
+            series,
+            *number,
+        ),
+        DeliveryAnswer::Applied {
+            series,
+            number,
+            effect,
+        } => applied_json(alloc, series, *number, effect),
+        DeliveryAnswer::Held {
+            series,
+            number,
+            waiting_for,
+        } => held_json(alloc, series, *number, *waiting_for),
+    }
+}
+
+fn waived_json(alloc: Global, series: &SeriesName, number: Number) -> Result<Value, AllocError>
+    ensures { IfOk result (λ v. view v ≡ json.waived series.now number) }
+{
+    json!(in alloc; {"answer": "waived", "number": number.value(), "series": series.as_str()})
+}
+
+fn waiver_json(
+    alloc: Global,
+    series: &SeriesName,
+    number: Number,
+    answer: &WaiveAnswer,
+) -> Result<Value, AllocError>
+    ensures { IfOk result (λ v. view v ≡ json.waiver_answer series.now number answer.now) }
+{
+    match answer {
+        WaiveAnswer::UnknownSeries => refused_json(alloc, "unknown-series"),
+        WaiveAnswer::BeforeFirst { first } => before_first_json(alloc, series, number, *first),
+        WaiveAnswer::HasMessage => number_refused_json(alloc, "had", series, number),
+        WaiveAnswer::Waived => waived_json(alloc, series, number),
+    }
+}
+
+fn missing_json(alloc: Global, first: Number, last: Number) -> Result<Value, AllocError>
+    ensures { IfOk result (λ v. view v ≡ json.missing (first, last)) }
+{
+    json!(in alloc; [first.value(), last.value()])
+}
+
+fn missing_list(alloc: Global, ranges: &[(Number, Number)]) -> Result<Vec<Value>, AllocError>
+    ensures { IfOk result (λ vs. map view vs.items ≡ map json.missing ranges.now) }
+{
+    let mut list = Vec::new(alloc);
+    for range in ranges {
+        list.push(missing_json(alloc, range.0, range.1)?)?;
+    }
+    Ok(list)
+}
+
+fn gaps_json(alloc: Global, report: &GapReport) -> Result<Value, AllocError>
+    ensures { IfOk result (λ v. view v ≡ json.gaps report.now) }
+{
+    json!(in alloc; {
+        "answer": "gaps",
+        "first": report.first.value(),
+        "greatest": number_or_null(report.greatest),
+        "held": report.held,
+        "missing": Value::Array(missing_list(alloc, report.missing.as_slice())?),
+        "next": report.next,
+        "series": report.series.as_str()
+    })
+}
+
+fn answer_json(alloc: Global, answer: &Answer) -> Result<Value, AllocError>
+    ensures { IfOk result (λ v. view v ≡ json.answer_json answer.now) }
+{
+    match answer {
+        Answer::Agreement {
+            name,
+            first,
+            answer,
+        } => agreement_json(alloc, name, *first, answer),
+        Answer::Delivery(answer) => delivered_json(alloc, answer),
+        Answer::Waiver {
+            series,
+            number,
+            answer,
+        } => waiver_json(alloc, series, *number, answer),
+        Answer::Price { isbn, offers } => price_json(alloc, isbn, offers.as_slice()),
+        Answer::Choice { isbn, choice } => choice_json(alloc, isbn, choice),
+        Answer::Calendar { isbn, offers } => calendar_json(alloc, isbn, offers.as_slice()),
+        Answer::BadRange => refused_json(alloc, "bad-range"),
+        Answer::Gaps(report) => gaps_json(alloc, report),
+        Answer::Catalogue { series, catalogue } => catalogue_json(alloc, series, catalogue),
+        Answer::UnknownSeries => refused_json(alloc, "unknown-series"),
+        Answer::Malformed { row } => malformed_json(alloc, *row),
+    }
+}
+
+/// The text of an answer's JSON. Whoever reads it as JSON gets the answer's data. Only want of
+/// memory refuses it.
+pub fn answer_text(alloc: Global, answer: &Answer) -> Result<String, AllocError>
+    ensures text { IfOk result (λ text. string_bytes text ≡ compact_text (json.answer_json answer.now)) }
+    ensures reads { IfOk result (λ text. read (string_bytes text) ≡ Some (json.answer_json answer.now)) }
+{
+    let value = answer_json(alloc, answer)?;
+    let text = value.to_string(alloc)?;
+    Ok(text)
+}

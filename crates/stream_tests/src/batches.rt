@@ -23,11 +23,11 @@ const PARTS: [(&str, &str); 13] = [
         "agreed,north,1\nrefused,malformed,1\n",
     ),
     (
-        ",\nProduct,R1,03,15,978123456789",
+        ",\nProduct,R1,03,15,",
         "agreed,north,1\nrefused,malformed,2\n",
     ),
     (
-        "7\nProductSupply,GB IE,",
+        "9781234567897\nProductSupply,GB IE,",
         "agreed,north,1\nrefused,malformed,3\n",
     ),
     (

@@ -210,10 +210,7 @@ pub(crate) fn add_supply(draft: &mut Draft, supply: ProductSupply) -> Result<(),
     }
     match mem::replace(&mut draft.part, Part::Nothing) {
         Part::InProduct(product) => {
-            drop(mem::replace(
-                &mut draft.part,
-                Part::InSupply(product, supply, None),
-            ));
+            drop(mem::replace(&mut draft.part, Part::InSupply(product, supply, None)));
             Ok(())
         }
         other => {

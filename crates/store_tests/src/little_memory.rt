@@ -34,9 +34,9 @@ fn lacked_memory(asked: &Asked) -> bool {
     )
 }
 
-// What a desk answers after so many steps. Where memory is refused, what is reported then is what was
-// to be reported before the request, or after it.
-fn ask_again<D: Desk>(
+/// What a desk answers after so many steps. Where memory is refused, what is reported then is what was
+/// to be reported before the request, or after it.
+pub fn ask_again<D: Desk>(
     alloc: Global,
     stop: &impl Abort,
     desk: &mut D,

@@ -3,6 +3,7 @@
 use crate::tables::remove_both;
 use crate::times::used;
 use desk_tables::tables::Tables;
+use onix_message::agreement::StoreFault;
 use sqlite::types::ValueRef;
 use sqlite::{Alter, Connection, Error, File, FileStore, Row};
 use std::alloc::{AllocError, Global};
@@ -146,18 +147,60 @@ fn run_all<S: Alter>(
 
 // The rows in the file of this name.
 fn rows_in(rt: &HostRuntime, name: &str) -> anyhow::Result<DeskRows> {
-    let mut connection = Connection::open(rt, name)?;
-    Ok(read_rows(&mut connection)?)
+    match Connection::open(rt, name) {
+        Ok(mut connection) => {
+            let rows = read_rows(&mut connection);
+            drop(connection);
+            Ok(rows?)
+        }
+        Err(error) => Err(error)?,
+    }
 }
 
-// The tables of a desk, in a new file of this name.
-fn new_tables(rt: &HostRuntime, name: &str) -> anyhow::Result<Connection<FileStore<File>>> {
-    remove_both(rt, name)?;
-    let mut tables = Tables::new(Connection::open(rt, name)?);
+fn create<S: Alter>(tables: &mut Tables<S>) -> Result<(), StoreFault> {
     let mut work = tables.work()?;
     work.create()?;
-    work.commit()?;
-    Ok(tables.into_connection())
+    work.commit()
+}
+
+// The time in which statements are executed over a connection, once the tables of a desk are made.
+fn time_over(
+    rt: &HostRuntime,
+    connection: &mut Connection<FileStore<File>>,
+    statements: &[Bound<'_>],
+) -> anyhow::Result<u64> {
+    let start = used(rt)?;
+    run_all(connection, statements)?;
+    let end = used(rt)?;
+    Ok(end.saturating_sub(start))
+}
+
+fn time_with_tables(
+    rt: &HostRuntime,
+    mut tables: Tables<FileStore<File>>,
+    statements: &[Bound<'_>],
+) -> anyhow::Result<u64> {
+    match create(&mut tables) {
+        Ok(()) => {
+            let mut connection = tables.into_connection();
+            let time = time_over(rt, &mut connection, statements);
+            drop(connection);
+            time
+        }
+        Err(fault) => {
+            drop(tables);
+            Err(fault)?
+        }
+    }
+}
+
+// The same in a new file of this name.
+fn time_in_file(rt: &HostRuntime, name: &str, statements: &[Bound<'_>]) -> anyhow::Result<u64> {
+    remove_both(rt, name)?;
+    match Connection::open(rt, name) {
+        Ok(connection) => time_with_tables(rt, Tables::new(connection), statements),
+        Err(error) => Err(error)?,
+    }
 }
 
 /// The time in which `sqlite` alone puts what a desk has put into the file of this name, in
@@ -165,9 +208,5 @@ fn new_tables(rt: &HostRuntime, name: &str) -> anyhow::Result<Connection<FileSto
 pub fn time_of_bare_rows(rt: &HostRuntime, name: &str) -> anyhow::Result<u64> {
     let rows = rows_in(rt, name)?;
     let statements = statements_of(rt.alloc(), &rows)?;
-    let mut connection = new_tables(rt, name)?;
-    let start = used(rt)?;
-    run_all(&mut connection, statements.as_slice())?;
-    let end = used(rt)?;
-    Ok(end.saturating_sub(start))
+    time_in_file(rt, name, statements.as_slice())
 }

@@ -4,19 +4,31 @@ use crate::batches::time_of_batch;
 use crate::files::open_desk;
 use crate::texts::{offers, scattered_questions};
 use crate::times::print_ratio;
+use series_rules::desk::Desk;
 
-// The least time of three times 10,000 questions about the products of so many messages, in
-// microseconds.
-fn time_of(rt: &HostRuntime, name: &str, messages: u32, pages: usize) -> anyhow::Result<u64> {
+// The least time of three times 10,000 questions about the products of so many messages, which are
+// delivered first, in microseconds.
+fn time_over<D: Desk>(rt: &HostRuntime, desk: &mut D, messages: u32) -> anyhow::Result<u64> {
     let alloc = rt.alloc();
-    let mut desk = open_desk(rt, name, pages)?;
-    time_of_batch(rt, &mut desk, offers(alloc, 1, messages, false)?.as_str())?;
+    time_of_batch(rt, desk, offers(alloc, 1, messages, false)?.as_str())?;
     let questions = scattered_questions(alloc, messages.saturating_mul(20))?;
     let mut least = u64::MAX;
     for _ in 0..3u32 {
-        least = least.min(time_of_batch(rt, &mut desk, questions.as_str())?);
+        least = least.min(time_of_batch(rt, desk, questions.as_str())?);
     }
     Ok(least)
+}
+
+// The same over a new file of this name, with so many pages of it in memory.
+fn time_of(rt: &HostRuntime, name: &str, messages: u32, pages: usize) -> anyhow::Result<u64> {
+    match open_desk(rt, name, pages) {
+        Ok(mut desk) => {
+            let time = time_over(rt, &mut desk, messages);
+            drop(desk);
+            time
+        }
+        Err(error) => Err(error),
+    }
 }
 
 /// Prints what a price question costs in a file of this name, which is made anew, among 20,000

@@ -80,8 +80,14 @@ fn times_in_file(
     messages: u32,
     is_reversed: bool,
 ) -> anyhow::Result<Times> {
-    let mut desk = open_desk(rt, name, 2_000)?;
-    times_over(rt, &mut desk, messages, is_reversed)
+    match open_desk(rt, name, 2_000) {
+        Ok(mut desk) => {
+            let times = times_over(rt, &mut desk, messages, is_reversed);
+            drop(desk);
+            times
+        }
+        Err(error) => Err(error),
+    }
 }
 
 fn times_in_memory(rt: &HostRuntime) -> anyhow::Result<Times> {

@@ -45,6 +45,7 @@ pub(crate) fn agree_in<S: Alter>(
     if let Some(row) = &named {
         return Ok(answer_named(&row.agreement, agreement));
     }
+    drop(named);
     let taken = match work.series_by_parties(&agreement.sender, &agreement.addressee) {
         Ok(taken) => taken,
         Err(fault) => return Err(fault),
@@ -54,6 +55,7 @@ pub(crate) fn agree_in<S: Alter>(
             name: row.agreement.name,
         });
     }
+    drop(taken);
     match work.put_series(agreement) {
         Ok(()) => Ok(AgreeAnswer::Agreed),
         Err(fault) => Err(fault),

@@ -71,8 +71,8 @@ returns-in-Ok-put_series-clause-achieves g c =
     (λ rows between x h m one two. agrees_new rows (with_series a between) a (ap (with_series a) one.0) one.1 (sym c.in_default-taken.is ∙ one.2)))
     (λ rows now h m one. one)
 
-pub returns-clause-achieves : goal.returns-clause-achieves
-returns-clause-achieves g c =
+pub returns-in-Err-put_series-clause-achieves : goal.returns-in-Err-put_series-clause-achieves
+returns-in-Err-put_series-clause-achieves g c =
     let old = state g.S.Store c.args.work.now.tables.now.connection in
     let mid = state g.S.Store c.series_by_name.new.self.tables.now.connection in
     let new = state g.S.Store c.series_by_parties.new.self.tables.now.connection in

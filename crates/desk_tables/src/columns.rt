@@ -17,7 +17,22 @@ use onix_terms::series_name::SeriesName;
 use onix_terms::territory::{TermFault, Territory};
 use onix_terms::text::Text;
 use sqlite::Row;
+use sqlite::types::ValueRef;
 use std::alloc::Global;
+
+// The text of a column, lent, so that what is read of it is not copied first.
+fn str_column(row: &Row, at: usize) -> Result<&str, StoreFault>
+    ensures { IfOk result (λ text. column row.now at ≡ SqlText text.now) }
+{
+    match row.get_ref(at) {
+        Ok(ValueRef::Text(bytes)) => match str::from_utf8(bytes) {
+            Ok(text) => Ok(text),
+            Err(_) => Err(StoreFault::Unusable),
+        },
+        Ok(_) => Err(StoreFault::Unusable),
+        Err(error) => Err(fault_of(error)),
+    }
+}
 
 pub(crate) fn text_column(row: &Row, at: usize) -> Result<Text, StoreFault>
     ensures { IfOk result (λ text. column row.now at ≡ SqlText text) }
@@ -49,8 +64,7 @@ pub(crate) fn number_column(row: &Row, at: usize) -> Result<Number, StoreFault>
 pub(crate) fn name_column(row: &Row, at: usize) -> Result<SeriesName, StoreFault>
     ensures { IfOk result (λ name. column row.now at ≡ SqlText name) }
 {
-    let text = text_column(row, at)?;
-    match SeriesName::read(text.as_str()) {
+    match SeriesName::read(str_column(row, at)?) {
         Some(name) => Ok(name),
         None => Err(StoreFault::Unusable),
     }
@@ -59,8 +73,7 @@ pub(crate) fn name_column(row: &Row, at: usize) -> Result<SeriesName, StoreFault
 pub(crate) fn code_column(row: &Row, at: usize) -> Result<Code2, StoreFault>
     ensures { IfOk result (λ code. column row.now at ≡ SqlText code) }
 {
-    let text = text_column(row, at)?;
-    match Code2::read(text.as_str()) {
+    match Code2::read(str_column(row, at)?) {
         Some(code) => Ok(code),
         None => Err(StoreFault::Unusable),
     }
@@ -70,7 +83,7 @@ pub(crate) fn code_column(row: &Row, at: usize) -> Result<Code2, StoreFault>
 pub(crate) fn optional_code_column(row: &Row, at: usize) -> Result<Option<Code2>, StoreFault>
     ensures { IfOk result (λ code. (text : _) × (column row.now at ≡ SqlText text) × (code_of text ≡ code)) }
 {
-    if text_column(row, at)?.is_empty() {
+    if str_column(row, at)?.is_empty() {
         return Ok(None);
     }
     Ok(Some(code_column(row, at)?))
@@ -102,8 +115,7 @@ pub(crate) fn amount_column(row: &Row, at: usize) -> Result<Amount, StoreFault>
 pub(crate) fn currency_column(row: &Row, at: usize) -> Result<Currency, StoreFault>
     ensures { IfOk result (λ code. column row.now at ≡ SqlText code) }
 {
-    let text = text_column(row, at)?;
-    match Currency::read(text.as_str()) {
+    match Currency::read(str_column(row, at)?) {
         Some(code) => Ok(code),
         None => Err(StoreFault::Unusable),
     }
@@ -135,10 +147,10 @@ pub(crate) fn territory_columns(
     ensures { IfOk result (λ t. territory_at row.now included_at world_at excluded_at ≡ Some t) }
 {
     let world = bool_column(row, world_at)?;
-    let included = text_column(row, included_at)?;
-    let excluded = text_column(row, excluded_at)?;
+    let included = str_column(row, included_at)?;
+    let excluded = str_column(row, excluded_at)?;
     let regions = if world { "WORLD" } else { "" };
-    match Territory::read(alloc, included.as_str(), regions, excluded.as_str()) {
+    match Territory::read(alloc, included, regions, excluded) {
         Ok(territory) => Ok(territory),
         Err(TermFault::NotATerm) => Err(StoreFault::Unusable),
         Err(TermFault::Memory) => Err(StoreFault::Memory),
@@ -151,10 +163,7 @@ pub(crate) fn party_columns(row: &Row, type_at: usize, value_at: usize) -> Resul
     ensures id_value { IfOk result (λ party. column row.now value_at ≡ SqlText party.id_value) }
     ensures told { IfOk result (λ party. IsAddressee (Some party)) }
 {
-    let text = text_column(row, type_at)?;
-    let Some(id_type) = Code2::read(text.as_str()) else {
-        return Err(StoreFault::Unusable);
-    };
+    let id_type = code_column(row, type_at)?;
     let id_value = text_column(row, value_at)?;
     Ok(Party { id_type, id_value })
 }
@@ -169,7 +178,7 @@ pub(crate) fn addressee_columns(
     ensures id_value { IfOk result (λ addressee. column row.now value_at ≡ SqlText (party_value addressee)) }
     ensures told { IfOk result IsAddressee }
 {
-    if text_column(row, type_at)?.is_empty() && text_column(row, value_at)?.is_empty() {
+    if str_column(row, type_at)?.is_empty() && str_column(row, value_at)?.is_empty() {
         return Ok(None);
     }
     Ok(Some(party_columns(row, type_at, value_at)?))

@@ -145,10 +145,11 @@ pub(crate) fn priced_row(
 ) -> Result<PriceRow, StoreFault>
     ensures { AreRising minimums.now → IfOk result (λ r. read_priced minimums.now row.now ≡ Some r) }
 {
+    // What takes no memory comes first, so that few ways out let go of anything.
     let series = name_column(row, 0)?;
-    let reference = text_column(row, 1)?;
     let place = whole_column(row, 2)?;
     let price_place = whole_column(row, 3)?;
+    let reference = text_column(row, 1)?;
     let minimum = minimum_of(minimums, &reference, place, price_place)?;
     let price = price_of(alloc, row, minimum)?;
     Ok(PriceRow {

@@ -1,97 +1,65 @@
 // What is refused, and that it changes nothing.
 
-use crate::cases::Case;
-use crate::queries::has_sample;
-use crate::sample::{
-    CONTENTS, EFFECT, expect, name, number, put_article, put_offer, put_price, put_series,
-};
+use crate::cases::{Case, SAMPLE, expect};
 use crate::stores::{Before, over_memory};
+use crate::transcripts::{expect_answers, first_wrong, is_right};
 use desk_tables::tables::Tables;
-use desk_tables::work::Work;
 use onix_message::agreement::StoreFault;
-use onix_terms::series_name::SeriesName;
 use sqlite::Alter;
 use std::alloc::Global;
 use std::process::Abort;
 use std::test::Fail;
 
-fn is_unusable(outcome: Result<(), StoreFault>) -> bool {
-    matches!(outcome, Err(StoreFault::Unusable))
-}
+// Calls whose key is taken or whose parent is missing, and tables that are there already.
+const REFUSED: &str = "put_series north 1: unusable
+put_series south 4012345000009: unusable
+put_held north 1 other: unusable
+put_applied north 2 0 0 0 0 0: unusable
+put_held west 1 later: unusable
+put_applied west 1 1 2 3 4 5: unusable
+create: unusable
+migrate: unusable
+put_record west R1: unusable
+put_article R1 1 03: unusable
+put_article R2 1 03: unusable
+put_offer R1 1: unusable
+put_offer R2 1: unusable
+put_price 1 2 1: unusable
+put_price 2 1 10: unusable";
 
-// A call for the numbers of a series that is refused: its key is there, or its series is not.
-fn put_numbered<S: Alter>(
-    work: &mut Work<'_, S>,
-    north: &SeriesName,
-    case: &str,
-) -> Result<(), StoreFault> {
-    let west = name("west")?;
-    let one = number("1")?;
-    match case {
-        "a held number" => work.put_held(north, one, "other"),
-        "an applied number" => work.put_applied(north, number("2")?, "other", &EFFECT),
-        "held of no series" => work.put_held(&west, one, CONTENTS),
-        "applied of no series" => work.put_applied(&west, one, CONTENTS, &EFFECT),
-        _ => work.put_record(&west, "R1"),
-    }
-}
-
-fn make_call<S: Alter>(
-    alloc: Global,
-    work: &mut Work<'_, S>,
-    north: &SeriesName,
-    case: &str,
-) -> Result<(), StoreFault> {
-    match case {
-        "a name that is taken" => put_series(alloc, work, "north", "1"),
-        "parties that are taken" => put_series(alloc, work, "south", "4012345000009"),
-        "tables that are there" => work.create(),
-        "a version that is not 1" => work.migrate(),
-        "an article's place" => put_article(alloc, work, "R1", 1, "03"),
-        "an article of no record" => put_article(alloc, work, "R2", 1, "03"),
-        "an offer's place" => put_offer(alloc, work, "R1"),
-        "an offer of no record" => put_offer(alloc, work, "R2"),
-        "a price's place" => put_price(alloc, work, 1, 2, 1),
-        "a price of no offer" => put_price(alloc, work, 2, 1, 10),
-        _ => put_numbered(work, north, case),
-    }
-}
-
-// The rows are those of the sample.
-fn is_as_before<S: Alter>(alloc: Global, tables: &mut Tables<S>) -> Result<bool, StoreFault> {
-    let mut work = tables.work()?;
-    has_sample(alloc, &mut work)
-}
-
-// The call is refused, and so is each later one, `commit` too.
+// After a call that changes rows this one is refused, and so is each later one, `commit` too.
 fn refuses<S: Alter>(
     alloc: Global,
     tables: &mut Tables<S>,
-    case: &str,
+    call: &str,
 ) -> Result<bool, StoreFault> {
-    let north = name("north")?;
     let mut work = tables.work()?;
-    work.delete_offers(&north, "R9")?;
-    let refused = is_unusable(make_call(alloc, &mut work, &north, case));
-    let next = is_unusable(work.set_next(&north, 7));
-    Ok(refused && next && is_unusable(work.commit()))
+    let before = first_wrong(alloc, &mut work, "put_record north R3")?;
+    let refused = first_wrong(alloc, &mut work, call)?;
+    let after = first_wrong(
+        alloc,
+        &mut work,
+        "set_next north 7: unusable\nversion: unusable",
+    )?;
+    let is_refused = matches!(work.commit(), Err(StoreFault::Unusable));
+    Ok(before.is_none() && refused.is_none() && after.is_none() && is_refused)
 }
 
-fn changes<S: Alter>(alloc: Global, tables: &mut Tables<S>) -> Result<(), StoreFault> {
-    let mut work = tables.work()?;
-    put_series(alloc, &mut work, "south", "1")?;
-    work.delete_record(&name("north")?, "R1")?;
-    Ok(())
+// Changes rows, and lets the transaction go.
+fn changes<S: Alter>(
+    alloc: Global,
+    rt: &impl Abort,
+    tables: &mut Tables<S>,
+) -> Result<(), StoreFault> {
+    let transcript = "put_series south 1\ndelete_record north R1\nrecord_rows:";
+    expect_answers(alloc, rt, tables, transcript)
 }
 
-fn changes_nothing<S: Alter>(tables: &mut Tables<S>) -> Result<(), StoreFault> {
-    let mut work = tables.work()?;
-    work.set_next(&name("west")?, 7)?;
-    work.delete_articles(&name("north")?, "R2")?;
-    work.delete_offers(&name("north")?, "R2")?;
-    work.delete_record(&name("north")?, "R2")?;
-    work.commit()
-}
+// Calls for what is not there.
+const NOTHING: &str = "set_next west 7
+delete_articles north R2
+delete_offers north R2
+delete_record north R2";
 
 /// What is refused changes nothing, nor does what is let go without `commit`, nor what is not there.
 pub fn refusals<S: Alter>(
@@ -99,31 +67,14 @@ pub fn refusals<S: Alter>(
     rt: &impl Abort,
     tables: &mut Tables<S>,
 ) -> Result<(), StoreFault> {
-    for case in [
-        "a name that is taken",
-        "parties that are taken",
-        "a held number",
-        "an applied number",
-        "held of no series",
-        "applied of no series",
-        "tables that are there",
-        "a version that is not 1",
-        "a record of no series",
-        "an article's place",
-        "an article of no record",
-        "an offer's place",
-        "an offer of no record",
-        "a price's place",
-        "a price of no offer",
-    ] {
-        expect(rt, refuses(alloc, tables, case)?, case);
-        expect(rt, is_as_before(alloc, tables)?, case);
+    for call in REFUSED.lines() {
+        expect(rt, refuses(alloc, tables, call)?, call);
+        expect_answers(alloc, rt, tables, SAMPLE)?;
     }
-    changes(alloc, tables)?;
-    expect(rt, is_as_before(alloc, tables)?, "let go without commit");
-    changes_nothing(tables)?;
-    expect(rt, is_as_before(alloc, tables)?, "what is not there");
-    Ok(())
+    changes(alloc, rt, tables)?;
+    expect_answers(alloc, rt, tables, SAMPLE)?;
+    expect(rt, is_right(alloc, tables, NOTHING)?, "what is not there");
+    expect_answers(alloc, rt, tables, SAMPLE)
 }
 
 #[test]

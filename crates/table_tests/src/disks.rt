@@ -1,10 +1,10 @@
-// Files that are closed and opened again, and disks that fail: what two transactions leave of files
-// of which one fails from some call on.
+// Tables over files on disks in memory: the calls, files that are closed and opened again, and what
+// two transactions leave of files of which one fails from some call on.
 
-use crate::queries::{counts, has_sample};
-use crate::sample::{expect, make, put_sample};
+use crate::cases::{NO_ROWS, PUT_SAMPLE, SAMPLE, expect};
+use crate::every_call::EVERY_CALL;
+use crate::transcripts::{first_wrong, is_right};
 use desk_tables::tables::Tables;
-use desk_tables::work::Work;
 use onix_message::agreement::StoreFault;
 use sqlite::{Alter, Connection, FileStore, Files, Options};
 use sqlite_disk::{Crash, Disk, Fuse, Memory};
@@ -44,46 +44,47 @@ fn disconnect<D: Disk + Drop>(connection: Connection<FileStore<D>>) -> Files<D> 
 }
 
 // How many transactions were answered of the two that make the tables and put the rows of the
-// sample; none where a fault is not one of the disk.
+// sample; none where one is not answered as it should be, or a fault is not one of the disk.
 fn fill<S: Alter>(alloc: Global, tables: &mut Tables<S>) -> Option<u32> {
-    match make(tables) {
-        Ok(()) => {}
+    match is_right(alloc, tables, "create") {
+        Ok(true) => {}
         Err(StoreFault::Disk) => return Some(0),
-        Err(_) => return None,
+        _ => return None,
     }
-    match put_sample(alloc, tables) {
-        Ok(()) => Some(2),
+    match is_right(alloc, tables, PUT_SAMPLE) {
+        Ok(true) => Some(2),
         Err(StoreFault::Disk) => Some(1),
-        Err(_) => None,
+        _ => None,
     }
+}
+
+fn answers<S: Alter>(
+    alloc: Global,
+    tables: &mut Tables<S>,
+    transcript: &str,
+) -> Result<bool, StoreFault> {
+    let mut work = tables.work()?;
+    Ok(first_wrong(alloc, &mut work, transcript)?.is_none())
 }
 
 // Of how many of the two the tables hold what they did, and nothing more; none where they hold
 // something else.
-fn held<S: Alter>(alloc: Global, work: &mut Work<'_, S>) -> Result<Option<u32>, StoreFault> {
-    if work.version()?.is_none() {
-        work.create()?;
-        return Ok(Some(0));
-    }
-    if counts(work)? == [0; 8] {
-        return Ok(Some(1));
-    }
-    if has_sample(alloc, work)? {
-        return Ok(Some(2));
+fn held<S: Alter>(alloc: Global, tables: &mut Tables<S>) -> Result<Option<u32>, StoreFault> {
+    for (transcript, transactions) in [("version: none\ncreate", 0), (NO_ROWS, 1), (SAMPLE, 2)] {
+        if answers(alloc, tables, transcript)? {
+            return Ok(Some(transactions));
+        }
     }
     Ok(None)
 }
 
-fn held_in<S: Alter>(alloc: Global, tables: &mut Tables<S>) -> Result<Option<u32>, StoreFault> {
-    let mut work = tables.work()?;
-    held(alloc, &mut work)
-}
-
-// What is done with tables over files: the two transactions, or a look at what they hold.
+// What is done with tables over files: the two transactions, a look at what they hold, or all calls,
+// which leave what none of the two does.
 #[derive(Clone, Copy)]
 enum Task {
     Fill,
     Look,
+    Calls,
 }
 
 fn perform<S: Alter>(
@@ -93,7 +94,8 @@ fn perform<S: Alter>(
 ) -> Result<Option<u32>, StoreFault> {
     match task {
         Task::Fill => Ok(fill(alloc, tables)),
-        Task::Look => held_in(alloc, tables),
+        Task::Look => held(alloc, tables),
+        Task::Calls => Ok(answers(alloc, tables, EVERY_CALL)?.then_some(0)),
     }
 }
 
@@ -117,7 +119,7 @@ fn perform_on<D: Disk + Drop>(
         Ok(connection) => perform_and_close(alloc, Tables::new(connection), task),
         Err(files) => match task {
             Task::Fill => (files, Ok(Some(0))),
-            Task::Look => (files, Err(StoreFault::Disk)),
+            Task::Look | Task::Calls => (files, Err(StoreFault::Disk)),
         },
     }
 }
@@ -184,7 +186,7 @@ fn is_whole(held: &Result<Option<u32>, StoreFault>, answered: u32) -> bool {
 }
 
 // Whether each transaction is there whole or not at all, and a fault had a cause.
-fn is_right(outcome: &Outcome) -> bool {
+fn is_consistent(outcome: &Outcome) -> bool {
     match outcome.answered {
         Ok(Some(answered)) if answered <= 2 => {
             (outcome.is_blown || answered == 2)
@@ -211,7 +213,7 @@ fn fails_at_each_call(alloc: Global, rt: &impl Abort, of_log: bool) {
             (u64::MAX, calls)
         };
         let outcome = run(alloc, fused(alloc, log, db));
-        expect(rt, is_right(&outcome), "a disk that fails");
+        expect(rt, is_consistent(&outcome), "a disk that fails");
         if !outcome.is_blown {
             return;
         }
@@ -220,20 +222,36 @@ fn fails_at_each_call(alloc: Global, rt: &impl Abort, of_log: bool) {
 }
 
 #[test]
-fn failing_disks(rt: HostRuntime) -> Result<(), Fail> {
+fn failing_log(rt: HostRuntime) -> Result<(), Fail> {
     fails_at_each_call(rt.alloc(), &rt, true);
+    Ok(())
+}
+
+#[test]
+fn failing_database(rt: HostRuntime) -> Result<(), Fail> {
     fails_at_each_call(rt.alloc(), &rt, false);
+    Ok(())
+}
+
+fn new_files(alloc: Global) -> Files<Memory> {
+    Files {
+        log: Memory::new(alloc),
+        db: Memory::new(alloc),
+    }
+}
+
+#[test]
+fn calls_over_files(rt: HostRuntime) -> Result<(), Fail> {
+    let (files, answered) = perform_on(rt.alloc(), new_files(rt.alloc()), Task::Calls);
+    drop(files);
+    expect(&rt, answered?.is_some(), "the calls over files");
     Ok(())
 }
 
 #[test]
 fn files_opened_again(rt: HostRuntime) -> Result<(), Fail> {
     let alloc = rt.alloc();
-    let files = Files {
-        log: Memory::new(alloc),
-        db: Memory::new(alloc),
-    };
-    let (files, answered) = perform_on(alloc, files, Task::Fill);
+    let (files, answered) = perform_on(alloc, new_files(alloc), Task::Fill);
     let (files, held) = perform_on(alloc, files, Task::Look);
     drop(files);
     let is_whole = answered? == Some(2) && held? == Some(2);

@@ -1,11 +1,11 @@
 // The rows that a desk has put into a file, put into a new one by `sqlite` alone.
 
-use crate::tables::remove_both;
+use crate::tables::{PAGES, open};
 use crate::times::used;
 use desk_tables::tables::Tables;
 use onix_message::agreement::StoreFault;
 use sqlite::types::ValueRef;
-use sqlite::{Alter, Connection, Error, File, FileStore, Row};
+use sqlite::{Alter, Connection, Error, Row};
 use std::alloc::{AllocError, Global};
 
 // The rows of 500 messages of 20 products with a price each, by their tables, in the order in which
@@ -145,16 +145,17 @@ fn run_all<S: Alter>(
     Ok(())
 }
 
+// The rows over a connection that is given up. Generic, as what follows, since a connection to a file
+// that goes out of scope is dear to prove.
+fn read_and_close<S: Alter + Drop>(mut connection: Connection<S>) -> Result<DeskRows, Error> {
+    let rows = read_rows(&mut connection);
+    drop(connection);
+    rows
+}
+
 // The rows in the file of this name.
 fn rows_in(rt: &HostRuntime, name: &str) -> anyhow::Result<DeskRows> {
-    match Connection::open(rt, name) {
-        Ok(mut connection) => {
-            let rows = read_rows(&mut connection);
-            drop(connection);
-            Ok(rows?)
-        }
-        Err(error) => Err(error)?,
-    }
+    Ok(read_and_close(Connection::open(rt, name)?)?)
 }
 
 fn create<S: Alter>(tables: &mut Tables<S>) -> Result<(), StoreFault> {
@@ -164,9 +165,9 @@ fn create<S: Alter>(tables: &mut Tables<S>) -> Result<(), StoreFault> {
 }
 
 // The time in which statements are executed over a connection, once the tables of a desk are made.
-fn time_over(
+fn time_over<S: Alter>(
     rt: &HostRuntime,
-    connection: &mut Connection<FileStore<File>>,
+    connection: &mut Connection<S>,
     statements: &[Bound<'_>],
 ) -> anyhow::Result<u64> {
     let start = used(rt)?;
@@ -175,9 +176,9 @@ fn time_over(
     Ok(end.saturating_sub(start))
 }
 
-fn time_with_tables(
+fn time_with_tables<S: Alter + Drop>(
     rt: &HostRuntime,
-    mut tables: Tables<FileStore<File>>,
+    mut tables: Tables<S>,
     statements: &[Bound<'_>],
 ) -> anyhow::Result<u64> {
     match create(&mut tables) {
@@ -196,11 +197,8 @@ fn time_with_tables(
 
 // The same in a new file of this name.
 fn time_in_file(rt: &HostRuntime, name: &str, statements: &[Bound<'_>]) -> anyhow::Result<u64> {
-    remove_both(rt, name)?;
-    match Connection::open(rt, name) {
-        Ok(connection) => time_with_tables(rt, Tables::new(connection), statements),
-        Err(error) => Err(error)?,
-    }
+    let connection = open(rt, name, PAGES)?;
+    time_with_tables(rt, Tables::new(connection), statements)
 }
 
 /// The time in which `sqlite` alone puts what a desk has put into the file of this name, in

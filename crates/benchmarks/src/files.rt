@@ -74,25 +74,29 @@ fn times_over<D: Desk>(
     })
 }
 
+// Generic, since a desk in a file that goes out of scope is dear to prove.
+fn times_with<D: Desk + Drop>(
+    rt: &HostRuntime,
+    mut desk: D,
+    messages: u32,
+    is_reversed: bool,
+) -> anyhow::Result<Times> {
+    let times = times_over(rt, &mut desk, messages, is_reversed);
+    drop(desk);
+    times
+}
+
 fn times_in_file(
     rt: &HostRuntime,
     name: &str,
     messages: u32,
     is_reversed: bool,
 ) -> anyhow::Result<Times> {
-    match open_desk(rt, name, 2_000) {
-        Ok(mut desk) => {
-            let times = times_over(rt, &mut desk, messages, is_reversed);
-            drop(desk);
-            times
-        }
-        Err(error) => Err(error),
-    }
+    times_with(rt, open_desk(rt, name, 2_000)?, messages, is_reversed)
 }
 
 fn times_in_memory(rt: &HostRuntime) -> anyhow::Result<Times> {
-    let mut desk = MemoryDesk::new(rt.alloc());
-    times_over(rt, &mut desk, 500, false)
+    times_with(rt, MemoryDesk::new(rt.alloc()), 500, false)
 }
 
 // Prints the times of 500 messages in order.

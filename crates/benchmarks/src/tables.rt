@@ -14,8 +14,8 @@ use std::fs;
 const INSERT_PRICE: &str =
     "INSERT INTO price (series, reference, place, price_place, price_type, amount, currency, included, world, excluded, from_day, until_day) VALUES (?1, ?2, ?3, ?4, ?5, ?6, ?7, ?8, ?9, ?10, ?11, ?12)";
 
-// How many pages of a file a connection keeps in memory that is opened by its path.
-const PAGES: usize = 2_000;
+/// How many pages of a file a connection keeps in memory that is opened by its path.
+pub const PAGES: usize = 2_000;
 
 // As many as all files here have.
 const ALL_PAGES: usize = 8_000;
@@ -228,8 +228,12 @@ pub fn remove_both(rt: &HostRuntime, name: &str) -> anyhow::Result<()> {
     Ok(())
 }
 
-// A connection to a file of this name that is made anew, with so many pages of it in memory.
-fn open(rt: &HostRuntime, name: &str, pages: usize) -> anyhow::Result<Connection<FileStore<File>>> {
+/// A connection to a file of this name that is made anew, with so many pages of it in memory.
+pub fn open(
+    rt: &HostRuntime,
+    name: &str,
+    pages: usize,
+) -> anyhow::Result<Connection<FileStore<File>>> {
     remove_both(rt, name)?;
     let mut options = Options::new(0);
     options.cache_pages = pages;
@@ -248,10 +252,8 @@ fn time_of(
     records: u32,
     pages: usize,
 ) -> anyhow::Result<u64> {
-    match open(rt, name, pages) {
-        Ok(connection) => time_over(rt, Tables::new(connection), measure, records),
-        Err(error) => Err(error),
-    }
+    let connection = open(rt, name, pages)?;
+    time_over(rt, Tables::new(connection), measure, records)
 }
 
 fn report_puts(rt: &HostRuntime, name: &str) -> anyhow::Result<()> {

@@ -1,5 +1,5 @@
 -- What the files of a desk hold, against the lists of requests.
-use Rattle.std.proofs.Common.{◌≡◌, ◌≤◌, Bool, arith, inl, inr, List, [], Ok, Err, refl, sym, ap, ◌∙◌, subst}
+use Rattle.std.proofs.Common.{◌≡◌, ◌≤◌, Bool, arith, inl, inr, List, [], Ok, refl, sym, ap, ◌∙◌, subst}
 use Rattle.std.specs.Prelude.{IsTrue}
 use Rattle.std.proofs.Math.Logic.{∥∥₁_elim}
 use Rattle.sqlite.specs.Effect.{Database, IsDatabase}
@@ -16,9 +16,8 @@ use Rattle.desk_tables.specs.Transactions.{IsEmptied}
 use Rattle.series_rules.specs.declared.requests.Request.{Request}
 use Rattle.desk_store.specs.Desks.{AreRowsOf, KeepsRequests}
 use Rattle.desk_store.specs.Migrations.{AreFilesOfEither, IsOfRequests, IsTrueAnswer}
-use Rattle.desk_store.specs.Openings.{AreEmptyFiles, AreFilesOf, AreFilesWith, HoldsAny, IsFaultFor, IsFoundFor, IsReady, ShowsOnly}
+use Rattle.desk_store.specs.Openings.{AreEmptyFiles, AreFilesOf, AreFilesWith, HoldsAny, IsFoundFor, IsReady, ShowsOnly}
 use Rattle.desk_store.specs.declared.migrating.MigrateAnswer.{MigrateAnswer}
-use Rattle.desk_store.specs.declared.opening.OpenFault.{OpenFault}
 
 -- a connection that was just opened
 pub opened_shows : (s : State) → Opens s → ShowsOnly s.now s
@@ -75,9 +74,6 @@ module _ (image : Image) (s0 s1 : State) (opened : HasCleanDisk s0 → Opens s0 
 
   pub files_alone : IsReady s0 s1 (Ok tt) → HasCleanDisk s1 → (L : List Request) → AreFilesOf image L → (d : Trees) → s1.may_leave d → AreRowsOf d L
   files_alone ready clean L are = let clean0 = ready.premise clean in ready.alone clean s0.now (opened_shows s0 (opened clean0).0) L (found_for clean0 L are)
-
-  pub files_fault : (e : OpenFault) → IsReady s0 s1 (Err e) → HasCleanDisk s1 → (rows : DeskRows) → AreFilesWith image rows → IsFaultFor rows e
-  files_fault e ready clean rows are = let clean0 = ready.premise clean in ready.fault clean s0.now (opened_shows s0 (opened clean0).0) rows (found_with clean0 rows are)
 
 -- files that were closed
 pub closed_hold : (image : Image) (s : State) (L : List Request) → IsTrue s.is_open → ∥ HoldsDatabase image s.committed.trees ∥₁ → KeepsRequests s L → AreFilesOf image L

@@ -1,6 +1,7 @@
 // The desk in a SQLite file.
 
 ghost use Rattle.std.specs.Prelude.{◌≡◌, ◌↔◌, [], List, IfOk, IfErr, IfSome, IsTrue, Ok, Err};
+ghost use Rattle.sqlite.specs.Effect.{Database};
 ghost use Rattle.sqlite.specs.Files.{file_state, image_of, IsCleanLeft, IsClosed};
 ghost use Rattle.sqlite.specs.Held.{state};
 ghost use Rattle.sqlite.specs.State.{HasCleanDisk};
@@ -9,7 +10,7 @@ ghost use Rattle.sqlite_trees.specs.Tree.{Trees};
 ghost use Rattle.sqlite_wal.specs.Files.{image_at};
 ghost use Rattle.sqlite_wal.specs.Reads.{AreClean};
 ghost use Rattle.desk_store.specs.Desks.{AreRowsOf, IsAsked, IsQuestioned, KeepsRequests};
-ghost use Rattle.desk_store.specs.Openings.{AreFilesOf, AreFilesWith, IsFaultFor, IsReady};
+ghost use Rattle.desk_store.specs.Openings.{AreFilesOf, AreFilesWith, HoldsAny, IsFaultFor, IsReady, ShowsOnly};
 ghost use Rattle.desk_tables.specs.Rows.{DeskRows};
 ghost use Rattle.series_rules.specs.Answers.{agree_answer, catalogue_answer, delivery_answer, gaps_answer, waive_answer};
 ghost use Rattle.series_rules.specs.Offers.{offers_after};
@@ -45,22 +46,21 @@ pub struct DeskStore<S: Alter> {
     tables: Tables<S>,
 }
 
-impl<S: Alter> DeskStore<S> {
-    // The desk over a connection that was just opened, or the connection beside the fault.
-    fn over(
-        alloc: Global,
-        connection: Connection<S>,
-    ) -> Result<DeskStore<S>, (OpenFault, Connection<S>)>
+impl<S: Alter + Drop> DeskStore<S> {
+    // The desk over a connection that was just opened, or its store beside the fault.
+    fn over(alloc: Global, connection: Connection<S>) -> Result<DeskStore<S>, (OpenFault, S)>
         ensures ok { IfOk result (λ d. IsReady (state S.Store connection) (state S.Store d.tables.connection) (Ok tt)) }
-        ensures err { IfErr result (λ e. IsReady (state S.Store connection) (state S.Store e.1) (Err e.0)) }
+        ensures fault { IfErr result (λ e. IsTrue (S.Store.view e.1).is_clean → HasCleanDisk (state S.Store connection) × ((db : Database) → ShowsOnly db (state S.Store connection) → (rows : DeskRows) → HoldsAny db rows → IsFaultFor rows e.0)) }
     {
         let mut tables = Tables::new(connection);
         match prepare(&mut tables) {
             Ok(()) => Ok(DeskStore { alloc, tables }),
-            Err(fault) => Err((fault, tables.into_connection())),
+            Err(fault) => Err((fault, tables.into_connection().into_store())),
         }
     }
+}
 
+impl<S: Alter> DeskStore<S> {
     /// What the desk is against its tables: its premise is a clean disk, and it stands for a list of
     /// requests exactly where, while its store is open, the tables hold what those come to.
     pub fn is_by_its_tables(&self)
@@ -93,6 +93,21 @@ impl DeskStore<MemStore> {
 }
 
 impl<D: Disk + Drop> DeskStore<FileStore<D>> {
+    // The desk over a connection to files that was just opened, or what is left of them. It stands
+    // alone, since each function that takes files for a store is dear to prove.
+    fn over_files(
+        alloc: Global,
+        connection: Connection<FileStore<D>>,
+    ) -> Result<DeskStore<FileStore<D>>, (OpenFault, Leftover<D>)>
+        ensures ok { IfOk result (λ d. IsReady (file_state connection) (file_state d.tables.connection) (Ok tt)) }
+        ensures fault { IfErr result (λ e. IsCleanLeft e.1 → HasCleanDisk (file_state connection) × ((db : Database) → ShowsOnly db (file_state connection) → (rows : DeskRows) → HoldsAny db rows → IsFaultFor rows e.0)) }
+    {
+        match DeskStore::over(alloc, connection) {
+            Ok(desk) => Ok(desk),
+            Err((fault, store)) => Err((fault, Leftover::Store(store))),
+        }
+    }
+
     /// The desk in two files, the database and its log. What they hold stands; in an empty database
     /// the tables are made. A database without a table `meta` of a desk counts as empty, and is
     /// `Unusable` where one of the desk's tables is there. A fault comes with what is left of the
@@ -113,9 +128,9 @@ impl<D: Disk + Drop> DeskStore<FileStore<D>> {
             Ok(connection) => connection,
             Err((error, left)) => return Err((OpenFault::Store(fault_of(error)), left)),
         };
-        match DeskStore::over(alloc, connection) {
+        match DeskStore::over_files(alloc, connection) {
             Ok(desk) => Ok(desk),
-            Err((fault, connection)) => Err((fault, Leftover::Store(connection.into_store()))),
+            Err(fault) => Err(fault),
         }
     }
 
@@ -152,11 +167,9 @@ impl<S: Start> DeskStore<FileStore<FileFrom<S>>> {
             Ok(connection) => connection,
             Err((error, left)) => return Err((OpenFault::Store(fault_of(error)), left)),
         };
-        match DeskStore::over(rt.alloc(), connection) {
+        match DeskStore::over_files(rt.alloc(), connection) {
             Ok(desk) => Ok(desk),
-            Err((fault, connection)) => {
-                Err((fault, Some(Leftover::Store(connection.into_store()))))
-            }
+            Err((fault, left)) => Err((fault, Some(left))),
         }
     }
 }

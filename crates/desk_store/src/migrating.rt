@@ -64,17 +64,17 @@ pub(crate) fn bring_to_two<S: Alter>(tables: &mut Tables<S>) -> Result<MigrateAn
     }
 }
 
-// Brings the tables of a connection to version 2.
-fn migrate_tables<S: Alter>(
+// Brings the tables of a connection to version 2, or gives its store beside the fault.
+fn migrate_tables<S: Alter + Drop>(
     connection: Connection<S>,
-) -> Result<(MigrateAnswer, Connection<S>), (OpenFault, Connection<S>)>
+) -> Result<(MigrateAnswer, Connection<S>), (OpenFault, S)>
     ensures ok { IfOk result (λ a. IsMigrated (state S.Store connection) (state S.Store a.1) (Ok a.0)) }
-    ensures err { IfErr result (λ e. IsMigrated (state S.Store connection) (state S.Store e.1) (Err e.0)) }
+    ensures fault { IfErr result (λ e. IsTrue (S.Store.view e.1).is_clean → HasCleanDisk (state S.Store connection) × ((db : Database) → ShowsOnly db (state S.Store connection) → (rows : DeskRows) → HoldsAny db rows → IsMigrateFaultFor rows e.0)) }
 {
     let mut tables = Tables::new(connection);
     match bring_to_two(&mut tables) {
         Ok(answer) => Ok((answer, tables.into_connection())),
-        Err(fault) => Err((fault, tables.into_connection())),
+        Err(fault) => Err((fault, tables.into_connection().into_store())),
     }
 }
 
@@ -94,7 +94,7 @@ fn migrate_connection<D: Disk + Drop>(
             Ok(files) => Ok((answer, files)),
             Err((error, store)) => Err((OpenFault::Store(fault_of(error)), Leftover::Store(store))),
         },
-        Err((fault, left)) => Err((fault, Leftover::Store(left.into_store()))),
+        Err((fault, store)) => Err((fault, Leftover::Store(store))),
     }
 }
 

@@ -3,12 +3,10 @@ use Rattle.desk_store.proofs.FoundFiles.{closed_hold, still_clean}
 use Rattle.desk_store.proofs.migrating.migrate_connection.Goals as goal
 
 pub returns-in-Err-clause-clean_left : goal.returns-in-Err-clause-clean_left
-returns-in-Err-clause-clean_left g c = λ clean.
-    c.in-Err.ensures.err.premise (still_clean (file_state c.in-Err.left) _ c.into_store.ensures.quiet.clean clean)
+returns-in-Err-clause-clean_left g c = λ clean. (c.in-Err.ensures.fault clean).0
 
 pub returns-in-Err-clause-fault : goal.returns-in-Err-clause-fault
-returns-in-Err-clause-fault g c = λ clean db only rows any.
-    c.in-Err.ensures.err.fault (still_clean (file_state c.in-Err.left) _ c.into_store.ensures.quiet.clean clean) db only rows any
+returns-in-Err-clause-fault g c = λ clean. (c.in-Err.ensures.fault clean).1
 
 pub returns-in-Ok-close_files-clause-clean : goal.returns-in-Ok-close_files-clause-clean
 returns-in-Ok-close_files-clause-clean g c = λ clean.

@@ -1,6 +1,8 @@
 use Rattle.std.proofs.Common.{Ok, Err, subst, sym}
 use Rattle.sqlite.specs.Held.{state}
+use Rattle.sqlite.specs.State.{HasCleanDisk}
 use Rattle.desk_store.specs.Migrations.{IsMigrated}
+use Rattle.desk_store.proofs.FoundFiles.{still_clean}
 use Rattle.desk_store.proofs.migrating.migrate_tables.Goals as goal
 
 pub returns-in-Ok-clause-ok : goal.returns-in-Ok-clause-ok
@@ -8,7 +10,10 @@ returns-in-Ok-clause-ok g c =
     subst (λ x. IsMigrated (state g.S.Store x) (state g.S.Store c.into_connection.result) (Ok c.in-Ok.answer)) c.new-tables.ensures
     (subst (λ x. IsMigrated (state g.S.Store c.new-tables.result.connection) (state g.S.Store x) (Ok c.in-Ok.answer)) (sym c.into_connection.ensures) c.in-Ok.ensures)
 
-pub returns-in-Err-clause-err : goal.returns-in-Err-clause-err
-returns-in-Err-clause-err g c =
-    subst (λ x. IsMigrated (state g.S.Store x) (state g.S.Store c.into_connection-in-Err.result) (Err c.in-Err.fault)) c.new-tables.ensures
-    (subst (λ x. IsMigrated (state g.S.Store c.new-tables.result.connection) (state g.S.Store x) (Err c.in-Err.fault)) (sym c.into_connection-in-Err.ensures) c.in-Err.ensures)
+pub returns-in-Err-clause-fault : goal.returns-in-Err-clause-fault
+returns-in-Err-clause-fault g c = λ clean.
+    let migrated : IsMigrated (state g.S.Store c.args.connection) (state g.S.Store c.bring_to_two.new.tables.connection) (Err c.in-Err.fault) =
+    subst (λ x. IsMigrated (state g.S.Store x) (state g.S.Store c.bring_to_two.new.tables.connection) (Err c.in-Err.fault)) c.new-tables.ensures c.in-Err.ensures in
+    let still : HasCleanDisk (state g.S.Store c.bring_to_two.new.tables.connection) =
+    subst (λ x. HasCleanDisk (state g.S.Store x)) c.into_connection-in-Err.ensures (still_clean (state g.S.Store c.into_connection-in-Err.result) _ c.into_store.ensures.quiet.clean clean) in
+    (migrated.premise still, λ db only rows any. migrated.fault still db only rows any)

@@ -1,8 +1,9 @@
 // The desk in a database file: what its tables hold after a batch, read by a connection of the
 // test's own, and databases that are refused.
 
-use crate::runs::{Broken, expect, expect_run, run_on, run_unwritten};
-use sqlite::Connection;
+use crate::runs::{Broken, Ran, expect, expect_run, run_on, run_unwritten};
+use sqlite::{Alter, Connection};
+use std::alloc::Global;
 use std::fmt::Write;
 use std::fs;
 use std::process::Abort;
@@ -127,14 +128,36 @@ Waive,north,2
     },
 ];
 
-// The numbers that a statement shows, in its order.
-fn numbers(rt: &HostRuntime, sql: &str) -> Result<Vec<i64>, Fail> {
-    let mut connection = Connection::open(rt, DATABASE)?;
-    let mut numbers = Vec::new(rt.alloc());
-    for row in connection.query_all(sql, &[])?.as_slice() {
+// Executes statements, and gives the numbers that a query then shows, in its order. Generic, since a
+// connection whose type is known is dear to prove.
+fn execute<S: Alter + Drop>(
+    alloc: Global,
+    mut connection: Connection<S>,
+    statements: &str,
+    query: &str,
+) -> Result<Vec<i64>, Fail> {
+    connection.execute_batch(statements)?;
+    let mut numbers = Vec::new(alloc);
+    for row in connection.query_all(query, &[])?.as_slice() {
         numbers.push(row.get::<i64>(0)?)?;
     }
+    drop(connection);
     Ok(numbers)
+}
+
+// The same over the database of the case.
+fn execute_in_database(rt: &HostRuntime, statements: &str, query: &str) -> Result<Vec<i64>, Fail> {
+    execute(
+        rt.alloc(),
+        Connection::open(rt, DATABASE)?,
+        statements,
+        query,
+    )
+}
+
+// The numbers that a query shows, in its order.
+fn numbers(rt: &HostRuntime, query: &str) -> Result<Vec<i64>, Fail> {
+    execute_in_database(rt, "", query)
 }
 
 // Ends the test where a statement does not show these numbers.
@@ -157,19 +180,30 @@ const NEXT: &str = "SELECT next_number FROM series";
 
 const VERSION: &str = "SELECT amount FROM meta";
 
+// Runs a batch over the database of the case.
+fn run_batch(rt: &HostRuntime, text: &str) -> Ran {
+    let words = ["onixdesk", "--db", DATABASE, "batch"];
+    run_on(rt, words.as_slice(), &mut text.as_bytes())
+}
+
+// Ends the test where the command `gaps` over the database does not write this.
+fn expect_gaps(rt: &HostRuntime, stop: &impl Abort, name: &str, wanted: &str) {
+    let words = ["onixdesk", "--db", DATABASE, "gaps", "north"];
+    let ran = run_on(rt, words.as_slice(), &mut b"".as_slice());
+    expect_run(stop, name, &ran, wanted.as_bytes(), b"", 0);
+}
+
 fn run_kept(rt: &HostRuntime, stop: &impl Abort, case: &Kept) -> Result<(), Fail> {
     remove_database(rt);
-    let batch = ["onixdesk", "--db", DATABASE, "batch"];
-    let ran = run_on(rt, batch.as_slice(), &mut case.batch.as_bytes());
+    let ran = run_batch(rt, case.batch);
     expect(stop, "errors", case.name, ran.errors.as_slice(), b"");
     expect(stop, "status", case.name, ran.status, case.status);
+    drop(ran);
     expect_numbers(rt, stop, case.name, APPLIED, case.applied)?;
     expect_numbers(rt, stop, case.name, HELD, case.held)?;
     expect_numbers(rt, stop, case.name, NEXT, &[case.next])?;
     expect_numbers(rt, stop, case.name, VERSION, &[2])?;
-    let gaps = ["onixdesk", "--db", DATABASE, "gaps", "north"];
-    let ran = run_on(rt, gaps.as_slice(), &mut b"".as_slice());
-    expect_run(stop, case.name, &ran, case.gaps.as_bytes(), b"", 0);
+    expect_gaps(rt, stop, case.name, case.gaps);
     Ok(())
 }
 
@@ -195,39 +229,41 @@ fn backwards(rt: &HostRuntime, from: u32, count: u32) -> Result<String, Fail> {
     Ok(text)
 }
 
-// Two days of a shop, each a run of the program: forty messages that wait for the first, and then
-// the first.
+// The agreement, and forty messages that wait for the first.
+fn first_day(rt: &HostRuntime, stop: &impl Abort) -> Result<(), Fail> {
+    let agreement = "Agree,north,06,4012345000009,06,5012345678900,1\n";
+    let ran = run_batch(rt, agreement);
+    expect_run(stop, "agreement", &ran, b"agreed,north,1\n", b"", 0);
+    drop(ran);
+    let messages = backwards(rt, 41, 40)?;
+    let status = run_batch(rt, messages.as_str()).status;
+    expect(stop, "status", "first day", status, 0);
+    expect_numbers(rt, stop, "first day", APPLIED, &[])?;
+    expect(stop, "held", "first day", numbers(rt, HELD)?.len(), 40);
+    Ok(())
+}
+
+// The first message.
+fn second_day(rt: &HostRuntime, stop: &impl Abort) -> Result<(), Fail> {
+    let message = backwards(rt, 1, 1)?;
+    let ran = run_batch(rt, message.as_str());
+    let wanted = b"applied,north,1,replaced=0,updated=0,deleted=0,unknown=0,ignored=0\n";
+    expect_run(stop, "second day", &ran, wanted, b"", 0);
+    drop(ran);
+    let applied = numbers(rt, APPLIED)?.len();
+    expect(stop, "applied", "second day", applied, 41);
+    expect_numbers(rt, stop, "second day", HELD, &[])?;
+    expect_numbers(rt, stop, "second day", NEXT, &[42])
+}
+
+// Two days of a shop, each request a run of the program.
 #[test]
 fn forty_messages_backwards(rt: HostRuntime) -> Result<(), Fail> {
     remove_database(&rt);
-    let batch = ["onixdesk", "--db", DATABASE, "batch"];
-    let agreed = b"Agree,north,06,4012345000009,06,5012345678900,1\n";
-    let ran = run_on(&rt, batch.as_slice(), &mut agreed.as_slice());
-    expect_run(&rt, "agreement", &ran, b"agreed,north,1\n", b"", 0);
-    let ran = run_on(
-        &rt,
-        batch.as_slice(),
-        &mut backwards(&rt, 41, 40)?.as_bytes(),
-    );
-    expect(&rt, "status", "first day", ran.status, 0);
-    expect_numbers(&rt, &rt, "first day", APPLIED, &[])?;
-    expect(&rt, "held", "first day", numbers(&rt, HELD)?.len(), 40);
-    let ran = run_on(&rt, batch.as_slice(), &mut backwards(&rt, 1, 1)?.as_bytes());
-    let applied = b"applied,north,1,replaced=0,updated=0,deleted=0,unknown=0,ignored=0\n";
-    expect_run(&rt, "second day", &ran, applied, b"", 0);
-    expect(
-        &rt,
-        "applied",
-        "second day",
-        numbers(&rt, APPLIED)?.len(),
-        41,
-    );
-    expect_numbers(&rt, &rt, "second day", HELD, &[])?;
-    expect_numbers(&rt, &rt, "second day", NEXT, &[42])?;
-    let gaps = ["onixdesk", "--db", DATABASE, "gaps", "north"];
-    let ran = run_on(&rt, gaps.as_slice(), &mut b"".as_slice());
-    let wanted = b"gaps,north,first=1,next=42,greatest=41,held=0,missing=0\n";
-    expect_run(&rt, "gaps", &ran, wanted, b"", 0);
+    first_day(&rt, &rt)?;
+    second_day(&rt, &rt)?;
+    let gaps = "gaps,north,first=1,next=42,greatest=41,held=0,missing=0\n";
+    expect_gaps(&rt, &rt, "gaps", gaps);
     remove_database(&rt);
     Ok(())
 }
@@ -254,9 +290,7 @@ const REFUSED: [(&str, &str); 4] = [
 
 fn make_database(rt: &HostRuntime, sql: &str) -> Result<(), Fail> {
     remove_database(rt);
-    let mut connection = Connection::open(rt, DATABASE)?;
-    connection.execute_batch(sql)?;
-    connection.close()?;
+    drop(execute_in_database(rt, sql, "SELECT 1")?);
     Ok(())
 }
 
@@ -290,12 +324,17 @@ fn migration_of_a_file(rt: HostRuntime) -> Result<(), Fail> {
     remove_database(&rt);
     fs::write(&rt, DATABASE, b"")?;
     let migrate = ["onixdesk", "--db", DATABASE, "migrate"];
-    let ran = run_on(&rt, migrate.as_slice(), &mut Broken);
-    expect_run(&rt, "an empty file", &ran, b"migrated\n", b"", 0);
-    let ran = run_on(&rt, migrate.as_slice(), &mut Broken);
-    expect_run(&rt, "once more", &ran, b"schema 2\n", b"", 0);
+    for (name, wanted) in [
+        ("an empty file", "migrated\n"),
+        ("once more", "schema 2\n"),
+    ].as_slice()
+    {
+        let ran = run_on(&rt, migrate.as_slice(), &mut Broken);
+        expect_run(&rt, name, &ran, wanted.as_bytes(), b"", 0);
+    }
     let ran = run_unwritten(&rt, migrate.as_slice(), &mut Broken);
     expect_run(&rt, "unwritten", &ran, b"", b"onixdesk: output\n", 3);
+    drop(ran);
     let gaps = ["onixdesk", "--db", DATABASE, "gaps", "north"];
     let ran = run_on(&rt, gaps.as_slice(), &mut Broken);
     expect_run(&rt, "gaps", &ran, b"refused,unknown-series\n", b"", 1);

@@ -1,6 +1,6 @@
 // The rows that a desk has put into a file, put into a new one by `sqlite` alone.
 
-use crate::tables::{PAGES, open};
+use crate::stores::{ConnectionTask, PAGES, remove_both, run_over_connection};
 use crate::times::used;
 use desk_tables::tables::Tables;
 use onix_message::agreement::StoreFault;
@@ -145,17 +145,21 @@ fn run_all<S: Alter>(
     Ok(())
 }
 
-// The rows over a connection that is given up. Generic, as what follows, since a connection to a file
-// that goes out of scope is dear to prove.
-fn read_and_close<S: Alter + Drop>(mut connection: Connection<S>) -> Result<DeskRows, Error> {
-    let rows = read_rows(&mut connection);
-    drop(connection);
-    rows
-}
+// Reading what a desk has put.
+struct Reading;
 
-// The rows in the file of this name.
-fn rows_in(rt: &HostRuntime, name: &str) -> anyhow::Result<DeskRows> {
-    Ok(read_and_close(Connection::open(rt, name)?)?)
+impl ConnectionTask for Reading {
+    type Found = DeskRows;
+
+    fn run<S: Alter + Drop>(
+        &self,
+        _rt: &HostRuntime,
+        mut connection: Connection<S>,
+    ) -> anyhow::Result<DeskRows> {
+        let rows = read_rows(&mut connection);
+        drop(connection);
+        Ok(rows?)
+    }
 }
 
 fn create<S: Alter>(tables: &mut Tables<S>) -> Result<(), StoreFault> {
@@ -176,35 +180,44 @@ fn time_over<S: Alter>(
     Ok(end.saturating_sub(start))
 }
 
-fn time_with_tables<S: Alter + Drop>(
-    rt: &HostRuntime,
-    mut tables: Tables<S>,
-    statements: &[Bound<'_>],
-) -> anyhow::Result<u64> {
-    match create(&mut tables) {
-        Ok(()) => {
-            let mut connection = tables.into_connection();
-            let time = time_over(rt, &mut connection, statements);
-            drop(connection);
-            time
-        }
-        Err(fault) => {
-            drop(tables);
-            Err(fault)?
-        }
-    }
+// Putting rows by their statements.
+#[derive(Clone, Copy)]
+struct Putting<'a> {
+    statements: &'a [Bound<'a>],
 }
 
-// The same in a new file of this name.
-fn time_in_file(rt: &HostRuntime, name: &str, statements: &[Bound<'_>]) -> anyhow::Result<u64> {
-    let connection = open(rt, name, PAGES)?;
-    time_with_tables(rt, Tables::new(connection), statements)
+impl<'a> ConnectionTask for Putting<'a> {
+    type Found = u64;
+
+    fn run<S: Alter + Drop>(
+        &self,
+        rt: &HostRuntime,
+        connection: Connection<S>,
+    ) -> anyhow::Result<u64> {
+        let mut tables = Tables::new(connection);
+        match create(&mut tables) {
+            Ok(()) => {
+                let mut connection = tables.into_connection();
+                let time = time_over(rt, &mut connection, self.statements);
+                drop(connection);
+                time
+            }
+            Err(fault) => {
+                drop(tables);
+                Err(fault)?
+            }
+        }
+    }
 }
 
 /// The time in which `sqlite` alone puts what a desk has put into the file of this name, in
 /// microseconds. The file is made anew.
 pub fn time_of_bare_rows(rt: &HostRuntime, name: &str) -> anyhow::Result<u64> {
-    let rows = rows_in(rt, name)?;
+    let rows = run_over_connection(rt, name, PAGES, &Reading)?;
     let statements = statements_of(rt.alloc(), &rows)?;
-    time_in_file(rt, name, statements.as_slice())
+    remove_both(rt, name)?;
+    let putting = Putting {
+        statements: statements.as_slice(),
+    };
+    run_over_connection(rt, name, PAGES, &putting)
 }

@@ -1,7 +1,7 @@
 // Questions about prices in a file of few records and in one of many.
 
 use crate::batches::time_of_batch;
-use crate::files::open_desk;
+use crate::stores::{DeskTask, PAGES, remove_both, run_over_desk};
 use crate::texts::{offers, scattered_questions};
 use crate::times::print_ratio;
 use series_rules::desk::Desk;
@@ -19,24 +19,33 @@ fn time_over<D: Desk>(rt: &HostRuntime, desk: &mut D, messages: u32) -> anyhow::
     Ok(least)
 }
 
-// The same over a desk that is given up. Generic, since a desk in a file that goes out of scope is
-// dear to prove.
-fn time_with<D: Desk + Drop>(rt: &HostRuntime, mut desk: D, messages: u32) -> anyhow::Result<u64> {
-    let time = time_over(rt, &mut desk, messages);
-    drop(desk);
-    time
+// Questions about the products of so many messages.
+#[derive(Clone, Copy)]
+struct Questions {
+    messages: u32,
+}
+
+impl DeskTask for Questions {
+    type Found = u64;
+
+    fn run<D: Desk + Drop>(&self, rt: &HostRuntime, mut desk: D) -> anyhow::Result<u64> {
+        let time = time_over(rt, &mut desk, self.messages);
+        drop(desk);
+        time
+    }
 }
 
 // The same over a new file of this name, with so many pages of it in memory.
 fn time_of(rt: &HostRuntime, name: &str, messages: u32, pages: usize) -> anyhow::Result<u64> {
-    time_with(rt, open_desk(rt, name, pages)?, messages)
+    remove_both(rt, name)?;
+    run_over_desk(rt, name, pages, &Questions { messages })
 }
 
 /// Prints what a price question costs in a file of this name, which is made anew, among 20,000
 /// records to among 5,000, and the same where the file has more room in memory.
 pub fn report(rt: &HostRuntime, name: &str) -> anyhow::Result<()> {
-    let few = time_of(rt, name, 250, 2_000)?;
-    let many = time_of(rt, name, 1_000, 2_000)?;
+    let few = time_of(rt, name, 250, PAGES)?;
+    let many = time_of(rt, name, 1_000, PAGES)?;
     let roomy = time_of(rt, name, 1_000, 8_000)?;
     println!(rt;
         "10,000 price questions about 20,000 records: {many} microseconds of processor time"

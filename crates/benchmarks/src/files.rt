@@ -3,13 +3,11 @@
 
 use crate::bare_rows::time_of_bare_rows;
 use crate::batches::time_of_batch;
-use crate::tables::remove_both;
+use crate::stores::{DeskTask, PAGES, remove_both, run_over_desk};
 use crate::texts::offers;
 use crate::times::print_ratio;
 use desk_memory::desk::MemoryDesk;
-use desk_store::desk::DeskStore;
 use series_rules::desk::Desk;
-use sqlite::{File, FileStore, Options, Unknown};
 
 // How long batches over one desk took, in microseconds.
 #[derive(Clone, Copy)]
@@ -38,22 +36,6 @@ impl Times {
     }
 }
 
-/// A desk in a file of this name that is made anew, with so many pages of it in memory.
-pub fn open_desk(
-    rt: &HostRuntime,
-    name: &str,
-    pages: usize,
-) -> anyhow::Result<DeskStore<FileStore<File>>> {
-    remove_both(rt, name)?;
-    let mut options = Options::new(0);
-    options.cache_pages = pages;
-    let files = sqlite_std_file::open(rt, name, Unknown)?;
-    match DeskStore::open_files(rt.alloc(), files, options) {
-        Ok(desk) => Ok(desk),
-        Err((fault, _)) => Err(fault)?,
-    }
-}
-
 fn times_over<D: Desk>(
     rt: &HostRuntime,
     desk: &mut D,
@@ -74,29 +56,31 @@ fn times_over<D: Desk>(
     })
 }
 
-// Generic, since a desk in a file that goes out of scope is dear to prove.
-fn times_with<D: Desk + Drop>(
-    rt: &HostRuntime,
-    mut desk: D,
+// Batches of so many messages.
+#[derive(Clone, Copy)]
+struct Batches {
     messages: u32,
     is_reversed: bool,
-) -> anyhow::Result<Times> {
-    let times = times_over(rt, &mut desk, messages, is_reversed);
-    drop(desk);
-    times
 }
 
-fn times_in_file(
-    rt: &HostRuntime,
-    name: &str,
-    messages: u32,
-    is_reversed: bool,
-) -> anyhow::Result<Times> {
-    times_with(rt, open_desk(rt, name, 2_000)?, messages, is_reversed)
+impl DeskTask for Batches {
+    type Found = Times;
+
+    fn run<D: Desk + Drop>(&self, rt: &HostRuntime, mut desk: D) -> anyhow::Result<Times> {
+        let times = times_over(rt, &mut desk, self.messages, self.is_reversed);
+        drop(desk);
+        times
+    }
 }
 
-fn times_in_memory(rt: &HostRuntime) -> anyhow::Result<Times> {
-    times_with(rt, MemoryDesk::new(rt.alloc()), 500, false)
+// The times over a desk in a file of this name, which is made anew.
+fn times_in_file(rt: &HostRuntime, name: &str, batches: Batches) -> anyhow::Result<Times> {
+    remove_both(rt, name)?;
+    run_over_desk(rt, name, PAGES, &batches)
+}
+
+fn times_in_memory(rt: &HostRuntime, batches: Batches) -> anyhow::Result<Times> {
+    batches.run(rt, MemoryDesk::new(rt.alloc()))
 }
 
 // Prints the times of 500 messages in order.
@@ -104,10 +88,14 @@ fn report_batch(rt: &HostRuntime, name: &str) -> anyhow::Result<()> {
     let mut file = Times::GREATEST;
     let mut memory = Times::GREATEST;
     let mut bare = u64::MAX;
+    let batches = Batches {
+        messages: 500,
+        is_reversed: false,
+    };
     for _ in 0..3u32 {
-        file = file.least(times_in_file(rt, name, 500, false)?);
+        file = file.least(times_in_file(rt, name, batches)?);
         bare = bare.min(time_of_bare_rows(rt, name)?);
-        memory = memory.least(times_in_memory(rt)?);
+        memory = memory.least(times_in_memory(rt, batches)?);
     }
     let first = file.first;
     println!(rt; "500 messages in a file: {first} microseconds of processor time")?;
@@ -141,8 +129,12 @@ fn report_batch(rt: &HostRuntime, name: &str) -> anyhow::Result<()> {
 // The least time of three turns of so many messages, sent for the first time.
 fn time_of(rt: &HostRuntime, name: &str, messages: u32, is_reversed: bool) -> anyhow::Result<u64> {
     let mut least = Times::GREATEST;
+    let batches = Batches {
+        messages,
+        is_reversed,
+    };
     for _ in 0..3u32 {
-        least = least.least(times_in_file(rt, name, messages, is_reversed)?);
+        least = least.least(times_in_file(rt, name, batches)?);
     }
     Ok(least.first)
 }

@@ -18,6 +18,7 @@ mod memory;
 mod orders;
 mod questions;
 mod reading;
+mod stores;
 mod table_rows;
 mod tables;
 mod texts;

@@ -4,9 +4,11 @@ use crate::memory::peak;
 use crate::texts::messages;
 use crate::times::{print_ratio, used};
 use csv::{ByteRecord, ReaderBuilder};
+use csv_records::buffer::RecordBuffer;
 use csv_records::reading::RecordReader;
 use desk_batch::pieces::read_pieces;
 use onix_message::message::read_message;
+use onix_terms::items::Items;
 use std::alloc::Global;
 use std::fs;
 use std::rt::Files;
@@ -29,17 +31,28 @@ fn records_by_csv(alloc: Global, bytes: &[u8]) -> anyhow::Result<u64> {
     Ok(count)
 }
 
+/// The pieces of a text of messages.
+pub fn pieces_of(alloc: Global, bytes: &[u8]) -> anyhow::Result<Items<RecordBuffer>> {
+    match RecordReader::new(alloc, bytes) {
+        Ok(mut reader) => Ok(read_pieces(alloc, &mut reader)?),
+        Err(_) => anyhow::bail!("the text has no records"),
+    }
+}
+
+fn is_message(alloc: Global, piece: RecordBuffer) -> bool {
+    let is_read = read_message(alloc, &piece.as_records()).is_ok();
+    drop(piece);
+    is_read
+}
+
 // How many messages the bytes are. Each piece is let go of when its message is read.
 fn messages_of(alloc: Global, bytes: &[u8]) -> anyhow::Result<u64> {
-    let Ok(mut reader) = RecordReader::new(alloc, bytes) else {
-        anyhow::bail!("the text has no records");
-    };
     let mut count = 0u64;
-    for piece in read_pieces(alloc, &mut reader)?.into_vec() {
-        match read_message(alloc, &piece.as_records()) {
-            Ok(_) => count = count.saturating_add(1),
-            Err(_) => anyhow::bail!("a piece is no message"),
+    for piece in pieces_of(alloc, bytes)?.into_vec() {
+        if !is_message(alloc, piece) {
+            anyhow::bail!("a piece is no message");
         }
+        count = count.saturating_add(1);
     }
     Ok(count)
 }

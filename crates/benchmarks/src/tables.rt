@@ -1,21 +1,18 @@
 // Tables in a file: prices put by `Work` beside the same statements by `sqlite` alone, all prices of
 // a series, and the offers of an article.
 
+use crate::stores::{ConnectionTask, PAGES, remove_both, run_over_connection};
 use crate::table_rows::{isbn, price_rows, put_catalogue, series};
 use crate::times::{print_ratio, used};
 use desk_tables::rows::PriceRow;
 use desk_tables::tables::Tables;
 use onix_terms::isbn13::Isbn13;
-use sqlite::{Alter, Connection, Error, File, FileStore, Options, Unknown, params};
+use sqlite::{Alter, Connection, Error, params};
 use std::alloc::Global;
-use std::fs;
 
 // The statement of `put_price`.
 const INSERT_PRICE: &str =
     "INSERT INTO price (series, reference, place, price_place, price_type, amount, currency, included, world, excluded, from_day, until_day) VALUES (?1, ?2, ?3, ?4, ?5, ?6, ?7, ?8, ?9, ?10, ?11, ?12)";
-
-/// How many pages of a file a connection keeps in memory that is opened by its path.
-pub const PAGES: usize = 2_000;
 
 // As many as all files here have.
 const ALL_PAGES: usize = 8_000;
@@ -212,39 +209,27 @@ fn time_over<S: Alter + Drop>(
     time
 }
 
-// Removes a file, if it is there.
-fn remove(rt: &HostRuntime, name: &str) {
-    match fs::remove_file(rt, name) {
-        Ok(()) => {}
-        Err(_) => {}
+// A measure in tables of so many records.
+#[derive(Clone, Copy)]
+struct Measured {
+    measure: Measure,
+    records: u32,
+}
+
+impl ConnectionTask for Measured {
+    type Found = u64;
+
+    fn run<S: Alter + Drop>(
+        &self,
+        rt: &HostRuntime,
+        connection: Connection<S>,
+    ) -> anyhow::Result<u64> {
+        time_over(rt, Tables::new(connection), self.measure, self.records)
     }
 }
 
-/// Removes a file and its log.
-pub fn remove_both(rt: &HostRuntime, name: &str) -> anyhow::Result<()> {
-    let log = format!(in rt.alloc(); "{name}-wal")?;
-    remove(rt, name);
-    remove(rt, log.as_str());
-    Ok(())
-}
-
-/// A connection to a file of this name that is made anew, with so many pages of it in memory.
-pub fn open(
-    rt: &HostRuntime,
-    name: &str,
-    pages: usize,
-) -> anyhow::Result<Connection<FileStore<File>>> {
-    remove_both(rt, name)?;
-    let mut options = Options::new(0);
-    options.cache_pages = pages;
-    let files = sqlite_std_file::open(rt, name, Unknown)?;
-    match Connection::open_files(rt.alloc(), files, options) {
-        Ok(connection) => Ok(connection),
-        Err((error, _)) => Err(error)?,
-    }
-}
-
-// The time that is measured in tables of so many records, in such a file, in microseconds.
+// The time that is measured in tables of so many records, in a new file of this name with so many
+// pages of it in memory, in microseconds.
 fn time_of(
     rt: &HostRuntime,
     name: &str,
@@ -252,8 +237,8 @@ fn time_of(
     records: u32,
     pages: usize,
 ) -> anyhow::Result<u64> {
-    let connection = open(rt, name, pages)?;
-    time_over(rt, Tables::new(connection), measure, records)
+    remove_both(rt, name)?;
+    run_over_connection(rt, name, pages, &Measured { measure, records })
 }
 
 fn report_puts(rt: &HostRuntime, name: &str) -> anyhow::Result<()> {

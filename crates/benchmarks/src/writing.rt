@@ -1,26 +1,28 @@
 // The text of contents, beside `csv` writing the same rows from records that are ready.
 
+use crate::reading::pieces_of;
 use crate::texts::messages;
 use crate::times::{print_ratio, used};
 use csv::{ByteRecord, ReaderBuilder, WriterBuilder};
-use csv_records::reading::RecordReader;
-use desk_batch::pieces::read_pieces;
+use csv_records::buffer::RecordBuffer;
 use onix_message::contents::write_contents;
 use onix_message::message::read_message;
 use onix_message::parts::Contents;
 use std::alloc::Global;
 
+fn contents_in(alloc: Global, piece: &RecordBuffer) -> anyhow::Result<Contents> {
+    match read_message(alloc, &piece.as_records()) {
+        Ok((_, contents)) => Ok(contents),
+        Err(_) => anyhow::bail!("a piece is no message"),
+    }
+}
+
 // The contents of the messages of a text.
 fn contents_of(alloc: Global, bytes: &[u8]) -> anyhow::Result<Vec<Contents>> {
-    let Ok(mut reader) = RecordReader::new(alloc, bytes) else {
-        anyhow::bail!("the text has no records");
-    };
+    let pieces = pieces_of(alloc, bytes)?;
     let mut all = Vec::new(alloc);
-    for piece in read_pieces(alloc, &mut reader)?.into_vec() {
-        match read_message(alloc, &piece.as_records()) {
-            Ok((_, contents)) => all.push(contents)?,
-            Err(_) => anyhow::bail!("a piece is no message"),
-        }
+    for piece in pieces.as_slice() {
+        all.push(contents_in(alloc, piece)?)?;
     }
     Ok(all)
 }

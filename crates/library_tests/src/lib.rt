@@ -1,15 +1,15 @@
-//! Tests of the libraries below the desk, each by public calls alone: worked values of terms,
-//! messages, prices, precedence tables and catalogues. They stand together in a crate of their own,
-//! since a library with tests is proved once more with them.
+//! Tests of the libraries, each by public calls alone. They stand together in a crate of their own,
+//! since a library with tests is proved once more with them, and each crate of tests is linked once more
+//! with all that it stands on.
 #![tactic(auto)]
 
 #[cfg(test)]
-mod cases;
+mod disks;
 #[cfg(test)]
-mod catalogues;
+mod rules;
 #[cfg(test)]
-mod messages;
+mod stores;
 #[cfg(test)]
-mod prices;
+mod streams;
 #[cfg(test)]
-mod terms;
+mod tables;

@@ -1,0 +1,154 @@
+// Both desks where memory may be refused once: then nothing of the request is kept, or all of it, and
+// the same request, made again, is answered as it is to be. `bench/refused_memory` refuses each request
+// for memory of these tests in turn.
+
+use crate::disks::new_files;
+use crate::stores::desks::{Asked, ask, ask_files, expect_asked};
+use crate::stores::stops::{REPORT, STEPS, Step, begins_near};
+use csv_records::reading::RecordFault;
+use desk_batch::batch::BatchFault;
+use desk_memory::desk::MemoryDesk;
+use desk_store::desk::DeskStore;
+use desk_store::opening::OpenFault;
+use onix_message::agreement::StoreFault;
+use series_rules::desk::Desk;
+use sqlite::Files;
+use sqlite_disk::Memory;
+use std::alloc::Global;
+use std::process::Abort;
+use std::test::Fail;
+
+// Whether a batch ended by want of memory, of the desk or of the text that the test lets it write to.
+fn lacked_memory(asked: &Asked) -> bool {
+    matches!(
+        asked.ended,
+        Err(
+            BatchFault::Records(RecordFault::Memory)
+                | BatchFault::Memory { .. }
+                | BatchFault::Write { .. }
+                | BatchFault::Store {
+                    fault: StoreFault::Memory,
+                    ..
+                }
+        )
+    )
+}
+
+/// What a desk answers after so many steps. Where memory is refused, what is reported then is what was
+/// to be reported before the request, or after it.
+pub fn ask_again<D: Desk>(
+    alloc: Global,
+    stop: &impl Abort,
+    desk: &mut D,
+    text: &str,
+    count: usize,
+) -> Asked {
+    let asked = ask(alloc, desk, text);
+    if !lacked_memory(&asked) {
+        return asked;
+    }
+    drop(asked);
+    let report = ask(alloc, desk, REPORT);
+    assert!(stop; begins_near(report.output.as_slice(), count), "{text}");
+    drop(report);
+    ask(alloc, desk, text)
+}
+
+fn answers_all<D: Desk>(alloc: Global, stop: &impl Abort, desk: &mut D) {
+    for (count, (request, answer, report)) in STEPS.as_slice().iter().enumerate() {
+        let asked = ask_again(alloc, stop, desk, request, count);
+        expect_asked(stop, &asked, answer);
+        let asked = ask_again(alloc, stop, desk, REPORT, count.saturating_add(1));
+        expect_asked(stop, &asked, report);
+    }
+}
+
+#[test]
+fn desk_in_memory(rt: HostRuntime) {
+    answers_all(rt.alloc(), &rt, &mut MemoryDesk::new(rt.alloc()));
+}
+
+#[test]
+fn tables_in_memory(rt: HostRuntime) -> Result<(), Fail> {
+    let mut desk = DeskStore::open_in_memory(rt.alloc())?;
+    answers_all(rt.alloc(), &rt, &mut desk);
+    Ok(())
+}
+
+// Whether want of memory came in the way of a batch over files. Their disks lie in memory, so one that
+// cannot grow fails.
+fn lacked_memory_of(asked: &Result<Asked, OpenFault>) -> bool {
+    match asked {
+        Ok(asked) => lacked_memory(asked) || has_failed_disk(asked),
+        Err(OpenFault::Store(StoreFault::Memory | StoreFault::Disk)) => true,
+        Err(_) => false,
+    }
+}
+
+fn has_failed_disk(asked: &Asked) -> bool {
+    matches!(
+        asked.ended,
+        Err(BatchFault::Store {
+            fault: StoreFault::Disk,
+            ..
+        })
+    )
+}
+
+// Asks the desk in files, which are opened and closed for it; where memory is refused, once more.
+fn ask_files_again(
+    alloc: Global,
+    files: Files<Memory>,
+    text: &str,
+) -> (Files<Memory>, Result<Asked, OpenFault>) {
+    let (files, asked) = ask_files(alloc, files, text);
+    if !lacked_memory_of(&asked) {
+        return (files, asked);
+    }
+    drop(asked);
+    ask_files(alloc, files, text)
+}
+
+// The files, or none where a disk has failed to keep what it was given: it may not be used again.
+fn expect_again(
+    alloc: Global,
+    stop: &impl Abort,
+    files: Files<Memory>,
+    text: &str,
+    answers: &str,
+) -> Option<Files<Memory>> {
+    let (files, asked) = ask_files_again(alloc, files, text);
+    if !files.may_be_used() {
+        drop(files);
+        return None;
+    }
+    match asked {
+        Ok(asked) => expect_asked(stop, &asked, answers),
+        Err(fault) => stop.panic(fault),
+    }
+    Some(files)
+}
+
+fn expect_step(
+    alloc: Global,
+    stop: &impl Abort,
+    files: Files<Memory>,
+    step: &Step,
+) -> Option<Files<Memory>> {
+    let (request, answer, report) = *step;
+    let files = expect_again(alloc, stop, files, request, answer)?;
+    expect_again(alloc, stop, files, REPORT, report)
+}
+
+#[test]
+fn tables_in_files(rt: HostRuntime) {
+    let alloc = rt.alloc();
+    let mut files = Some(new_files(alloc));
+    for step in STEPS.as_slice() {
+        files = match files {
+            Some(files) => expect_step(alloc, &rt, files, step),
+            None => return,
+        };
+    }
+    drop(files);
+}

@@ -1,0 +1,303 @@
+// Files of version 1, made by the test's own statements, are brought to version 2, and the desk in
+// them goes on: what it answers then, and what is left where a disk fails on the way.
+
+use crate::disks::{OPTIONS, failing, new_files, stop_machine};
+use crate::stores::desks::{ask_files, expect_files};
+use crate::stores::statements::with_statements;
+use crate::tables::version_1::TABLES;
+use desk_store::migrating::{MigrateAnswer, migrate_files};
+use desk_store::opening::OpenFault;
+use onix_message::agreement::StoreFault;
+use sqlite::Files;
+use sqlite_disk::{Disk, Fuse, Memory};
+use std::alloc::Global;
+use std::fmt::Write;
+use std::process::Abort;
+use std::test::Fail;
+
+// Rows of `series`, how many messages with one record each were applied, further rows, what the desk
+// is asked once it is of version 2, and what it answers.
+type Case = (&'static str, u32, &'static str, &'static str, &'static str);
+
+const CASES: [Case; 4] = [
+    (
+        "INSERT INTO series VALUES ('north', '06', '4012345000009', '06', '5012345678900', 1, 5)",
+        4,
+        "",
+        "AskGaps,north
+AskCatalogue,north
+Message,1,06,4012345000009,06,5012345678900,3,1,20250301,02,GBP
+Product,R3,03,15,9781234567897
+ProductSupply,GB IE,,
+SupplyDetail,04,06,4012345000009,North Books,21,
+Price,,3,,,,,,
+EndMessage,5
+Message,1,06,4012345000009,06,5012345678900,5,1,20250301,02,GBP
+Product,R5,03,15,9781234567897
+ProductSupply,GB IE,,
+SupplyDetail,04,06,4012345000009,North Books,21,
+Price,,5,,,,,,
+EndMessage,5
+AskPrice,9781234567897,20250301,GB,GBP,02
+",
+        "gaps,north,first=1,next=5,greatest=4,held=0,missing=0
+catalogue,north,4
+record,R1,15,9781234567897
+ProductSupply,GB IE,,
+SupplyDetail,04,06,4012345000009,North Books,21,
+Price,02,1.000,GBP,,WORLD,,,
+record,R2,15,9781234567897
+ProductSupply,GB IE,,
+SupplyDetail,04,06,4012345000009,North Books,21,
+Price,02,2.000,GBP,,WORLD,,,
+record,R3,15,9781234567897
+ProductSupply,GB IE,,
+SupplyDetail,04,06,4012345000009,North Books,21,
+Price,02,3.000,GBP,,WORLD,,,
+record,R4,15,9781234567897
+ProductSupply,GB IE,,
+SupplyDetail,04,06,4012345000009,North Books,21,
+Price,02,4.000,GBP,,WORLD,,,
+applied,north,3,replaced=1,updated=0,deleted=0,unknown=0,ignored=0
+applied,north,5,replaced=1,updated=0,deleted=0,unknown=0,ignored=0
+price,9781234567897,5
+offer,north,R1,1,21,1.000
+offer,north,R2,1,21,2.000
+offer,north,R3,1,21,3.000
+offer,north,R4,1,21,4.000
+offer,north,R5,1,21,5.000
+",
+    ),
+    (
+        "INSERT INTO series VALUES ('north', '06', '4012345000009', '06', '5012345678900', 1, 5)",
+        0,
+        "INSERT INTO applied VALUES ('north', 1, 'Product,R1,03,15,9781234567897
+ProductSupply,GB IE,,
+SupplyDetail,04,06,4012345000009,North Books,21,
+Price,02,12.990,GBP,,WORLD,,,
+', 1, 0, 0, 0, 0);
+INSERT INTO applied VALUES ('north', 2, 'Product,R1,04,15,9781234567897
+ProductSupply,,WORLD,
+SupplyDetail,04,06,4012345000009,North Books,20,
+Price,02,8.000,GBP,,WORLD,,,
+', 0, 1, 0, 0, 0);
+INSERT INTO applied VALUES ('north', 3, 'Product,R1,04,15,9780000000002
+Product,R9,04,15,9780000000002
+Product,R9,05,15,9780000000002
+Product,R1,88,15,9780000000002
+', 0, 1, 0, 2, 1);
+INSERT INTO applied VALUES ('north', 4, 'Product,R1,05,15,9781234567897
+', 0, 0, 1, 0, 0)",
+        "AskGaps,north
+AskCatalogue,north
+Message,1,06,4012345000009,06,5012345678900,2,1,20250301,02,GBP
+Product,R1,04,15,9781234567897
+ProductSupply,,WORLD,
+SupplyDetail,04,06,4012345000009,North Books,20,
+Price,,8,,,,,,
+EndMessage,5
+Message,1,06,4012345000009,06,5012345678900,4,,,,
+Product,R1,05,15,9781234567897
+EndMessage,2
+AskPrice,9781234567897,20250301,GB,GBP,02
+",
+        "gaps,north,first=1,next=5,greatest=4,held=0,missing=0
+catalogue,north,0
+applied,north,2,replaced=0,updated=1,deleted=0,unknown=0,ignored=0
+applied,north,4,replaced=0,updated=0,deleted=1,unknown=0,ignored=0
+price,9781234567897,0
+",
+    ),
+    (
+        "INSERT INTO series VALUES ('north', '06', '4012345000009', '06', '5012345678900', 1, 4)",
+        0,
+        "INSERT INTO applied VALUES ('north', 1, '', 0, 0, 0, 0, 0);
+INSERT INTO applied VALUES ('north', 2, 'waived', 0, 0, 0, 0, 0);
+INSERT INTO applied VALUES ('north', 3, '', 0, 0, 0, 0, 0)",
+        "AskGaps,north
+AskCatalogue,north
+Message,1,06,4012345000009,06,5012345678900,2,,,,
+EndMessage,1
+Waive,north,2
+Waive,north,3
+",
+        "gaps,north,first=1,next=4,greatest=3,held=0,missing=0
+catalogue,north,0
+refused,waived,north,2
+waived,north,2
+refused,had,north,3
+",
+    ),
+    (
+        "INSERT INTO series VALUES ('north', '06', '4012345000009', '06', '5012345678900', 1, 2)",
+        1,
+        "INSERT INTO held VALUES ('north', 3, '');
+INSERT INTO held VALUES ('north', 5, 'waived')",
+        "AskGaps,north
+Message,1,06,4012345000009,06,5012345678900,2,,,,
+EndMessage,1
+AskGaps,north
+Message,2,06,4012345000009,06,5012345678900,4,1,20250301,02,GBP
+Product,R1,03,15,9781234567897
+ProductSupply,GB IE,,
+SupplyDetail,04,06,4012345000009,North Books,21,
+Price,,12.99,,,,,,
+Price,,9.99,,,,,,,10
+EndMessage,6
+AskPrice,9781234567897,20250301,GB,GBP,02,10
+AskGaps,north
+",
+        "gaps,north,first=1,next=2,greatest=5,held=2,missing=2
+missing,2,2
+missing,4,4
+applied,north,2,replaced=0,updated=0,deleted=0,unknown=0,ignored=0
+gaps,north,first=1,next=4,greatest=5,held=1,missing=1
+missing,4,4
+applied,north,4,replaced=1,updated=0,deleted=0,unknown=0,ignored=0
+price,9781234567897,1
+offer,north,R1,1,21,9.990
+gaps,north,first=1,next=6,greatest=5,held=0,missing=0
+",
+    ),
+];
+
+// Adds the rows of the message of that number, which was applied: it put a record at a price of as
+// many pounds.
+fn push_message(rows: &mut String, number: u32) -> Result<(), Fail> {
+    write!(
+        rows,
+        "
+INSERT INTO applied VALUES ('north', {number}, 'Product,R{number},03,15,9781234567897
+ProductSupply,GB IE,,
+SupplyDetail,04,06,4012345000009,North Books,21,
+Price,02,{number}.000,GBP,,WORLD,,,
+', 1, 0, 0, 0, 0);
+INSERT INTO record VALUES ('north', 'R{number}');
+INSERT INTO article VALUES ('north', 'R{number}', 1, '15', '9781234567897');
+INSERT INTO offer VALUES ('north', 'R{number}', 1, 1, 'GB IE', 0, '', '04', '06', '4012345000009', 'North Books', '21', '');
+INSERT INTO price VALUES ('north', 'R{number}', 1, 1, '02', {number}000, 'GBP', '', 1, '', NULL, NULL);
+"
+    )?;
+    Ok(())
+}
+
+fn messages(alloc: Global, count: u32) -> Result<String, Fail> {
+    let mut rows = String::new(alloc);
+    for before in 0..count {
+        push_message(&mut rows, before.saturating_add(1))?;
+    }
+    Ok(rows)
+}
+
+// Files of version 1 with the rows of a case.
+fn first_files(alloc: Global, stop: &impl Abort, case: &Case) -> Result<Files<Memory>, Fail> {
+    let (series, count, rows, _, _) = *case;
+    let messages = messages(alloc, count)?;
+    let statements = [TABLES, series, messages.as_str(), rows];
+    let files = with_statements(alloc, stop, new_files(alloc), statements.as_slice());
+    Ok(files)
+}
+
+#[test]
+fn version_1_is_not_opened(rt: HostRuntime) -> Result<(), Fail> {
+    for case in CASES.as_slice() {
+        let files = first_files(rt.alloc(), &rt, case)?;
+        let (files, asked) = ask_files(rt.alloc(), files, "");
+        drop(files);
+        assert!(rt; matches!(asked, Err(OpenFault::OtherVersion { found: 1 })));
+    }
+    Ok(())
+}
+
+// Brings files to version 2: the files, and what was answered.
+fn migrate<D: Disk + Drop>(
+    alloc: Global,
+    files: Files<D>,
+) -> (Files<D>, Result<MigrateAnswer, OpenFault>) {
+    if !files.may_be_used() {
+        return (files, Err(OpenFault::Store(StoreFault::Disk)));
+    }
+    match migrate_files(alloc, files, OPTIONS) {
+        Ok((answer, files)) => (files, Ok(answer)),
+        Err((fault, left)) => (left.into_files(), Err(fault)),
+    }
+}
+
+// The same; where memory is refused, once more.
+fn migrate_again<D: Disk + Drop>(
+    alloc: Global,
+    files: Files<D>,
+) -> (Files<D>, Result<MigrateAnswer, OpenFault>) {
+    match migrate(alloc, files) {
+        (files, Err(OpenFault::Store(StoreFault::Memory))) => migrate(alloc, files),
+        migrated => migrated,
+    }
+}
+
+// Migrates files that are to be migrated, twice.
+fn migrates(alloc: Global, stop: &impl Abort, files: Files<Memory>) -> Files<Memory> {
+    let (files, first) = migrate_again(alloc, files);
+    assert!(stop; matches!(first, Ok(MigrateAnswer::Migrated)), "migrated");
+    let (files, second) = migrate_again(alloc, files);
+    assert!(stop; matches!(second, Ok(MigrateAnswer::AlreadyTwo)), "schema 2");
+    files
+}
+
+fn goes_on(alloc: Global, stop: &impl Abort, case: &Case) -> Result<(), Fail> {
+    let files = migrates(alloc, stop, first_files(alloc, stop, case)?);
+    let (_, _, _, asked, answers) = *case;
+    drop(expect_files(alloc, stop, files, (asked, answers)));
+    Ok(())
+}
+
+#[test]
+fn desks_of_version_1_go_on(rt: HostRuntime) -> Result<(), Fail> {
+    for case in CASES.as_slice() {
+        goes_on(rt.alloc(), &rt, case)?;
+    }
+    Ok(())
+}
+
+// An empty database gets the tables, once.
+#[test]
+fn empty_files(rt: HostRuntime) {
+    drop(migrates(rt.alloc(), &rt, new_files(rt.alloc())));
+}
+
+// Migrates files of which one fails, stops the machine, and migrates what is left: whether a disk
+// failed. The desk answers as ever.
+fn stops(alloc: Global, stop: &impl Abort, files: Files<Fuse<Memory>>, case: &Case) -> bool {
+    let (mut files, first) = migrate(alloc, files);
+    let failed = stop_machine(&mut files);
+    assert!(stop; failed || first.is_ok(), "a fault without a cause");
+    let (files, second) = migrate(alloc, files);
+    assert!(stop; second.is_ok(), "what is left is migrated");
+    let (_, _, _, asked, answers) = *case;
+    drop(expect_files(alloc, stop, files, (asked, answers)));
+    failed
+}
+
+// Fails from each call of a file on in turn, until no call is left: the log, or the database.
+fn stops_at_each_call(
+    alloc: Global,
+    stop: &impl Abort,
+    case: &Case,
+    is_log: bool,
+) -> Result<(), Fail> {
+    for calls in 0..1_000u64 {
+        let files = failing(first_files(alloc, stop, case)?, calls, is_log);
+        if !stops(alloc, stop, files, case) {
+            return Ok(());
+        }
+    }
+    stop.panic("each run had too few calls")
+}
+
+#[test]
+fn stops_on_the_way(rt: HostRuntime) -> Result<(), Fail> {
+    for case in CASES.as_slice() {
+        stops_at_each_call(rt.alloc(), &rt, case, true)?;
+        stops_at_each_call(rt.alloc(), &rt, case, false)?;
+    }
+    Ok(())
+}

@@ -1,0 +1,454 @@
+// Exchanges over memory and a socket, by tables of cases. What is replied is taken from the desk's
+// written rules.
+
+use crate::streams::cases::{
+    APPLIED, BAD_QUERIES, Case, DELIVERIES, DELIVERY, FAULT_KINDS, INPUTS, LONG_INPUTS, LongCase,
+    MOST_INPUT, NO_NUMBERS, NO_PATHS, NO_SERIES, NOT_ALLOWED, ONE_NUMBER, OPEN_INPUTS, QUESTIONS,
+};
+use crate::streams::desks::{BrokenDesk, agreed_desk};
+use crate::streams::streams::{FailingReader, FailingWriter, OneByte};
+use desk_http::answer_reply::reply_of;
+use desk_http::exchange::HttpFault;
+use desk_http::serve::serve_one;
+use onix_terms::number::Number;
+use onix_terms::series_name::SeriesName;
+use price_rules::precedence::Precedence;
+use series_rules::answers::{AgreeAnswer, Answer, WaiveAnswer};
+use series_rules::desk::Desk;
+use std::alloc::{AllocError, Global};
+use std::io::{Read, Write};
+use std::net::{TcpListener, TcpStream};
+use std::process::Abort;
+use std::test::Fail;
+
+const RULES: &str = "[[rule]]\nseries = \"*\"\ncodes = [\"21\"]\n";
+
+// A byte for each of the head's, one for each of the body's, and the end.
+const MOST_READS: usize = 4_210_689;
+
+// The whole text of a reply by its status line and its body.
+fn reply_by(alloc: Global, line: &str, body: &str) -> Result<String, AllocError> {
+    let length = body.len();
+    format!(in alloc;
+        "HTTP/1.1 {line}\r\nContent-Type: application/json\r\nContent-Length: {length}\r\nConnection: close\r\n\r\n{body}"
+    )
+}
+
+// Ends the test with what was asked, unless this is the status and the text of the case's reply.
+fn expect_reply(
+    alloc: Global,
+    stop: &impl Abort,
+    case: &Case,
+    status: u16,
+    text: &[u8],
+) -> Result<(), AllocError> {
+    let (asked, line, body) = *case;
+    let status = format!(in alloc; "{status}")?;
+    let begins = line.starts_with(status.as_str());
+    assert!(stop; begins, "{asked}");
+    let whole = reply_by(alloc, line, body)?;
+    assert_eq!(stop; text, whole.as_bytes(), "{asked}");
+    Ok(())
+}
+
+// An input that comes one byte a read has the case's reply.
+fn expect_slow<D: Desk>(
+    alloc: Global,
+    stop: &impl Abort,
+    desk: &mut D,
+    input: &[u8],
+    case: &Case,
+) -> Result<(), Fail> {
+    let precedence = Precedence::read(alloc, RULES)?;
+    let mut reader = OneByte {
+        rest: input,
+        reads: 0,
+    };
+    let mut written = Vec::new(alloc);
+    let status = serve_one(alloc, desk, &precedence, &mut reader, &mut written)?;
+    expect_reply(alloc, stop, case, status, written.as_slice())?;
+    let reads = reader.reads;
+    assert!(stop; reads <= MOST_READS, "{reads} reads");
+    Ok(())
+}
+
+// An input that comes at once has the case's reply.
+fn expect_fast<D: Desk>(
+    alloc: Global,
+    stop: &impl Abort,
+    desk: &mut D,
+    input: &[u8],
+    case: &Case,
+) -> Result<(), Fail> {
+    let precedence = Precedence::read(alloc, RULES)?;
+    let mut reader = input;
+    let mut written = Vec::new(alloc);
+    let status = serve_one(alloc, desk, &precedence, &mut reader, &mut written)?;
+    expect_reply(alloc, stop, case, status, written.as_slice())?;
+    Ok(())
+}
+
+// An input has the case's reply however it comes, and so once more.
+fn expect_case<D: Desk>(
+    alloc: Global,
+    stop: &impl Abort,
+    desk: &mut D,
+    input: &[u8],
+    case: &Case,
+) -> Result<(), Fail> {
+    expect_slow(alloc, stop, desk, input, case)?;
+    expect_fast(alloc, stop, desk, input, case)
+}
+
+// The input that posts these records.
+fn post_of(alloc: Global, records: &str) -> Result<String, AllocError> {
+    let length = records.len();
+    format!(in alloc; "POST /messages HTTP/1.1\r\nContent-Length: {length}\r\n\r\n{records}")
+}
+
+// A target that is got has the case's reply.
+fn expect_got<D: Desk>(
+    alloc: Global,
+    stop: &impl Abort,
+    desk: &mut D,
+    case: &Case,
+) -> Result<(), Fail> {
+    let target = case.0;
+    let input = format!(in alloc; "GET {target} HTTP/1.1\r\n\r\n")?;
+    expect_case(alloc, stop, desk, input.as_bytes(), case)
+}
+
+#[test]
+fn deliveries_and_questions(rt: HostRuntime) -> Result<(), Fail> {
+    let alloc = rt.alloc();
+    let mut desk = agreed_desk(alloc)?;
+    for case in DELIVERIES.as_slice() {
+        let input = post_of(alloc, case.0)?;
+        expect_case(alloc, &rt, &mut desk, input.as_bytes(), case)?;
+    }
+    for case in QUESTIONS.as_slice() {
+        expect_got(alloc, &rt, &mut desk, case)?;
+    }
+    Ok(())
+}
+
+// The targets have this status line and the body of a refusal.
+fn expect_refused(
+    alloc: Global,
+    stop: &impl Abort,
+    targets: &[&'static str],
+    line: &'static str,
+    body: &'static str,
+) -> Result<(), Fail> {
+    let mut desk = agreed_desk(alloc)?;
+    for target in targets {
+        expect_got(alloc, stop, &mut desk, &(*target, line, body))?;
+    }
+    Ok(())
+}
+
+#[test]
+fn refused_targets(rt: HostRuntime) -> Result<(), Fail> {
+    let alloc = rt.alloc();
+    let body = "{\"answer\":\"refused\",\"reason\":\"bad-query\"}";
+    expect_refused(alloc, &rt, BAD_QUERIES.as_slice(), "400 Bad Request", body)?;
+    let body = "{\"answer\":\"refused\",\"reason\":\"not-found\"}";
+    expect_refused(alloc, &rt, NO_PATHS.as_slice(), "404 Not Found", body)?;
+    let body = "{\"answer\":\"refused\",\"reason\":\"unknown-series\"}";
+    expect_refused(alloc, &rt, NO_SERIES.as_slice(), "404 Not Found", body)
+}
+
+#[test]
+fn whole_inputs(rt: HostRuntime) -> Result<(), Fail> {
+    let alloc = rt.alloc();
+    let mut desk = agreed_desk(alloc)?;
+    for (input, line, body) in INPUTS.as_slice() {
+        expect_case(alloc, &rt, &mut desk, input, &(*body, *line, *body))?;
+    }
+    Ok(())
+}
+
+// The input of a long case.
+fn long_input(alloc: Global, case: &LongCase) -> Result<Vec<u8>, AllocError> {
+    let mut input = case.0.as_bytes().to_vec(alloc)?;
+    for _ in 0..case.1 {
+        input.push(b'a')?;
+    }
+    input.extend_from_slice(case.2.as_bytes())?;
+    for _ in 0..case.3 {
+        input.push(b'a')?;
+    }
+    Ok(input)
+}
+
+#[test]
+fn inputs_at_the_limits(rt: HostRuntime) -> Result<(), Fail> {
+    let alloc = rt.alloc();
+    let mut desk = agreed_desk(alloc)?;
+    for case in LONG_INPUTS.as_slice() {
+        let input = long_input(alloc, case)?;
+        let case = (case.0, case.4, case.5);
+        expect_fast(alloc, &rt, &mut desk, input.as_slice(), &case)?;
+    }
+    let ends = [b'\r'; 16384];
+    let body = "{\"answer\":\"refused\",\"reason\":\"target-too-long\"}";
+    let case = ("line ends", "414 URI Too Long", body);
+    expect_fast(alloc, &rt, &mut desk, ends.as_slice(), &case)
+}
+
+// A head and a body at their limits, one byte a read.
+#[test]
+fn most_reads(rt: HostRuntime) -> Result<(), Fail> {
+    let alloc = rt.alloc();
+    let mut desk = agreed_desk(alloc)?;
+    let input = long_input(alloc, &MOST_INPUT)?;
+    let case = (MOST_INPUT.0, MOST_INPUT.4, MOST_INPUT.5);
+    expect_slow(alloc, &rt, &mut desk, input.as_slice(), &case)
+}
+
+// Ends the test unless this is the reply to the answer.
+fn expect_answer(
+    alloc: Global,
+    stop: &impl Abort,
+    answer: &Answer,
+    status: u16,
+    body: &str,
+) -> Result<(), AllocError> {
+    let reply = reply_of(alloc, answer)?;
+    assert_eq!(stop; reply.1.as_str(), body);
+    assert_eq!(stop; reply.0, status, "{body}");
+    Ok(())
+}
+
+fn expect_agreement(
+    alloc: Global,
+    stop: &impl Abort,
+    answer: AgreeAnswer,
+    status: u16,
+    body: &str,
+) -> Result<(), Fail> {
+    let name = SeriesName::read("other").ok_or("no name")?;
+    let first = Number::from_value(9).ok_or("no number")?;
+    let answer = Answer::Agreement {
+        name,
+        first,
+        answer,
+    };
+    expect_answer(alloc, stop, &answer, status, body)?;
+    Ok(())
+}
+
+#[test]
+fn replies_to_agreements(rt: HostRuntime) -> Result<(), Fail> {
+    let alloc = rt.alloc();
+    expect_agreement(
+        alloc,
+        &rt,
+        AgreeAnswer::Agreed,
+        200,
+        "{\"answer\":\"agreed\",\"first\":9,\"series\":\"other\"}",
+    )?;
+    expect_agreement(
+        alloc,
+        &rt,
+        AgreeAnswer::NameTaken,
+        409,
+        "{\"answer\":\"refused\",\"reason\":\"name-taken\",\"series\":\"other\"}",
+    )?;
+    let name = SeriesName::read("north").ok_or("no name")?;
+    expect_agreement(
+        alloc,
+        &rt,
+        AgreeAnswer::SeriesTaken { name },
+        409,
+        "{\"answer\":\"refused\",\"reason\":\"series-taken\",\"series\":\"north\"}",
+    )
+}
+
+fn expect_waiver(
+    alloc: Global,
+    stop: &impl Abort,
+    answer: WaiveAnswer,
+    status: u16,
+    body: &str,
+) -> Result<(), Fail> {
+    let series = SeriesName::read("north").ok_or("no name")?;
+    let number = Number::from_value(3).ok_or("no number")?;
+    let answer = Answer::Waiver {
+        series,
+        number,
+        answer,
+    };
+    expect_answer(alloc, stop, &answer, status, body)?;
+    Ok(())
+}
+
+#[test]
+fn replies_to_waivers(rt: HostRuntime) -> Result<(), Fail> {
+    let alloc = rt.alloc();
+    expect_waiver(
+        alloc,
+        &rt,
+        WaiveAnswer::Waived,
+        200,
+        "{\"answer\":\"waived\",\"number\":3,\"series\":\"north\"}",
+    )?;
+    expect_waiver(
+        alloc,
+        &rt,
+        WaiveAnswer::HasMessage,
+        409,
+        "{\"answer\":\"refused\",\"number\":3,\"reason\":\"had\",\"series\":\"north\"}",
+    )?;
+    let first = Number::from_value(5).ok_or("no number")?;
+    expect_waiver(
+        alloc,
+        &rt,
+        WaiveAnswer::BeforeFirst { first },
+        422,
+        "{\"answer\":\"refused\",\"first\":5,\"number\":3,\"reason\":\"before-first\",\"series\":\"north\"}",
+    )?;
+    expect_waiver(
+        alloc,
+        &rt,
+        WaiveAnswer::UnknownSeries,
+        404,
+        "{\"answer\":\"refused\",\"reason\":\"unknown-series\"}",
+    )
+}
+
+// The reply of a desk that an input asks has this text.
+fn expect_text<D: Desk>(
+    alloc: Global,
+    stop: &impl Abort,
+    desk: &mut D,
+    input: &str,
+    text: &str,
+) -> Result<(), Fail> {
+    let precedence = Precedence::none(alloc);
+    let mut reader = input.as_bytes();
+    let mut written = Vec::new(alloc);
+    serve_one(alloc, desk, &precedence, &mut reader, &mut written)?;
+    assert_eq!(stop; written.as_slice(), text.as_bytes());
+    Ok(())
+}
+
+// These texts are whole, so that the parts of the other cases' replies are known to be right.
+#[test]
+fn whole_replies(rt: HostRuntime) -> Result<(), Fail> {
+    let alloc = rt.alloc();
+    let mut desk = agreed_desk(alloc)?;
+    expect_text(alloc, &rt, &mut desk, DELIVERY.0, APPLIED)?;
+    expect_text(
+        alloc,
+        &rt,
+        &mut desk,
+        "GET /messages HTTP/1.1\r\n\r\n",
+        NOT_ALLOWED,
+    )
+}
+
+#[test]
+fn faults_of_storage(rt: HostRuntime) -> Result<(), Fail> {
+    let alloc = rt.alloc();
+    for number in 0..FAULT_KINDS.len() {
+        let kind = FAULT_KINDS[number];
+        let body = format!(in alloc; "{{\"answer\":\"fault\",\"reason\":\"{kind}\"}}")?;
+        let text = reply_by(alloc, "503 Service Unavailable", body.as_str())?;
+        let mut desk = BrokenDesk { number };
+        expect_text(alloc, &rt, &mut desk, DELIVERY.0, text.as_str())?;
+        expect_text(alloc, &rt, &mut desk, NO_NUMBERS.0, text.as_str())?;
+    }
+    Ok(())
+}
+
+// The reply to a delivery that is cut off after so many bytes.
+fn cut_reply(given: usize) -> Case {
+    if given < 47 {
+        (
+            "a cut head",
+            "400 Bad Request",
+            "{\"answer\":\"refused\",\"reason\":\"bad-head\"}",
+        )
+    } else {
+        (
+            "a cut body",
+            "400 Bad Request",
+            "{\"answer\":\"refused\",\"reason\":\"short-body\"}",
+        )
+    }
+}
+
+// Wherever a delivery is cut off, or a read of it fails, nothing is delivered, and after a failed
+// read nothing is written.
+#[test]
+fn cut_inputs_and_failing_reads(rt: HostRuntime) -> Result<(), Fail> {
+    let alloc = rt.alloc();
+    let precedence = Precedence::none(alloc);
+    let mut desk = agreed_desk(alloc)?;
+    for given in 0..DELIVERY.0.len() {
+        let begin = &DELIVERY.0.as_bytes()[..given];
+        expect_case(alloc, &rt, &mut desk, begin, &cut_reply(given))?;
+        let mut reader = FailingReader { rest: begin };
+        let mut written = Vec::new(alloc);
+        let ended = serve_one(alloc, &mut desk, &precedence, &mut reader, &mut written);
+        let is_read = matches!(&ended, Err(HttpFault::Read));
+        assert!(rt; is_read, "{given}");
+        assert!(rt; written.is_empty(), "{given}");
+    }
+    expect_case(alloc, &rt, &mut desk, NO_NUMBERS.0.as_bytes(), &NO_NUMBERS)
+}
+
+// A writer that fails, or takes nothing, after so many bytes has the reply's first bytes.
+fn expect_written(
+    alloc: Global,
+    stop: &impl Abort,
+    taken: usize,
+    fails: bool,
+    whole: &[u8],
+) -> Result<(), Fail> {
+    let precedence = Precedence::none(alloc);
+    let mut desk = agreed_desk(alloc)?;
+    let mut reader = DELIVERY.0.as_bytes();
+    let mut writer = FailingWriter {
+        left: taken,
+        fails,
+        written: Vec::new(alloc),
+    };
+    let ended = serve_one(alloc, &mut desk, &precedence, &mut reader, &mut writer);
+    let is_write = matches!(&ended, Err(HttpFault::Write { status: 200 }));
+    assert!(stop; is_write, "{taken}");
+    assert_eq!(stop; writer.written.as_slice(), whole, "{taken}");
+    // The delivery has had its effect.
+    expect_case(alloc, stop, &mut desk, ONE_NUMBER.0.as_bytes(), &ONE_NUMBER)
+}
+
+#[test]
+fn failing_writes(rt: HostRuntime) -> Result<(), Fail> {
+    for taken in 0..APPLIED.len() {
+        let whole = &APPLIED.as_bytes()[..taken];
+        expect_written(rt.alloc(), &rt, taken, true, whole)?;
+        expect_written(rt.alloc(), &rt, taken, false, whole)?;
+    }
+    Ok(())
+}
+
+// The peer keeps its end open: no byte behind the request is waited for.
+#[test]
+fn exchanges_over_a_socket(rt: HostRuntime) -> Result<(), Fail> {
+    let alloc = rt.alloc();
+    let precedence = Precedence::none(alloc);
+    let mut desk = agreed_desk(alloc)?;
+    let listener = TcpListener::bind(&rt, "127.0.0.1:0")?;
+    for case in OPEN_INPUTS.as_slice() {
+        let mut peer = TcpStream::connect(&rt, listener.local_addr()?)?;
+        peer.write_all(case.0.as_bytes())?;
+        let (stream, _) = listener.accept()?;
+        let status = serve_one(alloc, &mut desk, &precedence, &mut &stream, &mut &stream)?;
+        drop(stream);
+        let mut written = Vec::new(alloc);
+        peer.read_to_end(&mut written)?;
+        expect_reply(alloc, &rt, case, status, written.as_slice())?;
+    }
+    Ok(())
+}

@@ -1,0 +1,81 @@
+// Transcripts: texts of calls, each on a line of its own, and behind a colon what a query answers.
+
+use crate::tables::changes::change;
+use crate::tables::queries::ask;
+use crate::tables::words::words_of;
+use desk_tables::tables::Tables;
+use desk_tables::work::Work;
+use onix_message::agreement::StoreFault;
+use sqlite::Alter;
+use std::alloc::Global;
+use std::process::Abort;
+
+// Whether a call is answered as its line says; one that changes rows answers nothing.
+fn is_answered<S: Alter>(
+    alloc: Global,
+    work: &mut Work<'_, S>,
+    call: &str,
+    wanted: &str,
+) -> Result<bool, StoreFault> {
+    let words = words_of(call);
+    match ask(alloc, work, words, wanted)? {
+        Some(is_right) => Ok(is_right),
+        None => {
+            change(alloc, work, words)?;
+            Ok(wanted.is_empty())
+        }
+    }
+}
+
+// The same of a line, behind whose colon may also stand that the call is `unusable`.
+fn holds<S: Alter>(alloc: Global, work: &mut Work<'_, S>, line: &str) -> Result<bool, StoreFault> {
+    let (call, wanted) = match line.split_once(':') {
+        Some(parts) => parts,
+        None => (line, ""),
+    };
+    match is_answered(alloc, work, call, wanted) {
+        Err(StoreFault::Unusable) => Ok(wanted == " unusable"),
+        answer => answer,
+    }
+}
+
+/// The first line of a transcript that is not answered as it says.
+pub fn first_wrong<'a, S: Alter>(
+    alloc: Global,
+    work: &mut Work<'_, S>,
+    transcript: &'a str,
+) -> Result<Option<&'a str>, StoreFault> {
+    for line in transcript.lines() {
+        if !holds(alloc, work, line)? {
+            return Ok(Some(line));
+        }
+    }
+    Ok(None)
+}
+
+/// Whether each line of a transcript is answered as it says, in a transaction of its own that ends
+/// with `commit`.
+pub fn is_right<S: Alter>(
+    alloc: Global,
+    tables: &mut Tables<S>,
+    transcript: &str,
+) -> Result<bool, StoreFault> {
+    let mut work = tables.work()?;
+    let wrong = first_wrong(alloc, &mut work, transcript)?;
+    work.commit()?;
+    Ok(wrong.is_none())
+}
+
+/// Ends the test with the first line that is not answered as it says. The transaction is let go.
+pub fn expect_answers<S: Alter>(
+    alloc: Global,
+    rt: &impl Abort,
+    tables: &mut Tables<S>,
+    transcript: &str,
+) -> Result<(), StoreFault> {
+    let mut work = tables.work()?;
+    match first_wrong(alloc, &mut work, transcript)? {
+        Some(line) => rt.panic(line),
+        None => Ok(()),
+    }
+}

@@ -20,7 +20,7 @@ use Rattle.catalogue_rules.specs.Plans.{Changes, IsPlan, entry_now}
 use Rattle.catalogue_rules.specs.declared.effect.Change.{Change}
 use Rattle.catalogue_rules.specs.declared.effect.Change.TheVariants.{Replace, Update, Delete, Ignore}
 use Rattle.catalogue_rules.specs.declared.entry.Entry.{Entry}
-use Rattle.catalogue_rules.proofs.Lookups.{ChangesAt, get-map_of, none_from_empty}
+use Rattle.catalogue_rules.proofs.Lookups.{ChangesAt, get-map_by, none_from_empty}
 use Rattle.catalogue_rules.proofs.Order.{entries-map_of}
 use Rattle.catalogue_rules.proofs.Plans.{changes_at-with_entry}
 
@@ -43,7 +43,7 @@ pub each-removed : {X : Type 0} (P : X → Type 0) (m : FinMap (slice_cmp nat_cm
 each-removed P m k each = each-changed P m (fin.remove m k) k None (λ q. get-remove nat_list_cmp_total m k q) tt each
 
 pub each-of_none : {X : Type 0} (P : X → Type 0) → EachHas P (map_of [])
-each-of_none P q = subst (λ o. IfSome o P) (sym (none_from_empty [] q refl)) tt
+each-of_none P q = subst (λ o. IfSome o P) (sym (none_from_empty (string_bytes {Z = Global}) [] q refl)) tt
 
 -- and of each record of the map that a tree makes
 pub all-records : {X : Type 0} (P : X → Type 0) (m : BTreeMap (String Global) X) → IsOrdered string_cmp m → EachHas P (map_of m.entries) → All (λ r. P r.1) (fin.entries (map_of m.entries))
@@ -51,7 +51,7 @@ all-records {X} P m ordered each =
     subst (All (λ (r : List ℕ × X). P r.1)) (sym (entries-map_of m ordered))
     (All-map (λ (r : List ℕ × X). P r.1) (λ (e : String Global × X). (string_bytes e.0, e.1)) m.entries
     (All-weaker (λ (e : String Global × X). tree.get string_cmp m e.0 ≡ Some e.1) (λ (e : String Global × X). P e.1)
-    (λ e h. subst (λ o. IfSome o P) (get-map_of m.entries (string_bytes e.0) ∙ h) (each (string_bytes e.0)))
+    (λ e h. subst (λ o. IfSome o P) (get-map_by string_bytes m.entries (string_bytes e.0) ∙ h) (each (string_bytes e.0)))
     m.entries (All-found string_cmp_total m ordered)))
 
 -- ---- the products of a message

@@ -1,16 +1,17 @@
 -- A plan carried out: room for the new references, then each change.
-use Rattle.std.proofs.Common.{◌≡◌, ℕ, List, Option, Some, None, Bool, cond, true, false, ⊎_elim, IsSome, sym, refl, ap, subst, ◌∙◌}
+use Rattle.std.proofs.Common.{◌≡◌, ◌+◌, ◌<◌, ◌≤◌, ℕ, List, Option, Some, None, Bool, Bor, cond, true, false, ⊎_elim, IsSome, length, get_or, take, arith, sym, refl, ap, subst, ◌∙◌}
 use Rattle.std.specs.FinMap as fin
 use Rattle.std.specs.FinMap.{get-remove}
 use Rattle.std.specs.Ordering.{nat_cmp, eq_by_cmp}
 use Rattle.std.specs.Cmp.Lexicographic.{slice_cmp}
 use Rattle.std.specs.List.{All, Contains}
 use Rattle.std.proofs.lemmas.Cmp.{nat_list_cmp_total}
-use Rattle.std.proofs.lemmas.List.Elements.{All-contains}
+use Rattle.std.proofs.lemmas.List.{get_or-map, length-map, take_all}
+use Rattle.std.proofs.lemmas.List.Elements.{All-contains, All-more, All-weaker}
 use Rattle.catalogue_rules.specs.Records.{ByReference}
-use Rattle.catalogue_rules.specs.Plans.{Changes, IsPlan, IsReady, entry_now}
+use Rattle.catalogue_rules.specs.Plans.{Changes, IsPlan, IsReady, all_bytes, entry_now, str_bytes}
 use Rattle.catalogue_rules.specs.declared.entry.Entry.{Entry}
-use Rattle.catalogue_rules.proofs.Lookups.{ChangesAt, equal_maps, in_or_not, same_key}
+use Rattle.catalogue_rules.proofs.Lookups.{ChangesAt, changed_here, changed_there, equal_maps, in_or_not, same_key, still_has}
 
 not_some : IsSome {T = Option Entry} None → ⊥
 not_some h = cc
@@ -44,6 +45,39 @@ ready_more was now before rest k w u r h q =
 -- with no change left all is done
 pub all_settled : (was : Option Entry) (o : Option (Option Entry)) → o ≡ None → entry_now was o ≡ was
 all_settled was o e = ap (entry_now was) e
+
+-- ---- room for the new references
+
+-- a catalogue with a change at the i-th of these references
+module _ (references : List (Bor (List ℕ))) (i : ℕ) (d : Bor (List ℕ)) (old was now : ByReference) (w : Option Entry)
+    (within : i < length references) (u : ChangesAt was now (get_or references i d).now w) where
+  abbrev key : List ℕ
+  key = (get_or references i d).now
+
+  within_bytes : i < length (all_bytes references)
+  within_bytes = let l = length-map references str_bytes in omega (arith, l, within)
+
+  key_at : get_or (all_bytes references) i key ≡ key
+  key_at = get_or-map str_bytes references i d key within
+
+  -- has at any other reference what it had
+  pub others_stay : ((q : List ℕ) → (Contains (all_bytes references) q → ⊥) → fin.get was q ≡ fin.get old q)
+      → (q : List ℕ) → (Contains (all_bytes references) q → ⊥) → fin.get now q ≡ fin.get old q
+  others_stay h q f =
+      changed_there was now key q w u (λ e. f (subst (Contains (all_bytes references)) (sym e) (i, within_bytes, key_at))) ∙ h q f
+
+  -- and has what P holds of at one more of them
+  pub one_more : (P : Option Entry → Type 0) → P w → All (λ k. P (fin.get was k)) (take i (all_bytes references)) → All (λ k. P (fin.get now k)) (take (i + 1) (all_bytes references))
+  one_more P here before =
+      All-more (λ k. P (fin.get now k)) (all_bytes references) i key within_bytes
+      (All-weaker (λ k. P (fin.get was k)) (λ k. P (fin.get now k)) (λ k h. still_has P was now key k w u here h) (take i (all_bytes references)) before)
+      (subst (λ k. P (fin.get now k)) (sym key_at) (subst P (sym (changed_here was now key w u)) here))
+
+-- so many are all
+pub all_taken : (references : List (Bor (List ℕ))) (i : ℕ) (P : List ℕ → Type 0) → length references ≤ i → All P (take i (all_bytes references)) → All P (all_bytes references)
+all_taken references i P past h =
+    let l = length-map references str_bytes in
+    subst (All P) (take_all i (all_bytes references) (omega (arith, l, past))) h
 
 -- a catalogue that lacks the new references again is the old one
 pub undone : (old mid new : ByReference) (fresh : List (List ℕ))

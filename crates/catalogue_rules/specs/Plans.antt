@@ -1,5 +1,6 @@
 -- A plan: what a message is to change of a catalogue, made before anything is changed.
-use Rattle.std.specs.Prelude.{ℕ, ◌≡◌, ◌↔◌, ◌+◌, List, Option, Some, None, IsSome, Contains}
+use Rattle.std.specs.Prelude.{ℕ, ◌≡◌, ◌↔◌, ◌+◌, List, Option, Some, None, IsSome, Contains, map as map_list}
+use Rattle.std.specs.Borrow.{Bor}
 use Rattle.std.specs.FinMap as map
 use Rattle.std.specs.FinMap.{FinMap}
 use Rattle.std.specs.Ordering.{nat_cmp}
@@ -7,6 +8,14 @@ use Rattle.std.specs.Cmp.Lexicographic.{slice_cmp}
 use Rattle.catalogue_rules.specs.Records.{ByReference}
 use Rattle.catalogue_rules.specs.declared.effect.Effect.{Effect}
 use Rattle.catalogue_rules.specs.declared.entry.Entry.{Entry}
+
+-- the bytes of a reference that a product lends
+abbrev pub str_bytes : Bor (List ℕ) → List ℕ
+str_bytes reference = reference.now
+
+-- and of several
+abbrev pub all_bytes : List (Bor (List ℕ)) → List (List ℕ)
+all_bytes references = map_list str_bytes references
 
 -- what is to become of some references: the entry that each then has, or none
 abbrev pub Changes : Type 0

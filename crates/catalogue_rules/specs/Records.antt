@@ -12,13 +12,20 @@ use Rattle.catalogue_rules.specs.declared.entry.Entry.{Entry}
 abbrev pub ByReference : Type 0
 ByReference = FinMap (slice_cmp nat_cmp) Entry
 
--- the keys by their bytes
-abbrev pub by_bytes : {X : Type 0} → List (String Global × X) → List (List ℕ × X)
-by_bytes entries = map (λ e. (string_bytes e.0, e.1)) entries
+-- entries by the bytes of their keys
+abbrev pub keyed_by : {K X : Type 0} → (K → List ℕ) → List (K × X) → List (List ℕ × X)
+keyed_by bytes entries = map (λ e. (bytes e.0, e.1)) entries
 
--- the map that entries with texts as keys make
+-- the map that these make
+abbrev pub map_by : {K X : Type 0} → (K → List ℕ) → List (K × X) → FinMap (slice_cmp nat_cmp) X
+map_by bytes entries = from_entries (keyed_by bytes entries)
+
+-- the same of entries with texts as keys
+abbrev pub by_bytes : {X : Type 0} → List (String Global × X) → List (List ℕ × X)
+by_bytes entries = keyed_by string_bytes entries
+
 abbrev pub map_of : {X : Type 0} → List (String Global × X) → FinMap (slice_cmp nat_cmp) X
-map_of entries = from_entries (by_bytes entries)
+map_of entries = map_by string_bytes entries
 
 -- the records in order of reference
 abbrev pub records_of : ByReference → List (List ℕ × Entry)

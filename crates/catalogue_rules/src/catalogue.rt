@@ -1,11 +1,10 @@
 ghost use Rattle.std.specs.Prelude.{◌≡◌, ◌↔◌, IfOk, IfSome, IsTrue, OnOk, OnErr, IsSome, None, ℕ, List, All, Contains};
 ghost use Rattle.std.specs.Option.{option_copied};
-ghost use Rattle.std.specs.String.{string_bytes};
 ghost use Rattle.std.specs.FinMap as map;
 ghost use Rattle.catalogue_rules.specs.Records.{EachHas, HasFewDetails, by_bytes, records_of};
 ghost use Rattle.catalogue_rules.specs.Effects.{after, effect_of};
 ghost use Rattle.catalogue_rules.specs.Offers.{offers_in};
-ghost use Rattle.catalogue_rules.specs.Plans.{IsReady, entry_now};
+ghost use Rattle.catalogue_rules.specs.Plans.{IsReady, all_bytes, entry_now};
 
 use crate::draft::Draft;
 use crate::effect::Effect;
@@ -16,7 +15,6 @@ use onix_message::parts::Contents;
 use onix_terms::isbn13::Isbn13;
 use onix_terms::items::Items;
 use onix_terms::series_name::SeriesName;
-use onix_terms::text::Text;
 use price_rules::offer::Offer;
 use std::alloc::{AllocError, Global};
 use std::collections::{BTreeMap, btree_map};
@@ -89,16 +87,14 @@ impl Catalogue {
         Ok(())
     }
 
-    // Puts the entry in the place of the one that the reference has, which takes no memory.
-    fn replace(&mut self, reference: String, entry: Entry)
-        requires there { IsSome (map.get self.old (string_bytes reference)) }
+    // Puts the entry in the place of the one that the reference has, which keeps its key and takes no
+    // memory.
+    fn replace(&mut self, reference: &str, entry: Entry)
+        requires there { IsSome (map.get self.old reference.now) }
         requires few { HasFewDetails entry }
-        ensures { self.new ≡ map.insert self.old (string_bytes reference) entry }
+        ensures { self.new ≡ map.insert self.old reference.now entry }
     {
-        match self.records.insert(reference, entry) {
-            Ok(_) => {}
-            Err(_) => unreachable!(),
-        }
+        *self.records.get_mut(reference).unwrap() = entry;
     }
 
     // Takes out what the reference had.
@@ -109,13 +105,13 @@ impl Catalogue {
     }
 
     // Puts an empty entry at each of these references, as far as memory goes.
-    fn put_all(&mut self, alloc: Global, fresh: &[Text]) -> Result<(), AllocError>
-        ensures others { (q : List ℕ) → (Contains fresh.now q → ⊥) → map.get self.new q ≡ map.get self.old q }
-        ensures there { OnOk result (All (λ k. IsSome (map.get self.new k)) fresh.now) }
+    fn put_all(&mut self, alloc: Global, fresh: &[&str]) -> Result<(), AllocError>
+        ensures others { (q : List ℕ) → (Contains (all_bytes fresh.now) q → ⊥) → map.get self.new q ≡ map.get self.old q }
+        ensures there { OnOk result (All (λ k. IsSome (map.get self.new k)) (all_bytes fresh.now)) }
     {
         for reference in fresh {
             self.put(
-                reference.as_str(),
+                *reference,
                 Entry {
                     ids: Items::new(alloc),
                     supplies: Items::new(alloc),
@@ -126,21 +122,21 @@ impl Catalogue {
     }
 
     // Takes out what these references had.
-    fn remove_all(&mut self, fresh: &[Text])
-        ensures others { (q : List ℕ) → (Contains fresh.now q → ⊥) → map.get self.new q ≡ map.get self.old q }
-        ensures gone { All (λ k. map.get self.new k ≡ None) fresh.now }
+    fn remove_all(&mut self, fresh: &[&str])
+        ensures others { (q : List ℕ) → (Contains (all_bytes fresh.now) q → ⊥) → map.get self.new q ≡ map.get self.old q }
+        ensures gone { All (λ k. map.get self.new k ≡ None) (all_bytes fresh.now) }
     {
         for reference in fresh {
-            self.remove(reference.as_str());
+            self.remove(*reference);
         }
     }
 
     // Makes a place for each of these new references, or leaves the catalogue as it was.
-    fn make_room(&mut self, alloc: Global, fresh: &[Text]) -> Result<(), AllocError>
-        requires { All (λ k. map.get self.old k ≡ None) fresh.now }
+    fn make_room(&mut self, alloc: Global, fresh: &[&str]) -> Result<(), AllocError>
+        requires { All (λ k. map.get self.old k ≡ None) (all_bytes fresh.now) }
         ensures err { OnErr result (self.new ≡ self.old) }
-        ensures others { OnOk result ((q : List ℕ) → (Contains fresh.now q → ⊥) → map.get self.new q ≡ map.get self.old q) }
-        ensures there { OnOk result (All (λ k. IsSome (map.get self.new k)) fresh.now) }
+        ensures others { OnOk result ((q : List ℕ) → (Contains (all_bytes fresh.now) q → ⊥) → map.get self.new q ≡ map.get self.old q) }
+        ensures there { OnOk result (All (λ k. IsSome (map.get self.new k)) (all_bytes fresh.now)) }
     {
         if let Err(refused) = self.put_all(alloc, fresh) {
             self.remove_all(fresh);
@@ -150,16 +146,16 @@ impl Catalogue {
     }
 
     // Carries out the changes, which takes no memory where each new reference has its place.
-    fn settle(&mut self, draft: Draft)
+    fn settle(&mut self, draft: Draft<'_>)
         requires ready { (q : List ℕ) → IsReady (map.get self.old q) (map.get draft q) }
         requires few { EachHas (λ w. IfSome w HasFewDetails) draft }
-        ensures { (q : List ℕ) → map.get self.new q ≡ entry_now (map.get self.old q) (map.get draft q) }
+        ensures { (q : List ℕ) → map.get self.new q ≡ entry_now (map.get self.old q) (map.get draft.entry q) }
     {
         let mut rest = draft;
         while let Some((reference, change)) = rest.pop() {
             match change {
                 Some(entry) => self.replace(reference, entry),
-                None => self.remove(reference.as_str()),
+                None => self.remove(reference),
             }
         }
     }

@@ -1,6 +1,5 @@
 ghost use Rattle.std.specs.Prelude.{◌≡◌, ◌<◌, IfSome, IfNone, OnOk, Some, None, ℕ, List};
 ghost use Rattle.std.specs.Option.{option_copied};
-ghost use Rattle.std.specs.String.{string_bytes};
 ghost use Rattle.std.specs.FinMap as map;
 
 use crate::entry::Entry;
@@ -8,30 +7,31 @@ use std::alloc::{AllocError, Global};
 use std::collections::BTreeMap;
 use std::marker::Model;
 
-/// What is to become of some references: the entry that each then has, or none.
+/// What is to become of some references: the entry that each then has, or none. The products lend
+/// the references, so that none is copied.
 #[derive(Drop)]
-pub struct Draft {
-    changes: BTreeMap<String, Option<Entry>>,
+pub struct Draft<'a> {
+    changes: BTreeMap<&'a str, Option<Entry>>,
 }
 
-impl Model for Draft {
+impl<'a> Model for Draft<'a> {
     ghost use Rattle.std.specs.Prelude.{ℕ};
     ghost use Rattle.std.specs.FinMap as map;
     ghost use Rattle.std.specs.Coded.{coded_ℕ, coded_list, coded_option};
     ghost use Rattle.catalogue_rules.specs.contracts.entry.Entry as e;
-    ghost use Rattle.catalogue_rules.specs.Records.{map_of};
-    ghost use Rattle.catalogue_rules.specs.Plans.{Changes};
+    ghost use Rattle.catalogue_rules.specs.Records.{map_by};
+    ghost use Rattle.catalogue_rules.specs.Plans.{Changes, str_bytes};
 
     ghost Value = { Changes };
 
     ghost coded = { map.code (coded_list coded_ℕ) (coded_option e.the_row.coded) };
 
-    ghost view = { λ d. map_of d.changes.entries };
+    ghost view = { λ d. map_by str_bytes d.changes.entries };
 }
 
-impl Draft {
+impl<'a> Draft<'a> {
     /// No change. It takes no memory.
-    pub fn new(alloc: Global) -> Draft
+    pub fn new(alloc: Global) -> Draft<'a>
         ensures { result ≡ map.empty }
     {
         Draft {
@@ -47,18 +47,18 @@ impl Draft {
     }
 
     /// Puts down what is to become of a reference, in the place of what was put down before.
-    pub fn set(&mut self, reference: String, change: Option<Entry>) -> Result<(), AllocError>
-        ensures { OnOk result (self.new ≡ map.insert self.old (string_bytes reference) change) }
+    pub fn set(&mut self, reference: &'a str, change: Option<Entry>) -> Result<(), AllocError>
+        ensures { OnOk result (self.new ≡ map.insert self.old reference.now change) }
     {
         self.changes.insert(reference, change)?;
         Ok(())
     }
 
     /// Takes one change out.
-    pub fn pop(&mut self) -> Option<(String, Option<Entry>)>
+    pub fn pop(&mut self) -> Option<(&'a str, Option<Entry>)>
         ensures none { IfNone result ((q : List ℕ) → map.get self.old q ≡ None) }
-        ensures some { IfSome result (λ p. map.get self.old (string_bytes p.0) ≡ Some p.1) }
-        ensures rest { IfSome result (λ p. self.new ≡ map.remove self.old (string_bytes p.0)) }
+        ensures some { IfSome result (λ p. map.get self.old p.0.now ≡ Some p.1) }
+        ensures rest { IfSome result (λ p. self.new ≡ map.remove self.old p.0.now) }
         ensures fewer { IfSome result (λ p. map.len self.new < map.len self.old) }
     {
         let Some((reference, change)) = self.changes.pop_first() else {

@@ -3,24 +3,23 @@ ghost use Rattle.std.specs.Option.{option_copied};
 ghost use Rattle.std.specs.FinMap as map;
 ghost use Rattle.catalogue_rules.specs.Records.{ByReference};
 ghost use Rattle.catalogue_rules.specs.Effects.{after, after_product, change_of, counted, effect_of, entry_after, no_effect, with_entry};
-ghost use Rattle.catalogue_rules.specs.Plans.{IsPlan, entry_now, total};
+ghost use Rattle.catalogue_rules.specs.Plans.{IsPlan, all_bytes, entry_now, total};
 
 use crate::catalogue::Catalogue;
 use crate::draft::Draft;
 use crate::effect::{Change, Effect};
 use crate::entry::Entry;
 use onix_message::parts::Product;
-use onix_terms::items::Items;
-use onix_terms::text::Text;
 use std::alloc::{AllocError, Global};
 
-/// What products are to change of a catalogue, which stays as it is while the plan is made.
+/// What products are to change of a catalogue, which stays as it is while the plan is made. The
+/// products lend the references.
 #[derive(Drop)]
-pub struct Plan {
+pub struct Plan<'a> {
     /// The changes.
-    pub draft: Draft,
+    pub draft: Draft<'a>,
     /// Those of their references that the catalogue lacks, each once.
-    pub fresh: Items<Text>,
+    pub fresh: Vec<&'a str>,
     /// What the products did.
     pub effect: Effect,
 }
@@ -49,21 +48,21 @@ fn change_by(
     }
 }
 
-impl Plan {
+impl<'a> Plan<'a> {
     /// A plan that changes nothing.
-    fn new(alloc: Global) -> Plan
-        ensures plan { (base : ByReference) → IsPlan base result.draft result.fresh base }
+    fn new(alloc: Global) -> Plan<'a>
+        ensures plan { (base : ByReference) → IsPlan base result.draft (all_bytes result.fresh.items) base }
         ensures effect { result.effect ≡ no_effect }
     {
         Plan {
             draft: Draft::new(alloc),
-            fresh: Items::new(alloc),
+            fresh: Vec::new(alloc),
             effect: Effect::none(),
         }
     }
 
     /// The entry that a reference has after the changes.
-    fn entry_of<'a>(&'a self, catalogue: &'a Catalogue, reference: &str) -> Option<&'a Entry>
+    fn entry_of<'e>(&'e self, catalogue: &'e Catalogue, reference: &str) -> Option<&'e Entry>
         ensures { option_copied result ≡ entry_now (map.get catalogue.now reference.now) (map.get self.now.draft reference.now) }
     {
         match self.draft.get(reference) {
@@ -83,33 +82,27 @@ impl Plan {
     /// Puts down what is to become of a reference.
     fn put(
         &mut self,
-        alloc: Global,
         catalogue: &Catalogue,
-        reference: &str,
+        reference: &'a str,
         change: Option<Entry>,
     ) -> Result<(), AllocError>
-        ensures plan { OnOk result ((m : ByReference) → IsPlan catalogue.now self.old.draft self.old.fresh m
-            → IsPlan catalogue.now self.new.draft self.new.fresh (with_entry m reference.now change)) }
+        ensures plan { OnOk result ((m : ByReference) → IsPlan catalogue.now self.old.draft (all_bytes self.old.fresh.items) m
+            → IsPlan catalogue.now self.new.draft (all_bytes self.new.fresh.items) (with_entry m reference.now change)) }
         ensures effect { OnOk result (self.new.effect ≡ self.old.effect) }
     {
         if self.is_new(catalogue, reference) {
-            self.fresh.push(Text::from_str(alloc, reference)?)?;
+            self.fresh.push(reference)?;
         }
-        self.draft.set(String::from_str(alloc, reference)?, change)?;
+        self.draft.set(reference, change)?;
         Ok(())
     }
 
     /// Adds what one product changes.
-    fn add(
-        &mut self,
-        alloc: Global,
-        catalogue: &Catalogue,
-        product: &Product,
-    ) -> Result<(), AllocError>
+    fn add(&mut self, catalogue: &Catalogue, product: &'a Product) -> Result<(), AllocError>
         requires { total self.old.effect + 1 < 2 ^ 32 }
-        ensures plan { OnOk result ((m : ByReference) → IsPlan catalogue.now self.old.draft self.old.fresh m
-            → IsPlan catalogue.now self.new.draft self.new.fresh (after_product m product.now)) }
-        ensures effect { OnOk result ((m : ByReference) → IsPlan catalogue.now self.old.draft self.old.fresh m
+        ensures plan { OnOk result ((m : ByReference) → IsPlan catalogue.now self.old.draft (all_bytes self.old.fresh.items) m
+            → IsPlan catalogue.now self.new.draft (all_bytes self.new.fresh.items) (after_product m product.now)) }
+        ensures effect { OnOk result ((m : ByReference) → IsPlan catalogue.now self.old.draft (all_bytes self.old.fresh.items) m
             → self.new.effect ≡ counted (change_of product.now.notification) (map.get m product.now.reference) self.old.effect) }
     {
         let reference = product.reference.as_str();
@@ -117,7 +110,7 @@ impl Plan {
         let was = self.entry_of(catalogue, reference);
         let is_known = was.is_some();
         if let Some(now) = change_by(change, product, was)? {
-            self.put(alloc, catalogue, reference, now)?;
+            self.put(catalogue, reference, now)?;
         }
         self.effect.count(change, is_known);
         Ok(())
@@ -127,15 +120,15 @@ impl Plan {
     pub fn of(
         alloc: Global,
         catalogue: &Catalogue,
-        products: &[Product],
-    ) -> Result<Plan, AllocError>
+        products: &'a [Product],
+    ) -> Result<Plan<'a>, AllocError>
         requires { length products.now < 2 ^ 32 }
-        ensures plan { IfOk result (λ p. IsPlan catalogue.now p.draft p.fresh (after catalogue.now products.now)) }
+        ensures plan { IfOk result (λ p. IsPlan catalogue.now p.draft (all_bytes p.fresh.items) (after catalogue.now products.now)) }
         ensures effect { IfOk result (λ p. p.effect ≡ effect_of catalogue.now products.now) }
     {
         let mut plan = Plan::new(alloc);
         for product in products {
-            plan.add(alloc, catalogue, product)?;
+            plan.add(catalogue, product)?;
         }
         Ok(plan)
     }

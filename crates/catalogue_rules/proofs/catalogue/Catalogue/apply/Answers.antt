@@ -1,10 +1,11 @@
-use Rattle.std.proofs.Common.{◌≡◌, ◌≤◌, ℕ, List, ap, subst, sym, ◌∙◌}
+use Rattle.std.proofs.Common.{◌≡◌, ◌≤◌, ℕ, List, Bor, ap, subst, sym, ◌∙◌}
 use Rattle.std.specs.FinMap as map
 use Rattle.std.specs.List.{All, Contains}
 use Rattle.std.proofs.lemmas.Result.{IfOk-from_err}
 use Rattle.onix_message.specs.DetailCount.{detail_count}
 use Rattle.onix_message.specs.declared.parts.Product.{Product}
 use Rattle.catalogue_rules.specs.Effects.{after}
+use Rattle.catalogue_rules.specs.Plans.{all_bytes}
 use Rattle.catalogue_rules.specs.Records.{EachHas, HasFewDetails}
 use Rattle.catalogue_rules.proofs.Bounds.{few-after, few-changes}
 use Rattle.catalogue_rules.proofs.Changes.{carried_out}
@@ -14,8 +15,8 @@ pub returns-clause-ok : goal.returns-clause-ok
 returns-clause-ok c =
     let base = c.args.self.now in
     let plan = c.in_ok-draft.field-0 in
-    let others = subst (λ (fresh : List (List ℕ)). (q : List ℕ) → (Contains fresh q → ⊥) → map.get c.make_room.new.self q ≡ map.get base q) c.as_slice.ensures c.in_ok-make_room.ensures.others in
-    carried_out base plan.draft plan.fresh (after base c.products.result.now) c.make_room.new.self c.settle.new.self c.in_ok-draft.ensures.plan others c.settle.ensures
+    let others = subst (λ (fresh : List (Bor (List ℕ))). (q : List ℕ) → (Contains (all_bytes fresh) q → ⊥) → map.get c.make_room.new.self q ≡ map.get base q) c.as_slice.ensures.value c.in_ok-make_room.ensures.others in
+    carried_out base plan.draft (all_bytes plan.fresh.items) (after base c.products.result.now) c.make_room.new.self c.settle.new.self c.in_ok-draft.ensures.plan others c.settle.ensures
     ∙ ap (after base) c.products.ensures.products
 
 pub settle-requires-clause-few : goal.settle-requires-clause-few
@@ -24,7 +25,7 @@ settle-requires-clause-few c =
     let plan = c.in_ok-draft.field-0 in
     let products = c.products.result.now in
     let few = subst (λ (ps : List Product). All (λ p. detail_count p.supplies ≤ 19998) ps) (sym c.products.ensures.products) c.products.ensures.few_details in
-    few-changes base plan.draft plan.fresh (after base products) c.in_ok-draft.ensures.plan
+    few-changes base plan.draft (all_bytes plan.fresh.items) (after base products) c.in_ok-draft.ensures.plan
     (few-after base products few (subst (EachHas HasFewDetails) c.self.view_is c.self.invariant))
 
 pub returns-in_err-draft-clause-ok : goal.returns-in_err-draft-clause-ok

@@ -1,7 +1,6 @@
 use Rattle.std.proofs.Common.{◌≡◌, ℕ, List, IfSome, Option, Some, None, refl, sym, ap, subst, ◌∙◌}
 use Rattle.std.specs.FinMap as map
 use Rattle.std.specs.FinMap.{get-insert, get-remove}
-use Rattle.std.specs.String.{string_bytes}
 use Rattle.std.proofs.lemmas.Cmp.{nat_list_cmp_total}
 use Rattle.catalogue_rules.specs.Records.{EachHas, HasFewDetails}
 use Rattle.catalogue_rules.specs.Plans.{Changes, IsReady}
@@ -15,14 +14,14 @@ loop-reference-init c = (c.requires.ready, λ q. refl, c.requires.few)
 
 pub replace-requires-clause-there : goal.replace-requires-clause-there
 replace-requires-clause-there c =
-    let key = string_bytes c.in-Some.reference in
+    let key = c.in-Some.reference.now in
     let found : map.get c.loop-reference.rest key ≡ Some (Some c.in-Some-change.entry) = c.in-Some.ensures.some ∙ ap (λ o. Some o) c.in-Some-change.is in
     let ready : IsReady (map.get c.loop-reference.self key) (Some (Some c.in-Some-change.entry)) = subst (IsReady (map.get c.loop-reference.self key)) found (c.loop-reference.invariant.0 key) in
     ready refl
 
 pub replace-requires-clause-few : goal.replace-requires-clause-few
 replace-requires-clause-few c =
-    let key = string_bytes c.in-Some.reference in
+    let key = c.in-Some.reference.now in
     let found : map.get c.loop-reference.rest key ≡ Some (Some c.in-Some-change.entry) = c.in-Some.ensures.some ∙ ap (λ o. Some o) c.in-Some-change.is in
     subst (λ o. IfSome o (λ (w : Option Entry). IfSome w HasFewDetails)) found (c.loop-reference.invariant.2 key)
 
@@ -31,7 +30,7 @@ still_few before rest k e few = subst (EachHas (λ w. IfSome w HasFewDetails)) (
 
 pub loop-reference-preserved-in-Some-change : goal.loop-reference-preserved-in-Some-change
 loop-reference-preserved-in-Some-change c =
-    let key = string_bytes c.in-Some.reference in
+    let key = c.in-Some.reference.now in
     let now = λ (q : List ℕ). ap (λ m. map.get m q) c.replace.ensures ∙ get-insert nat_list_cmp_total c.loop-reference.self key c.in-Some-change.entry q in
     let found : map.get c.loop-reference.rest key ≡ Some (Some c.in-Some-change.entry) = c.in-Some.ensures.some ∙ ap (λ o. Some o) c.in-Some-change.is in (
       ready_more c.loop-reference.self c.replace.new.self c.loop-reference.rest c.pop.new.self key (Some c.in-Some-change.entry) now c.in-Some.ensures.rest c.loop-reference.invariant.0,
@@ -41,9 +40,8 @@ loop-reference-preserved-in-Some-change c =
 
 pub loop-reference-preserved : goal.loop-reference-preserved
 loop-reference-preserved c =
-    let key = string_bytes c.in-Some.reference in
-    let gone = c.remove.ensures ∙ ap (map.remove c.loop-reference.self) c.as_str.ensures.value in
-    let now = λ (q : List ℕ). ap (λ m. map.get m q) gone ∙ get-remove nat_list_cmp_total c.loop-reference.self key q in
+    let key = c.in-Some.reference.now in
+    let now = λ (q : List ℕ). ap (λ m. map.get m q) c.remove.ensures ∙ get-remove nat_list_cmp_total c.loop-reference.self key q in
     let found : map.get c.loop-reference.rest key ≡ Some None = c.in-Some.ensures.some ∙ ap (λ o. Some o) c.in-None.is in (
       ready_more c.loop-reference.self c.remove.new.self c.loop-reference.rest c.pop.new.self key None now c.in-Some.ensures.rest c.loop-reference.invariant.0,
       λ q. settled_more c.loop-reference.self c.remove.new.self c.loop-reference.rest c.pop.new.self key None now found c.in-Some.ensures.rest q ∙ c.loop-reference.invariant.1 q,

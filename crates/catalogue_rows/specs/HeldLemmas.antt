@@ -47,7 +47,7 @@ supplied-storable number (s ∷ more) h = all-append IsStorableSupplied (numbere
 
 pub all-storable : (o : Option Entry) → IfSome o IsStorable → AllByRecursion IsStorableSupplied (supplied_details (supplies_of o))
 all-storable None h = tt
-all-storable (Some e) h = supplied-storable 1 e.supplies (recursion_from_All IsStorableSupply e.supplies h.each)
+all-storable (Some e) h = supplied-storable 1 e.supplies (recursion_from_All IsStorableSupply e.supplies h.1.each)
 
 pub same-list : {A : Type 0} (xs ys : List A) → map (λ x. Some x) xs ≡ map (λ y. Some y) ys → xs ≡ ys
 same-list [] [] e = refl

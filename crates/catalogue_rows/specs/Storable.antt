@@ -35,8 +35,9 @@ pub record AreStorable (supplies : List ProductSupply) : Type 0 where
   pub each : All IsStorableSupply supplies
   pub few : detail_count supplies ≤ 20000
 
+-- it has an identifier, so that rows of identifiers tell that the record is there
 abbrev pub IsStorable : Entry → Type 0
-IsStorable e = AreStorable e.supplies
+IsStorable e = (e.ids ≢ []) × AreStorable e.supplies
 
 abbrev pub IsStorableProduct : Product → Type 0
-IsStorableProduct p = AreStorable p.supplies
+IsStorableProduct p = (p.ids ≢ []) × AreStorable p.supplies

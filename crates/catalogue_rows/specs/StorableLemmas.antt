@@ -23,12 +23,13 @@ use Rattle.onix_message.specs.Grammar.{IsMessage}
 use Rattle.onix_message.specs.Opening.{opening_fields}
 use Rattle.onix_message.specs.PartRows.{HasDetails, SuppliesHaveDetails, content_rows, detail_rows, product_rows, rows_after, supply_rows}
 use Rattle.onix_message.specs.Price.{minimum_of, price_from, price_of}
-use Rattle.onix_message.specs.Product.{product_of}
+use Rattle.onix_message.specs.Product.{identifier_of, pairs_of, product_of}
 use Rattle.onix_message.specs.Row.{end_of, message_row, named_row, row_of}
 use Rattle.onix_message.specs.Supply.{supply_of}
 use Rattle.onix_message.specs.declared.parts.Header.{Header}
 use Rattle.onix_message.specs.declared.parts.Price.{Price}
 use Rattle.onix_message.specs.declared.parts.Product.{Product}
+use Rattle.onix_message.specs.declared.parts.ProductIdentifier.{ProductIdentifier}
 use Rattle.onix_message.specs.declared.parts.ProductSupply.{ProductSupply}
 use Rattle.onix_message.specs.declared.parts.SupplyDetail.{SupplyDetail}
 use Rattle.onix_message.specs.declared.row.Form.{Form}
@@ -46,10 +47,31 @@ record IsKeptDetail (d : SupplyDetail) : Type 0 where
   unpriced : IfSome d.unpriced (λ code. code ≢ [])
 
 abbrev IsKept : Row → Type 0
+IsKept (row.Product p) = p.ids ≢ []
 IsKept (row.ProductSupply s) = IsWritten s.market
 IsKept (row.SupplyDetail d) = IsKeptDetail d
 IsKept (row.Price p) = IsStorablePrice p
 IsKept _ = ⊤
+
+pairs-some : (kind : List ℕ) (rest : List (List ℕ)) (ids : List ProductIdentifier) → pairs_of (kind ∷ rest) ≡ Some ids → ids ≢ []
+unfolding pairs_of
+pairs-some kind [] ids e none = cc e
+pairs-some kind (value ∷ rest) ids e none =
+    let (id, _, f) = bind-some (identifier_of kind value) _ ids e in
+    let (more, _, g) = bind-some (pairs_of rest) _ ids f in
+    let same : id ∷ more ≡ [] = same_Some _ ids g ∙ none in
+    cc same
+
+product-kept : (fields : List (List ℕ)) (p : Product) → product_of fields ≡ Some p → p.ids ≢ []
+unfolding product_of
+product-kept [] p e none = cc e
+product-kept (reference ∷ []) p e none = cc e
+product-kept (reference ∷ notification ∷ []) p e none = cc e
+product-kept (reference ∷ notification ∷ kind ∷ pairs) p e none =
+    let (r, _, f) = bind-some (nonempty reference) _ p e in
+    let (n, _, g) = bind-some (code2_of notification) _ p f in
+    let (ids, reads, h) = bind-some (pairs_of (kind ∷ pairs)) _ p g in
+    pairs-some kind pairs ids reads (ap (λ (q : Product). q.ids) (same_Some _ p h) ∙ none)
 
 supply-kept : (fields : List (List ℕ)) (s : ProductSupply) → supply_of fields ≡ Some s → IsWritten s.market
 supply-kept [] s e = cc e
@@ -155,7 +177,7 @@ choose false x y r f g e = g e
 named-kept : (o : Opening) (name : List ℕ) (fields : List (List ℕ)) (r : Row) → named_row o name fields ≡ Some r → IsKept r
 named-kept o name fields r =
     choose (bytes_eq name (codes "Message")) _ _ r (made-kept message_row (opening_fields fields) (λ x e. tt) r)
-    (choose (bytes_eq name (codes "Product")) _ _ r (made-kept row.Product (product_of fields) (λ x e. tt) r)
+    (choose (bytes_eq name (codes "Product")) _ _ r (made-kept row.Product (product_of fields) (product-kept fields) r)
     (choose (bytes_eq name (codes "ProductSupply")) _ _ r (made-kept row.ProductSupply (supply_of fields) (supply-kept fields) r)
     (choose (bytes_eq name (codes "SupplyDetail")) _ _ r (made-kept row.SupplyDetail (detail_of fields) (detail-kept fields) r)
     (choose (bytes_eq name (codes "Price")) _ _ r (made-kept row.Price (price_of o fields) (price-kept o fields) r)
@@ -205,7 +227,7 @@ products-kept (p ∷ ps) some few h =
     let own = kept-left (product_rows p) (content_rows ps) h in
     let bound : detail_count p.supplies ≤ 19998 = All-head (λ (q : Product). detail_count q.supplies ≤ 19998) p ps few in
     All-cons IsStorableProduct p ps
-    (record { each = All-from_recursion IsStorableSupply p.supplies (supplies-kept p.supplies some.0 own.1); few = omega (arith, bound) })
+    (own.0, record { each = All-from_recursion IsStorableSupply p.supplies (supplies-kept p.supplies some.0 own.1); few = omega (arith, bound) })
     (products-kept ps some.1 (All-tail (λ (q : Product). detail_count q.supplies ≤ 19998) p ps few) (kept-right (product_rows p) (content_rows ps) h))
 
 message-kept : (records : List (List (List ℕ))) (h : Header) (c : List Product) → IsMessage records h c → All IsStorableProduct c

@@ -8,7 +8,7 @@ use Rattle.desk_tables.specs.declared.rows.ArticleRow.{ArticleRow}
 use Rattle.desk_tables.specs.declared.rows.OfferRow as typed
 use Rattle.desk_tables.specs.declared.rows.PriceRow as typed_price
 use Rattle.desk_tables.specs.declared.rows.RecordRow.{RecordRow}
-use Rattle.desk_tables.specs.RecordChanges.{with_record, with_article, with_offer, with_price, with_minimum, with_price_and_minimum}
+use Rattle.desk_tables.specs.RecordChanges.{with_new_record, with_article, with_offer, with_price, with_minimum, with_price_and_minimum}
 use Rattle.desk_tables.specs.RecordRows.{offer_row, price_row, minimum_row}
 use Rattle.desk_tables.specs.Rows.{DeskRows}
 use Rattle.catalogue_rows.specs.EntryRows.{article_rows, detail_rows, price_rows_of, has_minimum}
@@ -64,5 +64,5 @@ supplies_put s r supplies details prices rows between after d p one two =
     two ∙ ap (with_prices prices) one ∙ ap (λ l. with_prices prices (with_details l rows)) d ∙ ap (λ l. with_prices l (with_details (detail_rows s r supplies) rows)) p
 
 pub identified_put : (row : RecordRow) (ids : List ProductIdentifier) (articles : List ArticleRow) (rows between after : DeskRows) → articles ≡ article_rows row.series row.reference ids
-    → between ≡ with_record row rows → after ≡ with_articles articles between → after ≡ with_identified row ids rows
-identified_put row ids articles rows between after a one two = two ∙ ap (with_articles articles) one ∙ ap (λ l. with_articles l (with_record row rows)) a
+    → between ≡ with_new_record row rows → after ≡ with_articles articles between → after ≡ with_identified row ids rows
+identified_put row ids articles rows between after a one two = two ∙ ap (with_articles articles) one ∙ ap (λ l. with_articles l (with_new_record row rows)) a

@@ -1,35 +1,29 @@
 -- What the changes of one record come to.
-use Rattle.std.proofs.Common.{◌≡◌, ℕ, List, [], ◌∷◌, ◌++◌, map, filter, not, cond, Some, None, sym, ap, subst, ◌∙◌}
+use Rattle.std.proofs.Common.{◌≢◌, ℕ, List, [], ◌∷◌, map, filter, not, Some, None, ◌∙◌}
 use Rattle.sqlite_trees.proofs.ListLemmas.{IsPermutation-same}
 use Rattle.onix_message.specs.declared.parts.ProductIdentifier.{ProductIdentifier}
 use Rattle.onix_message.specs.declared.parts.ProductSupply.{ProductSupply}
 use Rattle.catalogue_rules.specs.declared.entry.Entry.{Entry}
-use Rattle.desk_tables.specs.RecordChanges.{is_record, is_article_of, is_offer_of, is_price_of, is_minimum_of, with_record, without_offers, without_record}
+use Rattle.desk_tables.specs.RecordChanges.{is_record, is_article_of, is_offer_of, is_price_of, is_minimum_of, without_offers, without_record}
 use Rattle.desk_tables.specs.RecordRows.{offer_row, price_row, minimum_row}
 use Rattle.desk_tables.specs.Rows.{DeskRows}
 use Rattle.catalogue_rows.specs.EntryRows.{record_row, article_rows, detail_rows, price_rows_of, has_minimum}
 use Rattle.catalogue_rows.specs.Holding.{Became, HoldsEntry, other_records}
 use Rattle.catalogue_rows.specs.Storable.{AreStorable}
 use Rattle.catalogue_store.specs.WrittenRows.{with_identified, with_supplies}
-use Rattle.catalogue_store.proofs.OwnRows.{none_left, any_none, own_after, others_after, own_gone, others_gone, keyed, articles_own, offers_own, prices_own, minimums_own}
+use Rattle.catalogue_store.proofs.OwnRows.{none_left, own_after, others_after, own_gone, others_gone, keyed, articles_own, offers_own, prices_own, minimums_own}
 
--- a record without rows is added
-record_added : (s r : List ℕ) (rows : DeskRows) → filter (is_record s r) rows.records ≡ [] → with_record (record_row s r) rows ≡ record rows { records = rows.records ++ record_row s r ∷ [] }
-record_added s r rows none = ap (λ b. cond b rows (record rows { records = rows.records ++ record_row s r ∷ [] })) (any_none (is_record s r) rows.records none)
-
-pub record_written : (s r : List ℕ) (ids : List ProductIdentifier) (supplies : List ProductSupply) (rows : DeskRows) → HoldsEntry s r None rows → AreStorable supplies
+pub record_written : (s r : List ℕ) (ids : List ProductIdentifier) (supplies : List ProductSupply) (rows : DeskRows) → HoldsEntry s r None rows → ids ≢ [] → AreStorable supplies
     → Became s r (Some (record { ids = ids; supplies = supplies })) rows (with_supplies s r supplies (with_identified (record_row s r) ids rows))
-record_written s r ids supplies rows none storable =
+record_written s r ids supplies rows none some storable =
     let records = none_left _ none.records in
-    let added = rows.records ++ record_row s r ∷ [] in
-    let base : DeskRows = record rows { records = added } in
     let articles = article_rows s r ids in
     let offers = map offer_row (detail_rows s r supplies) in
     let prices = map price_row (price_rows_of s r supplies) in
     let minimums = map minimum_row (filter has_minimum (price_rows_of s r supplies)) in
-    subst (λ (d : DeskRows). Became s r (Some (record { ids = ids; supplies = supplies })) rows (with_supplies s r supplies (record d { articles = d.articles ++ article_rows s r ids }))) (sym (record_added s r rows records)) (record {
+    record {
       entry_held = record {
-        storable = storable;
+        storable = (some, storable);
         records = IsPermutation-same _ _ (own_after (is_record s r) rows.records (record_row s r ∷ []) records (keyed s r, tt));
         articles = IsPermutation-same _ _ (own_after (is_article_of s r) rows.articles articles (none_left _ none.articles) (articles_own s r ids));
         offers = IsPermutation-same _ _ (own_after (is_offer_of s r) rows.offers offers (none_left _ none.offers) (offers_own s r supplies));
@@ -43,7 +37,7 @@ record_written s r ids supplies rows none storable =
         prices = others_after (is_price_of s r) rows.prices prices (prices_own s r supplies) i;
         minimums = others_after (is_minimum_of s r) rows.minimums minimums (minimums_own s r supplies) i;
       };
-    })
+    }
 
 pub record_removed : (s r : List ℕ) (rows : DeskRows) → Became s r None rows (without_record s r rows)
 record_removed s r rows = record {
@@ -75,7 +69,7 @@ supplies_replaced s r e supplies rows was storable =
     let other_minimums = filter (λ x. not (is_minimum_of s r x)) rows.minimums in
     record {
       entry_held = record {
-        storable = storable;
+        storable = (was.storable.0, storable);
         records = was.records;
         articles = was.articles;
         offers = IsPermutation-same _ _ (own_after (is_offer_of s r) other_offers offers (own_gone (is_offer_of s r) rows.offers) (offers_own s r supplies));

@@ -1,5 +1,5 @@
 -- What is held of a record and of a catalogue after a change of one record.
-use Rattle.std.proofs.Common.{◌≡◌, ℕ, Bool, true, not, ◌&&◌, List, [], ◌∷◌, length, map, filter, Option, Some, None, IsPermutation, inl, inr, ⊎_elim, refl, sym, ap, subst, ◌∙◌, arith}
+use Rattle.std.proofs.Common.{◌≡◌, ◌≢◌, ℕ, Bool, true, not, ◌&&◌, List, [], ◌∷◌, length, map, filter, Option, Some, None, IsPermutation, inl, inr, ⊎_elim, refl, sym, ap, subst, ◌∙◌, arith}
 use Rattle.std.specs.FinMap as fin
 use Rattle.std.specs.List.{list_any}
 use Rattle.std.specs.Option.{is_some}
@@ -20,10 +20,10 @@ use Rattle.desk_tables.specs.RecordRows.{offer_row, price_row, minimum_row}
 use Rattle.desk_tables.specs.Rows.{DeskRows}
 use Rattle.desk_tables.specs.declared.rows.PriceRow as typed_price
 use Rattle.desk_tables.specs.declared.rows.RecordRow.{RecordRow}
-use Rattle.catalogue_rows.specs.EntryRows.{has_minimum}
+use Rattle.catalogue_rows.specs.EntryRows.{article_rows, has_minimum}
 use Rattle.catalogue_rows.specs.Holding.{Became, HoldsCatalogue, HoldsEntry, other_catalogues}
 use Rattle.catalogue_rows.specs.Storable.{AreStorable}
-use Rattle.catalogue_store.specs.ReadRows.{HasSupplyRows, HoldsRecord}
+use Rattle.catalogue_store.specs.ReadRows.{HasSupplyRows}
 use Rattle.catalogue_store.proofs.OwnRows.{none_left, any_none, spared, apart_keys}
 
 -- ---- whether the record is there
@@ -51,7 +51,7 @@ became_then s r o w rows between after one two = record { entry_held = two.entry
 pub supplies_stay : (row : RecordRow) (e : Entry) (supplies : List ProductSupply) (rows : DeskRows) → HoldsEntry row.series row.reference (Some e) rows → AreStorable supplies → HasSupplyRows row supplies e.supplies
     → HoldsEntry row.series row.reference (Some (record e { supplies = supplies })) rows
 supplies_stay row e supplies rows h storable same = record {
-  storable = storable;
+  storable = (h.storable.0, storable);
   records = h.records;
   articles = h.articles;
   offers = subst (λ l. IsPermutation (filter (is_offer_of row.series row.reference) rows.offers) (map offer_row l)) same.details h.offers;
@@ -59,14 +59,14 @@ supplies_stay row e supplies rows h storable same = record {
   minimums = subst (λ (l : List typed_price.PriceRow). IsPermutation (filter (is_minimum_of row.series row.reference) rows.minimums) (map minimum_row (filter has_minimum l))) same.prices h.minimums;
 }
 
-pub record_stays : (row : RecordRow) (e : Entry) (ids : List ProductIdentifier) (supplies : List ProductSupply) (rows : DeskRows) → HoldsEntry row.series row.reference (Some e) rows → AreStorable supplies → HoldsRecord row ids supplies rows true
-    → HoldsEntry row.series row.reference (Some (record { ids = ids; supplies = supplies })) rows
-record_stays row e ids supplies rows h storable same =
-    let other = supplies_stay row e supplies rows h storable (same.1 (Some e) h refl) in
+pub record_stays : (row : RecordRow) (e : Entry) (ids : List ProductIdentifier) (supplies : List ProductSupply) (rows : DeskRows) → HoldsEntry row.series row.reference (Some e) rows → ids ≢ [] → AreStorable supplies
+    → article_rows row.series row.reference e.ids ≡ article_rows row.series row.reference ids → HasSupplyRows row supplies e.supplies → HoldsEntry row.series row.reference (Some (record { ids = ids; supplies = supplies })) rows
+record_stays row e ids supplies rows h some storable same_ids same =
+    let other = supplies_stay row e supplies rows h storable same in
     record {
-      storable = storable;
+      storable = (some, storable);
       records = h.records;
-      articles = subst (λ l. IsPermutation (filter (is_article_of row.series row.reference) rows.articles) l) (same.0 (Some e) h refl) h.articles;
+      articles = subst (λ l. IsPermutation (filter (is_article_of row.series row.reference) rows.articles) l) same_ids h.articles;
       offers = other.offers;
       prices = other.prices;
       minimums = other.minimums;

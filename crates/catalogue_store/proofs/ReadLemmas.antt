@@ -1,6 +1,7 @@
 -- What the rows that were read of one record say of its entry.
-use Rattle.std.proofs.Common.{◌≡◌, ℕ, ◌+◌, ◌<◌, List, [], ◌∷◌, ◌++◌, length, get_or, take, map, Option, Some, Result, Ok, Err, IfOk, IsTrue, Bool, refl, sym, ap, subst, ◌∙◌}
+use Rattle.std.proofs.Common.{◌≡◌, ℕ, ◌+◌, ◌<◌, List, [], ◌∷◌, ◌++◌, length, get_or, take, map, Option, Some, None, Result, Ok, Err, IfOk, IsTrue, Bool, true, refl, sym, ap, subst, ◌∙◌}
 use Rattle.std.specs.List.{AllZip, enumerate_from, flat_map}
+use Rattle.std.proofs.lemmas.Option.{same_Some}
 use Rattle.onix_message.specs.declared.agreement.StoreFault.{StoreFault}
 use Rattle.onix_message.specs.declared.parts.Price.{Price}
 use Rattle.onix_message.specs.declared.parts.ProductIdentifier.{ProductIdentifier}
@@ -16,7 +17,7 @@ use Rattle.catalogue_rows.specs.HeldLemmas.{held_articles, held_details}
 use Rattle.catalogue_rows.specs.HeldPriceLemmas.{held_prices}
 use Rattle.catalogue_rows.specs.Holding.{HoldsEntry}
 use Rattle.catalogue_rows.specs.Storable.{IsStorable}
-use Rattle.catalogue_store.specs.ReadRows.{HasPricesOf, HoldsIdentifiers, HoldsSupplies}
+use Rattle.catalogue_store.specs.ReadRows.{Finds, HasPricesOf, HoldsSupplies}
 use Rattle.catalogue_store.proofs.Additions.{take_push}
 
 zip_push : {A B : Type 0} (R : A → B → Type 0) (xs : List A) (ys : List B) (x : A) (y : B) → AllZip R xs ys → R x y → AllZip R (xs ++ x ∷ []) (ys ++ y ∷ [])
@@ -55,10 +56,22 @@ entry_read row rows after articles details prices (Ok x) same read makes = (
       makes row.series row.reference e held.storable (held_articles row.series row.reference (Some e) rows articles held read.articles_are) are (prices_of_held row.series row.reference (Some e) rows details prices held are read.prices_are),
 )
 
--- the identifiers of the record are those that were wanted
-pub identifiers_held : (row : RecordRow) (ids : List ProductIdentifier) (rows : DeskRows) (got wanted : List ArticleRow) (b : Bool) → AreArticlesOf row.series row.reference rows got → wanted ≡ article_rows row.series row.reference ids
-    → (IsTrue b → got ≡ wanted) → HoldsIdentifiers row ids rows b
-identifiers_held row ids rows got wanted b are is same = λ o held true. sym (held_articles row.series row.reference o rows got held are) ∙ same true ∙ is
+no_ids : (s r : List ℕ) (ids : List ProductIdentifier) → article_rows s r ids ≡ [] → ids ≡ []
+no_ids s r [] e = refl
+no_ids s r (x ∷ ids) e = absurd cc
+
+-- a record without identifiers is not there
+pub record_lacks : (row : RecordRow) (ids : List ProductIdentifier) (rows : DeskRows) (got : List ArticleRow) → AreArticlesOf row.series row.reference rows got → got ≡ [] → Finds row ids rows None
+record_lacks row ids rows got are none None held = record { there = refl; same = λ e. cc e }
+record_lacks row ids rows got are none (Some e) held =
+    absurd (held.storable.0 (no_ids row.series row.reference e.ids (sym (held_articles row.series row.reference (Some e) rows got held are) ∙ none)))
+
+-- one with identifiers is, and these are those that were wanted or not
+pub record_has : (row : RecordRow) (ids : List ProductIdentifier) (rows : DeskRows) (got wanted : List ArticleRow) (b : Bool) → AreArticlesOf row.series row.reference rows got → (got ≡ [] → ⊥) → wanted ≡ article_rows row.series row.reference ids
+    → (IsTrue b → got ≡ wanted) → Finds row ids rows (Some b)
+record_has row ids rows got wanted b are some is same None held = absurd (some (held_articles row.series row.reference None rows got held are))
+record_has row ids rows got wanted b are some is same (Some e) held =
+    record { there = refl; same = λ told. sym (held_articles row.series row.reference (Some e) rows got held are) ∙ same (same_Some b true told) ∙ is }
 
 -- SupplyDetails with the same prices have the same rows of prices
 same_price_rows : (s r : List ℕ) (k : ℕ) (xs ys : List SuppliedDetail) → map (λ (d : SuppliedDetail). d.detail.prices) xs ≡ map (λ (d : SuppliedDetail). d.detail.prices) ys

@@ -1,7 +1,6 @@
 -- What one product does to the rows of a catalogue.
 use Rattle.std.specs.Prelude.{◌≡◌, ℕ, Bool, List, Option}
 use Rattle.std.specs.FinMap as map
-use Rattle.std.specs.Option.{is_some}
 use Rattle.onix_message.specs.declared.parts.Product.{Product}
 use Rattle.catalogue_rules.specs.Effects.{after_product, change_of, counted, entry_after}
 use Rattle.catalogue_rules.specs.Records.{ByReference}
@@ -12,11 +11,12 @@ use Rattle.desk_tables.specs.Rows.{DeskRows}
 use Rattle.desk_tables.specs.declared.rows.RecordRow.{RecordRow}
 use Rattle.catalogue_rows.specs.Holding.{Became, HoldsCatalogue, HoldsEntry, other_catalogues}
 use Rattle.catalogue_rows.specs.Storable.{IsStorableProduct}
+use Rattle.catalogue_store.specs.ReadRows.{IsFound}
 
--- the record, which was there or not, became what the product asks for
-abbrev pub IsChanged : Change → RecordRow → Product → Bool → DeskRows → DeskRows → Type 0
-IsChanged change row p is_known rows after =
-    (o : Option Entry) → HoldsEntry row.series row.reference o rows → is_some o ≡ is_known → IsStorableProduct p → Became row.series row.reference (entry_after change p o) rows after
+-- the record, of which that was found, became what the product asks for
+abbrev pub IsChanged : Change → RecordRow → Product → Option Bool → DeskRows → DeskRows → Type 0
+IsChanged change row p found rows after =
+    (o : Option Entry) → HoldsEntry row.series row.reference o rows → IsFound row p.ids o found → IsStorableProduct p → Became row.series row.reference (entry_after change p o) rows after
 
 -- the rows of the series became those of the catalogue after the product, which is counted, and all others stayed
 pub record IsProductApplied (series : List ℕ) (m : ByReference) (p : Product) (before : Effect) (rows : DeskRows) (effect : Effect) (after : DeskRows) : Type 0 where

@@ -1,5 +1,6 @@
 -- What is read of one record.
-use Rattle.std.specs.Prelude.{◌≡◌, Bool, IsTrue, List, Option}
+use Rattle.std.specs.Prelude.{◌≡◌, Bool, IsTrue, List, Option, Some, true}
+use Rattle.std.specs.Option.{is_some}
 use Rattle.onix_message.specs.declared.parts.Price.{Price}
 use Rattle.onix_message.specs.declared.parts.ProductIdentifier.{ProductIdentifier}
 use Rattle.onix_message.specs.declared.parts.ProductSupply.{ProductSupply}
@@ -15,10 +16,13 @@ use Rattle.catalogue_rows.specs.Holding.{HoldsEntry}
 abbrev pub HasPricesOf : DeskRows → typed.OfferRow → List Price → Type 0
 HasPricesOf rows detail prices = ArePricesAt detail.series detail.reference detail.place rows prices
 
--- with `true` the identifiers of the record have the rows of these
-abbrev pub HoldsIdentifiers : RecordRow → List ProductIdentifier → DeskRows → Bool → Type 0
-HoldsIdentifiers row ids rows b =
-    (o : Option Entry) → HoldsEntry row.series row.reference o rows → IsTrue b → article_rows row.series row.reference (ids_of o) ≡ article_rows row.series row.reference ids
+-- what is found of a record: none where it is not there, else whether its identifiers have the rows of these
+pub record IsFound (row : RecordRow) (ids : List ProductIdentifier) (entry : Option Entry) (found : Option Bool) : Type 0 where
+  pub there : is_some entry ≡ is_some found
+  pub same : found ≡ Some true → article_rows row.series row.reference (ids_of entry) ≡ article_rows row.series row.reference ids
+
+abbrev pub Finds : RecordRow → List ProductIdentifier → DeskRows → Option Bool → Type 0
+Finds row ids rows found = (o : Option Entry) → HoldsEntry row.series row.reference o rows → IsFound row ids o found
 
 -- the supplies of the record have the rows of these
 pub record HasSupplyRows (row : RecordRow) (supplies was : List ProductSupply) : Type 0 where
@@ -28,7 +32,3 @@ pub record HasSupplyRows (row : RecordRow) (supplies was : List ProductSupply) :
 -- with `true` the supplies of the record have the rows of these
 abbrev pub HoldsSupplies : RecordRow → List ProductSupply → DeskRows → Bool → Type 0
 HoldsSupplies row supplies rows b = (o : Option Entry) → HoldsEntry row.series row.reference o rows → IsTrue b → HasSupplyRows row supplies (supplies_of o)
-
--- with `true` the record is that of these
-abbrev pub HoldsRecord : RecordRow → List ProductIdentifier → List ProductSupply → DeskRows → Bool → Type 0
-HoldsRecord row ids supplies rows b = HoldsIdentifiers row ids rows b × HoldsSupplies row supplies rows b

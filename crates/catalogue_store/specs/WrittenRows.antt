@@ -6,7 +6,7 @@ use Rattle.desk_tables.specs.declared.rows.ArticleRow.{ArticleRow}
 use Rattle.desk_tables.specs.declared.rows.OfferRow as typed
 use Rattle.desk_tables.specs.declared.rows.PriceRow as typed_price
 use Rattle.desk_tables.specs.declared.rows.RecordRow.{RecordRow}
-use Rattle.desk_tables.specs.RecordChanges.{with_record}
+use Rattle.desk_tables.specs.RecordChanges.{with_new_record}
 use Rattle.desk_tables.specs.RecordRows.{offer_row, price_row, minimum_row}
 use Rattle.desk_tables.specs.Rows.{DeskRows}
 use Rattle.catalogue_rows.specs.EntryRows.{article_rows, detail_rows, price_rows_of, has_minimum}
@@ -23,7 +23,7 @@ with_prices added rows = record rows { prices = rows.prices ++ map price_row add
 
 -- the record and its identifiers
 abbrev pub with_identified : RecordRow → List ProductIdentifier → DeskRows → DeskRows
-with_identified row ids rows = with_articles (article_rows row.series row.reference ids) (with_record row rows)
+with_identified row ids rows = with_articles (article_rows row.series row.reference ids) (with_new_record row rows)
 
 -- the SupplyDetails of a record and their prices
 abbrev pub with_supplies : List ℕ → List ℕ → List ProductSupply → DeskRows → DeskRows

@@ -1,6 +1,6 @@
 // A message applied to the rows of a catalogue.
 
-ghost use Rattle.std.specs.Prelude.{◌≡◌, ◌+◌, ◌<◌, ◌^◌, IfOk, Option, Some, None};
+ghost use Rattle.std.specs.Prelude.{◌≡◌, ◌≢◌, ◌+◌, ◌<◌, ◌^◌, [], IfOk, Option, Some};
 ghost use Rattle.std.specs.Option.{is_some};
 ghost use Rattle.sqlite.specs.Held.{state};
 ghost use Rattle.catalogue_rules.specs.Effects.{change_of, counted};
@@ -12,8 +12,9 @@ ghost use Rattle.catalogue_rows.specs.Holding.{Became, HoldsCatalogue, HoldsEntr
 ghost use Rattle.catalogue_rows.specs.Storable.{AreStorable, IsStorableProduct};
 ghost use Rattle.catalogue_store.specs.Achieves.{Achieves};
 ghost use Rattle.catalogue_store.specs.AppliedProducts.{IsChanged, IsProductApplied};
+ghost use Rattle.catalogue_store.specs.ReadRows.{IsFound};
 
-use crate::reading::{has_supplies, is_stored};
+use crate::reading::{find_record, has_supplies};
 use crate::records::{remove_record, replace_supplies, write_record};
 use catalogue_rules::effect::{Change, Effect};
 use desk_tables::rows::RecordRow;
@@ -64,7 +65,7 @@ fn rewrite_record<S: Alter>(
     supplies: &[ProductSupply],
 ) -> Result<(), StoreFault>
     ensures same_reference { work.new.tables.ghost_name ≡ work.old.tables.ghost_name }
-    ensures achieves { Achieves (λ rows _ after. AreStorable supplies.now → Became row.now.series row.now.reference (Some (record { ids = ids.now; supplies = supplies.now })) rows after)
+    ensures achieves { Achieves (λ rows _ after. ids.now ≢ [] → AreStorable supplies.now → Became row.now.series row.now.reference (Some (record { ids = ids.now; supplies = supplies.now })) rows after)
         (state S.Store work.old.tables.now.connection) (state S.Store work.new.tables.now.connection) result }
 {
     match remove_record(work, row) {
@@ -74,21 +75,25 @@ fn rewrite_record<S: Alter>(
     write_record(alloc, work, row, ids, supplies)
 }
 
-// Makes a record that is there the one with these identifiers and supplies, and writes only where
-// it is not that one.
+// Makes a record that is there, with these identifiers or with others, the one with these identifiers
+// and supplies, and writes only where it is not that one.
 fn keep_record<S: Alter>(
     alloc: Global,
     work: &mut Work<'_, S>,
     row: &RecordRow,
     ids: &[ProductIdentifier],
     supplies: &[ProductSupply],
+    has_ids: bool,
 ) -> Result<(), StoreFault>
     ensures same_reference { work.new.tables.ghost_name ≡ work.old.tables.ghost_name }
-    ensures achieves { Achieves (λ rows _ after. (e : Entry) → HoldsEntry row.now.series row.now.reference (Some e) rows → AreStorable supplies.now
+    ensures achieves { Achieves (λ rows _ after. (e : Entry) → HoldsEntry row.now.series row.now.reference (Some e) rows → IsFound row.now ids.now (Some e) (Some has_ids) → ids.now ≢ [] → AreStorable supplies.now
         → Became row.now.series row.now.reference (Some (record { ids = ids.now; supplies = supplies.now })) rows after)
         (state S.Store work.old.tables.now.connection) (state S.Store work.new.tables.now.connection) result }
 {
-    let same = match is_stored(alloc, work, row, ids, supplies) {
+    if !has_ids {
+        return rewrite_record(alloc, work, row, ids, supplies);
+    }
+    let same = match has_supplies(alloc, work, row, supplies) {
         Ok(same) => same,
         Err(fault) => return Err(fault),
     };
@@ -126,18 +131,18 @@ fn replace<S: Alter>(
     work: &mut Work<'_, S>,
     row: &RecordRow,
     product: &Product,
-    is_known: bool,
+    found: Option<bool>,
 ) -> Result<(), StoreFault>
     ensures same_reference { work.new.tables.ghost_name ≡ work.old.tables.ghost_name }
-    ensures achieves { Achieves (λ rows _ after. IsChanged asked.Replace row.now product.now is_known rows after)
+    ensures achieves { Achieves (λ rows _ after. IsChanged asked.Replace row.now product.now found rows after)
         (state S.Store work.old.tables.now.connection) (state S.Store work.new.tables.now.connection) result }
 {
     let ids = product.ids.as_slice();
     let supplies = product.supplies.as_slice();
-    if is_known {
-        return keep_record(alloc, work, row, ids, supplies);
+    match found {
+        Some(has_ids) => keep_record(alloc, work, row, ids, supplies, has_ids),
+        None => write_record(alloc, work, row, ids, supplies),
     }
-    write_record(alloc, work, row, ids, supplies)
 }
 
 // Carries out 04: a known record gets the supplies of the product, where it has some.
@@ -146,36 +151,37 @@ fn update<S: Alter>(
     work: &mut Work<'_, S>,
     row: &RecordRow,
     product: &Product,
-    is_known: bool,
+    found: Option<bool>,
 ) -> Result<(), StoreFault>
     ensures same_reference { work.new.tables.ghost_name ≡ work.old.tables.ghost_name }
-    ensures achieves { Achieves (λ rows _ after. IsChanged asked.Update row.now product.now is_known rows after)
+    ensures achieves { Achieves (λ rows _ after. IsChanged asked.Update row.now product.now found rows after)
         (state S.Store work.old.tables.now.connection) (state S.Store work.new.tables.now.connection) result }
 {
     let is_empty = product.supplies.is_empty();
     if is_empty {
         return Ok(());
     }
-    if is_known {
-        return keep_supplies(alloc, work, row, product.supplies.as_slice());
+    match found {
+        Some(_) => keep_supplies(alloc, work, row, product.supplies.as_slice()),
+        None => Ok(()),
     }
-    Ok(())
 }
 
 // Carries out 05.
 fn delete<S: Alter>(
     work: &mut Work<'_, S>,
     row: &RecordRow,
-    is_known: bool,
+    product: &Product,
+    found: Option<bool>,
 ) -> Result<(), StoreFault>
     ensures same_reference { work.new.tables.ghost_name ≡ work.old.tables.ghost_name }
-    ensures achieves { Achieves (λ rows _ after. (o : Option Entry) → HoldsEntry row.now.series row.now.reference o rows → is_some o ≡ is_known → Became row.now.series row.now.reference None rows after)
+    ensures achieves { Achieves (λ rows _ after. IsChanged asked.Delete row.now product.now found rows after)
         (state S.Store work.old.tables.now.connection) (state S.Store work.new.tables.now.connection) result }
 {
-    if is_known {
-        return remove_record(work, row);
+    match found {
+        Some(_) => remove_record(work, row),
+        None => Ok(()),
     }
-    Ok(())
 }
 
 // Carries out what the product asks for.
@@ -185,16 +191,16 @@ fn change_record<S: Alter>(
     row: &RecordRow,
     product: &Product,
     change: Change,
-    is_known: bool,
+    found: Option<bool>,
 ) -> Result<(), StoreFault>
     ensures same_reference { work.new.tables.ghost_name ≡ work.old.tables.ghost_name }
-    ensures achieves { Achieves (λ rows _ after. IsChanged change row.now product.now is_known rows after)
+    ensures achieves { Achieves (λ rows _ after. IsChanged change row.now product.now found rows after)
         (state S.Store work.old.tables.now.connection) (state S.Store work.new.tables.now.connection) result }
 {
     match change {
-        Change::Replace => replace(alloc, work, row, product, is_known),
-        Change::Update => update(alloc, work, row, product, is_known),
-        Change::Delete => delete(work, row, is_known),
+        Change::Replace => replace(alloc, work, row, product, found),
+        Change::Update => update(alloc, work, row, product, found),
+        Change::Delete => delete(work, row, product, found),
         Change::Ignore => Ok(()),
     }
 }
@@ -220,13 +226,13 @@ fn apply_product<S: Alter>(
         },
         Err(_) => return Err(StoreFault::Memory),
     };
-    let is_known = match work.has_record(&row.series, row.reference.as_str()) {
-        Ok(is_known) => is_known,
+    let found = match find_record(alloc, work, &row, product.ids.as_slice()) {
+        Ok(found) => found,
         Err(fault) => return Err(fault),
     };
     let change = change_of(product.notification);
-    match change_record(alloc, work, &row, product, change, is_known) {
-        Ok(()) => Ok(counted(effect, change, is_known)),
+    match change_record(alloc, work, &row, product, change, found) {
+        Ok(()) => Ok(counted(effect, change, found.is_some())),
         Err(fault) => Err(fault),
     }
 }

@@ -7,7 +7,7 @@ ghost use Rattle.catalogue_rules.specs.Records.{HasFewDetails};
 ghost use Rattle.catalogue_rules.specs.declared.entry.Entry.{Entry as TheEntry};
 ghost use Rattle.catalogue_rows.specs.Holding.{HoldsEntry};
 ghost use Rattle.catalogue_store.specs.Achieves.{Achieves};
-ghost use Rattle.catalogue_store.specs.ReadRows.{HasPricesOf, HoldsIdentifiers, HoldsRecord, HoldsSupplies};
+ghost use Rattle.catalogue_store.specs.ReadRows.{Finds, HasPricesOf, HoldsSupplies};
 
 use catalogue_rows::assemble::entry_of;
 use catalogue_rows::build::{article_rows, detail_rows};
@@ -76,24 +76,29 @@ pub fn read_record<S: Alter>(
     )
 }
 
-/// Whether the identifiers of a record are these. A fault is one of the store, or want of memory;
-/// `Unusable` where a row cannot be read back.
-pub fn has_identifiers<S: Alter>(
+/// What is there of a record: `None` where it is not there, else whether its identifiers are these.
+/// A record has an identifier, so the rows of its identifiers tell that it is there. A fault is one of
+/// the store, or want of memory; `Unusable` where a row cannot be read back.
+pub fn find_record<S: Alter>(
     alloc: Global,
     work: &mut Work<'_, S>,
     row: &RecordRow,
     ids: &[ProductIdentifier],
-) -> Result<bool, StoreFault>
+) -> Result<Option<bool>, StoreFault>
     ensures same_reference { work.new.tables.ghost_name ≡ work.old.tables.ghost_name }
-    ensures achieves { Achieves (λ rows b after. (after ≡ rows) × HoldsIdentifiers row.now ids.now rows b)
+    ensures achieves { Achieves (λ rows found after. (after ≡ rows) × Finds row.now ids.now rows found)
         (state S.Store work.old.tables.now.connection) (state S.Store work.new.tables.now.connection) result }
 {
-    let wanted = match article_rows(alloc, &row.series, &row.reference, ids) {
-        Ok(wanted) => wanted,
+    let articles = match work.record_articles(row) {
+        Ok(articles) => articles,
         Err(fault) => return Err(fault),
     };
-    match work.record_articles(row) {
-        Ok(articles) => Ok(same_articles(articles.as_slice(), wanted.as_slice())),
+    let is_new = articles.as_slice().is_empty();
+    if is_new {
+        return Ok(None);
+    }
+    match article_rows(alloc, &row.series, &row.reference, ids) {
+        Ok(wanted) => Ok(Some(same_articles(articles.as_slice(), wanted.as_slice()))),
         Err(fault) => Err(fault),
     }
 }
@@ -126,27 +131,4 @@ pub fn has_supplies<S: Alter>(
         Ok(prices) => Ok(same_detail_prices(prices.as_slice(), supplies)),
         Err(fault) => Err(fault),
     }
-}
-
-/// Whether a record has these identifiers and supplies. A fault is one of the store, or want of
-/// memory; `Unusable` where a row cannot be read back.
-pub fn is_stored<S: Alter>(
-    alloc: Global,
-    work: &mut Work<'_, S>,
-    row: &RecordRow,
-    ids: &[ProductIdentifier],
-    supplies: &[ProductSupply],
-) -> Result<bool, StoreFault>
-    ensures same_reference { work.new.tables.ghost_name ≡ work.old.tables.ghost_name }
-    ensures achieves { Achieves (λ rows b after. (after ≡ rows) × HoldsRecord row.now ids.now supplies.now rows b)
-        (state S.Store work.old.tables.now.connection) (state S.Store work.new.tables.now.connection) result }
-{
-    let same = match has_identifiers(alloc, work, row, ids) {
-        Ok(same) => same,
-        Err(fault) => return Err(fault),
-    };
-    if !same {
-        return Ok(false);
-    }
-    has_supplies(alloc, work, row, supplies)
 }

@@ -1,6 +1,6 @@
 // The rows of one record, written.
 
-ghost use Rattle.std.specs.Prelude.{◌≡◌, Some, None};
+ghost use Rattle.std.specs.Prelude.{◌≡◌, ◌≢◌, [], Some, None};
 ghost use Rattle.sqlite.specs.Held.{state};
 ghost use Rattle.catalogue_rules.specs.declared.entry.Entry.{Entry};
 ghost use Rattle.catalogue_rows.specs.Holding.{Became, HoldsEntry};
@@ -99,7 +99,7 @@ fn put_identified<S: Alter>(
         Ok(articles) => articles,
         Err(fault) => return Err(fault),
     };
-    match work.put_record(&row.series, row.reference.as_str()) {
+    match work.add_record(&row.series, row.reference.as_str()) {
         Ok(()) => {}
         Err(fault) => return Err(fault),
     }
@@ -117,7 +117,7 @@ pub fn write_record<S: Alter>(
     supplies: &[ProductSupply],
 ) -> Result<(), StoreFault>
     ensures same_reference { work.new.tables.ghost_name ≡ work.old.tables.ghost_name }
-    ensures achieves { Achieves (λ rows _ after. HoldsEntry row.now.series row.now.reference None rows → AreStorable supplies.now
+    ensures achieves { Achieves (λ rows _ after. HoldsEntry row.now.series row.now.reference None rows → ids.now ≢ [] → AreStorable supplies.now
         → Became row.now.series row.now.reference (Some (record { ids = ids.now; supplies = supplies.now })) rows after)
         (state S.Store work.old.tables.now.connection) (state S.Store work.new.tables.now.connection) result }
 {

@@ -17,8 +17,8 @@ use Rattle.sqlite_rules.proofs.ListLemmas.{all_has}
 use Rattle.sqlite.specs.Effect.{Database}
 use Rattle.onix_message.specs.declared.agreement.Agreement.{Agreement}
 use Rattle.desk_tables.specs.declared.series.SeriesRow.{SeriesRow}
-use Rattle.desk_tables.specs.AddedRows.{CanAgree, CanApply, CanHold, CanIdentify, CanOffer, CanPrice, has_series, is_article_at, is_offer_at, is_price_placed}
-use Rattle.desk_tables.specs.RecordChanges.{has_record, is_record, with_article, with_offer, with_price}
+use Rattle.desk_tables.specs.AddedRows.{CanAgree, CanApply, CanHold, CanIdentify, CanOffer, CanPrice, CanRecord, has_series, is_article_at, is_offer_at, is_price_placed}
+use Rattle.desk_tables.specs.RecordChanges.{has_record, is_record, with_article, with_new_record, with_offer, with_price}
 use Rattle.desk_tables.specs.RecordRows.{RecordRow, ArticleRow, MinimumRow, OfferRow, PriceRow, article_columns, minimum_columns, offer_columns, price_columns, record_columns}
 use Rattle.desk_tables.specs.Rows.{AppliedRow, DeskRows, HeldRow, Holds, Stands, IsAddressee, applied_columns, has_parties, held_columns, party_type, party_value, is_applied, is_held, is_named, series_columns, with_applied, with_held, with_series}
 use Rattle.desk_tables.proofs.EqualLemmas.{text_equal, number_equal, text_of, number_of, text_itself, number_itself, differs, same_text, and_true}
@@ -132,7 +132,21 @@ module _ (db : Database) (rows : DeskRows) (h : Holds db rows) where
       (λ r k. all_has _ (db.trees 17) r keys.1.1.1.1.1.1.1.1.0 k) (λ v. refl)
       (λ v w y. rw (first_key-plain, text_equal y.series x.series, text_equal y.reference x.reference, number_equal y.place x.place, number_equal y.price_place x.price_place, and_true (y.price_place == x.price_place)) refl)
 
-  -- ---- keys of articles, offers and prices
+  -- ---- keys of records, articles, offers and prices
+
+  record_once : (x : RecordRow) → length (filter (is_record x.series x.reference) rows.records) ≤ 1
+  record_once x =
+      one_at_most record_columns (is_record x.series x.reference) (key_clash (1 ∷ 2 ∷ [])) tells rows.records (db.trees 9) h.records.shaped.0 h.records.shaped.1 h.records.are
+      (λ a b there here. no_clash (1 ∷ 2 ∷ []) (db.trees 9) a b there (and_parts _ _ (all_has _ (db.trees 9) b (subst (λ s. Keeps Unique s db.trees) h.schema (h.sound.obeys.rules Unique)).1.1.1.1.0 here)).0)
+    where
+      tells : (v w : Value) (y z : RecordRow) → is_int v ≡ true → is_int w ≡ true → is_record x.series x.reference y ≡ true → is_record x.series x.reference z ≡ true → value_cmp v w ≡ Less
+          → key_clash (1 ∷ 2 ∷ []) (v ∷ record_columns y) (w ∷ record_columns z) ≡ true
+      tells v w y z int int′ here there below =
+          let one = and_parts _ _ here in
+          let one′ = and_parts _ _ there in
+          let a : y.series ≡ z.series = text_of _ x.series one.0 ∙ sym (text_of _ x.series one′.0) in
+          let b : y.reference ≡ z.reference = text_of _ x.reference one.1 ∙ sym (text_of _ x.reference one′.1) in
+          rw (first_key-plain, a, b, text_itself z.series, text_itself z.reference, differs v w int int′ below) refl
 
   article_once : (x : ArticleRow) → length (filter (is_article_at x.series x.reference x.id_place) rows.articles) ≤ 1
   article_once x =
@@ -200,6 +214,12 @@ pub applied_added : (db : Database) (rows : DeskRows) (row : AppliedRow) → Hol
 applied_added db rows row h = (
   was_free (is_applied row.series row.number) rows.applied row (rw (same_text row.series, same_number row.number) refl) (applied_once db (with_applied row rows) h row.series row.number),
   applied_parent db (with_applied row rows) h row (has_last rows.applied row),
+)
+
+pub record_added : (db : Database) (rows : DeskRows) (row : RecordRow) → Holds db (with_new_record row rows) → CanRecord row rows
+record_added db rows row h = (
+  was_free (is_record row.series row.reference) rows.records row (rw (same_text row.series, same_text row.reference) refl) (record_once db (with_new_record row rows) h row),
+  record_parent db (with_new_record row rows) h row (has_last rows.records row),
 )
 
 pub article_added : (db : Database) (rows : DeskRows) (row : ArticleRow) → Holds db (with_article row rows) → CanIdentify row rows

@@ -1,4 +1,4 @@
--- What INSERT .. ON CONFLICT DO NOTHING on the table `record` does.
+-- What INSERT on the table `record` does, alone and with ON CONFLICT DO NOTHING.
 use Rattle.std.proofs.Common.{◌≡◌, inl, inr, ℕ, ℤ, ◌<ℤ◌, List, [], ◌∷◌, ◌++◌, map, drop, Bool, true, false, ◌||◌, None, Ok, IsTrue, Equal, refl, sym, ap, subst, ◌∙◌}
 use Rattle.std.specs.List.{AllByRecursion, list_any}
 use Rattle.std.specs.Ordering.{int_cmp}
@@ -27,14 +27,17 @@ use Rattle.sqlite.specs.Effect.{Database}
 use Rattle.sqlite.specs.State.{State, Executes}
 use Rattle.desk_tables.specs.Schema.{desk_schema, record_table}
 use Rattle.desk_tables.specs.Statements.{put_record_text}
+use Rattle.desk_tables.specs.RecordStatements.{add_record_text}
 use Rattle.desk_tables.specs.RecordRows.{RecordRow, record_columns}
-use Rattle.desk_tables.specs.RecordChanges.{is_record, has_record, with_record}
+use Rattle.desk_tables.specs.RecordChanges.{is_record, has_record, with_new_record, with_record}
 use Rattle.desk_tables.specs.Rows.{DeskRows, Holds, Stands}
 use Rattle.desk_tables.proofs.TreeLemmas.{next_above, stands_put}
 use Rattle.desk_tables.proofs.EqualLemmas.{text_equal, and_true}
 use Rattle.desk_tables.proofs.CastLemmas.{cast_null, cast_integer}
+use Rattle.desk_tables.proofs.Inserts.{inserts}
 use Rattle.desk_tables.proofs.Upserts.{upserts}
 use Rattle.desk_tables.proofs.StatementTexts.{put_record_is}
+use Rattle.desk_tables.proofs.RecordStatementTexts.{add_record_is}
 use Rattle.desk_tables.proofs.HoldsLemmas.{changed_records}
 use Rattle.desk_tables.proofs.RecordKeys.{equal_tells}
 
@@ -55,6 +58,15 @@ new_is tree row = rw cast_null refl
 
 record_edit : (tree : List Row) (row : RecordRow) → edited (λ _. tree) (edit_of (λ _. tree) (record_table 9) [] Given 0 ((Int (next_rowid tree) ∷ record_columns row) ∷ [])) ≡ put_row (Int (next_rowid tree) ∷ record_columns row) tree
 record_edit tree row = rw (cast_integer (next_rowid tree)) refl
+
+new_record_edit : (tree : List Row) (row : RecordRow) → edited (λ _. tree) (edit_of (λ _. tree) (record_table 9) [] Chosen 0 ((Null ∷ record_columns row) ∷ [])) ≡ put_row (Int (next_rowid tree) ∷ record_columns row) tree
+new_record_edit tree row = rw cast_null refl
+
+pub adds_record : (old new : State) (row : RecordRow) (count : ℕ) (rows : DeskRows) → Holds old.now rows → Executes add_record_text (record_columns row) old new (Ok count) → Holds new.now (with_new_record row rows)
+adds_record old new row count rows h ran =
+    let made = inserts 4 _ 9 _ _ _ _ refl (λ olds new. refl) add_record_text (record_columns row) _ 3 (Null ∷ record_columns row) add_record_is.0 add_record_is.1 refl old new count h.schema ran in
+    changed_records old.now new.now rows (rows.records ++ row ∷ []) h made.schema made.sound made.applies.tables
+    (subst (Stands _ (rows.records ++ row ∷ [])) (sym (made.applies.rows ∙ new_record_edit (old.now.trees 9) row)) (stands_put record_columns rows.records (old.now.trees 9) row h.records))
 
 -- a row conflicts by its rowid or by its key
 conflicts_is : (new r : Row) → conflicts None desk_schema.indexes (record_table 9) new r ≡ (agree plain (0 ∷ []) r (0 ∷ []) new || (agree plain (1 ∷ 2 ∷ []) r (1 ∷ 2 ∷ []) new || false))

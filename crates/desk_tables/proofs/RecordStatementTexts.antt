@@ -9,8 +9,12 @@ use Rattle.sqlite.specs.Listing.{understood, reads_listing}
 use Rattle.sqlite.proofs.Callers.{IsPlain, command_of}
 use Rattle.desk_tables.specs.Statements.{program}
 use Rattle.desk_tables.specs.Schema.{desk_schema}
-use Rattle.desk_tables.specs.RecordStatements.{has_record_text, record_rows_text, put_article_text, article_rows_text, record_articles_text, delete_articles_text, put_offer_text, offer_rows_text, delete_offers_text, put_price_text, put_minimum_text, price_rows_text, minimum_rows_text, article_records_text, record_offers_text, offer_prices_text, offer_minimums_text}
+use Rattle.desk_tables.specs.RecordStatements.{add_record_text, has_record_text, record_rows_text, put_article_text, article_rows_text, record_articles_text, delete_articles_text, put_offer_text, offer_rows_text, delete_offers_text, put_price_text, put_minimum_text, price_rows_text, minimum_rows_text, article_records_text, record_offers_text, offer_prices_text, offer_minimums_text}
 use Rattle.desk_tables.specs.RecordStatements.{has_record_query, record_rows_query, article_rows_query, record_articles_query, delete_articles_query, offer_rows_query, delete_offers_query, price_rows_query, minimum_rows_query, article_records_query, record_offers_query, offer_prices_query, offer_minimums_query}
+
+pub add_record_is : (command_of (understood desk_schema add_record_text) ≡ Insert 4 (Values (lit Null ∷ col 0 0 ∷ col 0 1 ∷ []) 3)) × IsPlain (understood desk_schema add_record_text)
+unfolding understood everything
+add_record_is = (refl, (refl, refl))
 
 pub has_record_is : (command_of (understood desk_schema has_record_text) ≡ Select (program has_record_query) (codes "reference" ∷ [])) × (reads_listing desk_schema has_record_text ≡ false) × IsPlain (understood desk_schema has_record_text)
 unfolding understood everything

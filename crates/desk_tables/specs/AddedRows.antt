@@ -3,7 +3,7 @@ use Rattle.std.specs.Prelude.{◌≡◌, ℕ, Bool, true, false, ◌&&◌, ◌==
 use Rattle.std.specs.List.{list_any}
 use Rattle.std.specs.Str.{bytes_eq}
 use Rattle.onix_message.specs.declared.agreement.Agreement.{Agreement}
-use Rattle.desk_tables.specs.RecordRows.{ArticleRow, OfferRow, PriceRow}
+use Rattle.desk_tables.specs.RecordRows.{ArticleRow, OfferRow, PriceRow, RecordRow}
 use Rattle.desk_tables.specs.RecordChanges.{has_record}
 use Rattle.desk_tables.specs.Rows.{DeskRows, HeldRow, AppliedRow, has_parties, is_applied, is_held, is_named}
 
@@ -19,6 +19,9 @@ CanHold row rows = (list_any (is_held row.series row.number) rows.held ≡ false
 
 abbrev pub CanApply : AppliedRow → DeskRows → Type 0
 CanApply row rows = (list_any (is_applied row.series row.number) rows.applied ≡ false) × (has_series row.series rows ≡ true)
+
+abbrev pub CanRecord : RecordRow → DeskRows → Type 0
+CanRecord row rows = (has_record row.series row.reference rows ≡ false) × (has_series row.series rows ≡ true)
 
 abbrev pub is_article_at : List ℕ → List ℕ → ℕ → ArticleRow → Bool
 is_article_at series reference place row = bytes_eq row.series series && (bytes_eq row.reference reference && (row.id_place == place))

@@ -29,6 +29,10 @@ has_record series reference rows = list_any (is_record series reference) rows.re
 abbrev pub with_record : RecordRow → DeskRows → DeskRows
 with_record row rows = if has_record row.series row.reference rows then rows else record rows { records = rows.records ++ row ∷ [] }
 
+-- one more record
+abbrev pub with_new_record : RecordRow → DeskRows → DeskRows
+with_new_record row rows = record rows { records = rows.records ++ row ∷ [] }
+
 abbrev pub with_article : ArticleRow → DeskRows → DeskRows
 with_article row rows = record rows { articles = rows.articles ++ row ∷ [] }
 

@@ -7,6 +7,9 @@ use Rattle.sqlite_sql.specs.Term.{Term, col}
 use Rattle.sqlite_sql.specs.Query.{Query}
 use Rattle.desk_tables.specs.Statements.{over, equals, both}
 
+abbrev pub add_record_text : List ℕ
+add_record_text = codes "INSERT INTO record (series, reference) VALUES (?1, ?2)"
+
 abbrev pub has_record_text : List ℕ
 has_record_text = codes "SELECT reference FROM record WHERE series = ?1 AND reference = ?2"
 

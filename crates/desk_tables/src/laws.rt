@@ -5,19 +5,20 @@ ghost use Rattle.std.specs.List.{list_any};
 ghost use Rattle.sqlite.specs.Effect.{Database, IsDatabase};
 ghost use Rattle.sqlite_rules.specs.Lists.{Has};
 ghost use Rattle.onix_message.specs.declared.agreement.Agreement.{Agreement};
-ghost use Rattle.desk_tables.specs.AddedRows.{CanAgree, CanApply, CanHold, CanIdentify, CanOffer, CanPrice, has_series};
-ghost use Rattle.desk_tables.specs.RecordChanges.{has_record, is_article_of, is_offer_of, with_article, with_offer, with_price, without_articles, without_offers, without_record};
+ghost use Rattle.desk_tables.specs.AddedRows.{CanAgree, CanApply, CanHold, CanIdentify, CanOffer, CanPrice, CanRecord, has_series};
+ghost use Rattle.desk_tables.specs.RecordChanges.{has_record, is_article_of, is_offer_of, with_article, with_new_record, with_offer, with_price, without_articles, without_offers, without_record};
 ghost use Rattle.desk_tables.specs.RecordRows.{ArticleRow, OfferRow, PriceRow, RecordRow};
 ghost use Rattle.desk_tables.specs.Rows.{AppliedRow, DeskRows, HeldRow, Holds, HoldsFirst, with_applied, with_held, with_next, with_series};
 
 /// Tables that hold a row which was added last had no row with its key, and have the row that it
 /// refers to. So a call that adds a row is `Ok` only where its key is free and its parent there;
-/// `put_record` replaces what has its key.
+/// `put_record` leaves a record that is there as it is.
 pub fn added_rows_are_new()
     ensures series { (db : Database) (rows : DeskRows) (a : Agreement) → Holds db (with_series a rows) → CanAgree a rows }
     ensures held { (db : Database) (rows : DeskRows) (row : HeldRow) → Holds db (with_held row rows) → CanHold row rows }
     ensures applied { (db : Database) (rows : DeskRows) (row : AppliedRow) → Holds db (with_applied row rows) → CanApply row rows }
     ensures records { (db : Database) (rows : DeskRows) (row : RecordRow) → Holds db rows → Has rows.records row → has_series row.series rows ≡ true }
+    ensures new_records { (db : Database) (rows : DeskRows) (row : RecordRow) → Holds db (with_new_record row rows) → CanRecord row rows }
     ensures articles { (db : Database) (rows : DeskRows) (row : ArticleRow) → Holds db (with_article row rows) → CanIdentify row rows }
     ensures offers { (db : Database) (rows : DeskRows) (row : OfferRow) → Holds db (with_offer row rows) → CanOffer row rows }
     ensures prices { (db : Database) (rows : DeskRows) (row : PriceRow) → Holds db (with_price row rows) → CanPrice row rows }

@@ -6,7 +6,7 @@ ghost use Rattle.desk_tables.specs.Transactions.{Works, NoAnswer};
 ghost use Rattle.desk_tables.specs.Rows.{unchanged};
 ghost use Rattle.desk_tables.specs.RecordRows.{record_columns};
 ghost use Rattle.desk_tables.specs.RecordAnswers.{two_columns, AreRecordsInOrder};
-ghost use Rattle.desk_tables.specs.RecordChanges.{has_record, with_record, without_record};
+ghost use Rattle.desk_tables.specs.RecordChanges.{has_record, with_new_record, with_record, without_record};
 
 use crate::columns::{name_column, text_column};
 use crate::rows::RecordRow;
@@ -55,6 +55,23 @@ impl<S: Alter> Work<'_, S> {
     {
         match self.run(
             "INSERT INTO record (series, reference) VALUES (?1, ?2) ON CONFLICT DO NOTHING",
+            params![series.as_str(), reference],
+        ) {
+            Ok(_) => Ok(()),
+            Err(fault) => Err(fault),
+        }
+    }
+
+    /// Adds a record. `Unusable` where the series has it, or where no series has that name. It
+    /// costs less than `put_record`, which looks for a row in its way first.
+    pub fn add_record(&mut self, series: &SeriesName, reference: &str) -> Result<(), StoreFault>
+        ensures same_reference { self.new.tables.ghost_name ≡ self.old.tables.ghost_name }
+        ensures untouched { IsTrue self.old.spent → (result ≡ Err StoreFault.Unusable) × (self.new.tables.now ≡ self.old.tables.now) }
+        ensures works { Works NoAnswer (with_new_record (record { series = series.now; reference = reference.now }))
+            (state S.Store self.old.tables.now.connection) (state S.Store self.new.tables.now.connection) self.old.spent self.new.spent result }
+    {
+        match self.run(
+            "INSERT INTO record (series, reference) VALUES (?1, ?2)",
             params![series.as_str(), reference],
         ) {
             Ok(_) => Ok(()),

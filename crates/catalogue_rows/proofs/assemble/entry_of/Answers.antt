@@ -13,7 +13,7 @@ returns-clause-entry c = λ series reference e storable articles details prices.
     c.in_ok-supplies.ensures
     ∙ ap (λ l. gathered 0 [] (zip l c.args.prices.now)) details
     ∙ ap (λ l. gathered 0 [] (zip (detail_rows series reference e.supplies) l)) prices
-    ∙ gathered-back series reference e.supplies storable in
+    ∙ gathered-back series reference e.supplies storable.1 in
     λ i. record { ids = ids i; supplies = supplies i }
 
 pub returns-clause-few : goal.returns-clause-few

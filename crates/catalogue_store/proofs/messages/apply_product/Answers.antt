@@ -1,47 +1,42 @@
-use Rattle.std.proofs.Common.{◌≡◌, Bool, Ok, ap, subst, ◌∙◌}
+use Rattle.std.proofs.Common.{◌≡◌, Bool, List, Option, Ok, ap, subst, sym, ◌∙◌}
 use Rattle.sqlite.specs.Held.{state}
-use Rattle.desk_tables.specs.RecordChanges.{has_record}
-use Rattle.desk_tables.specs.Rows.{DeskRows, unchanged}
+use Rattle.onix_message.specs.declared.parts.ProductIdentifier.{ProductIdentifier}
+use Rattle.desk_tables.specs.Rows.{DeskRows}
 use Rattle.desk_tables.specs.declared.rows.RecordRow.{RecordRow}
 use Rattle.catalogue_rows.specs.EntryRows.{record_row}
-use Rattle.catalogue_store.specs.AchievesLemmas.{achieves_as, achieves_call, achieves_failed, achieves_then}
+use Rattle.catalogue_store.specs.AchievesLemmas.{achieves_as, achieves_failed, achieves_then}
 use Rattle.catalogue_store.specs.AppliedProducts.{IsChanged}
+use Rattle.catalogue_store.specs.ReadRows.{Finds}
 use Rattle.catalogue_store.proofs.ProductLemmas.{product_applied}
 use Rattle.catalogue_store.proofs.messages.apply_product.Goals as goal
 
 pub returns-in-Ok-change_record-clause-achieves : goal.returns-in-Ok-change_record-clause-achieves
 returns-in-Ok-change_record-clause-achieves g c =
     let old = state g.S.Store c.args.work.now.tables.now.connection in
-    let mid = state g.S.Store c.has_record.new.self.tables.now.connection in
+    let mid = state g.S.Store c.find_record.new.work.tables.now.connection in
     let new = state g.S.Store c.change_record.new.work.tables.now.connection in
     let s = c.args.series.now in
     let p = c.args.product.now in
-    let r = c.in-Ok.reference in
-    let row : RecordRow = record { series = s; reference = r } in
-    let known = c.in-Ok-has_record.is_known in
+    let row : RecordRow = record { series = s; reference = c.in-Ok.reference } in
+    let ids = c.as_slice.result.now in
+    let found = c.in-Ok-find_record.found in
     let change = c.change_of-change.result in
-    let Answer : DeskRows → Bool → Type 0 = λ rows b. b ≡ has_record s r rows in
-    let Known : DeskRows → Bool → DeskRows → Type 0 = λ rows b after. Answer rows b × (after ≡ unchanged rows) in
-    let Changed : DeskRows → Unit {0} → DeskRows → Type 0 = λ rows _ after. IsChanged change row p known rows after in
-    let Both : DeskRows → Unit {0} → DeskRows → Type 0 = λ rows _ after. (known ≡ has_record s r rows) × IsChanged change row p known rows after in
+    let Found : DeskRows → Option Bool → DeskRows → Type 0 = λ rows b after. (after ≡ rows) × Finds row ids rows b in
+    let Changed : DeskRows → Unit {0} → DeskRows → Type 0 = λ rows _ after. IsChanged change row p found rows after in
+    let Both : DeskRows → Unit {0} → DeskRows → Type 0 = λ rows _ after. Finds row p.ids rows found × IsChanged change row p found rows after in
     achieves_as Both _ old new tt c.counted.result
-    (achieves_then Known Changed Both old mid new known (Ok tt)
-    (achieves_call Answer unchanged old mid c.args.work.now.spent c.has_record.new.self.spent (Ok known) (rw c.as_str.ensures at c.in-Ok-has_record.ensures.works)) c.in-Ok-change_record.ensures.achieves
-    (λ rows between after b h m n one two. (one.0, subst (λ (x : DeskRows). IsChanged change row p known x after) one.1 two)))
-    (λ rows after h n one. λ m held storable. product_applied s m p row change known c.args.effect c.counted.result rows after (ap (record_row s) c.in-Ok.ensures.text) c.change_of-change.ensures
-    (one.0 ∙ ap (λ t. has_record s t rows) c.in-Ok.ensures.text) one.1 c.counted.ensures.counts held storable)
+    (achieves_then Found Changed Both old mid new found (Ok tt) c.in-Ok-find_record.ensures.achieves c.in-Ok-change_record.ensures.achieves
+    (λ rows between after b h m n one two. (subst (λ (i : List ProductIdentifier). Finds row i rows found) c.as_slice.ensures one.1, subst (λ (x : DeskRows). IsChanged change row p found x after) one.0 two)))
+    (λ rows after h n one. λ m held storable. product_applied s m p row change found c.args.effect c.counted.result rows after (ap (record_row s) c.in-Ok.ensures.text) c.change_of-change.ensures
+    one.0 one.1 (λ was there. c.counted.ensures.counts was (there ∙ sym c.is_some.ensures)) held storable)
 
 pub returns-clause-achieves : goal.returns-clause-achieves
 returns-clause-achieves g c =
     let old = state g.S.Store c.args.work.now.tables.now.connection in
-    let mid = state g.S.Store c.has_record.new.self.tables.now.connection in
+    let mid = state g.S.Store c.find_record.new.work.tables.now.connection in
     let new = state g.S.Store c.change_record.new.work.tables.now.connection in
-    let s = c.args.series.now in
-    let r = c.in-Ok.reference in
-    let row : RecordRow = record { series = s; reference = r } in
-    let known = c.in-Ok-has_record.is_known in
-    let Answer : DeskRows → Bool → Type 0 = λ rows b. b ≡ has_record s r rows in
-    let Known : DeskRows → Bool → DeskRows → Type 0 = λ rows b after. Answer rows b × (after ≡ unchanged rows) in
-    let Changed : DeskRows → Unit {0} → DeskRows → Type 0 = λ rows _ after. IsChanged c.change_of-change.result row c.args.product.now known rows after in
-    achieves_failed Known Changed _ old mid new known c.in-Err-change_record.fault
-    (achieves_call Answer unchanged old mid c.args.work.now.spent c.has_record.new.self.spent (Ok known) (rw c.as_str.ensures at c.in-Ok-has_record.ensures.works)) c.in-Err-change_record.ensures.achieves
+    let row : RecordRow = record { series = c.args.series.now; reference = c.in-Ok.reference } in
+    let found = c.in-Ok-find_record.found in
+    let Found : DeskRows → Option Bool → DeskRows → Type 0 = λ rows b after. (after ≡ rows) × Finds row c.as_slice.result.now rows b in
+    let Changed : DeskRows → Unit {0} → DeskRows → Type 0 = λ rows _ after. IsChanged c.change_of-change.result row c.args.product.now found rows after in
+    achieves_failed Found Changed _ old mid new found c.in-Err-change_record.fault c.in-Ok-find_record.ensures.achieves c.in-Err-change_record.ensures.achieves

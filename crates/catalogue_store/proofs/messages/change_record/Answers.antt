@@ -1,11 +1,8 @@
-use Rattle.std.proofs.Common.{◌≡◌, Option, None, subst, sym}
-use Rattle.std.specs.Option.{is_some}
+use Rattle.std.proofs.Common.{subst, sym}
 use Rattle.sqlite.specs.Held.{state}
 use Rattle.desk_tables.specs.Rows.{DeskRows}
 use Rattle.catalogue_rules.specs.declared.effect.Change.{Change}
-use Rattle.catalogue_rules.specs.declared.effect.Change.TheVariants.{Replace, Update}
-use Rattle.catalogue_rules.specs.declared.entry.Entry.{Entry}
-use Rattle.catalogue_rows.specs.Holding.{Became, HoldsEntry}
+use Rattle.catalogue_rules.specs.declared.effect.Change.TheVariants.{Delete, Replace, Update}
 use Rattle.catalogue_store.specs.AchievesLemmas.{achieves_also, achieves_nothing}
 use Rattle.catalogue_store.specs.AppliedProducts.{IsChanged}
 use Rattle.catalogue_store.proofs.HoldingLemmas.{became_itself}
@@ -17,9 +14,9 @@ returns-in-Replace-clause-achieves g c =
     let new = state g.S.Store c.replace.new.work.tables.now.connection in
     let row = c.args.row.now in
     let p = c.args.product.now in
-    let known = c.args.is_known in
-    let Done : DeskRows → Unit {0} → DeskRows → Type 0 = λ rows _ after. IsChanged Replace row p known rows after in
-    achieves_also Done _ old new c.replace.result c.replace.ensures.achieves (λ rows after a h n one. subst (λ (x : Change). IsChanged x row p known rows after) (sym c.in-Replace.is) one)
+    let found = c.args.found in
+    let Done : DeskRows → Unit {0} → DeskRows → Type 0 = λ rows _ after. IsChanged Replace row p found rows after in
+    achieves_also Done _ old new c.replace.result c.replace.ensures.achieves (λ rows after a h n one. subst (λ (x : Change). IsChanged x row p found rows after) (sym c.in-Replace.is) one)
 
 pub returns-in-Update-clause-achieves : goal.returns-in-Update-clause-achieves
 returns-in-Update-clause-achieves g c =
@@ -27,9 +24,9 @@ returns-in-Update-clause-achieves g c =
     let new = state g.S.Store c.update.new.work.tables.now.connection in
     let row = c.args.row.now in
     let p = c.args.product.now in
-    let known = c.args.is_known in
-    let Done : DeskRows → Unit {0} → DeskRows → Type 0 = λ rows _ after. IsChanged Update row p known rows after in
-    achieves_also Done _ old new c.update.result c.update.ensures.achieves (λ rows after a h n one. subst (λ (x : Change). IsChanged x row p known rows after) (sym c.in-Update.is) one)
+    let found = c.args.found in
+    let Done : DeskRows → Unit {0} → DeskRows → Type 0 = λ rows _ after. IsChanged Update row p found rows after in
+    achieves_also Done _ old new c.update.result c.update.ensures.achieves (λ rows after a h n one. subst (λ (x : Change). IsChanged x row p found rows after) (sym c.in-Update.is) one)
 
 pub returns-in-Delete-clause-achieves : goal.returns-in-Delete-clause-achieves
 returns-in-Delete-clause-achieves g c =
@@ -37,14 +34,14 @@ returns-in-Delete-clause-achieves g c =
     let new = state g.S.Store c.delete.new.work.tables.now.connection in
     let row = c.args.row.now in
     let p = c.args.product.now in
-    let known = c.args.is_known in
-    let Done : DeskRows → Unit {0} → DeskRows → Type 0 = λ rows _ after. (o : Option Entry) → HoldsEntry row.series row.reference o rows → is_some o ≡ known → Became row.series row.reference None rows after in
-    achieves_also Done _ old new c.delete.result c.delete.ensures.achieves (λ rows after a h n one. subst (λ (x : Change). IsChanged x row p known rows after) (sym c.in-Delete.is) (λ o held there storable. one o held there))
+    let found = c.args.found in
+    let Done : DeskRows → Unit {0} → DeskRows → Type 0 = λ rows _ after. IsChanged Delete row p found rows after in
+    achieves_also Done _ old new c.delete.result c.delete.ensures.achieves (λ rows after a h n one. subst (λ (x : Change). IsChanged x row p found rows after) (sym c.in-Delete.is) one)
 
 pub returns-in-Ignore-clause-achieves : goal.returns-in-Ignore-clause-achieves
 returns-in-Ignore-clause-achieves g c =
     let row = c.args.row.now in
     let p = c.args.product.now in
-    let known = c.args.is_known in
+    let found = c.args.found in
     achieves_nothing _ (state g.S.Store c.args.work.now.tables.now.connection) tt
-    (λ rows h. subst (λ (x : Change). IsChanged x row p known rows rows) (sym c.in-Ignore.is) (λ o held there storable. became_itself row.series row.reference o rows held))
+    (λ rows h. subst (λ (x : Change). IsChanged x row p found rows rows) (sym c.in-Ignore.is) (λ o held finds storable. became_itself row.series row.reference o rows held))

@@ -1,4 +1,4 @@
-use Rattle.std.proofs.Common.{Some, None}
+use Rattle.std.proofs.Common.{◌≢◌, [], Some, None}
 use Rattle.sqlite.specs.Held.{state}
 use Rattle.desk_tables.specs.Rows.{DeskRows}
 use Rattle.catalogue_rules.specs.declared.entry.Entry.{Entry}
@@ -17,6 +17,6 @@ returns-clause-achieves g c =
     let r = c.args.row.now.reference in
     let e : Entry = record { ids = c.args.ids.now; supplies = c.args.supplies.now } in
     let Removed : DeskRows → Unit {0} → DeskRows → Type 0 = λ rows _ after. Became s r None rows after in
-    let Written : DeskRows → Unit {0} → DeskRows → Type 0 = λ rows _ after. HoldsEntry s r None rows → AreStorable c.args.supplies.now → Became s r (Some e) rows after in
+    let Written : DeskRows → Unit {0} → DeskRows → Type 0 = λ rows _ after. HoldsEntry s r None rows → c.args.ids.now ≢ [] → AreStorable c.args.supplies.now → Became s r (Some e) rows after in
     achieves_then Removed Written _ old mid new tt c.write_record.result c.in-Ok.ensures.achieves c.write_record.ensures.achieves
-    (λ rows between after b h m n one two. λ storable. became_then s r None (Some e) rows between after one (two one.entry_held storable))
+    (λ rows between after b h m n one two. λ some storable. became_then s r None (Some e) rows between after one (two one.entry_held some storable))

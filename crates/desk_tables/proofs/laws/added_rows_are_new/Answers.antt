@@ -1,4 +1,4 @@
-use Rattle.desk_tables.proofs.AddedKeys.{series_added, held_added, applied_added, record_parent_of, article_added, offer_added, price_added}
+use Rattle.desk_tables.proofs.AddedKeys.{series_added, held_added, applied_added, record_parent_of, record_added, article_added, offer_added, price_added}
 use Rattle.desk_tables.proofs.laws.added_rows_are_new.Goals as goal
 
 pub returns-clause-series : goal.returns-clause-series
@@ -12,6 +12,9 @@ returns-clause-applied c = applied_added
 
 pub returns-clause-records : goal.returns-clause-records
 returns-clause-records c = record_parent_of
+
+pub returns-clause-new_records : goal.returns-clause-new_records
+returns-clause-new_records c = record_added
 
 pub returns-clause-articles : goal.returns-clause-articles
 returns-clause-articles c = article_added

@@ -210,14 +210,16 @@ impl<'a> ConnectionTask for Putting<'a> {
     }
 }
 
-/// The time in which `sqlite` alone puts what a desk has put into the file of this name, in
-/// microseconds. The file is made anew.
-pub fn time_of_bare_rows(rt: &HostRuntime, name: &str) -> anyhow::Result<u64> {
-    let rows = run_over_connection(rt, name, PAGES, &Reading)?;
+/// Prints the time in which `sqlite` alone puts into the file `to` what a desk has put into the file
+/// `from`, in microseconds. The file is made anew.
+pub fn report(rt: &HostRuntime, from: &str, to: &str) -> anyhow::Result<()> {
+    let rows = run_over_connection(rt, from, PAGES, &Reading)?;
     let statements = statements_of(rt.alloc(), &rows)?;
-    remove_both(rt, name)?;
+    remove_both(rt, to)?;
     let putting = Putting {
         statements: statements.as_slice(),
     };
-    run_over_connection(rt, name, PAGES, &putting)
+    let time = run_over_connection(rt, to, PAGES, &putting)?;
+    println!(rt; "{time}")?;
+    Ok(())
 }

@@ -1,9 +1,8 @@
-// Connections and desks over files, each in one function: what owns one whose type is known is dear
-// to prove, so all that is done with it is generic.
+// Connections over files, in one function: what owns one whose type is known is dear to prove, so all
+// that is done with it is generic.
 
-use desk_store::desk::DeskStore;
-use series_rules::desk::Desk;
 use sqlite::{Alter, Connection, Options, Unknown};
+use std::alloc::AllocError;
 use std::fs;
 
 /// How many pages of a file a connection keeps in memory that is opened by its path.
@@ -22,15 +21,6 @@ pub trait ConnectionTask {
     ) -> anyhow::Result<Self::Found>;
 }
 
-/// What is done with a desk.
-pub trait DeskTask {
-    /// What it gives.
-    type Found;
-
-    /// Does it, and lets go of the desk.
-    fn run<D: Desk + Drop>(&self, rt: &HostRuntime, desk: D) -> anyhow::Result<Self::Found>;
-}
-
 // Removes a file, if it is there.
 fn remove(rt: &HostRuntime, name: &str) {
     match fs::remove_file(rt, name) {
@@ -40,7 +30,7 @@ fn remove(rt: &HostRuntime, name: &str) {
 }
 
 /// Removes the file of this name and its log, so that it is made anew.
-pub fn remove_both(rt: &HostRuntime, name: &str) -> anyhow::Result<()> {
+pub fn remove_both(rt: &HostRuntime, name: &str) -> Result<(), AllocError> {
     let log = format!(in rt.alloc(); "{name}-wal")?;
     remove(rt, name);
     remove(rt, log.as_str());
@@ -64,19 +54,5 @@ pub fn run_over_connection<T: ConnectionTask>(
     match Connection::open_files(rt.alloc(), files, options_with(pages)) {
         Ok(connection) => task.run(rt, connection),
         Err((error, _)) => Err(error)?,
-    }
-}
-
-/// Does the task over a desk in the file of this name, with so many pages of it in memory.
-pub fn run_over_desk<T: DeskTask>(
-    rt: &HostRuntime,
-    name: &str,
-    pages: usize,
-    task: &T,
-) -> anyhow::Result<T::Found> {
-    let files = sqlite_std_file::open(rt, name, Unknown)?;
-    match DeskStore::open_files(rt.alloc(), files, options_with(pages)) {
-        Ok(desk) => task.run(rt, desk),
-        Err((fault, _)) => Err(fault)?,
     }
 }

@@ -30,30 +30,171 @@ pub fn series() -> anyhow::Result<SeriesName> {
     given(SeriesName::read("north"))
 }
 
+fn code(text: &str) -> anyhow::Result<Code2> {
+    given(Code2::read(text))
+}
+
 /// The ISBN of a record.
 pub fn isbn(alloc: Global, record: u32) -> anyhow::Result<Isbn13> {
     let text = format!(in alloc; "978{record:010}")?;
     given(Isbn13::read(text.as_str()))
 }
 
-fn reference(alloc: Global, record: u32) -> Result<Text, AllocError> {
-    Ok(Text::from_string(format!(in alloc; "NORTH-{record}")?))
+/// The reference of a record.
+pub fn reference(alloc: Global, record: u32) -> Result<Text, AllocError> {
+    match format!(in alloc; "NORTH-{record}") {
+        Ok(text) => Ok(Text::from_string(text)),
+        Err(error) => Err(error),
+    }
 }
 
 fn party(alloc: Global) -> anyhow::Result<Party> {
-    Ok(Party {
-        id_type: given(Code2::read("06"))?,
-        id_value: Text::from_str(alloc, "4012345000009")?,
-    })
+    let id_type = code("06")?;
+    let id_value = Text::from_str(alloc, "4012345000009")?;
+    Ok(Party { id_type, id_value })
+}
+
+fn market(alloc: Global) -> anyhow::Result<Territory> {
+    match Territory::read(alloc, "GB IE", "", "") {
+        Ok(territory) => Ok(territory),
+        Err(_) => anyhow::bail!("a text is no territory"),
+    }
 }
 
 fn agreement(alloc: Global) -> anyhow::Result<Agreement> {
+    let name = series()?;
+    let first = given(Number::read("1"))?;
+    let sender = party(alloc)?;
     Ok(Agreement {
-        name: series()?,
-        sender: party(alloc)?,
+        name,
+        sender,
         addressee: None,
-        first: given(Number::read("1"))?,
+        first,
     })
+}
+
+// An identifier of no record.
+fn article(alloc: Global) -> anyhow::Result<ArticleRow> {
+    Ok(ArticleRow {
+        series: series()?,
+        reference: Text::new(alloc),
+        id_place: 1,
+        id_type: code("15")?,
+        id_value: Text::new(alloc),
+    })
+}
+
+fn supplier(alloc: Global) -> anyhow::Result<Supplier> {
+    let role = code("04")?;
+    let name = Text::from_str(alloc, "North Books")?;
+    let party = party(alloc)?;
+    Ok(Supplier {
+        role,
+        party: Some(party),
+        name,
+    })
+}
+
+// An offer of no record.
+fn offer(alloc: Global) -> anyhow::Result<OfferRow> {
+    let series = series()?;
+    let availability = code("21")?;
+    let market = market(alloc)?;
+    let supplier = supplier(alloc)?;
+    Ok(OfferRow {
+        series,
+        reference: Text::new(alloc),
+        place: 1,
+        supply: 1,
+        market,
+        supplier,
+        availability,
+        unpriced: None,
+    })
+}
+
+// The price 12.99 from 1 January 2025 on, from so many copies on.
+fn price(alloc: Global, minimum: u32) -> anyhow::Result<Price> {
+    let price_type = code("02")?;
+    let amount = given(Amount::read("12.99"))?;
+    let currency = given(Currency::read("GBP"))?;
+    let minimum = given(Quantity::from_value(minimum))?;
+    let from = given(Day::read("20250101"))?;
+    let territory = market(alloc)?;
+    Ok(Price {
+        price_type,
+        amount,
+        currency,
+        territory,
+        minimum,
+        from: Some(from),
+        until: None,
+    })
+}
+
+/// A price of no record, which holds from so many copies on.
+pub fn price_row(alloc: Global, minimum: u32) -> anyhow::Result<PriceRow> {
+    let series = series()?;
+    let price = price(alloc, minimum)?;
+    Ok(PriceRow {
+        series,
+        reference: Text::new(alloc),
+        place: 1,
+        price_place: 1,
+        price,
+    })
+}
+
+fn put_article<S: Alter>(
+    alloc: Global,
+    work: &mut Work<'_, S>,
+    row: &mut ArticleRow,
+    record: u32,
+) -> anyhow::Result<()> {
+    let isbn = isbn(alloc, record)?;
+    row.reference = reference(alloc, record)?;
+    row.id_value = Text::from_str(alloc, isbn.as_str())?;
+    work.put_record(&row.series, row.reference.as_str())?;
+    work.put_article(row)?;
+    Ok(())
+}
+
+fn put_offer<S: Alter>(
+    alloc: Global,
+    work: &mut Work<'_, S>,
+    row: &mut OfferRow,
+    record: u32,
+) -> anyhow::Result<()> {
+    row.reference = reference(alloc, record)?;
+    work.put_offer(row)?;
+    Ok(())
+}
+
+fn put_records<S: Alter>(
+    alloc: Global,
+    work: &mut Work<'_, S>,
+    article: &mut ArticleRow,
+    offer: &mut OfferRow,
+    records: u32,
+) -> anyhow::Result<()> {
+    for record in 0..records {
+        put_article(alloc, work, article, record)?;
+        put_offer(alloc, work, offer, record)?;
+    }
+    Ok(())
+}
+
+fn put_rows<S: Alter>(alloc: Global, work: &mut Work<'_, S>, records: u32) -> anyhow::Result<()> {
+    let mut article = article(alloc)?;
+    let mut offer = offer(alloc)?;
+    put_records(alloc, work, &mut article, &mut offer, records)
+}
+
+fn put_series<S: Alter>(alloc: Global, work: &mut Work<'_, S>) -> anyhow::Result<()> {
+    let agreement = agreement(alloc)?;
+    work.create()?;
+    work.put_series(&agreement)?;
+    Ok(())
 }
 
 /// Makes the tables, with so many records, each with an identifier and an offer.
@@ -62,106 +203,9 @@ pub fn put_catalogue<S: Alter>(
     tables: &mut Tables<S>,
     records: u32,
 ) -> anyhow::Result<()> {
-    let agreement = agreement(alloc)?;
     let mut work = tables.work()?;
-    work.create()?;
-    work.put_series(&agreement)?;
-    for record in 0..records {
-        put_record(alloc, &mut work, record)?;
-    }
+    put_series(alloc, &mut work)?;
+    put_rows(alloc, &mut work, records)?;
     work.commit()?;
     Ok(())
-}
-
-fn article(alloc: Global, record: u32) -> anyhow::Result<ArticleRow> {
-    Ok(ArticleRow {
-        series: series()?,
-        reference: reference(alloc, record)?,
-        id_place: 1,
-        id_type: given(Code2::read("15"))?,
-        id_value: Text::from_str(alloc, isbn(alloc, record)?.as_str())?,
-    })
-}
-
-fn supplier(alloc: Global) -> anyhow::Result<Supplier> {
-    Ok(Supplier {
-        role: given(Code2::read("04"))?,
-        party: Some(party(alloc)?),
-        name: Text::from_str(alloc, "North Books")?,
-    })
-}
-
-fn offer(alloc: Global, record: u32) -> anyhow::Result<OfferRow> {
-    Ok(OfferRow {
-        series: series()?,
-        reference: reference(alloc, record)?,
-        place: 1,
-        supply: 1,
-        market: given(Territory::read(alloc, "GB IE", "", "").ok())?,
-        supplier: supplier(alloc)?,
-        availability: given(Code2::read("21"))?,
-        unpriced: None,
-    })
-}
-
-// The price 12.99 from 1 January 2025 on, from so many copies on.
-fn price(alloc: Global, minimum: u32) -> anyhow::Result<Price> {
-    Ok(Price {
-        price_type: given(Code2::read("02"))?,
-        amount: given(Amount::read("12.99"))?,
-        currency: given(Currency::read("GBP"))?,
-        territory: given(Territory::read(alloc, "GB IE", "", "").ok())?,
-        minimum: given(Quantity::from_value(minimum))?,
-        from: given(Day::read("20250101")).map(Some)?,
-        until: None,
-    })
-}
-
-fn price_row(alloc: Global, record: u32, place: u32, minimum: u32) -> anyhow::Result<PriceRow> {
-    Ok(PriceRow {
-        series: series()?,
-        reference: reference(alloc, record)?,
-        place: 1,
-        price_place: place,
-        price: price(alloc, minimum)?,
-    })
-}
-
-/// Four prices of each of so many records, which hold from so many copies on.
-pub fn price_rows(alloc: Global, records: u32, minimum: u32) -> anyhow::Result<Vec<PriceRow>> {
-    let mut rows = Vec::new(alloc);
-    for record in 0..records {
-        for place in 1..5u32 {
-            rows.push(price_row(alloc, record, place, minimum)?)?;
-        }
-    }
-    Ok(rows)
-}
-
-fn put_name<S: Alter>(alloc: Global, work: &mut Work<'_, S>, record: u32) -> anyhow::Result<()> {
-    let name = series()?;
-    let reference = reference(alloc, record)?;
-    let put = work.put_record(&name, reference.as_str());
-    drop(reference);
-    Ok(put?)
-}
-
-fn put_article<S: Alter>(alloc: Global, work: &mut Work<'_, S>, record: u32) -> anyhow::Result<()> {
-    let row = article(alloc, record)?;
-    let put = work.put_article(&row);
-    drop(row);
-    Ok(put?)
-}
-
-fn put_offer<S: Alter>(alloc: Global, work: &mut Work<'_, S>, record: u32) -> anyhow::Result<()> {
-    let row = offer(alloc, record)?;
-    let put = work.put_offer(&row);
-    drop(row);
-    Ok(put?)
-}
-
-fn put_record<S: Alter>(alloc: Global, work: &mut Work<'_, S>, record: u32) -> anyhow::Result<()> {
-    put_name(alloc, work, record)?;
-    put_article(alloc, work, record)?;
-    put_offer(alloc, work, record)
 }

@@ -2,10 +2,12 @@
 // a series, and the offers of an article.
 
 use crate::stores::{ConnectionTask, PAGES, remove_both, run_over_connection};
-use crate::table_rows::{isbn, price_rows, put_catalogue, series};
+use crate::table_rows::{isbn, price_row, put_catalogue, reference, series};
 use crate::times::{print_ratio, used};
 use desk_tables::rows::PriceRow;
 use desk_tables::tables::Tables;
+use desk_tables::work::Work;
+use onix_message::agreement::StoreFault;
 use onix_terms::isbn13::Isbn13;
 use sqlite::{Alter, Connection, Error, params};
 use std::alloc::Global;
@@ -30,11 +32,36 @@ enum Measure {
     Questions,
 }
 
-fn put_prices<S: Alter>(tables: &mut Tables<S>, rows: &[PriceRow]) -> anyhow::Result<()> {
-    let mut work = tables.work()?;
-    for row in rows {
+// Puts the prices of a record, by one row whose places change.
+fn put_each<S: Alter>(work: &mut Work<'_, S>, row: &mut PriceRow) -> Result<(), StoreFault> {
+    for place in 1..5u32 {
+        row.price_place = place;
         work.put_price(row)?;
     }
+    Ok(())
+}
+
+fn put_rows<S: Alter>(
+    alloc: Global,
+    work: &mut Work<'_, S>,
+    row: &mut PriceRow,
+    records: u32,
+) -> anyhow::Result<()> {
+    for record in 0..records {
+        row.reference = reference(alloc, record)?;
+        put_each(work, row)?;
+    }
+    Ok(())
+}
+
+fn put_prices<S: Alter>(
+    alloc: Global,
+    tables: &mut Tables<S>,
+    row: &mut PriceRow,
+    records: u32,
+) -> anyhow::Result<()> {
+    let mut work = tables.work()?;
+    put_rows(alloc, &mut work, row, records)?;
     work.commit()?;
     Ok(())
 }
@@ -61,35 +88,37 @@ fn insert_price<S: Alter>(connection: &mut Connection<S>, row: &PriceRow) -> Res
     Ok(())
 }
 
-fn insert_prices<S: Alter>(connection: &mut Connection<S>, rows: &[PriceRow]) -> Result<(), Error> {
-    connection.execute("BEGIN", &[])?;
-    for row in rows {
+fn insert_each<S: Alter>(connection: &mut Connection<S>, row: &mut PriceRow) -> Result<(), Error> {
+    for place in 1..5u32 {
+        row.price_place = place;
         insert_price(connection, row)?;
     }
-    connection.execute("COMMIT", &[])?;
     Ok(())
 }
 
-fn timed_work<S: Alter>(
-    rt: &HostRuntime,
-    tables: &mut Tables<S>,
-    rows: &[PriceRow],
-) -> anyhow::Result<u64> {
-    let start = used(rt)?;
-    put_prices(tables, rows)?;
-    let end = used(rt)?;
-    Ok(end.saturating_sub(start))
+fn insert_rows<S: Alter>(
+    alloc: Global,
+    connection: &mut Connection<S>,
+    row: &mut PriceRow,
+    records: u32,
+) -> anyhow::Result<()> {
+    for record in 0..records {
+        row.reference = reference(alloc, record)?;
+        insert_each(connection, row)?;
+    }
+    Ok(())
 }
 
-fn timed_sqlite<S: Alter>(
-    rt: &HostRuntime,
+fn insert_prices<S: Alter>(
+    alloc: Global,
     connection: &mut Connection<S>,
-    rows: &[PriceRow],
-) -> anyhow::Result<u64> {
-    let start = used(rt)?;
-    insert_prices(connection, rows)?;
-    let end = used(rt)?;
-    Ok(end.saturating_sub(start))
+    row: &mut PriceRow,
+    records: u32,
+) -> anyhow::Result<()> {
+    connection.execute("BEGIN", &[])?;
+    insert_rows(alloc, connection, row, records)?;
+    connection.execute("COMMIT", &[])?;
+    Ok(())
 }
 
 fn listed<S: Alter>(tables: &mut Tables<S>) -> anyhow::Result<usize> {
@@ -99,17 +128,16 @@ fn listed<S: Alter>(tables: &mut Tables<S>) -> anyhow::Result<usize> {
     Ok(rows.len())
 }
 
-// The least time of three listings.
+// The least time of three listings of so many prices.
 fn timed_listing<S: Alter>(
     rt: &HostRuntime,
     tables: &mut Tables<S>,
-    rows: &[PriceRow],
+    prices: usize,
 ) -> anyhow::Result<u64> {
-    put_prices(tables, rows)?;
     let mut least = u64::MAX;
     for _ in 0..3u32 {
         let start = used(rt)?;
-        if listed(tables)? != rows.len() {
+        if listed(tables)? != prices {
             anyhow::bail!("a price was not listed");
         }
         let end = used(rt)?;
@@ -155,32 +183,53 @@ fn timed_questions<S: Alter>(
     Ok(least)
 }
 
+// The time of putting four prices of each of so many records.
+fn time_of_work<S: Alter>(
+    rt: &HostRuntime,
+    tables: &mut Tables<S>,
+    records: u32,
+    minimum: u32,
+) -> anyhow::Result<u64> {
+    let start = used(rt)?;
+    let mut row = price_row(rt.alloc(), minimum)?;
+    put_prices(rt.alloc(), tables, &mut row, records)?;
+    drop(row);
+    let end = used(rt)?;
+    Ok(end.saturating_sub(start))
+}
+
 // The time by `sqlite` alone.
 fn time_of_sqlite<S: Alter + Drop>(
     rt: &HostRuntime,
     tables: Tables<S>,
-    rows: &[PriceRow],
-) -> anyhow::Result<u64> {
-    let mut connection = tables.into_connection();
-    let time = timed_sqlite(rt, &mut connection, rows);
-    drop(connection);
-    time
-}
-
-fn time_by<S: Alter>(
-    rt: &HostRuntime,
-    tables: &mut Tables<S>,
-    measure: Measure,
     records: u32,
 ) -> anyhow::Result<u64> {
-    let alloc = rt.alloc();
-    match measure {
-        Measure::Work | Measure::Sqlite => {
-            timed_work(rt, tables, price_rows(alloc, records, 1)?.as_slice())
-        }
-        Measure::Listing => timed_listing(rt, tables, price_rows(alloc, records, 10)?.as_slice()),
-        Measure::Questions => timed_questions(rt, tables, isbns(alloc, records)?.as_slice()),
-    }
+    let mut connection = tables.into_connection();
+    let start = used(rt)?;
+    let mut row = price_row(rt.alloc(), 1)?;
+    insert_prices(rt.alloc(), &mut connection, &mut row, records)?;
+    drop(row);
+    let end = used(rt)?;
+    drop(connection);
+    Ok(end.saturating_sub(start))
+}
+
+fn time_of_listing<S: Alter>(
+    rt: &HostRuntime,
+    tables: &mut Tables<S>,
+    records: u32,
+) -> anyhow::Result<u64> {
+    time_of_work(rt, tables, records, 10)?;
+    timed_listing(rt, tables, records as usize * 4)
+}
+
+fn time_of_questions<S: Alter>(
+    rt: &HostRuntime,
+    tables: &mut Tables<S>,
+    records: u32,
+) -> anyhow::Result<u64> {
+    let isbns = isbns(rt.alloc(), records)?;
+    timed_questions(rt, tables, isbns.as_slice())
 }
 
 // The time that is measured in these tables, which are empty.
@@ -190,23 +239,13 @@ fn time_over<S: Alter + Drop>(
     measure: Measure,
     records: u32,
 ) -> anyhow::Result<u64> {
-    if let Err(error) = put_catalogue(rt.alloc(), &mut tables, records) {
-        drop(tables);
-        return Err(error);
+    put_catalogue(rt.alloc(), &mut tables, records)?;
+    match measure {
+        Measure::Work => time_of_work(rt, &mut tables, records, 1),
+        Measure::Sqlite => time_of_sqlite(rt, tables, records),
+        Measure::Listing => time_of_listing(rt, &mut tables, records),
+        Measure::Questions => time_of_questions(rt, &mut tables, records),
     }
-    if let Measure::Sqlite = measure {
-        let rows = price_rows(rt.alloc(), records, 1);
-        return match rows {
-            Ok(rows) => time_of_sqlite(rt, tables, rows.as_slice()),
-            Err(error) => {
-                drop(tables);
-                Err(error)
-            }
-        };
-    }
-    let time = time_by(rt, &mut tables, measure, records);
-    drop(tables);
-    time
 }
 
 // A measure in tables of so many records.

@@ -68,6 +68,7 @@ fn change_series<S: Alter>(work: &mut Work<'_, S>, words: Words<'_>) -> Result<(
         "put_applied" => put_applied(work, words),
         "set_next" => work.set_next(&series, whole(words[2])?),
         "put_record" => work.put_record(&series, words[2]),
+        "add_record" => work.add_record(&series, words[2]),
         "delete_articles" => work.delete_articles(&series, words[2]),
         "delete_offers" => work.delete_offers(&series, words[2]),
         "delete_record" => work.delete_record(&series, words[2]),

@@ -29,6 +29,9 @@ put_record north R1
 record_rows: R1;
 has_record R1: true
 has_record R2: false
+add_record north R2
+has_record R2: true
+delete_record north R2
 put_article R1 1 15
 put_article R1 2 03
 put_article R1 3 01

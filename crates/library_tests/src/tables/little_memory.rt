@@ -18,7 +18,7 @@ use std::process::Abort;
 use std::test::Fail;
 
 // The calls in their order, each in a transaction of its own, with the counts after it.
-const CALLS: [(&str, [usize; 8]); 15] = [
+const CALLS: [(&str, [usize; 8]); 16] = [
     (PUT_SAMPLE, [1, 1, 1, 1, 1, 1, 1, 2]),
     (SAMPLE, [1, 1, 1, 1, 1, 1, 1, 2]),
     ("put_series south 1", [2, 1, 1, 1, 1, 1, 1, 2]),
@@ -33,7 +33,8 @@ const CALLS: [(&str, [usize; 8]); 15] = [
     ("delete_articles north R2", [2, 7, 1, 2, 2, 1, 2, 3]),
     ("delete_offers north R2", [2, 7, 1, 2, 2, 1, 1, 3]),
     ("put_record north R2", [2, 7, 1, 2, 2, 1, 1, 3]),
-    ("delete_record north R1", [2, 7, 1, 2, 1, 0, 0, 0]),
+    ("add_record north R3", [2, 7, 1, 2, 3, 1, 1, 3]),
+    ("delete_record north R1", [2, 7, 1, 2, 2, 0, 0, 0]),
 ];
 
 fn count<T: Drop>(rows: Vec<T>) -> usize {

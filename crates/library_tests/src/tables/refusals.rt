@@ -20,6 +20,8 @@ put_applied west 1 1 2 3 4 5: unusable
 create: unusable
 migrate: unusable
 put_record west R1: unusable
+add_record north R1: unusable
+add_record west R1: unusable
 put_article R1 1 03: unusable
 put_article R2 1 03: unusable
 put_offer R1 1: unusable

@@ -1,10 +1,10 @@
 // The rows that are put into tables: of each record an identifier, an offer and some prices.
 
-use desk_tables::rows::{ArticleRow, OfferRow, PriceRow};
+use desk_rows::rows::{ArticleRow, OfferRow, PriceRow};
 use desk_tables::tables::Tables;
 use desk_tables::work::Work;
 use onix_message::agreement::Agreement;
-use onix_message::parts::{Price, Supplier};
+use onix_rows::parts::{Price, Supplier};
 use onix_terms::amount::Amount;
 use onix_terms::code::{Code2, Currency};
 use onix_terms::day::Day;

@@ -4,7 +4,7 @@
 use crate::stores::{ConnectionTask, PAGES, remove_both, run_over_connection};
 use crate::table_rows::{isbn, price_row, put_catalogue, reference, series};
 use crate::times::{print_ratio, used};
-use desk_tables::rows::PriceRow;
+use desk_rows::rows::PriceRow;
 use desk_tables::tables::Tables;
 use desk_tables::work::Work;
 use onix_message::agreement::StoreFault;

@@ -5,9 +5,8 @@ use crate::texts::messages;
 use crate::times::{print_ratio, used};
 use csv::{ByteRecord, ReaderBuilder, WriterBuilder};
 use csv_records::buffer::RecordBuffer;
-use onix_message::contents::write_contents;
+use onix_message::contents::{Contents, write_contents};
 use onix_message::message::read_message;
-use onix_message::parts::Contents;
 use std::alloc::Global;
 
 fn contents_in(alloc: Global, piece: &RecordBuffer) -> anyhow::Result<Contents> {

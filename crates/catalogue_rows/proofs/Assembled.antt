@@ -9,12 +9,12 @@ use Rattle.std.proofs.lemmas.List.Elements.{recursion_from_All}
 use Rattle.std.proofs.lemmas.List.Sums.{sum_by-append, sum_by-cons}
 use Rattle.sqlite_trees.proofs.ListLemmas.{all_weaker}
 use Rattle.onix_message.specs.DetailCount.{detail_count}
-use Rattle.onix_message.specs.declared.parts.Price.{Price}
-use Rattle.onix_message.specs.declared.parts.ProductIdentifier.{ProductIdentifier}
-use Rattle.onix_message.specs.declared.parts.ProductSupply.{ProductSupply}
-use Rattle.onix_message.specs.declared.parts.SupplyDetail.{SupplyDetail}
+use Rattle.onix_rows.specs.declared.parts.Price.{Price}
+use Rattle.onix_rows.specs.declared.parts.ProductIdentifier.{ProductIdentifier}
+use Rattle.onix_rows.specs.declared.parts.ProductSupply.{ProductSupply}
+use Rattle.onix_rows.specs.declared.parts.SupplyDetail.{SupplyDetail}
 use Rattle.onix_terms.specs.declared.territory.Territory.{Territory}
-use Rattle.desk_tables.specs.declared.rows.OfferRow as typed
+use Rattle.desk_rows.specs.declared.rows.OfferRow as typed
 use Rattle.catalogue_rows.specs.Assembly.{detail_of, gathered, identifier_of, joined, supply_of}
 use Rattle.catalogue_rows.specs.EntryRows.{SuppliedDetail, article_row, article_rows, detail_row, detail_rows, numbered_details, supplied_details}
 use Rattle.catalogue_rows.specs.Storable.{AreStorable, IsStorableSupply}

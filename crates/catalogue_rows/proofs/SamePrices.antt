@@ -5,9 +5,9 @@ use Rattle.std.specs.List.{enumerate_from, flat_map}
 use Rattle.std.proofs.lemmas.Bool.{eqb-true}
 use Rattle.std.proofs.lemmas.List.{drop_all, drop_more, drop_at, length-map, map-append, take-append-drop, take_at, take_rest}
 use Rattle.sqlite_trees.proofs.ListLemmas.{map-map}
-use Rattle.onix_message.specs.declared.parts.Price.{Price}
-use Rattle.onix_message.specs.declared.parts.ProductSupply.{ProductSupply}
-use Rattle.onix_message.specs.declared.parts.SupplyDetail.{SupplyDetail}
+use Rattle.onix_rows.specs.declared.parts.Price.{Price}
+use Rattle.onix_rows.specs.declared.parts.ProductSupply.{ProductSupply}
+use Rattle.onix_rows.specs.declared.parts.SupplyDetail.{SupplyDetail}
 use Rattle.catalogue_rows.specs.EntryRows.{SuppliedDetail, numbered_details, supplied_details}
 
 abbrev pub own_prices : ProductSupply → List (List Price)

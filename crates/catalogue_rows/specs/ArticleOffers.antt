@@ -3,8 +3,8 @@ use Rattle.std.specs.Prelude.{◌≡◌, ℕ, List}
 use Rattle.std.specs.FinMap.{entries}
 use Rattle.std.specs.List.{flat_map}
 use Rattle.catalogue_rules.specs.Offers.{offers_in}
-use Rattle.desk_tables.specs.ArticleAnswers.{AreOffersOfArticle}
-use Rattle.desk_tables.specs.Rows.{DeskRows}
+use Rattle.desk_rows.specs.ArticleAnswers.{AreOffersOfArticle}
+use Rattle.desk_rows.specs.Rows.{DeskRows}
 use Rattle.price_rules.specs.declared.offer.Offer.{Offer}
 use Rattle.catalogue_rows.specs.Holding.{ByName, HoldsCatalogues}
 

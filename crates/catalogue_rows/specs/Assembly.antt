@@ -1,11 +1,11 @@
 -- The entry that rows give: its identifiers, and its supplies, gathered of one SupplyDetail after the other.
 use Rattle.std.specs.Prelude.{◌==◌, ℕ, List, [], ◌∷◌, ◌++◌, if◌then◌else◌}
-use Rattle.onix_message.specs.declared.parts.Price.{Price}
-use Rattle.onix_message.specs.declared.parts.ProductIdentifier.{ProductIdentifier}
-use Rattle.onix_message.specs.declared.parts.ProductSupply.{ProductSupply}
-use Rattle.onix_message.specs.declared.parts.SupplyDetail.{SupplyDetail}
-use Rattle.desk_tables.specs.declared.rows.ArticleRow.{ArticleRow}
-use Rattle.desk_tables.specs.declared.rows.OfferRow as typed
+use Rattle.onix_rows.specs.declared.parts.Price.{Price}
+use Rattle.onix_rows.specs.declared.parts.ProductIdentifier.{ProductIdentifier}
+use Rattle.onix_rows.specs.declared.parts.ProductSupply.{ProductSupply}
+use Rattle.onix_rows.specs.declared.parts.SupplyDetail.{SupplyDetail}
+use Rattle.desk_rows.specs.declared.rows.ArticleRow.{ArticleRow}
+use Rattle.desk_rows.specs.declared.rows.OfferRow as typed
 
 abbrev pub identifier_of : ArticleRow → ProductIdentifier
 identifier_of row = record { id_type = row.id_type; id_value = row.id_value }

@@ -1,16 +1,16 @@
 -- The rows of an entry: each identifier, SupplyDetail and price of a record at its place.
 use Rattle.std.specs.Prelude.{ℕ, nat_lt, Bool, List, [], ◌∷◌, map, Option, Some, None}
 use Rattle.std.specs.List.{enumerate_from, flat_map}
-use Rattle.onix_message.specs.declared.parts.ProductIdentifier.{ProductIdentifier}
-use Rattle.onix_message.specs.declared.parts.ProductSupply.{ProductSupply}
-use Rattle.onix_message.specs.declared.parts.SupplyDetail.{SupplyDetail}
-use Rattle.onix_message.specs.declared.parts.Price.{Price}
+use Rattle.onix_rows.specs.declared.parts.ProductIdentifier.{ProductIdentifier}
+use Rattle.onix_rows.specs.declared.parts.ProductSupply.{ProductSupply}
+use Rattle.onix_rows.specs.declared.parts.SupplyDetail.{SupplyDetail}
+use Rattle.onix_rows.specs.declared.parts.Price.{Price}
 use Rattle.onix_terms.specs.declared.territory.Territory.{Territory}
 use Rattle.catalogue_rules.specs.declared.entry.Entry.{Entry}
-use Rattle.desk_tables.specs.declared.rows.OfferRow as typed
-use Rattle.desk_tables.specs.declared.rows.PriceRow as typed_price
-use Rattle.desk_tables.specs.declared.rows.RecordRow.{RecordRow}
-use Rattle.desk_tables.specs.declared.rows.ArticleRow.{ArticleRow}
+use Rattle.desk_rows.specs.declared.rows.OfferRow as typed
+use Rattle.desk_rows.specs.declared.rows.PriceRow as typed_price
+use Rattle.desk_rows.specs.declared.rows.RecordRow.{RecordRow}
+use Rattle.desk_rows.specs.declared.rows.ArticleRow.{ArticleRow}
 
 abbrev pub record_row : List ℕ → List ℕ → RecordRow
 record_row series reference = record { series = series; reference = reference }

@@ -5,15 +5,15 @@ use Rattle.std.specs.FinMap.{FinMap}
 use Rattle.std.specs.Cmp.Lexicographic.{slice_cmp}
 use Rattle.std.specs.List.Sorted.{IsPermutation}
 use Rattle.std.specs.Ordering.{nat_cmp}
-use Rattle.onix_message.specs.declared.parts.Product.{Product}
+use Rattle.onix_rows.specs.declared.parts.Product.{Product}
 use Rattle.catalogue_rules.specs.Effects.{after, effect_of}
 use Rattle.catalogue_rules.specs.Records.{ByReference}
 use Rattle.catalogue_rules.specs.declared.effect.Effect.{Effect}
 use Rattle.catalogue_rules.specs.declared.entry.Entry.{Entry}
-use Rattle.desk_tables.specs.RecordChanges.{is_record, is_article_of, is_offer_of, is_price_of, is_minimum_of, without_record}
-use Rattle.desk_tables.specs.RecordAnswers.{is_record_in, is_article_in, is_offer_in, is_price_in, is_minimum_in}
-use Rattle.desk_tables.specs.RecordRows.{offer_row, price_row, minimum_row}
-use Rattle.desk_tables.specs.Rows.{DeskRows}
+use Rattle.desk_rows.specs.RecordChanges.{is_record, is_article_of, is_offer_of, is_price_of, is_minimum_of, without_record}
+use Rattle.desk_rows.specs.RecordAnswers.{is_record_in, is_article_in, is_offer_in, is_price_in, is_minimum_in}
+use Rattle.desk_rows.specs.RecordRows.{offer_row, price_row, minimum_row}
+use Rattle.desk_rows.specs.Rows.{DeskRows}
 use Rattle.catalogue_rows.specs.EntryRows.{record_rows_of, article_rows, detail_rows, price_rows_of, has_minimum, ids_of, supplies_of}
 use Rattle.catalogue_rows.specs.Storable.{IsStorable}
 

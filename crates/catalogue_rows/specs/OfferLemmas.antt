@@ -20,10 +20,10 @@ use Rattle.sqlite_trees.proofs.ListLemmas.{all-filter, all-flat_map, all-map, al
 use Rattle.catalogue_rules.specs.Offers.{entry_offers, has_article, is_article, offers_in}
 use Rattle.catalogue_rules.specs.Records.{ByReference}
 use Rattle.catalogue_rules.specs.declared.entry.Entry.{Entry}
-use Rattle.desk_tables.specs.ArticleAnswers.{AreOffersInTurn, AreOffersOfArticle, AreRecordsOf, record_cmp}
-use Rattle.desk_tables.specs.RecordChanges.{is_record}
-use Rattle.desk_tables.specs.Rows.{DeskRows}
-use Rattle.desk_tables.specs.declared.rows.RecordRow.{RecordRow}
+use Rattle.desk_rows.specs.ArticleAnswers.{AreOffersInTurn, AreOffersOfArticle, AreRecordsOf, record_cmp}
+use Rattle.desk_rows.specs.RecordChanges.{is_record}
+use Rattle.desk_rows.specs.Rows.{DeskRows}
+use Rattle.desk_rows.specs.declared.rows.RecordRow.{RecordRow}
 use Rattle.price_rules.specs.declared.offer.Offer.{Offer}
 use Rattle.catalogue_rows.specs.ArticleLemmas.{Record, any-filtered, held_any, held_in_turn, offers-listed, records_with}
 use Rattle.catalogue_rows.specs.ArticleOffers.{HeldOffersAreAnswered}

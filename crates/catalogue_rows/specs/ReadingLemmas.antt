@@ -12,12 +12,12 @@ use Rattle.onix_terms.specs.Territory.{territory_of, countries_text, world_text}
 use Rattle.onix_terms.specs.declared.party.Party.{Party}
 use Rattle.onix_terms.specs.declared.territory.Territory.{Territory}
 use Rattle.onix_terms.proofs.TerritoryTexts.{territory-back}
-use Rattle.desk_tables.specs.RecordReadings.{bool_in, code_of, day_in, party_of, read_offer, read_price}
-use Rattle.desk_tables.specs.RecordRows.{bit, minimum_row, offer_columns, offer_row, party_type, party_value, price_columns, price_row}
-use Rattle.desk_tables.specs.Rows.{IsAddressee}
-use Rattle.desk_tables.specs.declared.rows.MinimumRow.{MinimumRow}
-use Rattle.desk_tables.specs.declared.rows.OfferRow as typed
-use Rattle.desk_tables.specs.declared.rows.PriceRow as typed_price
+use Rattle.desk_rows.specs.RecordReadings.{bool_in, code_of, day_in, party_of, read_offer, read_price}
+use Rattle.desk_rows.specs.RecordRows.{bit, minimum_row, offer_columns, offer_row, party_type, party_value, price_columns, price_row}
+use Rattle.desk_rows.specs.Rows.{IsAddressee}
+use Rattle.desk_rows.specs.declared.rows.MinimumRow.{MinimumRow}
+use Rattle.desk_rows.specs.declared.rows.OfferRow as typed
+use Rattle.desk_rows.specs.declared.rows.PriceRow as typed_price
 use Rattle.catalogue_rows.specs.EntryRows.{has_minimum}
 use Rattle.catalogue_rows.specs.Storable.{IsWritten}
 

@@ -3,12 +3,12 @@ use Rattle.std.specs.Prelude.{◌≡◌, ◌≢◌, ◌≤◌, ℕ, List, [], Al
 use Rattle.onix_terms.specs.Territory.{territory_of}
 use Rattle.onix_terms.specs.declared.territory.Territory.{Territory}
 use Rattle.onix_message.specs.DetailCount.{detail_count}
-use Rattle.onix_message.specs.declared.parts.Price.{Price}
-use Rattle.onix_message.specs.declared.parts.Product.{Product}
-use Rattle.onix_message.specs.declared.parts.ProductSupply.{ProductSupply}
-use Rattle.onix_message.specs.declared.parts.SupplyDetail.{SupplyDetail}
+use Rattle.onix_rows.specs.declared.parts.Price.{Price}
+use Rattle.onix_rows.specs.declared.parts.Product.{Product}
+use Rattle.onix_rows.specs.declared.parts.ProductSupply.{ProductSupply}
+use Rattle.onix_rows.specs.declared.parts.SupplyDetail.{SupplyDetail}
 use Rattle.catalogue_rules.specs.declared.entry.Entry.{Entry}
-use Rattle.desk_tables.specs.Rows.{IsAddressee}
+use Rattle.desk_rows.specs.Rows.{IsAddressee}
 
 -- some fields write the territory
 abbrev pub IsWritten : Territory → Type 0

@@ -16,28 +16,28 @@ use Rattle.onix_message.proofs.DetailCounts.{details-within}
 use Rattle.onix_message.proofs.FrontRows.{bind-some}
 use Rattle.onix_message.proofs.Fronts.{cons-parts, reads-length}
 use Rattle.onix_message.specs.ContentsText.{IsContents}
-use Rattle.onix_message.specs.Detail.{detail_of, supplier_name}
+use Rattle.onix_rows.specs.Detail.{detail_of, supplier_name}
 use Rattle.onix_message.specs.DetailCount.{detail_count}
-use Rattle.onix_message.specs.Fields.{is_clean, optional, optional_party, or_default, party_of}
+use Rattle.onix_rows.specs.Fields.{is_clean, optional, optional_party, or_default, party_of}
 use Rattle.onix_message.specs.Grammar.{IsMessage}
-use Rattle.onix_message.specs.Opening.{opening_fields}
+use Rattle.onix_rows.specs.Opening.{opening_fields}
 use Rattle.onix_message.specs.PartRows.{HasDetails, SuppliesHaveDetails, content_rows, detail_rows, product_rows, rows_after, supply_rows}
-use Rattle.onix_message.specs.Price.{minimum_of, price_from, price_of}
-use Rattle.onix_message.specs.Product.{identifier_of, pairs_of, product_of}
-use Rattle.onix_message.specs.Row.{end_of, message_row, named_row, row_of}
-use Rattle.onix_message.specs.Supply.{supply_of}
-use Rattle.onix_message.specs.declared.parts.Header.{Header}
-use Rattle.onix_message.specs.declared.parts.Price.{Price}
-use Rattle.onix_message.specs.declared.parts.Product.{Product}
-use Rattle.onix_message.specs.declared.parts.ProductIdentifier.{ProductIdentifier}
-use Rattle.onix_message.specs.declared.parts.ProductSupply.{ProductSupply}
-use Rattle.onix_message.specs.declared.parts.SupplyDetail.{SupplyDetail}
-use Rattle.onix_message.specs.declared.row.Form.{Form}
-use Rattle.onix_message.specs.declared.row.Form.TheVariants as form
-use Rattle.onix_message.specs.declared.row.Opening.{Opening}
-use Rattle.onix_message.specs.declared.row.Row.{Row}
-use Rattle.onix_message.specs.declared.row.Row.TheVariants as row
-use Rattle.desk_tables.specs.Rows.{IsAddressee}
+use Rattle.onix_rows.specs.Price.{minimum_of, price_from, price_of}
+use Rattle.onix_rows.specs.Product.{identifier_of, pairs_of, product_of}
+use Rattle.onix_rows.specs.Row.{end_of, message_row, named_row, row_of}
+use Rattle.onix_rows.specs.Supply.{supply_of}
+use Rattle.onix_rows.specs.declared.parts.Header.{Header}
+use Rattle.onix_rows.specs.declared.parts.Price.{Price}
+use Rattle.onix_rows.specs.declared.parts.Product.{Product}
+use Rattle.onix_rows.specs.declared.parts.ProductIdentifier.{ProductIdentifier}
+use Rattle.onix_rows.specs.declared.parts.ProductSupply.{ProductSupply}
+use Rattle.onix_rows.specs.declared.parts.SupplyDetail.{SupplyDetail}
+use Rattle.onix_rows.specs.declared.row.Form.{Form}
+use Rattle.onix_rows.specs.declared.row.Form.TheVariants as form
+use Rattle.onix_rows.specs.declared.row.Opening.{Opening}
+use Rattle.onix_rows.specs.declared.row.Row.{Row}
+use Rattle.onix_rows.specs.declared.row.Row.TheVariants as row
+use Rattle.desk_rows.specs.Rows.{IsAddressee}
 use Rattle.catalogue_rows.specs.Storable.{IsStorableDetail, IsStorablePrice, IsStorableProduct, IsStorableSupply, IsWritten}
 
 -- ---- what one record writes

@@ -9,9 +9,9 @@ ghost use Rattle.catalogue_rows.specs.EntryRows.{article_rows, detail_rows, supp
 ghost use Rattle.catalogue_rows.specs.Storable.{IsStorable};
 
 use catalogue_rules::entry::Entry;
-use desk_tables::rows::{ArticleRow, OfferRow};
+use desk_rows::rows::{ArticleRow, OfferRow};
 use onix_message::agreement::StoreFault;
-use onix_message::parts::{Price, ProductIdentifier, ProductSupply, SupplyDetail};
+use onix_rows::parts::{Price, ProductIdentifier, ProductSupply, SupplyDetail};
 use onix_terms::items::Items;
 use onix_terms::plain::Plain;
 use onix_terms::territory::Territory;

@@ -7,13 +7,13 @@ ghost use Rattle.catalogue_rows.specs.ArticleOffers.{HeldOffersAreAnswered};
 ghost use Rattle.catalogue_rows.specs.EntryRows.{article_rows, detail_rows, ids_of, record_row, supplied_details, supplies_of};
 ghost use Rattle.catalogue_rows.specs.Holding.{HoldsEntry};
 ghost use Rattle.catalogue_rows.specs.Storable.{IsStorableProduct};
-ghost use Rattle.desk_tables.specs.ArticleAnswers.{AreArticlesOf, AreOfferRowsOf, ArePricesAt};
-ghost use Rattle.desk_tables.specs.Rows.{DeskRows};
-ghost use Rattle.desk_tables.specs.declared.rows.ArticleRow.{ArticleRow};
-ghost use Rattle.desk_tables.specs.declared.rows.OfferRow.{OfferRow};
+ghost use Rattle.desk_rows.specs.ArticleAnswers.{AreArticlesOf, AreOfferRowsOf, ArePricesAt};
+ghost use Rattle.desk_rows.specs.Rows.{DeskRows};
+ghost use Rattle.desk_rows.specs.declared.rows.ArticleRow.{ArticleRow};
+ghost use Rattle.desk_rows.specs.declared.rows.OfferRow.{OfferRow};
 ghost use Rattle.onix_message.specs.ContentsText.{IsContents};
-ghost use Rattle.onix_message.specs.declared.parts.Price.{Price};
-ghost use Rattle.onix_message.specs.declared.parts.Product.{Product};
+ghost use Rattle.onix_rows.specs.declared.parts.Price.{Price};
+ghost use Rattle.onix_rows.specs.declared.parts.Product.{Product};
 
 /// Each product of a message can be kept.
 pub fn contents_are_storable()

@@ -3,8 +3,8 @@
 ghost use Rattle.std.specs.Prelude.{◌≡◌, ◌↔◌, IsTrue, map};
 ghost use Rattle.catalogue_rows.specs.EntryRows.{supplied_details};
 
-use desk_tables::rows::{ArticleRow, OfferRow};
-use onix_message::parts::{Price, ProductSupply, SupplyDetail};
+use desk_rows::rows::{ArticleRow, OfferRow};
+use onix_rows::parts::{Price, ProductSupply, SupplyDetail};
 use onix_terms::items::Items;
 use onix_terms::plain::Plain;
 

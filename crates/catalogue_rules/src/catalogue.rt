@@ -11,7 +11,7 @@ use crate::effect::Effect;
 use crate::entry::Entry;
 use crate::offers::add_record;
 use crate::plan::Plan;
-use onix_message::parts::Contents;
+use onix_message::contents::Contents;
 use onix_terms::isbn13::Isbn13;
 use onix_terms::items::Items;
 use onix_terms::series_name::SeriesName;

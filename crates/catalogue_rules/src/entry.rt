@@ -1,6 +1,6 @@
 ghost use Rattle.std.specs.Prelude.{◌≡◌, IfOk};
 
-use onix_message::parts::{ProductIdentifier, ProductSupply};
+use onix_rows::parts::{ProductIdentifier, ProductSupply};
 use onix_terms::items::Items;
 use onix_terms::plain::Plain;
 use std::alloc::AllocError;

@@ -9,7 +9,7 @@ use crate::catalogue::Catalogue;
 use crate::draft::Draft;
 use crate::effect::{Change, Effect};
 use crate::entry::Entry;
-use onix_message::parts::Product;
+use onix_rows::parts::Product;
 use std::alloc::{AllocError, Global};
 
 /// What products are to change of a catalogue, which stays as it is while the plan is made. The

@@ -16,9 +16,9 @@ use Rattle.std.proofs.lemmas.Slice.Eq.{bytes_eq-Decides}
 use Rattle.catalogue_rules.specs.Records.{ByReference}
 use Rattle.catalogue_rules.specs.declared.entry.Entry.{Entry}
 use Rattle.catalogue_rules.proofs.Lookups.{equal_maps}
-use Rattle.desk_tables.specs.RecordAnswers.{AreRecordsInOrder, is_record_in}
-use Rattle.desk_tables.specs.Rows.{DeskRows}
-use Rattle.desk_tables.specs.declared.rows.RecordRow.{RecordRow}
+use Rattle.desk_rows.specs.RecordAnswers.{AreRecordsInOrder, is_record_in}
+use Rattle.desk_rows.specs.Rows.{DeskRows}
+use Rattle.desk_rows.specs.declared.rows.RecordRow.{RecordRow}
 use Rattle.catalogue_rows.specs.EntryRows.{record_row}
 use Rattle.catalogue_rows.specs.Holding.{HoldsCatalogue, HoldsEntry}
 use Rattle.catalogue_store.specs.ReadRecords.{AreReadOf, IsRecordOf, is_named}

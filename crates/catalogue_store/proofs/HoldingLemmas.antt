@@ -7,19 +7,19 @@ use Rattle.std.specs.Str.{bytes_eq}
 use Rattle.std.proofs.lemmas.Bool.{cases_Bool}
 use Rattle.std.proofs.lemmas.List.Sorted.{length_permutation}
 use Rattle.sqlite_trees.proofs.ListLemmas.{filter-filter}
-use Rattle.onix_message.specs.declared.parts.ProductIdentifier.{ProductIdentifier}
-use Rattle.onix_message.specs.declared.parts.ProductSupply.{ProductSupply}
+use Rattle.onix_rows.specs.declared.parts.ProductIdentifier.{ProductIdentifier}
+use Rattle.onix_rows.specs.declared.parts.ProductSupply.{ProductSupply}
 use Rattle.catalogue_rules.specs.Effects.{with_entry}
 use Rattle.catalogue_rules.specs.Records.{ByReference}
 use Rattle.catalogue_rules.specs.declared.entry.Entry.{Entry}
 use Rattle.catalogue_rules.proofs.Lookups.{changed_here, changed_there, same_or_not}
 use Rattle.catalogue_rules.proofs.Plans.{changes_at-with_entry}
-use Rattle.desk_tables.specs.RecordAnswers.{is_record_in, is_article_in, is_offer_in, is_price_in, is_minimum_in}
-use Rattle.desk_tables.specs.RecordChanges.{is_record, is_article_of, is_offer_of, is_price_of, is_minimum_of, has_record}
-use Rattle.desk_tables.specs.RecordRows.{offer_row, price_row, minimum_row}
-use Rattle.desk_tables.specs.Rows.{DeskRows}
-use Rattle.desk_tables.specs.declared.rows.PriceRow as typed_price
-use Rattle.desk_tables.specs.declared.rows.RecordRow.{RecordRow}
+use Rattle.desk_rows.specs.RecordAnswers.{is_record_in, is_article_in, is_offer_in, is_price_in, is_minimum_in}
+use Rattle.desk_rows.specs.RecordChanges.{is_record, is_article_of, is_offer_of, is_price_of, is_minimum_of, has_record}
+use Rattle.desk_rows.specs.RecordRows.{offer_row, price_row, minimum_row}
+use Rattle.desk_rows.specs.Rows.{DeskRows}
+use Rattle.desk_rows.specs.declared.rows.PriceRow as typed_price
+use Rattle.desk_rows.specs.declared.rows.RecordRow.{RecordRow}
 use Rattle.catalogue_rows.specs.EntryRows.{article_rows, has_minimum}
 use Rattle.catalogue_rows.specs.Holding.{Became, HoldsCatalogue, HoldsEntry, other_catalogues}
 use Rattle.catalogue_rows.specs.Storable.{AreStorable}

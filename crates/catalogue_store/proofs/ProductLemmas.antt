@@ -2,9 +2,9 @@
 use Rattle.std.proofs.Common.{◌≡◌, ◌≢◌, ℕ, ◌+◌, ◌<◌, Bool, true, false, List, [], ◌∷◌, length, get_or, take, Option, Some, None, refl, sym, ap, subst, ◌∙◌}
 use Rattle.std.specs.FinMap as fin
 use Rattle.std.specs.Option.{is_some}
-use Rattle.onix_message.specs.declared.parts.Product.{Product}
-use Rattle.onix_message.specs.declared.parts.ProductSupply.{ProductSupply}
-use Rattle.onix_message.specs.declared.parts.ProductIdentifier.{ProductIdentifier}
+use Rattle.onix_rows.specs.declared.parts.Product.{Product}
+use Rattle.onix_rows.specs.declared.parts.ProductSupply.{ProductSupply}
+use Rattle.onix_rows.specs.declared.parts.ProductIdentifier.{ProductIdentifier}
 use Rattle.catalogue_rules.specs.Effects.{after as after_all, change_of, counted, no_effect, entry_after, updated}
 use Rattle.catalogue_rules.specs.Records.{ByReference}
 use Rattle.catalogue_rules.specs.declared.effect.Change.{Change}
@@ -12,8 +12,8 @@ use Rattle.catalogue_rules.specs.declared.effect.Change.TheVariants.{Delete, Rep
 use Rattle.catalogue_rules.specs.declared.effect.Effect.{Effect}
 use Rattle.catalogue_rules.specs.declared.entry.Entry.{Entry}
 use Rattle.catalogue_rules.proofs.Effects.{after-push, effect_from-push}
-use Rattle.desk_tables.specs.Rows.{DeskRows}
-use Rattle.desk_tables.specs.declared.rows.RecordRow.{RecordRow}
+use Rattle.desk_rows.specs.Rows.{DeskRows}
+use Rattle.desk_rows.specs.declared.rows.RecordRow.{RecordRow}
 use Rattle.catalogue_rows.specs.EntryRows.{record_row}
 use Rattle.catalogue_rows.specs.Holding.{Became, HoldsCatalogue, HoldsEntry, IsApplied}
 use Rattle.catalogue_rows.specs.Storable.{AreStorable, IsStorableProduct}

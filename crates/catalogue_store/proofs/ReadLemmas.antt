@@ -3,15 +3,15 @@ use Rattle.std.proofs.Common.{◌≡◌, ℕ, ◌+◌, ◌<◌, List, [], ◌∷
 use Rattle.std.specs.List.{AllZip, enumerate_from, flat_map}
 use Rattle.std.proofs.lemmas.Option.{same_Some}
 use Rattle.onix_message.specs.declared.agreement.StoreFault.{StoreFault}
-use Rattle.onix_message.specs.declared.parts.Price.{Price}
-use Rattle.onix_message.specs.declared.parts.ProductIdentifier.{ProductIdentifier}
-use Rattle.onix_message.specs.declared.parts.ProductSupply.{ProductSupply}
+use Rattle.onix_rows.specs.declared.parts.Price.{Price}
+use Rattle.onix_rows.specs.declared.parts.ProductIdentifier.{ProductIdentifier}
+use Rattle.onix_rows.specs.declared.parts.ProductSupply.{ProductSupply}
 use Rattle.catalogue_rules.specs.declared.entry.Entry.{Entry}
-use Rattle.desk_tables.specs.ArticleAnswers.{AreArticlesOf, AreOfferRowsOf}
-use Rattle.desk_tables.specs.Rows.{DeskRows}
-use Rattle.desk_tables.specs.declared.rows.ArticleRow.{ArticleRow}
-use Rattle.desk_tables.specs.declared.rows.OfferRow as typed
-use Rattle.desk_tables.specs.declared.rows.RecordRow.{RecordRow}
+use Rattle.desk_rows.specs.ArticleAnswers.{AreArticlesOf, AreOfferRowsOf}
+use Rattle.desk_rows.specs.Rows.{DeskRows}
+use Rattle.desk_rows.specs.declared.rows.ArticleRow.{ArticleRow}
+use Rattle.desk_rows.specs.declared.rows.OfferRow as typed
+use Rattle.desk_rows.specs.declared.rows.RecordRow.{RecordRow}
 use Rattle.catalogue_rows.specs.EntryRows.{SuppliedDetail, article_rows, detail_rows, detail_price_row, detail_price_rows, supplied_details, supplies_of}
 use Rattle.catalogue_rows.specs.HeldLemmas.{held_articles, held_details}
 use Rattle.catalogue_rows.specs.HeldPriceLemmas.{held_prices}

@@ -1,14 +1,14 @@
 -- What one product does to the rows of a catalogue.
 use Rattle.std.specs.Prelude.{◌≡◌, ℕ, Bool, List, Option}
 use Rattle.std.specs.FinMap as map
-use Rattle.onix_message.specs.declared.parts.Product.{Product}
+use Rattle.onix_rows.specs.declared.parts.Product.{Product}
 use Rattle.catalogue_rules.specs.Effects.{after_product, change_of, counted, entry_after}
 use Rattle.catalogue_rules.specs.Records.{ByReference}
 use Rattle.catalogue_rules.specs.declared.effect.Change.{Change}
 use Rattle.catalogue_rules.specs.declared.effect.Effect.{Effect}
 use Rattle.catalogue_rules.specs.declared.entry.Entry.{Entry}
-use Rattle.desk_tables.specs.Rows.{DeskRows}
-use Rattle.desk_tables.specs.declared.rows.RecordRow.{RecordRow}
+use Rattle.desk_rows.specs.Rows.{DeskRows}
+use Rattle.desk_rows.specs.declared.rows.RecordRow.{RecordRow}
 use Rattle.catalogue_rows.specs.Holding.{Became, HoldsCatalogue, HoldsEntry, other_catalogues}
 use Rattle.catalogue_rows.specs.Storable.{IsStorableProduct}
 use Rattle.catalogue_store.specs.ReadRows.{IsFound}

@@ -9,10 +9,10 @@ ghost use Rattle.catalogue_store.specs.Achieves.{Achieves};
 ghost use Rattle.catalogue_store.specs.WrittenRows.{with_articles, with_details, with_identified, with_prices, with_supplies};
 
 use catalogue_rows::build::{article_rows, detail_rows, price_rows};
-use desk_tables::rows::{ArticleRow, OfferRow, PriceRow, RecordRow};
+use desk_rows::rows::{ArticleRow, OfferRow, PriceRow, RecordRow};
 use desk_tables::work::Work;
 use onix_message::agreement::StoreFault;
-use onix_message::parts::{ProductIdentifier, ProductSupply};
+use onix_rows::parts::{ProductIdentifier, ProductSupply};
 use sqlite::Alter;
 use std::alloc::Global;
 

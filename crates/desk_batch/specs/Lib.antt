@@ -1,10 +1,6 @@
 pub mod Pieces
 pub mod Closed
 pub mod RequestRows
-pub mod GapText
-pub mod PriceText
-pub mod CatalogueText
-pub mod AnswerText
 pub mod Batch
 pub mod BatchSteps
 pub mod OneRequest

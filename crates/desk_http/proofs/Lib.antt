@@ -5,13 +5,8 @@ pub mod EmptyLineLemmas
 pub mod ExchangeLemmas
 pub mod FieldLemmas
 pub mod HeadLemmas
-pub mod InsertLemmas
 pub mod KnownLemmas
-pub mod PlaceLemmas
 pub mod PostedLemmas
 pub mod RefusalLemmas
-pub mod SegmentLemmas
 pub mod SizeLemmas
 pub mod Statuses
-pub mod TableLemmas
-pub mod WalkLemmas

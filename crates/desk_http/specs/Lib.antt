@@ -5,9 +5,7 @@ pub mod ExchangeSteps
 pub mod Fields
 pub mod Head
 pub mod HeadRead
-pub mod Keys
 pub mod Laws
-pub mod Place
 pub mod Posted
 pub mod Query
 pub mod Questions
@@ -15,5 +13,4 @@ pub mod Refusals
 pub mod Reply
 pub mod Routing
 pub mod Steps
-pub mod Table
 pub mod Writing

@@ -3,7 +3,7 @@
 //! answer.
 //!
 //! `specs/Asks.antt` says what the bytes of a connection ask for. Its parts: `Head` (the head among
-//! the bytes, or why there is none), `Routing` over `Place`, `Keys` and `Table` (the path and the
+//! the bytes, or why there is none), `Routing` over the paths of `desk_routes` (the path and the
 //! method), `Posted` over `Fields` (the body of a POST), `Questions` over `Query` (what a GET asks).
 //! `AnswerReply` and `Refusals` say what is replied, `Reply` has the text of a reply, and `Exchange`
 //! puts both together. `laws` has what these definitions come to.
@@ -27,7 +27,6 @@ mod reading;
 pub mod refusal;
 pub mod reply;
 mod request;
-pub mod routes;
 mod routing;
 mod scan;
 pub mod serve;

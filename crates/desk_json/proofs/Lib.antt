@@ -6,4 +6,3 @@ pub mod Depths
 pub mod NoFloats
 pub mod OfferDepths
 pub mod OfferFloats
-pub mod ValueLists

@@ -1,6 +1,6 @@
 // The JSON of answers.
 
-ghost use Rattle.std.specs.Prelude.{◌≡◌, IfOk, Some, map};
+ghost use Rattle.std.specs.Prelude.{◌≡◌, IfOk, Some};
 ghost use Rattle.std.specs.String.{string_bytes};
 ghost use Rattle.serde_json.specs.Read.{read};
 ghost use Rattle.serde_json.specs.View.{view};
@@ -9,8 +9,10 @@ ghost use Rattle.desk_json.specs.AnswerJson as json;
 
 use crate::bodies::refused_json;
 use crate::catalogue_json::catalogue_json;
+use crate::member::Member;
+use crate::members::{object_of, object_with};
 use crate::offer_json::{calendar_json, choice_json, price_json};
-use crate::values::number_or_null;
+use crate::to_json::{ToJson, array_of};
 use catalogue_rules::effect::Effect;
 use onix_terms::number::Number;
 use onix_terms::series_name::SeriesName;
@@ -21,7 +23,12 @@ use std::alloc::{AllocError, Global};
 fn malformed_json(alloc: Global, row: u32) -> Result<Value, AllocError>
     ensures { IfOk result (λ v. view v ≡ json.malformed row) }
 {
-    json!(in alloc; {"answer": "refused", "reason": "malformed", "row": row})
+    let members = [
+        Member::Text("answer", "refused"),
+        Member::Text("reason", "malformed"),
+        Member::Number("row", row),
+    ];
+    object_of(alloc, &members)
 }
 
 fn before_first_json(
@@ -32,41 +39,59 @@ fn before_first_json(
 ) -> Result<Value, AllocError>
     ensures { IfOk result (λ v. view v ≡ json.before_first series.now number first) }
 {
-    json!(in alloc; {
-        "answer": "refused",
-        "first": first.value(),
-        "number": number.value(),
-        "reason": "before-first",
-        "series": series.as_str()
-    })
+    let members = [
+        Member::Text("answer", "refused"),
+        Member::Number("first", first.value()),
+        Member::Number("number", number.value()),
+        Member::Text("reason", "before-first"),
+        Member::Text("series", series.as_str()),
+    ];
+    object_of(alloc, &members)
 }
 
-fn not_agreed_json(alloc: Global, reason: &str, series: &SeriesName) -> Result<Value, AllocError>
+// The two texts have one lifetime, since a `Member` has one.
+fn not_agreed_json<'a>(
+    alloc: Global,
+    reason: &'a str,
+    series: &'a SeriesName,
+) -> Result<Value, AllocError>
     ensures { IfOk result (λ v. view v ≡ json.not_agreed reason.now series.now) }
 {
-    json!(in alloc; {"answer": "refused", "reason": reason, "series": series.as_str()})
+    let members = [
+        Member::Text("answer", "refused"),
+        Member::Text("reason", reason),
+        Member::Text("series", series.as_str()),
+    ];
+    object_of(alloc, &members)
 }
 
-fn number_refused_json(
+// The two texts have one lifetime, since a `Member` has one.
+fn number_refused_json<'a>(
     alloc: Global,
-    reason: &str,
-    series: &SeriesName,
+    reason: &'a str,
+    series: &'a SeriesName,
     number: Number,
 ) -> Result<Value, AllocError>
     ensures { IfOk result (λ v. view v ≡ json.number_refused reason.now series.now number) }
 {
-    json!(in alloc; {
-        "answer": "refused",
-        "number": number.value(),
-        "reason": reason,
-        "series": series.as_str()
-    })
+    let members = [
+        Member::Text("answer", "refused"),
+        Member::Number("number", number.value()),
+        Member::Text("reason", reason),
+        Member::Text("series", series.as_str()),
+    ];
+    object_of(alloc, &members)
 }
 
 fn agreed_json(alloc: Global, series: &SeriesName, first: Number) -> Result<Value, AllocError>
     ensures { IfOk result (λ v. view v ≡ json.agreed series.now first) }
 {
-    json!(in alloc; {"answer": "agreed", "first": first.value(), "series": series.as_str()})
+    let members = [
+        Member::Text("answer", "agreed"),
+        Member::Number("first", first.value()),
+        Member::Text("series", series.as_str()),
+    ];
+    object_of(alloc, &members)
 }
 
 fn agreement_json(
@@ -92,16 +117,17 @@ fn applied_json(
 ) -> Result<Value, AllocError>
     ensures { IfOk result (λ v. view v ≡ json.applied series.now number effect.now) }
 {
-    json!(in alloc; {
-        "answer": "applied",
-        "deleted": effect.deleted,
-        "ignored": effect.ignored,
-        "number": number.value(),
-        "replaced": effect.replaced,
-        "series": series.as_str(),
-        "unknown": effect.unknown,
-        "updated": effect.updated
-    })
+    let members = [
+        Member::Text("answer", "applied"),
+        Member::Number("deleted", effect.deleted),
+        Member::Number("ignored", effect.ignored),
+        Member::Number("number", number.value()),
+        Member::Number("replaced", effect.replaced),
+        Member::Text("series", series.as_str()),
+        Member::Number("unknown", effect.unknown),
+        Member::Number("updated", effect.updated),
+    ];
+    object_of(alloc, &members)
 }
 
 fn held_json(
@@ -112,12 +138,13 @@ fn held_json(
 ) -> Result<Value, AllocError>
     ensures { IfOk result (λ v. view v ≡ json.held series.now number next) }
 {
-    json!(in alloc; {
-        "answer": "held",
-        "number": number.value(),
-        "series": series.as_str(),
-        "waiting_for": next
-    })
+    let members = [
+        Member::Text("answer", "held"),
+        Member::Number("number", number.value()),
+        Member::Text("series", series.as_str()),
+        Member::Number("waiting_for", next),
+    ];
+    object_of(alloc, &members)
 }
 
 fn delivered_json(alloc: Global, answer: &DeliveryAnswer) -> Result<Value, AllocError>
@@ -157,7 +184,12 @@ fn delivered_json(alloc: Global, answer: &DeliveryAnswer) -> Result<Value, Alloc
 fn waived_json(alloc: Global, series: &SeriesName, number: Number) -> Result<Value, AllocError>
     ensures { IfOk result (λ v. view v ≡ json.waived series.now number) }
 {
-    json!(in alloc; {"answer": "waived", "number": number.value(), "series": series.as_str()})
+    let members = [
+        Member::Text("answer", "waived"),
+        Member::Number("number", number.value()),
+        Member::Text("series", series.as_str()),
+    ];
+    object_of(alloc, &members)
 }
 
 fn waiver_json(
@@ -176,34 +208,28 @@ fn waiver_json(
     }
 }
 
-fn missing_json(alloc: Global, first: Number, last: Number) -> Result<Value, AllocError>
-    ensures { IfOk result (λ v. view v ≡ json.missing (first, last)) }
-{
-    json!(in alloc; [first.value(), last.value()])
-}
+// The first and the last of numbers that have nothing.
+impl ToJson for (Number, Number) {
+    ghost json_of = { json.missing };
 
-fn missing_list(alloc: Global, ranges: &[(Number, Number)]) -> Result<Vec<Value>, AllocError>
-    ensures { IfOk result (λ vs. map view vs.items ≡ map json.missing ranges.now) }
-{
-    let mut list = Vec::new(alloc);
-    for range in ranges {
-        list.push(missing_json(alloc, range.0, range.1)?)?;
+    fn to_json(&self, alloc: Global) -> Result<Value, AllocError> {
+        json!(in alloc; [self.0.value(), self.1.value()])
     }
-    Ok(list)
 }
 
 fn gaps_json(alloc: Global, report: &GapReport) -> Result<Value, AllocError>
     ensures { IfOk result (λ v. view v ≡ json.gaps report.now) }
 {
-    json!(in alloc; {
-        "answer": "gaps",
-        "first": report.first.value(),
-        "greatest": number_or_null(report.greatest),
-        "held": report.held,
-        "missing": Value::Array(missing_list(alloc, report.missing.as_slice())?),
-        "next": report.next,
-        "series": report.series.as_str()
-    })
+    let missing = array_of(alloc, report.missing.as_slice())?;
+    let members = [
+        Member::Text("answer", "gaps"),
+        Member::Number("first", report.first.value()),
+        Member::OptionalNumber("greatest", &report.greatest),
+        Member::Count("held", report.held),
+        Member::Number("next", report.next),
+        Member::Text("series", report.series.as_str()),
+    ];
+    object_with(alloc, &members, "missing", missing)
 }
 
 fn answer_json(alloc: Global, answer: &Answer) -> Result<Value, AllocError>

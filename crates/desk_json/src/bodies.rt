@@ -6,14 +6,20 @@ ghost use Rattle.serde_json.specs.View.{view};
 ghost use Rattle.serde_json.specs.Written.{compact_text};
 ghost use Rattle.desk_json.specs.Json as json;
 
-use serde_json::{Value, json};
+use crate::member::Member;
+use crate::members::object_of;
+use serde_json::Value;
 use std::alloc::{AllocError, Global};
 
 /// The JSON of a refusal that has nothing to say but its reason. Only want of memory refuses it.
 pub(crate) fn refused_json(alloc: Global, reason: &str) -> Result<Value, AllocError>
     ensures { IfOk result (λ v. view v ≡ json.refused reason.now) }
 {
-    json!(in alloc; {"answer": "refused", "reason": reason})
+    let members = [
+        Member::Text("answer", "refused"),
+        Member::Text("reason", reason),
+    ];
+    object_of(alloc, &members)
 }
 
 /// The body of a refusal that has nothing to say but its reason, such as `not-found`. Only want
@@ -28,7 +34,11 @@ pub fn refused_body(alloc: Global, reason: &str) -> Result<String, AllocError>
 fn fault_json(alloc: Global, kind: &str) -> Result<Value, AllocError>
     ensures { IfOk result (λ v. view v ≡ json.fault kind.now) }
 {
-    json!(in alloc; {"answer": "fault", "reason": kind})
+    let members = [
+        Member::Text("answer", "fault"),
+        Member::Text("reason", kind),
+    ];
+    object_of(alloc, &members)
 }
 
 /// The body of the reply to a request that met a fault of storage of this kind, such as `disk`.

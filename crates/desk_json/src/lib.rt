@@ -9,5 +9,8 @@
 pub mod answer_json;
 pub mod bodies;
 mod catalogue_json;
+mod member;
+mod members;
 mod offer_json;
+mod to_json;
 mod values;

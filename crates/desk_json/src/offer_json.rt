@@ -1,38 +1,32 @@
 // The JSON of answers about the offers of an article.
 
-ghost use Rattle.std.specs.Prelude.{◌≡◌, IfOk, map};
+ghost use Rattle.std.specs.Prelude.{◌≡◌, IfOk};
 ghost use Rattle.serde_json.specs.View.{view};
 ghost use Rattle.desk_json.specs.OfferJson as json;
 
-use crate::values::{amount_json, amount_or_null, day_json};
+use crate::member::Member;
+use crate::members::{object_of, object_with};
+use crate::to_json::{ToJson, array_of};
 use onix_terms::isbn13::Isbn13;
 use price_rules::calendar::Span;
-use serde_json::{Value, json};
+use serde_json::Value;
 use series_rules::answers::{ChosenOffer, OfferCalendar, PricedOffer};
 use std::alloc::{AllocError, Global};
 
-fn priced_json(alloc: Global, priced: &PricedOffer) -> Result<Value, AllocError>
-    ensures { IfOk result (λ v. view v ≡ json.priced priced.now) }
-{
-    let amount = amount_or_null(alloc, priced.amount)?;
-    let offer = &priced.offer;
-    json!(in alloc; {
-        "amount": amount,
-        "availability": offer.availability.as_str(),
-        "place": offer.place,
-        "reference": offer.reference.as_str(),
-        "series": offer.series.as_str()
-    })
-}
+impl ToJson for PricedOffer {
+    ghost json_of = { json.priced };
 
-fn priced_list(alloc: Global, offers: &[PricedOffer]) -> Result<Vec<Value>, AllocError>
-    ensures { IfOk result (λ vs. map view vs.items ≡ map json.priced offers.now) }
-{
-    let mut list = Vec::new(alloc);
-    for priced in offers {
-        list.push(priced_json(alloc, priced)?)?;
+    fn to_json(&self, alloc: Global) -> Result<Value, AllocError> {
+        let offer = &self.offer;
+        let members = [
+            Member::OptionalAmount("amount", &self.amount),
+            Member::Text("availability", offer.availability.as_str()),
+            Member::Number("place", offer.place),
+            Member::Text("reference", offer.reference.as_str()),
+            Member::Text("series", offer.series.as_str()),
+        ];
+        object_of(alloc, &members)
     }
-    Ok(list)
 }
 
 /// The JSON of the offers of an article with their current prices.
@@ -43,23 +37,27 @@ pub(crate) fn price_json(
 ) -> Result<Value, AllocError>
     ensures { IfOk result (λ v. view v ≡ json.price isbn.now offers.now) }
 {
-    let offers = Value::Array(priced_list(alloc, offers)?);
-    json!(in alloc; {"answer": "price", "isbn": isbn.as_str(), "offers": offers})
+    let offers = array_of(alloc, offers)?;
+    let members = [
+        Member::Text("answer", "price"),
+        Member::Text("isbn", isbn.as_str()),
+    ];
+    object_with(alloc, &members, "offers", offers)
 }
 
 fn chosen_offer_json(alloc: Global, chosen: &ChosenOffer) -> Result<Value, AllocError>
     ensures { IfOk result (λ v. view v ≡ json.chosen_offer chosen.now) }
 {
-    let amount = amount_json(alloc, chosen.amount)?;
     let offer = &chosen.offer;
-    json!(in alloc; {
-        "amount": amount,
-        "availability": offer.availability.as_str(),
-        "place": offer.place,
-        "reference": offer.reference.as_str(),
-        "rule": chosen.rule,
-        "series": offer.series.as_str()
-    })
+    let members = [
+        Member::Amount("amount", &chosen.amount),
+        Member::Text("availability", offer.availability.as_str()),
+        Member::Number("place", offer.place),
+        Member::Text("reference", offer.reference.as_str()),
+        Member::Number("rule", chosen.rule),
+        Member::Text("series", offer.series.as_str()),
+    ];
+    object_of(alloc, &members)
 }
 
 fn chosen_json(alloc: Global, choice: &Option<ChosenOffer>) -> Result<Value, AllocError>
@@ -80,50 +78,40 @@ pub(crate) fn choice_json(
     ensures { IfOk result (λ v. view v ≡ json.choice isbn.now choice.now) }
 {
     let chosen = chosen_json(alloc, choice)?;
-    json!(in alloc; {"answer": "choice", "choice": chosen, "isbn": isbn.as_str()})
+    let members = [
+        Member::Text("answer", "choice"),
+        Member::Text("isbn", isbn.as_str()),
+    ];
+    object_with(alloc, &members, "choice", chosen)
 }
 
-fn span_json(alloc: Global, span: &Span) -> Result<Value, AllocError>
-    ensures { IfOk result (λ v. view v ≡ json.span span.now) }
-{
-    let amount = amount_or_null(alloc, span.amount)?;
-    let first = day_json(alloc, span.first)?;
-    let last = day_json(alloc, span.last)?;
-    json!(in alloc; {"amount": amount, "first": first, "last": last})
-}
+impl ToJson for Span {
+    ghost json_of = { json.span };
 
-fn span_list(alloc: Global, spans: &[Span]) -> Result<Vec<Value>, AllocError>
-    ensures { IfOk result (λ vs. map view vs.items ≡ map json.span spans.now) }
-{
-    let mut list = Vec::new(alloc);
-    for span in spans {
-        list.push(span_json(alloc, span)?)?;
+    fn to_json(&self, alloc: Global) -> Result<Value, AllocError> {
+        let members = [
+            Member::OptionalAmount("amount", &self.amount),
+            Member::Day("first", &self.first),
+            Member::Day("last", &self.last),
+        ];
+        object_of(alloc, &members)
     }
-    Ok(list)
 }
 
-fn dated_json(alloc: Global, dated: &OfferCalendar) -> Result<Value, AllocError>
-    ensures { IfOk result (λ v. view v ≡ json.dated dated.now) }
-{
-    let spans = Value::Array(span_list(alloc, dated.spans.as_slice())?);
-    let offer = &dated.offer;
-    json!(in alloc; {
-        "availability": offer.availability.as_str(),
-        "place": offer.place,
-        "reference": offer.reference.as_str(),
-        "series": offer.series.as_str(),
-        "spans": spans
-    })
-}
+impl ToJson for OfferCalendar {
+    ghost json_of = { json.dated };
 
-fn dated_list(alloc: Global, offers: &[OfferCalendar]) -> Result<Vec<Value>, AllocError>
-    ensures { IfOk result (λ vs. map view vs.items ≡ map json.dated offers.now) }
-{
-    let mut list = Vec::new(alloc);
-    for dated in offers {
-        list.push(dated_json(alloc, dated)?)?;
+    fn to_json(&self, alloc: Global) -> Result<Value, AllocError> {
+        let spans = array_of(alloc, self.spans.as_slice())?;
+        let offer = &self.offer;
+        let members = [
+            Member::Text("availability", offer.availability.as_str()),
+            Member::Number("place", offer.place),
+            Member::Text("reference", offer.reference.as_str()),
+            Member::Text("series", offer.series.as_str()),
+        ];
+        object_with(alloc, &members, "spans", spans)
     }
-    Ok(list)
 }
 
 /// The JSON of the offers of an article with their calendars.
@@ -134,6 +122,10 @@ pub(crate) fn calendar_json(
 ) -> Result<Value, AllocError>
     ensures { IfOk result (λ v. view v ≡ json.calendar isbn.now offers.now) }
 {
-    let offers = Value::Array(dated_list(alloc, offers)?);
-    json!(in alloc; {"answer": "calendar", "isbn": isbn.as_str(), "offers": offers})
+    let offers = array_of(alloc, offers)?;
+    let members = [
+        Member::Text("answer", "calendar"),
+        Member::Text("isbn", isbn.as_str()),
+    ];
+    object_with(alloc, &members, "offers", offers)
 }

@@ -17,7 +17,7 @@ use crate::fold::Fold;
 use crate::gaps::held_numbers;
 use catalogue_rules::catalogue::Catalogue;
 use onix_message::agreement::Agreement;
-use onix_message::parts::Contents;
+use onix_message::contents::Contents;
 use onix_terms::isbn13::Isbn13;
 use onix_terms::items::Items;
 use onix_terms::number::Number;

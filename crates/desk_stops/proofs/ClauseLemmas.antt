@@ -16,14 +16,14 @@ use Rattle.sqlite_trees.specs.Props.{Trees-set}
 use Rattle.sqlite_trees.specs.Tree.{Trees}
 use Rattle.sqlite_trees.specs.declared.store.Store.{Ghosts}
 use Rattle.sqlite_wal.specs.Reads.{AreClean}
-use Rattle.desk_tables.proofs.OneSchema.{holds_again, one_schema}
+use Rattle.desk_rows.proofs.OneSchema.{holds_again, one_schema}
 use Rattle.onix_message.specs.declared.agreement.StoreFault.{StoreFault}
 use Rattle.price_rules.specs.declared.precedence.Rule.{Rule}
 use Rattle.series_rules.specs.Answers.{answer_to}
 use Rattle.series_rules.specs.declared.answers.Answer.{Answer}
 use Rattle.series_rules.specs.declared.requests.Request.{Request}
-use Rattle.desk_store.specs.ContentLemmas.{keeps_by_content}
-use Rattle.desk_store.specs.Desks.{AreRowsOf, IsAsked, IsQuestioned, KeepsRequests, changes}
+use Rattle.store_rows.specs.ContentLemmas.{keeps_by_content}
+use Rattle.store_rows.specs.Desks.{AreRowsOf, IsAsked, IsQuestioned, KeepsRequests, changes}
 use Rattle.desk_store.specs.Openings.{AreFilesOf, IsReady, ShowsOnly}
 use Rattle.desk_store.specs.Openings as openings
 use Rattle.desk_stops.specs.Connections.{is_question, storage}

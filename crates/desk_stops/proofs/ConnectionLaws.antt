@@ -5,8 +5,8 @@ use Rattle.sqlite_schema.specs.declared.schema.Schema.{Schema}
 use Rattle.sqlite_schema.specs.declared.schema.Table.{Table}
 use Rattle.sqlite_trees.specs.Tree.{Trees}
 use Rattle.sqlite_trees.specs.declared.store.Store.{Ghosts}
-use Rattle.desk_tables.proofs.OneSchema.{one_schema}
-use Rattle.desk_tables.specs.Schema.{desk_schema, schema_0}
+use Rattle.desk_rows.proofs.OneSchema.{one_schema}
+use Rattle.desk_rows.specs.Schema.{desk_schema, schema_0}
 use Rattle.onix_message.specs.declared.agreement.Agreement.{Agreement}
 use Rattle.price_rules.specs.declared.precedence.Rule.{Rule}
 use Rattle.series_rules.proofs.LawProofs.{by_content_alone}
@@ -18,8 +18,8 @@ use Rattle.series_rules.specs.Firsts.{Placement, admitted, first_at}
 use Rattle.series_rules.specs.declared.requests.Request.{Request}
 use Rattle.series_rules.specs.declared.requests.Request.TheVariants.{Agree, Deliver, Waive, AskPrice, AskChoice, AskCalendar, AskGaps, AskCatalogue, Malformed}
 use Rattle.series_rules.specs.declared.requests.Standing.{Standing}
-use Rattle.desk_store.specs.ContentLemmas.{stands_by_content}
-use Rattle.desk_store.specs.Desks.{AreRowsOf, changes, puts_something}
+use Rattle.store_rows.specs.ContentLemmas.{stands_by_content}
+use Rattle.store_rows.specs.Desks.{AreRowsOf, changes, puts_something}
 use Rattle.desk_stops.specs.Connections.{EmptyHoldsNoRows, is_question, storage}
 use Rattle.desk_stops.specs.Runs.{AreLawful}
 

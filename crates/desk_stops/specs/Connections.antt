@@ -5,15 +5,15 @@ use Rattle.sqlite.specs.Held.{Held, state}
 use Rattle.sqlite.specs.State.{HasCleanDisk}
 use Rattle.sqlite_trees.specs.Tree.{Trees}
 use Rattle.sqlite_trees.specs.declared.store.Store.{Ghosts}
-use Rattle.desk_tables.specs.Schema.{schema_0}
-use Rattle.desk_tables.specs.Transactions.{HasNoRows}
+use Rattle.desk_rows.specs.Schema.{schema_0}
+use Rattle.desk_rows.specs.Transactions.{HasNoRows}
 use Rattle.price_rules.specs.declared.precedence.Rule.{Rule}
 use Rattle.series_rules.specs.Answers.{answer_to}
 use Rattle.series_rules.specs.Content.{SameContent}
 use Rattle.series_rules.specs.declared.answers.Answer.{Answer}
 use Rattle.series_rules.specs.declared.requests.Request.{Request}
 use Rattle.series_rules.specs.declared.requests.Request.TheVariants.{Agree, Deliver, Waive}
-use Rattle.desk_store.specs.Desks.{AreRowsOf, KeepsRequests, changes}
+use Rattle.store_rows.specs.Desks.{AreRowsOf, KeepsRequests, changes}
 use Rattle.desk_stops.specs.Runs.{Storage}
 
 -- the request is no agreement, no delivery and no waiver

@@ -1,8 +1,2 @@
-pub mod Texts
-pub mod Stands
-pub mod Changes
-pub mod Desks
-pub mod ContentLemmas
 pub mod Openings
 pub mod Migrations
-pub mod FirstForm

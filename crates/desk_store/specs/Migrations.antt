@@ -5,13 +5,13 @@ use Rattle.sqlite.specs.Files.{HoldsDatabase}
 use Rattle.sqlite.specs.State.{State, HasCleanDisk}
 use Rattle.sqlite_trees.specs.Tree.{Trees}
 use Rattle.sqlite_wal.specs.Recovery.{Image}
-use Rattle.desk_tables.specs.Rows.{DeskRows, HoldsFirst, version_in, with_version}
-use Rattle.desk_tables.specs.Schema.{schema_0}
-use Rattle.desk_tables.specs.Transactions.{IsEmptied}
+use Rattle.desk_rows.specs.Rows.{DeskRows, HoldsFirst, version_in, with_version}
+use Rattle.desk_rows.specs.Schema.{schema_0}
+use Rattle.desk_rows.specs.Transactions.{IsEmptied}
 use Rattle.series_rules.specs.declared.requests.Request.{Request}
-use Rattle.desk_store.specs.Desks.{AreRowsOf, KeepsRequests}
+use Rattle.store_rows.specs.Desks.{AreRowsOf, KeepsRequests}
 use Rattle.desk_store.specs.Openings.{AreFilesOf, HoldsAny, IsFoundFor, ShowsOnly}
-use Rattle.desk_store.specs.Stands.{StandsFor}
+use Rattle.store_rows.specs.Stands.{StandsFor}
 use Rattle.desk_store.specs.declared.migrating.MigrateAnswer.{MigrateAnswer}
 use Rattle.desk_store.specs.declared.migrating.MigrateAnswer.TheVariants.{Migrated, AlreadyTwo}
 use Rattle.desk_store.specs.declared.opening.OpenFault.{OpenFault}

@@ -3,7 +3,7 @@
 ghost use Rattle.std.specs.Prelude.{◌≡◌, ℕ, List, Some};
 ghost use Rattle.sqlite.specs.Held.{state};
 ghost use Rattle.onix_message.specs.Message.{message_of};
-ghost use Rattle.desk_store.specs.Desks.{IsAsked};
+ghost use Rattle.store_rows.specs.Desks.{IsAsked};
 ghost use Rattle.series_rules.specs.Answers.{agree_answer, delivery_answer, waive_answer};
 ghost use Rattle.series_rules.specs.declared.requests.Request.{Request};
 
@@ -11,8 +11,9 @@ use crate::requests::{agree_in, deliver_in, waive_in};
 use csv_records::records::Records;
 use desk_tables::tables::Tables;
 use onix_message::agreement::{Agreement, StoreFault};
+use onix_message::contents::Contents;
 use onix_message::message::MessageFault;
-use onix_message::parts::{Contents, Header};
+use onix_rows::parts::Header;
 use onix_terms::number::Number;
 use onix_terms::series_name::SeriesName;
 use series_rules::answers::{AgreeAnswer, DeliveryAnswer, WaiveAnswer};

@@ -9,20 +9,20 @@ ghost use Rattle.sqlite.specs.Steps.{over_memory};
 ghost use Rattle.sqlite_trees.specs.Tree.{Trees};
 ghost use Rattle.sqlite_wal.specs.Files.{image_at};
 ghost use Rattle.sqlite_wal.specs.Reads.{AreClean};
-ghost use Rattle.desk_store.specs.Desks.{AreRowsOf, IsAsked, IsQuestioned, KeepsRequests};
+ghost use Rattle.store_rows.specs.Desks.{AreRowsOf, IsAsked, IsQuestioned, KeepsRequests};
 ghost use Rattle.desk_store.specs.Openings.{AreFilesOf, AreFilesWith, HoldsAny, IsFaultFor, IsReady, ShowsOnly};
-ghost use Rattle.desk_tables.specs.Rows.{DeskRows};
+ghost use Rattle.desk_rows.specs.Rows.{DeskRows};
 ghost use Rattle.series_rules.specs.Answers.{agree_answer, catalogue_answer, delivery_answer, gaps_answer, waive_answer};
 ghost use Rattle.series_rules.specs.Offers.{offers_after};
 ghost use Rattle.series_rules.specs.declared.requests.Request.{Request};
 
 use crate::asking::{ask_agree, ask_deliver, ask_waive};
-use crate::fault::fault_of;
 use crate::opening::{OpenFault, prepare};
 use crate::questions::{ask_catalogue, ask_gaps, ask_offers};
 use catalogue_rules::catalogue::Catalogue;
 use csv_records::records::Records;
-use desk_tables::laws::same_trees_hold_the_same_rows;
+use desk_rows::fault::fault_of;
+use desk_rows::laws::same_trees_hold_the_same_rows;
 use desk_tables::tables::Tables;
 use onix_message::agreement::{Agreement, StoreFault};
 use onix_terms::isbn13::Isbn13;
@@ -178,8 +178,8 @@ impl<S: Alter> Desk for DeskStore<S> {
     ghost use Rattle.std.specs.Prelude.{⊤};
     ghost use Rattle.sqlite.specs.Held.{state};
     ghost use Rattle.sqlite.specs.State.{HasCleanDisk};
-    ghost use Rattle.desk_store.specs.Desks.{KeepsRequests};
-    ghost use Rattle.desk_store.specs.ContentLemmas.{keeps_by_content};
+    ghost use Rattle.store_rows.specs.Desks.{KeepsRequests};
+    ghost use Rattle.store_rows.specs.ContentLemmas.{keeps_by_content};
 
     ghost is_sound = { λ d. HasCleanDisk (state S.Store d.tables.connection) };
 

@@ -3,14 +3,14 @@
 ghost use Rattle.std.specs.Prelude.{◌≡◌, IfOk, IsTrue};
 ghost use Rattle.sqlite.specs.Held.{state};
 ghost use Rattle.catalogue_store.specs.Achieves.{Achieves};
-ghost use Rattle.desk_store.specs.Desks.{IsQuestioned, Reports, Tells};
+ghost use Rattle.store_rows.specs.Desks.{IsQuestioned, Reports, Tells};
 ghost use Rattle.series_rules.specs.Answers.{catalogue_answer, gaps_answer};
 ghost use Rattle.series_rules.specs.Gaps.{AreRisingFrom};
 ghost use Rattle.series_rules.specs.Offers.{offers_after};
 
 use catalogue_rules::catalogue::Catalogue;
 use catalogue_store::catalogues::read_catalogue;
-use desk_tables::series::SeriesRow;
+use desk_rows::series::SeriesRow;
 use desk_tables::tables::Tables;
 use desk_tables::work::Work;
 use onix_message::agreement::StoreFault;

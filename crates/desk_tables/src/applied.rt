@@ -1,57 +1,17 @@
 // The table `applied`: what stands at each number that is applied, with the counts of its effect.
 
-ghost use Rattle.std.specs.Prelude.{◌≡◌, Err, IfOk, IsTrue, option_map, slice_get};
+ghost use Rattle.std.specs.Prelude.{◌≡◌, Err, IsTrue};
 ghost use Rattle.sqlite.specs.Held.{state};
-ghost use Rattle.desk_tables.specs.Transactions.{Works, NoAnswer};
-ghost use Rattle.desk_tables.specs.Shown.{six_columns, applied_part_columns};
-ghost use Rattle.desk_tables.specs.Rows.{with_applied, applied_at, unchanged};
+ghost use Rattle.desk_rows.specs.Transactions.{Works, NoAnswer};
+ghost use Rattle.desk_rows.specs.Rows.{with_applied, applied_at, unchanged};
 
-use crate::columns::{text_column, whole_column};
 use crate::work::Work;
+use desk_rows::applied::{EffectRow, first_applied};
 use onix_message::agreement::StoreFault;
 use onix_terms::number::Number;
 use onix_terms::series_name::SeriesName;
 use onix_terms::text::Text;
-use sqlite::{Alter, Row, params};
-
-/// How many products of a message did what.
-#[derive(Clone, Copy, Debug, PartialEq, Eq)]
-pub struct EffectRow {
-    /// Records added or replaced whole.
-    pub replaced: u32,
-    /// Known records whose update was taken.
-    pub updated: u32,
-    /// Known records that were removed.
-    pub deleted: u32,
-    /// Updates and deletions of references that have no record.
-    pub unknown: u32,
-    /// Products of any other notification type.
-    pub ignored: u32,
-}
-
-// The contents text and the counts of a row that a query shows.
-fn applied_row(row: &Row) -> Result<(Text, EffectRow), StoreFault>
-    ensures { IfOk result (λ applied. applied_part_columns applied ≡ six_columns row.now) }
-{
-    let effect = EffectRow {
-        replaced: whole_column(row, 1)?,
-        updated: whole_column(row, 2)?,
-        deleted: whole_column(row, 3)?,
-        unknown: whole_column(row, 4)?,
-        ignored: whole_column(row, 5)?,
-    };
-    let contents = text_column(row, 0)?;
-    Ok((contents, effect))
-}
-
-fn first_applied(rows: &Vec<Row>) -> Result<Option<(Text, EffectRow)>, StoreFault>
-    ensures { IfOk result (λ applied. option_map applied_part_columns applied ≡ option_map six_columns (slice_get rows.now.items 0)) }
-{
-    match rows.first() {
-        Some(row) => Ok(Some(applied_row(row)?)),
-        None => Ok(None),
-    }
-}
+use sqlite::{Alter, params};
 
 impl<S: Alter> Work<'_, S> {
     /// Adds a row. `Unusable` where the number of the series has one, or no series has that name.

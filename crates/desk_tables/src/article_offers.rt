@@ -1,96 +1,23 @@
 // The offers of an article, over all series.
 
-ghost use Rattle.std.specs.Prelude.{◌≡◌, ◌++◌, Err, IfOk, IsTrue, List, Some, filter, map};
-ghost use Rattle.std.specs.List.{dedup};
+ghost use Rattle.std.specs.Prelude.{◌≡◌, ◌++◌, Err, IsTrue, List};
 ghost use Rattle.sqlite.specs.Held.{state};
-ghost use Rattle.desk_tables.specs.ArticleAnswers.{is_article_type, offer_with, read_shown, same_row, shows_article, AreMinimumsAt, AreOfferRowsOf, AreOffersOf, AreOffersOfArticle, ArePricesAt, ArePricesUnder, AreRecordsOf};
-ghost use Rattle.desk_tables.specs.RecordAnswers.{two_columns, AreRising};
-ghost use Rattle.desk_tables.specs.RecordRows.{record_columns};
-ghost use Rattle.desk_tables.specs.Rows.{unchanged};
-ghost use Rattle.desk_tables.specs.Transactions.{Works};
+ghost use Rattle.desk_rows.specs.ArticleAnswers.{offer_with, AreMinimumsAt, AreOfferRowsOf, AreOffersOf, AreOffersOfArticle, ArePricesAt, ArePricesUnder, AreRecordsOf};
+ghost use Rattle.desk_rows.specs.RecordAnswers.{AreRising};
+ghost use Rattle.desk_rows.specs.Rows.{unchanged};
+ghost use Rattle.desk_rows.specs.Transactions.{Works};
 
-use crate::columns::code_column;
-use crate::offers::all_offers;
-use crate::prices::{all_minimums, priced_row};
-use crate::records::record_row;
-use crate::rows::{MinimumRow, OfferRow, PriceRow, RecordRow};
 use crate::work::Work;
+use desk_rows::article_offers::{each_once, offer_with, prices_in};
+use desk_rows::offers::all_offers;
+use desk_rows::prices::all_minimums;
+use desk_rows::rows::{MinimumRow, OfferRow, RecordRow};
 use onix_message::agreement::StoreFault;
-use onix_message::parts::Price;
-use onix_terms::code::Code2;
+use onix_rows::parts::Price;
 use onix_terms::isbn13::Isbn13;
 use onix_terms::items::Items;
 use price_rules::offer::Offer;
-use sqlite::{Alter, Row, params};
-
-// Whether it is the type of a GTIN-13 or of an ISBN-13.
-fn is_article_type(id_type: &Code2) -> bool
-    ensures { result ≡ is_article_type id_type.now }
-{
-    let code = id_type.as_str();
-    code == "03" || code == "15"
-}
-
-// The record of each row that shows an identifier of such a type.
-fn identified(rows: &Vec<Row>) -> Result<Vec<RecordRow>, StoreFault>
-    ensures { IfOk result (λ records. map record_columns records.items ≡ map two_columns (filter shows_article rows.now.items)) }
-{
-    let mut records = Vec::new(*rows.allocator());
-    for row in rows.as_slice() {
-        let id_type = code_column(row, 2)?;
-        if is_article_type(&id_type) {
-            let one = record_row(row)?;
-            if records.push(one).is_err() {
-                return Err(StoreFault::Memory);
-            }
-        }
-    }
-    Ok(records)
-}
-
-// The same, each record once where it stands in a row.
-fn each_once(rows: &Vec<Row>) -> Result<Vec<RecordRow>, StoreFault>
-    ensures { IfOk result (λ records. (found : List _) × (map record_columns found ≡ map two_columns (filter shows_article rows.now.items)) × (records.items ≡ dedup same_row found)) }
-{
-    let mut records = identified(rows)?;
-    records.dedup();
-    Ok(records)
-}
-
-fn into_price(row: PriceRow) -> Price
-    ensures { result ≡ row.price }
-{
-    row.price
-}
-
-// The prices that rows of `price` keep, with those minimums.
-fn prices_in(rows: &Vec<Row>, minimums: &[MinimumRow]) -> Result<Items<Price>, StoreFault>
-    ensures { AreRising minimums.now → IfOk result (λ prices. map (λ p. Some p) prices ≡ map (read_shown minimums.now) rows.now.items) }
-{
-    let alloc = *rows.allocator();
-    let mut prices = Items::new(alloc);
-    for row in rows.as_slice() {
-        let one = priced_row(alloc, row, minimums)?;
-        if prices.push(into_price(one)).is_err() {
-            return Err(StoreFault::Memory);
-        }
-    }
-    Ok(prices)
-}
-
-fn offer_with(row: OfferRow, prices: Items<Price>) -> Offer
-    ensures { result ≡ offer_with row prices }
-{
-    Offer {
-        series: row.series,
-        reference: row.reference,
-        place: row.place,
-        supplier: row.supplier,
-        availability: row.availability,
-        market: row.market,
-        prices,
-    }
-}
+use sqlite::{Alter, params};
 
 impl<S: Alter> Work<'_, S> {
     // The records that have an article.

@@ -1,51 +1,19 @@
 // The table `article`: the identifiers of each record.
 
-ghost use Rattle.std.specs.Prelude.{◌≡◌, Err, IfOk, IsTrue, map};
+ghost use Rattle.std.specs.Prelude.{◌≡◌, Err, IsTrue};
 ghost use Rattle.sqlite.specs.Held.{state};
-ghost use Rattle.desk_tables.specs.Transactions.{Works, NoAnswer};
-ghost use Rattle.desk_tables.specs.Rows.{unchanged};
-ghost use Rattle.desk_tables.specs.RecordRows.{article_columns};
-ghost use Rattle.desk_tables.specs.RecordAnswers.{five_columns, AreArticlesInOrder};
-ghost use Rattle.desk_tables.specs.ArticleAnswers.{AreArticlesOf};
-ghost use Rattle.desk_tables.specs.RecordChanges.{with_article, without_articles};
+ghost use Rattle.desk_rows.specs.Transactions.{Works, NoAnswer};
+ghost use Rattle.desk_rows.specs.Rows.{unchanged};
+ghost use Rattle.desk_rows.specs.RecordAnswers.{AreArticlesInOrder};
+ghost use Rattle.desk_rows.specs.ArticleAnswers.{AreArticlesOf};
+ghost use Rattle.desk_rows.specs.RecordChanges.{with_article, without_articles};
 
-use crate::columns::{code_column, name_column, text_column, whole_column};
-use crate::rows::{ArticleRow, RecordRow};
 use crate::work::Work;
+use desk_rows::articles::all_articles;
+use desk_rows::rows::{ArticleRow, RecordRow};
 use onix_message::agreement::StoreFault;
 use onix_terms::series_name::SeriesName;
-use sqlite::{Alter, Row, params};
-
-// The row of the table that a query shows.
-fn article_row(row: &Row) -> Result<ArticleRow, StoreFault>
-    ensures { IfOk result (λ r. article_columns r ≡ five_columns row.now) }
-{
-    let series = name_column(row, 0)?;
-    let id_place = whole_column(row, 2)?;
-    let id_type = code_column(row, 3)?;
-    let reference = text_column(row, 1)?;
-    let id_value = text_column(row, 4)?;
-    Ok(ArticleRow {
-        series,
-        reference,
-        id_place,
-        id_type,
-        id_value,
-    })
-}
-
-fn all_articles(rows: &Vec<Row>) -> Result<Vec<ArticleRow>, StoreFault>
-    ensures { IfOk result (λ articles. map article_columns articles.items ≡ map five_columns rows.now.items) }
-{
-    let mut articles = Vec::new(*rows.allocator());
-    for row in rows.as_slice() {
-        let one = article_row(row)?;
-        if articles.push(one).is_err() {
-            return Err(StoreFault::Memory);
-        }
-    }
-    Ok(articles)
-}
+use sqlite::{Alter, params};
 
 impl<S: Alter> Work<'_, S> {
     /// Adds a row. `Unusable` where the record has an identifier at that place, or the series has

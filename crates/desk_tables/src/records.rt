@@ -1,48 +1,18 @@
 // The table `record`: which records the catalogue of each series has.
 
-ghost use Rattle.std.specs.Prelude.{◌≡◌, Err, IfOk, IsTrue, is_some, map, slice_get};
+ghost use Rattle.std.specs.Prelude.{◌≡◌, Err, IsTrue};
 ghost use Rattle.sqlite.specs.Held.{state};
-ghost use Rattle.desk_tables.specs.Transactions.{Works, NoAnswer};
-ghost use Rattle.desk_tables.specs.Rows.{unchanged};
-ghost use Rattle.desk_tables.specs.RecordRows.{record_columns};
-ghost use Rattle.desk_tables.specs.RecordAnswers.{two_columns, AreRecordsInOrder};
-ghost use Rattle.desk_tables.specs.RecordChanges.{has_record, with_new_record, with_record, without_record};
+ghost use Rattle.desk_rows.specs.Transactions.{Works, NoAnswer};
+ghost use Rattle.desk_rows.specs.Rows.{unchanged};
+ghost use Rattle.desk_rows.specs.RecordAnswers.{AreRecordsInOrder};
+ghost use Rattle.desk_rows.specs.RecordChanges.{has_record, with_new_record, with_record, without_record};
 
-use crate::columns::{name_column, text_column};
-use crate::rows::RecordRow;
 use crate::work::Work;
+use desk_rows::records::{all_records, has_row};
+use desk_rows::rows::RecordRow;
 use onix_message::agreement::StoreFault;
 use onix_terms::series_name::SeriesName;
-use sqlite::{Alter, Row, params};
-
-fn has_row(rows: &Vec<Row>) -> bool
-    ensures { result ≡ is_some (slice_get rows.now.items 0) }
-{
-    rows.first().is_some()
-}
-
-// The row of the table that a query shows.
-pub(crate) fn record_row(row: &Row) -> Result<RecordRow, StoreFault>
-    ensures { IfOk result (λ r. record_columns r ≡ two_columns row.now) }
-{
-    Ok(RecordRow {
-        series: name_column(row, 0)?,
-        reference: text_column(row, 1)?,
-    })
-}
-
-fn all_records(rows: &Vec<Row>) -> Result<Vec<RecordRow>, StoreFault>
-    ensures { IfOk result (λ records. map record_columns records.items ≡ map two_columns rows.now.items) }
-{
-    let mut records = Vec::new(*rows.allocator());
-    for row in rows.as_slice() {
-        let one = record_row(row)?;
-        if records.push(one).is_err() {
-            return Err(StoreFault::Memory);
-        }
-    }
-    Ok(records)
-}
+use sqlite::{Alter, params};
 
 impl<S: Alter> Work<'_, S> {
     /// Sees to it that the series has the record: adds its row, or nothing where it is there.

@@ -1,70 +1,17 @@
 // The table `series`: the agreements, each with the number that is applied next.
 
-ghost use Rattle.std.specs.Prelude.{◌≡◌, Err, IfOk, IsTrue, map, option_map, slice_get};
-ghost use Rattle.std.specs.List.{AllByRecursion};
+ghost use Rattle.std.specs.Prelude.{◌≡◌, Err, IsTrue};
 ghost use Rattle.sqlite.specs.Held.{state};
-ghost use Rattle.desk_tables.specs.Transactions.{Works, NoAnswer};
-ghost use Rattle.desk_tables.specs.Shown.{seven_columns, IsToldRow};
-ghost use Rattle.desk_tables.specs.Rows.{series_columns, party_type, party_value, IsAddressee, with_series, with_next, series_at, series_between, unchanged, AreSeriesInOrder};
+ghost use Rattle.desk_rows.specs.Transactions.{Works, NoAnswer};
+ghost use Rattle.desk_rows.specs.Rows.{party_type, party_value, with_series, with_next, series_at, series_between, unchanged, AreSeriesInOrder};
 
-use crate::columns::{addressee_columns, name_column, number_column, party_columns, whole_column};
 use crate::work::Work;
-use crate::written::{party_type, party_value};
+use desk_rows::series::{SeriesRow, all_series, first_series};
+use desk_rows::written::{party_type, party_value};
 use onix_message::agreement::{Agreement, StoreFault};
 use onix_terms::party::Party;
 use onix_terms::series_name::SeriesName;
-use sqlite::{Alter, Row, params};
-
-/// An agreement, with the number of its series that is applied next.
-#[derive(Debug, Drop, PartialEq, Eq)]
-pub struct SeriesRow {
-    pub agreement: Agreement,
-    pub next: u32,
-}
-
-// The row of the table that a query shows.
-fn series_row(row: &Row) -> Result<SeriesRow, StoreFault>
-    ensures columns { IfOk result (λ series. series_columns series ≡ seven_columns row.now) }
-    ensures told { IfOk result (λ series. IsAddressee series.agreement.addressee) }
-{
-    // What takes no memory comes first, so that few ways out let go of anything.
-    let name = name_column(row, 0)?;
-    let first = number_column(row, 5)?;
-    let next = whole_column(row, 6)?;
-    let sender = party_columns(row, 1, 2)?;
-    let addressee = addressee_columns(row, 3, 4)?;
-    let agreement = Agreement {
-        name,
-        sender,
-        addressee,
-        first,
-    };
-    Ok(SeriesRow { agreement, next })
-}
-
-fn first_series(rows: &Vec<Row>) -> Result<Option<SeriesRow>, StoreFault>
-    ensures columns { IfOk result (λ series. option_map series_columns series ≡ option_map seven_columns (slice_get rows.now.items 0)) }
-    ensures told { IfOk result (λ series. IsToldRow series) }
-{
-    match rows.first() {
-        Some(row) => Ok(Some(series_row(row)?)),
-        None => Ok(None),
-    }
-}
-
-fn all_series(rows: &Vec<Row>) -> Result<Vec<SeriesRow>, StoreFault>
-    ensures columns { IfOk result (λ series. map series_columns series.items ≡ map seven_columns rows.now.items) }
-    ensures told { IfOk result (λ series. AllByRecursion (λ r. IsAddressee r.agreement.addressee) series.items) }
-{
-    let mut series = Vec::new(*rows.allocator());
-    for row in rows.as_slice() {
-        let one = series_row(row)?;
-        if series.push(one).is_err() {
-            return Err(StoreFault::Memory);
-        }
-    }
-    Ok(series)
-}
+use sqlite::{Alter, params};
 
 impl<S: Alter> Work<'_, S> {
     /// Adds an agreement, with its first number as the next. `Unusable` where a series has its

@@ -1,7 +1,6 @@
 //! Tests of the libraries below the desk: worked values of terms, messages, prices, precedence tables
 //! and catalogues.
 
-mod cases;
 mod catalogues;
 mod messages;
 mod prices;

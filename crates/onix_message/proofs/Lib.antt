@@ -4,9 +4,6 @@ pub mod Fronts
 pub mod FrontRows
 pub mod Bare
 pub mod StepsOfRows
-pub mod CleanFields
-pub mod Pairs
-pub mod TenFields
 pub mod RowParts
 pub mod Explained
 pub mod EndedFronts

@@ -1,25 +1,28 @@
 // The one text of contents.
 
-ghost use Rattle.std.specs.Prelude.{◌≡◌, ◌++◌, ◌∷◌, [], IfOk, OnOk, OnErr, IsErrOf, List};
+ghost use Rattle.std.specs.Prelude.{◌≡◌, ◌∷◌, [], IfOk, IsErrOf, List};
 ghost use Rattle.std.specs.Str.{bytes_eq};
 ghost use Rattle.std.specs.String.{string_bytes};
 ghost use Rattle.csv_records.specs.RecordTexts.{records_of};
 ghost use Rattle.onix_message.specs.ContentsText.{IsContents, contents_text, framed, plain_opening};
 ghost use Rattle.onix_message.specs.Grammar.{IsMessage};
-ghost use Rattle.onix_message.specs.Product.{content_records};
-ghost use Rattle.onix_message.specs.declared.parts.Header.{Header};
-ghost use Rattle.onix_message.specs.declared.parts.Product.{Product};
+ghost use Rattle.onix_rows.specs.Product.{content_records};
+ghost use Rattle.onix_rows.specs.declared.parts.Header.{Header};
+ghost use Rattle.onix_rows.specs.declared.parts.Product.{Product};
 
+use crate::laws::equal_contents;
 use crate::message::{MessageFault, read_message};
-use crate::parts::{Contents, Product};
-use crate::product::append_product;
 use csv_records::buffer::RecordBuffer;
 use csv_records::fields::FieldBuffer;
 use csv_records::laws::one_text;
 use csv_records::reading::{RecordReader, append_records};
 use csv_records::writing::write_records;
 use itoa::Buffer;
+use onix_rows::parts::Product;
+use onix_rows::product::append_product;
+use onix_terms::items::Items;
 use std::alloc::{AllocError, Global};
+use std::marker::Model;
 use thiserror::Error;
 
 /// Why a text is no contents text.
@@ -43,7 +46,7 @@ impl From<AllocError> for ContentsFault {
     }
 }
 
-#[tactic(auto, unfolding(crate::specs::Product::content_records))]
+#[tactic(auto, unfolding(onix_rows::specs::Product::content_records))]
 fn records_of_contents(alloc: Global, products: &[Product]) -> Result<RecordBuffer, AllocError>
     ensures { IfOk result (λ records. records ≡ content_records products.now) }
 {
@@ -137,5 +140,73 @@ pub fn read_contents(alloc: Global, text: &str) -> Result<Contents, ContentsFaul
         Ok(contents)
     } else {
         Err(ContentsFault::NotContents)
+    }
+}
+
+/// The products of a message, with the defaults of its header filled in. Contracts see them as
+/// a list.
+#[derive(Debug, Drop)]
+pub struct Contents {
+    products: Items<Product>,
+}
+
+impl Model for Contents {
+    ghost use Rattle.std.specs.Prelude.{List};
+    ghost use Rattle.onix_message.specs.ContentsText.{IsContents};
+    ghost use Rattle.onix_rows.specs.declared.parts.Product.{Product};
+
+    ghost Value = { List Product };
+
+    ghost view = { λ c. c.products };
+
+    ghost invariant = { λ c. IsContents c.products };
+}
+
+impl Contents {
+    ghost use Rattle.std.specs.Prelude.{◌≡◌, ◌≤◌, ◌↔◌, All, IsTrue, length};
+    ghost use Rattle.onix_message.specs.ContentsText.{IsContents};
+    ghost use Rattle.onix_message.specs.DetailCount.{detail_count};
+    ghost use Rattle.onix_message.specs.PartRows.{content_rows};
+    ghost use Rattle.onix_message.specs.SameContents.{same_contents};
+
+    // The contents of a message that was read.
+    pub(crate) fn from_products(products: Items<Product>) -> Contents
+        requires { IsContents products }
+        ensures { result ≡ products }
+    {
+        Contents { products }
+    }
+
+    /// It is contents whatever it was read from, so its text can be read back.
+    pub fn is_contents(&self)
+        ensures { IsContents self.now }
+    {
+        let _products = &self.products;
+    }
+
+    /// The products in their order.
+    pub fn products(&self) -> &[Product]
+        ensures products { result.now ≡ self.now }
+        ensures few { length self.now ≤ 19998 }
+        ensures few_rows { length (content_rows self.now) ≤ 19998 }
+        ensures few_details { All (λ p. detail_count p.supplies ≤ 19998) self.now }
+    {
+        self.products.as_slice()
+    }
+
+    #[tactic(auto, unfolding(crate::specs::SameContents::same_contents))]
+    fn has_same_products(&self, other: &Contents) -> bool
+        ensures { result ≡ same_contents self.now other.now }
+    {
+        self.products == other.products
+    }
+
+    /// Whether two contents are equal in all parts.
+    pub fn is_same(&self, other: &Contents) -> bool
+        ensures meaning { IsTrue result ↔ (self.now ≡ other.now) }
+        ensures value { result ≡ same_contents self.now other.now }
+    {
+        equal_contents();
+        self.has_same_products(other)
     }
 }

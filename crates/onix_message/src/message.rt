@@ -1,21 +1,22 @@
 // Messages: a header and contents, read from records.
 
-ghost use Rattle.std.specs.Prelude.{◌≡◌, ◌∷◌, IfOk, IfErr, OnOk, Some, true, false};
+ghost use Rattle.std.specs.Prelude.{◌≡◌, ◌∷◌, IfOk, IfErr, Some, true, false};
 ghost use Rattle.onix_message.specs.private.Draft.{has_ended};
 ghost use Rattle.onix_message.specs.ContentsText.{IsContents};
 ghost use Rattle.onix_message.specs.Grammar.{IsMessage};
 ghost use Rattle.onix_message.specs.Message.{Explains};
-ghost use Rattle.onix_message.specs.Opening.{opening_of};
+ghost use Rattle.onix_rows.specs.Opening.{opening_of};
 ghost use Rattle.onix_message.specs.declared.message.MessageFault.TheVariants.{Malformed};
 
+use crate::contents::Contents;
 use crate::draft::{Draft, Part, StepFault};
 use crate::laws::contents_of_messages;
-use crate::opening::read_opening;
-use crate::parts::{Contents, Header};
-use crate::row::{Opening, RowFault};
 use crate::step::read_next;
 use csv_records::record::Record;
 use csv_records::records::Records;
+use onix_rows::opening::read_opening;
+use onix_rows::parts::Header;
+use onix_rows::row::{Opening, RowFault};
 use onix_terms::items::Items;
 use std::alloc::Global;
 use thiserror::Error;

@@ -1,12 +1,29 @@
-//! The program `onixdesk`: the intake of a bookshop's buying desk on the command line. It hands the
-//! words that it was started with, and its streams, to `desk_commands`.
+//! The program `onixdesk`: the intake of a bookshop's buying desk on the command line. `command_line`
+//! reads its words by the `commands` of clap, `rules` reads the precedence table, and `fault` has the
+//! texts of what can go wrong. The commands are `batch`, `deliver`, `gaps` and `serve`, each over any
+//! desk; `program` gives them one in a database file, or in memory. `migrate` brings a database file of
+//! an earlier version to the one that is kept now. What each request is answered is proved in
+//! `series_rules`.
 #![tactic(auto)]
+
+mod batch;
+mod command_line;
+mod commands;
+mod connection;
+mod deliver;
+mod fault;
+mod gaps;
+mod migrate;
+mod program;
+mod rules;
+mod serve;
+mod timed;
 
 ghost use Rattle.std.specs.Prelude.{◌≤◌, IfOk};
 
-use desk_commands::command_line::print_wrong;
-use desk_commands::fault::{Fault, report};
-use desk_commands::program::run;
+use crate::command_line::print_wrong;
+use crate::fault::{Fault, report};
+use crate::program::run;
 use std::alloc::AllocError;
 use std::io::ErrorKind;
 use std::process::ExitCode;

@@ -5,8 +5,8 @@ use Rattle.std.specs.FinMap as map
 use Rattle.std.specs.Option.{option_or}
 use Rattle.onix_terms.specs.declared.party.Party.{Party}
 use Rattle.onix_message.specs.Message.{message_of, bad_row}
-use Rattle.onix_message.specs.declared.parts.Header.{Header}
-use Rattle.onix_message.specs.declared.parts.Product.{Product}
+use Rattle.onix_rows.specs.declared.parts.Header.{Header}
+use Rattle.onix_rows.specs.declared.parts.Product.{Product}
 use Rattle.onix_message.specs.declared.agreement.Agreement.{Agreement}
 use Rattle.series_rules.specs.Agreements.{agreements_of, named, between}
 use Rattle.series_rules.specs.Firsts.{first_at, put_at, admitted, admitted_at, admitted_number, admitted_message}

@@ -3,8 +3,8 @@ use Rattle.std.specs.Prelude.{◌&&◌, List, [], ◌∷◌, Option, Some, None,
 use Rattle.std.specs.Option.{option_or}
 use Rattle.onix_message.specs.Message.{message_of}
 use Rattle.onix_message.specs.declared.agreement.Agreement.{Agreement}
-use Rattle.onix_message.specs.declared.parts.Header.{Header}
-use Rattle.onix_message.specs.declared.parts.Product.{Product}
+use Rattle.onix_rows.specs.declared.parts.Header.{Header}
+use Rattle.onix_rows.specs.declared.parts.Product.{Product}
 use Rattle.series_rules.specs.Agreements.{agreements_of, named, between}
 use Rattle.series_rules.specs.declared.requests.Request.{Request}
 use Rattle.series_rules.specs.declared.requests.Request.TheVariants.{Deliver, Waive}

@@ -5,9 +5,10 @@ ghost use Rattle.onix_message.specs.Message.{message_of};
 ghost use Rattle.series_rules.specs.MessageFaults.{IsComputedFault};
 
 use csv_records::records::Records;
+use onix_message::contents::Contents;
 use onix_message::laws::{bad_rows, messages};
 use onix_message::message::{MessageFault, read_message};
-use onix_message::parts::{Contents, Header};
+use onix_rows::parts::Header;
 use std::alloc::Global;
 
 /// Reads a delivery: the message that its answer is by, or the row that its answer names.

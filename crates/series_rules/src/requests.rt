@@ -2,7 +2,7 @@
 
 use csv_records::buffer::RecordBuffer;
 use onix_message::agreement::Agreement;
-use onix_message::parts::Contents;
+use onix_message::contents::Contents;
 use onix_terms::isbn13::Isbn13;
 use onix_terms::number::Number;
 use onix_terms::series_name::SeriesName;

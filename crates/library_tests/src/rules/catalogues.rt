@@ -1,38 +1,33 @@
-ghost use Rattle.std.specs.Prelude.{◌≡◌, ◌≤◌, [], IfOk, length};
-ghost use Rattle.onix_message.specs.DetailCount.{detail_count};
+// What is found in a catalogue, by reference and by article.
 
-use crate::rules::cases::{expect, expect_text};
+use crate::cases::{expect, expect_text};
 use catalogue_rules::catalogue::Catalogue;
-use catalogue_rules::entry::Entry;
-use onix_message::parts::{ProductIdentifier, ProductSupply, Supplier, SupplyDetail};
-use onix_terms::code::Code2;
+use onix_message::contents::read_contents;
 use onix_terms::isbn13::Isbn13;
-use onix_terms::items::Items;
 use onix_terms::series_name::SeriesName;
-use onix_terms::territory::Territory;
-use onix_terms::text::Text;
 use price_rules::offer::Offer;
 use std::alloc::{AllocError, Global};
+use std::test::Fail;
 
-fn empty_entry(alloc: Global) -> Entry
-    ensures { result ≡ record { ids = []; supplies = [] } }
-{
-    Entry {
-        ids: Items::new(alloc),
-        supplies: Items::new(alloc),
-    }
-}
+// R2 has its number by a type that is no article's, R1 by both that are, and four SupplyDetails.
+const CONTENTS: &str = "Product,R2,03,02,9783161484100
+ProductSupply,,WORLD,
+SupplyDetail,04,,,Nord,20,01
+Product,R10,03,15,9780000000002
+Product,R1,03,03,9783161484100,15,9783161484100
+ProductSupply,,WORLD,
+SupplyDetail,04,,,Nord,20,01
+SupplyDetail,04,,,Nord,21,01
+ProductSupply,FR,,
+SupplyDetail,04,,,Nord,20,01
+SupplyDetail,04,,,Nord,21,01
+";
 
-// Puts empty entries at these references.
-fn put_empty_entries(
-    alloc: Global,
-    catalogue: &mut Catalogue,
-    references: &[&str],
-) -> Result<(), AllocError> {
-    for reference in references {
-        catalogue.put(reference, empty_entry(alloc))?;
-    }
-    Ok(())
+fn applied(alloc: Global, text: &str) -> Result<Catalogue, Fail> {
+    let contents = read_contents(alloc, text)?;
+    let mut catalogue = Catalogue::new(alloc);
+    catalogue.apply(&contents)?;
+    Ok(catalogue)
 }
 
 // The references in their order, each with a comma.
@@ -43,83 +38,6 @@ fn references_text(alloc: Global, catalogue: &Catalogue) -> Result<String, Alloc
         text.push_str(",")?;
     }
     Ok(text)
-}
-
-#[test]
-fn entries_come_in_order_of_reference(rt: HostRuntime) {
-    let mut catalogue = Catalogue::new(rt.alloc());
-    expect(&rt, catalogue.is_empty(), "a new catalogue");
-    let put = put_empty_entries(rt.alloc(), &mut catalogue, &["R2", "R10", "R2", "R1"]);
-    expect(&rt, put.is_ok(), "memory");
-    expect(&rt, catalogue.len() == 3, "three entries");
-    let references = references_text(rt.alloc(), &catalogue);
-    expect_text(&rt, references, "R1,R10,R2,", "in order");
-    expect(&rt, catalogue.get("R10").is_some(), "R10");
-    expect(&rt, catalogue.get("R3").is_none(), "R3");
-}
-
-fn detail(alloc: Global, availability: Code2) -> Result<SupplyDetail, AllocError> {
-    Ok(SupplyDetail {
-        supplier: Supplier {
-            role: availability,
-            party: None,
-            name: Text::from_str(alloc, "Nord")?,
-        },
-        availability,
-        unpriced: None,
-        prices: Items::new(alloc),
-    })
-}
-
-// A supply to the whole world with two SupplyDetails.
-fn supply(alloc: Global, availability: Code2) -> Result<ProductSupply, AllocError>
-    ensures { IfOk result (λ s. length s.details ≡ 2) }
-{
-    let mut details = Items::new(alloc);
-    details.push(detail(alloc, availability)?)?;
-    details.push(detail(alloc, availability)?)?;
-    let market = Territory {
-        included: Items::new(alloc),
-        world: true,
-        excluded: Items::new(alloc),
-    };
-    Ok(ProductSupply { market, details })
-}
-
-fn push_id(
-    alloc: Global,
-    ids: &mut Items<ProductIdentifier>,
-    id_type: &str,
-    isbn: &Isbn13,
-) -> Option<()> {
-    let id_type = Code2::read(id_type)?;
-    let id_value = Text::from_str(alloc, isbn.as_str()).ok()?;
-    ids.push(ProductIdentifier { id_type, id_value }).ok()
-}
-
-fn two_supplies(alloc: Global, availability: Code2) -> Result<Items<ProductSupply>, AllocError>
-    ensures { IfOk result (λ s. detail_count s ≤ 20000) }
-{
-    let mut supplies = Items::new(alloc);
-    supplies.push(supply(alloc, availability)?)?;
-    supplies.push(supply(alloc, availability)?)?;
-    Ok(supplies)
-}
-
-// Puts a record with identifiers of these types and with two supplies.
-fn put_record(
-    alloc: Global,
-    catalogue: &mut Catalogue,
-    reference: &str,
-    types: &[&str; 2],
-    isbn: &Isbn13,
-) -> Option<()> {
-    let availability = Code2::read(types[0])?;
-    let mut ids = Items::new(alloc);
-    push_id(alloc, &mut ids, types[0], isbn)?;
-    push_id(alloc, &mut ids, types[1], isbn)?;
-    let supplies = two_supplies(alloc, availability).ok()?;
-    catalogue.put(reference, Entry { ids, supplies }).ok()
 }
 
 fn is_offer_of_r1(offer: &Offer, place: u32) -> bool {
@@ -144,13 +62,24 @@ fn finds_offers_of_r1(catalogue: &Catalogue, isbn: &Isbn13) -> Option<bool> {
 }
 
 #[test]
-fn an_article_is_found_by_types_03_and_15(rt: HostRuntime) {
-    let isbn = Isbn13::read("9783161484100").expect(&rt, "thirteen digits");
-    let mut catalogue = Catalogue::new(rt.alloc());
-    let put = put_record(rt.alloc(), &mut catalogue, "R2", &["02", "02"], &isbn);
-    expect(&rt, put.is_some(), "R2");
-    let put = put_record(rt.alloc(), &mut catalogue, "R1", &["03", "15"], &isbn);
-    expect(&rt, put.is_some(), "R1");
-    let found = finds_offers_of_r1(&catalogue, &isbn);
-    expect(&rt, found == Some(true), "the offers of R1");
+fn records_are_found_by_reference_and_article(rt: HostRuntime) -> Result<(), Fail> {
+    let alloc = rt.alloc();
+    let isbn = Isbn13::read("9783161484100").ok_or("thirteen digits")?;
+    expect(&rt, Catalogue::new(alloc).is_empty(), "a new catalogue");
+    let catalogue = applied(alloc, CONTENTS)?;
+    expect(&rt, catalogue.len() == 3, "three entries");
+    expect_text(
+        &rt,
+        references_text(alloc, &catalogue),
+        "R1,R10,R2,",
+        "in order",
+    );
+    expect(&rt, catalogue.get("R10").is_some(), "R10");
+    expect(&rt, catalogue.get("R3").is_none(), "R3");
+    expect(
+        &rt,
+        finds_offers_of_r1(&catalogue, &isbn) == Some(true),
+        "the offers of R1",
+    );
+    Ok(())
 }

@@ -1,12 +1,13 @@
-use crate::rules::cases::{expect, expect_text};
+use crate::cases::{expect, expect_text, repeated};
 use csv_records::reading::{RecordFault, read_records};
 use csv_records::writing::write_records;
-use onix_message::contents::{ContentsFault, read_contents, write_contents};
+use onix_message::contents::{Contents, ContentsFault, read_contents, write_contents};
 use onix_message::message::{MessageFault, read_message};
-use onix_message::parts::{Contents, Product};
+use onix_rows::parts::Product;
 use onix_terms::Memory;
 use onix_terms::plain::Plain;
 use std::alloc::Global;
+use std::process::Abort;
 
 // A message of five records after the first, and its contents text.
 const MESSAGE: &str = "Message,1,06,4012345000009,06,5012345678900,1,1,20250301,02,GBP
@@ -40,20 +41,28 @@ Price,02,12.990,GBP,,WORLD,,,
 Price,02,9.990,GBP,,WORLD,,,,10
 ";
 
-// The row at which a text is no message, or 0.
-fn bad_row(alloc: Global, text: &str) -> Option<u32> {
-    let records = read_records(alloc, text.as_bytes()).ok()?;
-    match read_message(alloc, &records.as_records()).err() {
-        None => Some(0),
-        Some(MessageFault::Malformed { row }) => Some(row),
-        Some(MessageFault::Memory) => None,
+fn contents_of(alloc: Global, text: &[u8]) -> Result<Contents, MessageFault> {
+    let Ok(records) = read_records(alloc, text) else {
+        return Err(MessageFault::Memory);
+    };
+    let read = read_message(alloc, &records.as_records());
+    drop(records);
+    match read {
+        Ok((header, contents)) => {
+            drop(header);
+            Ok(contents)
+        }
+        Err(fault) => Err(fault),
     }
 }
 
-fn contents_of(alloc: Global, text: &str) -> Option<Contents> {
-    let records = read_records(alloc, text.as_bytes()).ok()?;
-    let (_, contents) = read_message(alloc, &records.as_records()).ok()?;
-    Some(contents)
+// The row at which a text is no message, or 0.
+fn bad_row(alloc: Global, text: &[u8]) -> Option<u32> {
+    match contents_of(alloc, text) {
+        Ok(_) => Some(0),
+        Err(MessageFault::Malformed { row }) => Some(row),
+        Err(MessageFault::Memory) => None,
+    }
 }
 
 // Texts, and the row at which each is no message, or 0.
@@ -101,20 +110,20 @@ const ROWS: &[(&str, u32)] = &[
 #[test]
 fn rows_at_which_a_text_is_no_message(rt: HostRuntime) {
     for (text, row) in ROWS {
-        expect(&rt, bad_row(rt.alloc(), text) == Some(*row), text);
+        expect(
+            &rt,
+            bad_row(rt.alloc(), text.as_bytes()) == Some(*row),
+            text,
+        );
     }
 }
 
 // The row at which a message of so many products and this end is none, or 0.
-fn bad_row_of_long_message(alloc: Global, products: usize, end: &str) -> Option<u32> {
-    let mut text = String::new(alloc);
-    text.push_str("Message,1,06,4012345000009,06,5012345678900,1,,,,\n")
-        .ok()?;
-    for _ in 0..products {
-        text.push_str("Product,R,03,15,1\n").ok()?;
-    }
-    text.push_str(end).ok()?;
-    bad_row(alloc, text.as_str())
+fn bad_row_of_long_message(alloc: Global, products: u32, end: &str) -> Option<u32> {
+    let begin = b"Message,1,06,4012345000009,06,5012345678900,1,,,,\n";
+    let product = b"Product,R,03,15,1\n";
+    let text = repeated(alloc, begin, product, products, end.as_bytes()).ok()?;
+    bad_row(alloc, text.as_slice())
 }
 
 #[test]
@@ -145,66 +154,68 @@ const SAME: &[(&str, bool)] = &[
     (WITH_QUANTITY, false),
 ];
 
-fn have_same_contents(alloc: Global, message: &str, other: &str) -> Option<bool> {
-    let (contents, others) = contents_of(alloc, message).zip(contents_of(alloc, other))?;
-    Some(contents.is_same(&others))
-}
-
-fn is_equal_to_its_duplicate(product: &Product) -> Result<bool, Memory> {
-    let duplicate = product.duplicate()?;
-    let equal = duplicate.is_equal(product);
-    drop(duplicate);
-    Ok(equal)
-}
-
-fn are_equal_to_their_duplicates(products: &[Product]) -> Result<bool, Memory> {
-    for product in products {
-        if !is_equal_to_its_duplicate(product)? {
-            return Ok(false);
-        }
+fn is_equal_to_its_duplicate(product: &Product) -> bool {
+    match product.duplicate() {
+        Ok(duplicate) => duplicate.is_equal(product),
+        Err(_) => false,
     }
-    Ok(true)
 }
 
-fn duplicates_are_equal(alloc: Global, message: &str) -> Option<bool> {
-    let contents = contents_of(alloc, message)?;
-    let equal = are_equal_to_their_duplicates(contents.products()).ok();
-    drop(contents);
-    equal
+// Whether a message has these contents or others, and each product is equal to its duplicate.
+fn compares(alloc: Global, contents: &Contents, text: &str, same: bool) -> bool {
+    let Ok(others) = contents_of(alloc, text.as_bytes()) else {
+        return false;
+    };
+    let mut are_equal = contents.is_same(&others) == same;
+    for product in others.products() {
+        are_equal = are_equal && is_equal_to_its_duplicate(product);
+    }
+    are_equal
+}
+
+fn expect_comparisons(alloc: Global, stop: &impl Abort, contents: &Contents) {
+    for (text, same) in SAME {
+        expect(stop, compares(alloc, contents, text, *same), text);
+    }
 }
 
 #[test]
 fn contents_are_equal_by_their_values(rt: HostRuntime) {
-    for (text, same) in SAME {
-        let found = have_same_contents(rt.alloc(), MESSAGE, text);
-        expect(&rt, found == Some(*same), text);
-        let equal = duplicates_are_equal(rt.alloc(), text);
-        expect(&rt, equal == Some(true), text);
+    match contents_of(rt.alloc(), MESSAGE.as_bytes()) {
+        Ok(contents) => expect_comparisons(rt.alloc(), &rt, &contents),
+        Err(_) => rt.panic(MESSAGE),
     }
 }
 
 // Messages, and the text of their contents.
 const CONTENTS: &[(&str, &str)] = &[(MESSAGE, TEXT), (WITH_QUANTITY, TEXT_WITH_QUANTITY)];
 
-fn is_written(alloc: Global, contents: &Contents, text: &str) -> Option<bool> {
-    Some(write_contents(alloc, contents).ok()?.as_str() == text)
+fn is_written(alloc: Global, contents: &Contents, text: &str) -> bool {
+    match write_contents(alloc, contents) {
+        Ok(written) => written.as_str() == text,
+        Err(_) => false,
+    }
 }
 
-fn is_read(alloc: Global, contents: &Contents, text: &str) -> Option<bool> {
-    Some(read_contents(alloc, text).ok()?.is_same(contents))
+fn is_read(alloc: Global, contents: &Contents, text: &str) -> bool {
+    match read_contents(alloc, text) {
+        Ok(read) => read.is_same(contents),
+        Err(_) => false,
+    }
 }
 
-fn is_text_of(alloc: Global, text: &str, message: &str) -> Option<bool> {
-    let contents = contents_of(alloc, message)?;
-    let is_written = is_written(alloc, &contents, text);
-    let is_read = is_read(alloc, &contents, text);
-    drop(contents);
-    Some(is_written? && is_read?)
+fn is_text_of(alloc: Global, text: &str, message: &str) -> bool {
+    match contents_of(alloc, message.as_bytes()) {
+        Ok(contents) => is_written(alloc, &contents, text) && is_read(alloc, &contents, text),
+        Err(_) => false,
+    }
 }
 
-fn product_count(alloc: Global, text: &str) -> Option<usize> {
-    let contents = read_contents(alloc, text).ok()?;
-    Some(contents.products().len())
+fn is_without_products(alloc: Global, text: &str) -> bool {
+    match read_contents(alloc, text) {
+        Ok(contents) => contents.products().is_empty(),
+        Err(_) => false,
+    }
 }
 
 const NO_CONTENTS: &[&str] = &[
@@ -223,14 +234,10 @@ fn are_no_contents(alloc: Global, text: &str) -> bool {
 #[test]
 fn contents_have_one_text(rt: HostRuntime) {
     for (message, text) in CONTENTS {
-        let is_text = is_text_of(rt.alloc(), text, message);
-        expect(&rt, is_text == Some(true), text);
+        expect(&rt, is_text_of(rt.alloc(), text, message), text);
     }
-    expect(
-        &rt,
-        product_count(rt.alloc(), "") == Some(0),
-        "the empty text",
-    );
+    let is_empty = is_without_products(rt.alloc(), "");
+    expect(&rt, is_empty, "the empty text");
     for text in NO_CONTENTS {
         expect(&rt, are_no_contents(rt.alloc(), text), text);
     }

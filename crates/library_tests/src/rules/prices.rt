@@ -1,7 +1,6 @@
-// Worked values of prices, calendars, choices and precedence tables.
+// Worked values of prices, calendars and precedence tables.
 
 mod calendars;
-mod choices;
 mod offers;
 mod prices;
 mod rules;

@@ -1,6 +1,6 @@
 // Worked values of each term.
 
-use crate::rules::cases::{expect, expect_text};
+use crate::cases::{expect, expect_text};
 use onix_terms::Memory;
 use onix_terms::amount::Amount;
 use onix_terms::code::{Code2, Country, Currency};

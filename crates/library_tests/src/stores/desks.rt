@@ -1,7 +1,7 @@
-// The desk in tables, over a store in memory and over files on disks in memory: what it answers to
-// batches, before and after its files were closed and opened again.
+// The desk in tables, over a store in memory and over files on disks in memory, and what it answers to
+// batches.
 
-use crate::disks::{OPTIONS, new_files};
+use crate::disks::OPTIONS;
 use desk_batch::batch::{BatchFault, run_batch};
 use desk_store::desk::DeskStore;
 use desk_store::opening::OpenFault;
@@ -143,11 +143,4 @@ fn desk_over_memory(rt: HostRuntime) -> Result<(), Fail> {
     expect_asked(&rt, &ask(alloc, &mut desk, FIRST.0), FIRST.1);
     expect_asked(&rt, &ask(alloc, &mut desk, SECOND.0), SECOND.1);
     Ok(())
-}
-
-#[test]
-fn desk_over_files(rt: HostRuntime) {
-    let alloc = rt.alloc();
-    let files = expect_files(alloc, &rt, new_files(alloc), FIRST);
-    drop(expect_files(alloc, &rt, files, SECOND));
 }

@@ -1,8 +1,9 @@
-// Files of version 1, made by the test's own statements, are brought to version 2, and the desk in
-// them goes on: what it answers then, and what is left where a disk fails on the way.
+// Files of version 1, made by the test's own statements, are brought to version 2 where memory may be
+// refused once (by `bench/refused_memory`), and over disks that fail on the way: what is left is
+// migrated then, and the desk in it goes on.
 
 use crate::disks::{OPTIONS, failing, new_files, stop_machine};
-use crate::stores::desks::{ask_files, expect_files};
+use crate::stores::desks::expect_files;
 use crate::stores::statements::with_statements;
 use crate::tables::version_1::TABLES;
 use desk_store::migrating::{MigrateAnswer, migrate_files};
@@ -11,7 +12,6 @@ use onix_message::agreement::StoreFault;
 use sqlite::Files;
 use sqlite_disk::{Disk, Fuse, Memory};
 use std::alloc::Global;
-use std::fmt::Write;
 use std::process::Abort;
 use std::test::Fail;
 
@@ -19,7 +19,7 @@ use std::test::Fail;
 // is asked once it is of version 2, and what it answers.
 type Case = (&'static str, u32, &'static str, &'static str, &'static str);
 
-const CASES: [Case; 4] = [
+const CASES: [Case; 2] = [
     (
         "INSERT INTO series VALUES ('north', '06', '4012345000009', '06', '5012345678900', 1, 5)",
         4,
@@ -66,66 +66,6 @@ offer,north,R2,1,21,2.000
 offer,north,R3,1,21,3.000
 offer,north,R4,1,21,4.000
 offer,north,R5,1,21,5.000
-",
-    ),
-    (
-        "INSERT INTO series VALUES ('north', '06', '4012345000009', '06', '5012345678900', 1, 5)",
-        0,
-        "INSERT INTO applied VALUES ('north', 1, 'Product,R1,03,15,9781234567897
-ProductSupply,GB IE,,
-SupplyDetail,04,06,4012345000009,North Books,21,
-Price,02,12.990,GBP,,WORLD,,,
-', 1, 0, 0, 0, 0);
-INSERT INTO applied VALUES ('north', 2, 'Product,R1,04,15,9781234567897
-ProductSupply,,WORLD,
-SupplyDetail,04,06,4012345000009,North Books,20,
-Price,02,8.000,GBP,,WORLD,,,
-', 0, 1, 0, 0, 0);
-INSERT INTO applied VALUES ('north', 3, 'Product,R1,04,15,9780000000002
-Product,R9,04,15,9780000000002
-Product,R9,05,15,9780000000002
-Product,R1,88,15,9780000000002
-', 0, 1, 0, 2, 1);
-INSERT INTO applied VALUES ('north', 4, 'Product,R1,05,15,9781234567897
-', 0, 0, 1, 0, 0)",
-        "AskGaps,north
-AskCatalogue,north
-Message,1,06,4012345000009,06,5012345678900,2,1,20250301,02,GBP
-Product,R1,04,15,9781234567897
-ProductSupply,,WORLD,
-SupplyDetail,04,06,4012345000009,North Books,20,
-Price,,8,,,,,,
-EndMessage,5
-Message,1,06,4012345000009,06,5012345678900,4,,,,
-Product,R1,05,15,9781234567897
-EndMessage,2
-AskPrice,9781234567897,20250301,GB,GBP,02
-",
-        "gaps,north,first=1,next=5,greatest=4,held=0,missing=0
-catalogue,north,0
-applied,north,2,replaced=0,updated=1,deleted=0,unknown=0,ignored=0
-applied,north,4,replaced=0,updated=0,deleted=1,unknown=0,ignored=0
-price,9781234567897,0
-",
-    ),
-    (
-        "INSERT INTO series VALUES ('north', '06', '4012345000009', '06', '5012345678900', 1, 4)",
-        0,
-        "INSERT INTO applied VALUES ('north', 1, '', 0, 0, 0, 0, 0);
-INSERT INTO applied VALUES ('north', 2, 'waived', 0, 0, 0, 0, 0);
-INSERT INTO applied VALUES ('north', 3, '', 0, 0, 0, 0, 0)",
-        "AskGaps,north
-AskCatalogue,north
-Message,1,06,4012345000009,06,5012345678900,2,,,,
-EndMessage,1
-Waive,north,2
-Waive,north,3
-",
-        "gaps,north,first=1,next=4,greatest=3,held=0,missing=0
-catalogue,north,0
-refused,waived,north,2
-waived,north,2
-refused,had,north,3
 ",
     ),
     (
@@ -198,17 +138,6 @@ fn first_files(alloc: Global, stop: &impl Abort, case: &Case) -> Result<Files<Me
     Ok(files)
 }
 
-#[test]
-fn version_1_is_not_opened(rt: HostRuntime) -> Result<(), Fail> {
-    for case in CASES.as_slice() {
-        let files = first_files(rt.alloc(), &rt, case)?;
-        let (files, asked) = ask_files(rt.alloc(), files, "");
-        drop(files);
-        assert!(rt; matches!(asked, Err(OpenFault::OtherVersion { found: 1 })));
-    }
-    Ok(())
-}
-
 // Brings files to version 2: the files, and what was answered.
 fn migrate<D: Disk + Drop>(
     alloc: Global,
@@ -256,12 +185,6 @@ fn desks_of_version_1_go_on(rt: HostRuntime) -> Result<(), Fail> {
         goes_on(rt.alloc(), &rt, case)?;
     }
     Ok(())
-}
-
-// An empty database gets the tables, once.
-#[test]
-fn empty_files(rt: HostRuntime) {
-    drop(migrates(rt.alloc(), &rt, new_files(rt.alloc())));
 }
 
 // Migrates files of which one fails, stops the machine, and migrates what is left: whether a disk

@@ -1,9 +1,9 @@
-// Exchanges over memory and a socket, by tables of cases. What is replied is taken from the desk's
-// written rules.
+// Exchanges over inputs that come one byte a read, end early or cannot be read, and over outputs that
+// take part of a reply; and the replies to answers and faults that no request comes to. What is
+// replied is taken from the desk's written rules.
 
 use crate::streams::cases::{
-    APPLIED, BAD_QUERIES, Case, DELIVERIES, DELIVERY, FAULT_KINDS, INPUTS, LONG_INPUTS, LongCase,
-    MOST_INPUT, NO_NUMBERS, NO_PATHS, NO_SERIES, NOT_ALLOWED, ONE_NUMBER, OPEN_INPUTS, QUESTIONS,
+    APPLIED, Case, DELIVERY, FAULT_KINDS, LongCase, MOST_INPUT, NO_NUMBERS, ONE_NUMBER,
 };
 use crate::streams::desks::{BrokenDesk, agreed_desk};
 use crate::streams::streams::{FailingReader, FailingWriter, OneByte};
@@ -17,7 +17,6 @@ use series_rules::answers::{AgreeAnswer, Answer, WaiveAnswer};
 use series_rules::desk::Desk;
 use std::alloc::{AllocError, Global};
 use std::io::{Read, Write};
-use std::net::{TcpListener, TcpStream};
 use std::process::Abort;
 use std::test::Fail;
 
@@ -100,74 +99,6 @@ fn expect_case<D: Desk>(
     expect_fast(alloc, stop, desk, input, case)
 }
 
-// The input that posts these records.
-fn post_of(alloc: Global, records: &str) -> Result<String, AllocError> {
-    let length = records.len();
-    format!(in alloc; "POST /messages HTTP/1.1\r\nContent-Length: {length}\r\n\r\n{records}")
-}
-
-// A target that is got has the case's reply.
-fn expect_got<D: Desk>(
-    alloc: Global,
-    stop: &impl Abort,
-    desk: &mut D,
-    case: &Case,
-) -> Result<(), Fail> {
-    let target = case.0;
-    let input = format!(in alloc; "GET {target} HTTP/1.1\r\n\r\n")?;
-    expect_case(alloc, stop, desk, input.as_bytes(), case)
-}
-
-#[test]
-fn deliveries_and_questions(rt: HostRuntime) -> Result<(), Fail> {
-    let alloc = rt.alloc();
-    let mut desk = agreed_desk(alloc)?;
-    for case in DELIVERIES.as_slice() {
-        let input = post_of(alloc, case.0)?;
-        expect_case(alloc, &rt, &mut desk, input.as_bytes(), case)?;
-    }
-    for case in QUESTIONS.as_slice() {
-        expect_got(alloc, &rt, &mut desk, case)?;
-    }
-    Ok(())
-}
-
-// The targets have this status line and the body of a refusal.
-fn expect_refused(
-    alloc: Global,
-    stop: &impl Abort,
-    targets: &[&'static str],
-    line: &'static str,
-    body: &'static str,
-) -> Result<(), Fail> {
-    let mut desk = agreed_desk(alloc)?;
-    for target in targets {
-        expect_got(alloc, stop, &mut desk, &(*target, line, body))?;
-    }
-    Ok(())
-}
-
-#[test]
-fn refused_targets(rt: HostRuntime) -> Result<(), Fail> {
-    let alloc = rt.alloc();
-    let body = "{\"answer\":\"refused\",\"reason\":\"bad-query\"}";
-    expect_refused(alloc, &rt, BAD_QUERIES.as_slice(), "400 Bad Request", body)?;
-    let body = "{\"answer\":\"refused\",\"reason\":\"not-found\"}";
-    expect_refused(alloc, &rt, NO_PATHS.as_slice(), "404 Not Found", body)?;
-    let body = "{\"answer\":\"refused\",\"reason\":\"unknown-series\"}";
-    expect_refused(alloc, &rt, NO_SERIES.as_slice(), "404 Not Found", body)
-}
-
-#[test]
-fn whole_inputs(rt: HostRuntime) -> Result<(), Fail> {
-    let alloc = rt.alloc();
-    let mut desk = agreed_desk(alloc)?;
-    for (input, line, body) in INPUTS.as_slice() {
-        expect_case(alloc, &rt, &mut desk, input, &(*body, *line, *body))?;
-    }
-    Ok(())
-}
-
 // The input of a long case.
 fn long_input(alloc: Global, case: &LongCase) -> Result<Vec<u8>, AllocError> {
     let mut input = case.0.as_bytes().to_vec(alloc)?;
@@ -179,21 +110,6 @@ fn long_input(alloc: Global, case: &LongCase) -> Result<Vec<u8>, AllocError> {
         input.push(b'a')?;
     }
     Ok(input)
-}
-
-#[test]
-fn inputs_at_the_limits(rt: HostRuntime) -> Result<(), Fail> {
-    let alloc = rt.alloc();
-    let mut desk = agreed_desk(alloc)?;
-    for case in LONG_INPUTS.as_slice() {
-        let input = long_input(alloc, case)?;
-        let case = (case.0, case.4, case.5);
-        expect_fast(alloc, &rt, &mut desk, input.as_slice(), &case)?;
-    }
-    let ends = [b'\r'; 16384];
-    let body = "{\"answer\":\"refused\",\"reason\":\"target-too-long\"}";
-    let case = ("line ends", "414 URI Too Long", body);
-    expect_fast(alloc, &rt, &mut desk, ends.as_slice(), &case)
 }
 
 // A head and a body at their limits, one byte a read.
@@ -333,21 +249,6 @@ fn expect_text<D: Desk>(
     Ok(())
 }
 
-// These texts are whole, so that the parts of the other cases' replies are known to be right.
-#[test]
-fn whole_replies(rt: HostRuntime) -> Result<(), Fail> {
-    let alloc = rt.alloc();
-    let mut desk = agreed_desk(alloc)?;
-    expect_text(alloc, &rt, &mut desk, DELIVERY.0, APPLIED)?;
-    expect_text(
-        alloc,
-        &rt,
-        &mut desk,
-        "GET /messages HTTP/1.1\r\n\r\n",
-        NOT_ALLOWED,
-    )
-}
-
 #[test]
 fn faults_of_storage(rt: HostRuntime) -> Result<(), Fail> {
     let alloc = rt.alloc();
@@ -429,26 +330,6 @@ fn failing_writes(rt: HostRuntime) -> Result<(), Fail> {
         let whole = &APPLIED.as_bytes()[..taken];
         expect_written(rt.alloc(), &rt, taken, true, whole)?;
         expect_written(rt.alloc(), &rt, taken, false, whole)?;
-    }
-    Ok(())
-}
-
-// The peer keeps its end open: no byte behind the request is waited for.
-#[test]
-fn exchanges_over_a_socket(rt: HostRuntime) -> Result<(), Fail> {
-    let alloc = rt.alloc();
-    let precedence = Precedence::none(alloc);
-    let mut desk = agreed_desk(alloc)?;
-    let listener = TcpListener::bind(&rt, "127.0.0.1:0")?;
-    for case in OPEN_INPUTS.as_slice() {
-        let mut peer = TcpStream::connect(&rt, listener.local_addr()?)?;
-        peer.write_all(case.0.as_bytes())?;
-        let (stream, _) = listener.accept()?;
-        let status = serve_one(alloc, &mut desk, &precedence, &mut &stream, &mut &stream)?;
-        drop(stream);
-        let mut written = Vec::new(alloc);
-        peer.read_to_end(&mut written)?;
-        expect_reply(alloc, &rt, case, status, written.as_slice())?;
     }
     Ok(())
 }

@@ -1,194 +1,201 @@
-// What a query gives, beside what the words of a transcript name.
+// What a query gives, beside what the words of a transcript name. What is compared takes no memory.
 
-use crate::tables::sample::{agreement, effect, market, offer, price, supplier};
-use crate::tables::words::{Words, whole, words_of};
-use desk_tables::applied::EffectRow;
-use desk_tables::rows::{ArticleRow, OfferRow, PriceRow, RecordRow};
-use desk_tables::series::SeriesRow;
-use onix_message::agreement::StoreFault;
-use onix_message::parts::Price;
+use crate::tables::words::{Words, is_whole, words_of};
+use desk_rows::applied::EffectRow;
+use desk_rows::rows::{ArticleRow, OfferRow, PriceRow, RecordRow};
+use desk_rows::series::SeriesRow;
+use onix_message::agreement::{Agreement, StoreFault};
+use onix_rows::parts::{Price, Supplier};
 use onix_terms::number::Number;
+use onix_terms::party::Party;
+use onix_terms::territory::Territory;
 use onix_terms::text::Text;
 use price_rules::offer::Offer;
-use std::alloc::Global;
 
 /// What a query gives one of, or a list.
 pub trait Answer {
     /// Whether it is the one that these words name.
-    fn is(&self, alloc: Global, words: Words<'_>) -> Result<bool, StoreFault>;
+    fn is(&self, words: Words<'_>) -> bool;
 }
 
-/// Whether these are what a text names, each followed by `;`.
-pub fn are<T: Answer>(alloc: Global, rows: &[T], wanted: &str) -> Result<bool, StoreFault> {
+// Whether these are what a text names, each followed by `;`.
+fn are<T: Answer>(rows: &[T], wanted: &str) -> bool {
     let mut rest = wanted;
     for row in rows {
         let Some((words, others)) = rest.split_once(';') else {
-            return Ok(false);
+            return false;
         };
-        if !row.is(alloc, words_of(words))? {
-            return Ok(false);
+        if !row.is(words_of(words)) {
+            return false;
         }
         rest = others;
     }
-    Ok(rest.is_empty())
+    rest.is_empty()
 }
 
-/// The same of a list that is given up.
+/// Whether a query gives a list of what a text names.
 pub fn are_all<T: Answer + Drop>(
-    alloc: Global,
-    rows: Vec<T>,
+    rows: Result<Vec<T>, StoreFault>,
     wanted: &str,
 ) -> Result<bool, StoreFault> {
-    let outcome = are(alloc, rows.as_slice(), wanted);
-    drop(rows);
-    outcome
-}
-
-/// Whether this is what a text names, or nothing where the text is `none`.
-pub fn is_found<T: Answer + Drop>(
-    alloc: Global,
-    found: Option<T>,
-    wanted: &str,
-) -> Result<bool, StoreFault> {
-    let is_none = wanted == " none";
-    match found {
-        Some(one) => {
-            let outcome = if is_none {
-                Ok(false)
-            } else {
-                one.is(alloc, words_of(wanted))
-            };
-            drop(one);
-            outcome
-        }
-        None => Ok(is_none),
+    match rows {
+        Ok(rows) => Ok(are(rows.as_slice(), wanted)),
+        Err(fault) => Err(fault),
     }
 }
 
+/// Whether a query gives what a text names, or nothing where the text is `none`.
+pub fn is_found<T: Answer + Drop>(
+    found: Result<Option<T>, StoreFault>,
+    wanted: &str,
+) -> Result<bool, StoreFault> {
+    match found {
+        Ok(Some(one)) => Ok(wanted != " none" && one.is(words_of(wanted))),
+        Ok(None) => Ok(wanted == " none"),
+        Err(fault) => Err(fault),
+    }
+}
+
+fn is_party(party: &Party, value: &str) -> bool {
+    party.id_type.as_str() == "06" && party.id_value.as_str() == value
+}
+
+fn is_optional_party(party: &Option<Party>, value: &str) -> bool {
+    match party {
+        Some(party) => is_party(party, value),
+        None => false,
+    }
+}
+
+fn is_agreement(agreement: &Agreement, series: &str, sender: &str) -> bool {
+    agreement.name.as_str() == series
+        && is_party(&agreement.sender, sender)
+        && is_optional_party(&agreement.addressee, "5012345678900")
+        && agreement.first.value() == 1
+}
+
 impl Answer for SeriesRow {
-    fn is(&self, alloc: Global, words: Words<'_>) -> Result<bool, StoreFault> {
-        let next = whole(words[2])?;
-        let wanted = agreement(alloc, words[0], words[1])?;
-        let is = self.agreement == wanted && self.next == next;
-        drop(wanted);
-        Ok(is)
+    fn is(&self, words: Words<'_>) -> bool {
+        is_agreement(&self.agreement, words[0], words[1]) && is_whole(words[2], self.next)
     }
 }
 
 impl Answer for Text {
-    fn is(&self, _alloc: Global, words: Words<'_>) -> Result<bool, StoreFault> {
-        Ok(self.as_str() == words[0])
+    fn is(&self, words: Words<'_>) -> bool {
+        self.as_str() == words[0]
     }
 }
 
 impl Answer for (Text, EffectRow) {
-    fn is(&self, _alloc: Global, words: Words<'_>) -> Result<bool, StoreFault> {
-        let [contents, replaced, updated, deleted, unknown, ignored, ..] = words;
-        let counts = effect([replaced, updated, deleted, unknown, ignored])?;
-        Ok(self.0.as_str() == contents && self.1 == counts)
+    fn is(&self, words: Words<'_>) -> bool {
+        let (contents, counts) = self;
+        contents.as_str() == words[0]
+            && is_whole(words[1], counts.replaced)
+            && is_whole(words[2], counts.updated)
+            && is_whole(words[3], counts.deleted)
+            && is_whole(words[4], counts.unknown)
+            && is_whole(words[5], counts.ignored)
     }
 }
 
 impl Answer for Number {
-    fn is(&self, _alloc: Global, words: Words<'_>) -> Result<bool, StoreFault> {
-        Ok(self.value() == whole(words[0])?)
+    fn is(&self, words: Words<'_>) -> bool {
+        is_whole(words[0], self.value())
     }
 }
 
 impl Answer for RecordRow {
-    fn is(&self, _alloc: Global, words: Words<'_>) -> Result<bool, StoreFault> {
-        Ok(self.series.as_str() == "north" && self.reference.as_str() == words[0])
+    fn is(&self, words: Words<'_>) -> bool {
+        self.series.as_str() == "north" && self.reference.as_str() == words[0]
     }
 }
 
 impl Answer for ArticleRow {
-    fn is(&self, _alloc: Global, words: Words<'_>) -> Result<bool, StoreFault> {
-        Ok(
-            self.series.as_str() == "north"
-                && self.reference.as_str() == words[0]
-                && self.id_place == whole(words[1])?
-                && self.id_type.as_str() == words[2]
-                && self.id_value.as_str() == "9781234567897",
-        )
+    fn is(&self, words: Words<'_>) -> bool {
+        self.series.as_str() == "north"
+            && self.reference.as_str() == words[0]
+            && is_whole(words[1], self.id_place)
+            && self.id_type.as_str() == words[2]
+            && self.id_value.as_str() == "9781234567897"
     }
 }
 
-fn is_offer(row: &OfferRow, wanted: &OfferRow) -> bool {
-    row.series == wanted.series
-        && row.reference == wanted.reference
-        && row.place == wanted.place
-        && row.supply == wanted.supply
-        && row.market == wanted.market
-        && row.supplier == wanted.supplier
-        && row.availability == wanted.availability
-        && row.unpriced == wanted.unpriced
+// Whether it is GB and IE.
+fn is_market(market: &Territory) -> bool {
+    match market.included.as_slice() {
+        [first, second] => {
+            first.as_str() == "GB"
+                && second.as_str() == "IE"
+                && !market.world
+                && market.excluded.is_empty()
+        }
+        _ => false,
+    }
+}
+
+fn is_world(territory: &Territory) -> bool {
+    territory.included.is_empty() && territory.world && territory.excluded.is_empty()
+}
+
+fn is_supplier(supplier: &Supplier) -> bool {
+    supplier.role.as_str() == "04"
+        && is_optional_party(&supplier.party, "4012345000009")
+        && supplier.name.as_str() == "North Books"
 }
 
 impl Answer for OfferRow {
-    fn is(&self, alloc: Global, words: Words<'_>) -> Result<bool, StoreFault> {
-        let wanted = offer(alloc, words[0], words[1])?;
-        let is = is_offer(self, &wanted);
-        drop(wanted);
-        Ok(is)
+    fn is(&self, words: Words<'_>) -> bool {
+        self.series.as_str() == "north"
+            && self.reference.as_str() == words[0]
+            && is_whole(words[1], self.place)
+            && self.supply == 1
+            && is_market(&self.market)
+            && is_supplier(&self.supplier)
+            && self.availability.as_str() == "21"
+            && self.unpriced.is_none()
     }
 }
 
 impl Answer for Price {
-    fn is(&self, alloc: Global, words: Words<'_>) -> Result<bool, StoreFault> {
-        let wanted = price(alloc, words[0])?;
-        let is = *self == wanted;
-        drop(wanted);
-        Ok(is)
+    fn is(&self, words: Words<'_>) -> bool {
+        self.price_type.as_str() == "02"
+            && self.amount.thousandths() == 12_990
+            && self.currency.as_str() == "GBP"
+            && is_world(&self.territory)
+            && is_whole(words[0], self.minimum.value())
+            && self.from.is_none()
+            && self.until.is_none()
     }
 }
 
 impl Answer for PriceRow {
-    fn is(&self, alloc: Global, words: Words<'_>) -> Result<bool, StoreFault> {
-        Ok(
-            self.series.as_str() == "north"
-                && self.reference.as_str() == "R1"
-                && self.place == whole(words[0])?
-                && self.price_place == whole(words[1])?
-                && self.price.is(alloc, words_of(words[2]))?,
-        )
+    fn is(&self, words: Words<'_>) -> bool {
+        self.series.as_str() == "north"
+            && self.reference.as_str() == "R1"
+            && is_whole(words[0], self.place)
+            && is_whole(words[1], self.price_place)
+            && self.price.is(words_of(words[2]))
     }
 }
 
-fn has_market(alloc: Global, offer: &Offer) -> Result<bool, StoreFault> {
-    let wanted = market(alloc)?;
-    let has = offer.market == wanted;
-    drop(wanted);
-    Ok(has)
-}
-
-fn has_supplier(alloc: Global, offer: &Offer) -> Result<bool, StoreFault> {
-    let wanted = supplier(alloc)?;
-    let has = offer.supplier == wanted;
-    drop(wanted);
-    Ok(has)
-}
-
-// The words are its reference, its place and, of each of its two prices, from how many copies on.
+// The words are its reference, its place and, of each of its prices, from how many copies on.
 impl Answer for Offer {
-    fn is(&self, alloc: Global, words: Words<'_>) -> Result<bool, StoreFault> {
-        Ok(
-            self.series.as_str() == "north"
-                && self.reference.as_str() == words[0]
-                && self.place == whole(words[1])?
-                && self.availability.as_str() == "21"
-                && has_market(alloc, self)?
-                && has_supplier(alloc, self)?
-                && are_from(alloc, self.prices.as_slice(), [words[2], words[3]])?,
-        )
+    fn is(&self, words: Words<'_>) -> bool {
+        self.series.as_str() == "north"
+            && self.reference.as_str() == words[0]
+            && is_whole(words[1], self.place)
+            && self.availability.as_str() == "21"
+            && is_market(&self.market)
+            && is_supplier(&self.supplier)
+            && are_from(self.prices.as_slice(), words[2], words[3])
     }
 }
 
-fn are_from(alloc: Global, prices: &[Price], minimums: [&str; 2]) -> Result<bool, StoreFault> {
+// Whether there is one price, or two, from so many copies on.
+fn are_from(prices: &[Price], first: &str, second: &str) -> bool {
     match prices {
-        [one] => Ok(minimums[1] == "" && one.is(alloc, words_of(minimums[0]))?),
-        [one, two] => Ok(
-            one.is(alloc, words_of(minimums[0]))? && two.is(alloc, words_of(minimums[1]))?,
-        ),
-        _ => Ok(false),
+        [one] => one.is(words_of(first)) && second == "",
+        [one, two] => one.is(words_of(first)) && two.is(words_of(second)),
+        _ => false,
     }
 }

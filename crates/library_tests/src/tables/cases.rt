@@ -66,13 +66,6 @@ pub enum Case<'a> {
     MigrationAgain,
 }
 
-/// Ends the test with the name of the case, unless the case holds.
-pub fn expect(rt: &impl Abort, holds: bool, case: &str) {
-    if !holds {
-        rt.panic(case);
-    }
-}
-
 /// Makes the tables and puts the sample, each in a transaction of its own.
 pub fn fill<S: Alter>(alloc: Global, tables: &mut Tables<S>) -> Result<bool, StoreFault> {
     Ok(is_right(alloc, tables, "create")? && is_right(alloc, tables, PUT_SAMPLE)?)

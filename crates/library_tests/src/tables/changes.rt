@@ -54,21 +54,30 @@ fn put_price<S: Alter>(
     put
 }
 
+fn put_held<S: Alter>(work: &mut Work<'_, S>, words: Words<'_>) -> Result<(), StoreFault> {
+    let series = name(words[1])?;
+    work.put_held(&series, number(words[2])?, words[3])
+}
+
 fn put_applied<S: Alter>(work: &mut Work<'_, S>, words: Words<'_>) -> Result<(), StoreFault> {
     let [_, series, at, replaced, updated, deleted, unknown, ignored] = words;
     let counts = effect([replaced, updated, deleted, unknown, ignored])?;
-    work.put_applied(&name(series)?, number(at)?, "first", &counts)
+    let series = name(series)?;
+    work.put_applied(&series, number(at)?, "first", &counts)
 }
 
-// A name that no call has is a fault that no call gives.
-fn change_series<S: Alter>(work: &mut Work<'_, S>, words: Words<'_>) -> Result<(), StoreFault> {
+fn set_next<S: Alter>(work: &mut Work<'_, S>, words: Words<'_>) -> Result<(), StoreFault> {
+    let series = name(words[1])?;
+    work.set_next(&series, whole(words[2])?)
+}
+
+// The calls that are given a series and a reference. A name that no call has is a fault that no call
+// gives.
+fn change_record<S: Alter>(work: &mut Work<'_, S>, words: Words<'_>) -> Result<(), StoreFault> {
     let series = name(words[1])?;
     match words[0] {
-        "put_held" => work.put_held(&series, number(words[2])?, words[3]),
-        "put_applied" => put_applied(work, words),
-        "set_next" => work.set_next(&series, whole(words[2])?),
-        "put_record" => work.put_record(&series, words[2]),
         "add_record" => work.add_record(&series, words[2]),
+        "put_record" => work.put_record(&series, words[2]),
         "delete_articles" => work.delete_articles(&series, words[2]),
         "delete_offers" => work.delete_offers(&series, words[2]),
         "delete_record" => work.delete_record(&series, words[2]),
@@ -89,6 +98,9 @@ pub fn change<S: Alter>(
         "put_article" => put_article(alloc, work, words),
         "put_offer" => put_offer(alloc, work, words),
         "put_price" => put_price(alloc, work, words),
-        _ => change_series(work, words),
+        "put_held" => put_held(work, words),
+        "put_applied" => put_applied(work, words),
+        "set_next" => set_next(work, words),
+        _ => change_record(work, words),
     }
 }

@@ -1,8 +1,9 @@
 // Tables over files on disks in memory: the calls, files that are closed and opened again, and what
 // two transactions leave of files of which one fails from some call on.
 
+use crate::cases::expect;
 use crate::disks::{connect, disconnect, failing, new_files, stop_machine};
-use crate::tables::cases::{NO_ROWS, PUT_SAMPLE, SAMPLE, expect};
+use crate::tables::cases::{NO_ROWS, PUT_SAMPLE, SAMPLE};
 use crate::tables::every_call::EVERY_CALL;
 use crate::tables::transcripts::{first_wrong, is_right};
 use desk_tables::tables::Tables;

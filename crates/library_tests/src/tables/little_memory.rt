@@ -2,23 +2,25 @@
 // and the same call, made again, does what it does with ample memory. `bench/refused_memory` refuses
 // each request for memory of these tests in turn.
 
-use crate::tables::cases::{Case, PUT_SAMPLE, SAMPLE, expect};
+use crate::cases::expect;
+use crate::tables::cases::{Case, PUT_SAMPLE, SAMPLE};
 use crate::tables::migration::ROWS;
 use crate::tables::stores::{Before, over_memory};
 use crate::tables::transcripts::is_right;
 use crate::tables::version_1::TABLES;
 use crate::tables::words::{name, number};
-use desk_tables::series::SeriesRow;
+use desk_rows::series::SeriesRow;
 use desk_tables::tables::Tables;
 use desk_tables::work::Work;
 use onix_message::agreement::StoreFault;
+use onix_terms::series_name::SeriesName;
 use sqlite::Alter;
 use std::alloc::Global;
 use std::process::Abort;
 use std::test::Fail;
 
 // The calls in their order, each in a transaction of its own, with the counts after it.
-const CALLS: [(&str, [usize; 8]); 16] = [
+static CALLS: [(&str, [usize; 8]); 16] = [
     (PUT_SAMPLE, [1, 1, 1, 1, 1, 1, 1, 2]),
     (SAMPLE, [1, 1, 1, 1, 1, 1, 1, 2]),
     ("put_series south 1", [2, 1, 1, 1, 1, 1, 1, 2]),
@@ -37,41 +39,59 @@ const CALLS: [(&str, [usize; 8]); 16] = [
     ("delete_record north R1", [2, 7, 1, 2, 2, 0, 0, 0]),
 ];
 
-fn count<T: Drop>(rows: Vec<T>) -> usize {
-    let count = rows.len();
-    drop(rows);
-    count
-}
-
-fn is_there<T: Drop>(found: Option<T>) -> bool {
-    let is_there = found.is_some();
-    drop(found);
-    is_there
-}
-
-fn next_of(found: Option<SeriesRow>) -> usize {
-    match found {
-        Some(row) => row.next as usize,
-        None => 0,
+fn count<T: Drop>(rows: Result<Vec<T>, StoreFault>) -> Result<usize, StoreFault> {
+    match rows {
+        Ok(rows) => Ok(rows.len()),
+        Err(fault) => Err(fault),
     }
+}
+
+fn is_there<T: Drop>(found: Result<Option<T>, StoreFault>) -> Result<bool, StoreFault> {
+    match found {
+        Ok(found) => Ok(found.is_some()),
+        Err(fault) => Err(fault),
+    }
+}
+
+fn next_of(found: Result<Option<SeriesRow>, StoreFault>) -> Result<usize, StoreFault> {
+    match found {
+        Ok(Some(row)) => Ok(row.next as usize),
+        Ok(None) => Ok(0),
+        Err(fault) => Err(fault),
+    }
+}
+
+// How many of the numbers 1 and 2 are applied.
+fn count_applied<S: Alter>(
+    work: &mut Work<'_, S>,
+    north: &SeriesName,
+) -> Result<usize, StoreFault> {
+    let one = is_there(work.applied_at(north, number("1")?))?;
+    let two = is_there(work.applied_at(north, number("2")?))?;
+    Ok(usize::from(one) + usize::from(two))
 }
 
 // How many series there are, and of `north` the number that is applied next, how many numbers are
 // held, how many of 1 and 2 are applied, and how many records, identifiers, offers and prices it has.
 fn counts<S: Alter>(work: &mut Work<'_, S>) -> Result<[usize; 8], StoreFault> {
     let north = name("north")?;
-    let (one, two) = (number("1")?, number("2")?);
-    Ok([
-        count(work.series_rows()?),
-        next_of(work.series_by_name(&north)?),
-        count(work.gap_rows(&north)?),
-        usize::from(is_there(work.applied_at(&north, one)?))
-            + usize::from(is_there(work.applied_at(&north, two)?)),
-        count(work.record_rows(&north)?),
-        count(work.article_rows(&north)?),
-        count(work.offer_rows(&north)?),
-        count(work.price_rows(&north)?),
-    ])
+    let found = [
+        count(work.series_rows()),
+        next_of(work.series_by_name(&north)),
+        count(work.gap_rows(&north)),
+        count_applied(work, &north),
+        count(work.record_rows(&north)),
+        count(work.article_rows(&north)),
+        count(work.offer_rows(&north)),
+        count(work.price_rows(&north)),
+    ];
+    let mut counts = [0usize; 8];
+    for (place, count) in found.into_iter().enumerate() {
+        if let Some(slot) = counts.get_mut(place) {
+            *slot = count?;
+        }
+    }
+    Ok(counts)
 }
 
 fn counted<S: Alter>(tables: &mut Tables<S>) -> Result<[usize; 8], StoreFault> {
@@ -146,9 +166,9 @@ pub fn calls_again<S: Alter>(
 ) -> Result<(), StoreFault> {
     takes(alloc, rt, tables, "create", "version: none")?;
     let mut before = [0usize; 8];
-    for (call, after) in CALLS {
-        expect(rt, holds(alloc, tables, call, before, after)?, call);
-        before = after;
+    for (call, after) in CALLS.as_slice() {
+        expect(rt, holds(alloc, tables, call, before, *after)?, call);
+        before = *after;
     }
     Ok(())
 }

@@ -1,6 +1,7 @@
 // Tables of version 1, made by the test's own statements, are taken to version 2.
 
-use crate::tables::cases::{Case, expect};
+use crate::cases::expect;
+use crate::tables::cases::Case;
 use crate::tables::stores::{Before, over_memory};
 use crate::tables::transcripts::{expect_answers, is_right};
 use crate::tables::version_1::TABLES;

@@ -5,8 +5,18 @@ use crate::tables::sample::{offer, party, record};
 use crate::tables::words::{Words, isbn, name, number};
 use desk_tables::work::Work;
 use onix_message::agreement::StoreFault;
+use onix_terms::series_name::SeriesName;
 use sqlite::Alter;
 use std::alloc::Global;
+
+fn series_by_name<S: Alter>(
+    work: &mut Work<'_, S>,
+    words: Words<'_>,
+    wanted: &str,
+) -> Result<bool, StoreFault> {
+    let series = name(words[1])?;
+    is_found(work.series_by_name(&series), wanted)
+}
 
 fn series_by_parties<S: Alter>(
     alloc: Global,
@@ -14,36 +24,52 @@ fn series_by_parties<S: Alter>(
     words: Words<'_>,
     wanted: &str,
 ) -> Result<bool, StoreFault> {
-    let sender = party(alloc, words[1])?;
     let addressee = Some(party(alloc, "5012345678900")?);
-    let found = work.series_by_parties(&sender, &addressee);
-    drop(sender);
-    drop(addressee);
-    is_found(alloc, found?, wanted)
+    match party(alloc, words[1]) {
+        Ok(sender) => is_found(work.series_by_parties(&sender, &addressee), wanted),
+        Err(fault) => Err(fault),
+    }
 }
 
-fn record_articles<S: Alter>(
+// The calls that are given a number of `north`.
+fn ask_number<S: Alter>(
+    work: &mut Work<'_, S>,
+    north: &SeriesName,
+    words: Words<'_>,
+    wanted: &str,
+) -> Result<bool, StoreFault> {
+    let at = number(words[1])?;
+    match words[0] {
+        "next_held" => is_found(work.next_held(north, at), wanted),
+        "take_held" => is_found(work.take_held(north, at), wanted),
+        _ => is_found(work.applied_at(north, at), wanted),
+    }
+}
+
+fn has_record<S: Alter>(
+    work: &mut Work<'_, S>,
+    north: &SeriesName,
+    words: Words<'_>,
+    wanted: &str,
+) -> Result<bool, StoreFault> {
+    match work.has_record(north, words[1]) {
+        Ok(has) => Ok(has == (wanted == " true")),
+        Err(fault) => Err(fault),
+    }
+}
+
+// The calls that are given a record of `north`.
+fn ask_record<S: Alter>(
     alloc: Global,
     work: &mut Work<'_, S>,
     words: Words<'_>,
     wanted: &str,
 ) -> Result<bool, StoreFault> {
     let row = record(alloc, words[1])?;
-    let found = work.record_articles(&row);
-    drop(row);
-    are_all(alloc, found?, wanted)
-}
-
-fn record_offers<S: Alter>(
-    alloc: Global,
-    work: &mut Work<'_, S>,
-    words: Words<'_>,
-    wanted: &str,
-) -> Result<bool, StoreFault> {
-    let row = record(alloc, words[1])?;
-    let found = work.record_offers(&row);
-    drop(row);
-    are_all(alloc, found?, wanted)
+    match words[0] {
+        "record_articles" => are_all(work.record_articles(&row), wanted),
+        _ => are_all(work.record_offers(&row), wanted),
+    }
 }
 
 fn offer_prices<S: Alter>(
@@ -53,86 +79,86 @@ fn offer_prices<S: Alter>(
     wanted: &str,
 ) -> Result<bool, StoreFault> {
     let row = offer(alloc, words[1], words[2])?;
-    let found = work.offer_prices(&row);
-    drop(row);
-    are_all(alloc, found?.into_vec(), wanted)
-}
-
-fn version<S: Alter>(work: &mut Work<'_, S>, wanted: &str) -> Result<bool, StoreFault> {
-    match work.version()? {
-        Some(1) => Ok(wanted == " 1"),
-        Some(2) => Ok(wanted == " 2"),
-        Some(7) => Ok(wanted == " 7"),
-        Some(_) => Ok(false),
-        None => Ok(wanted == " none"),
+    match work.offer_prices(&row) {
+        Ok(prices) => are_all(Ok(prices.into_vec()), wanted),
+        Err(fault) => Err(fault),
     }
 }
 
+fn offers_by_article<S: Alter>(
+    work: &mut Work<'_, S>,
+    words: Words<'_>,
+    wanted: &str,
+) -> Result<bool, StoreFault> {
+    let article = isbn(words[1])?;
+    match work.offers_by_article(&article) {
+        Ok(offers) => are_all(Ok(offers.into_vec()), wanted),
+        Err(fault) => Err(fault),
+    }
+}
+
+fn version<S: Alter>(work: &mut Work<'_, S>, wanted: &str) -> Result<bool, StoreFault> {
+    match work.version() {
+        Ok(Some(1)) => Ok(wanted == " 1"),
+        Ok(Some(2)) => Ok(wanted == " 2"),
+        Ok(Some(7)) => Ok(wanted == " 7"),
+        Ok(Some(_)) => Ok(false),
+        Ok(None) => Ok(wanted == " none"),
+        Err(fault) => Err(fault),
+    }
+}
+
+// The calls that give all rows of `north`.
+fn ask_rows<S: Alter>(
+    work: &mut Work<'_, S>,
+    north: &SeriesName,
+    words: Words<'_>,
+    wanted: &str,
+) -> Option<Result<bool, StoreFault>> {
+    Some(match words[0] {
+        "gap_rows" => are_all(work.gap_rows(north), wanted),
+        "record_rows" => are_all(work.record_rows(north), wanted),
+        "article_rows" => are_all(work.article_rows(north), wanted),
+        "offer_rows" => are_all(work.offer_rows(north), wanted),
+        "price_rows" => are_all(work.price_rows(north), wanted),
+        _ => return None,
+    })
+}
+
+// The calls that find a series.
 fn ask_series<S: Alter>(
     alloc: Global,
     work: &mut Work<'_, S>,
     words: Words<'_>,
     wanted: &str,
-) -> Result<Option<bool>, StoreFault> {
-    Ok(Some(match words[0] {
-        "version" => version(work, wanted)?,
-        "series_by_name" => is_found(alloc, work.series_by_name(&name(words[1])?)?, wanted)?,
-        "series_by_parties" => series_by_parties(alloc, work, words, wanted)?,
-        "series_rows" => are_all(alloc, work.series_rows()?, wanted)?,
-        _ => return Ok(None),
-    }))
-}
-
-fn ask_number<S: Alter>(
-    alloc: Global,
-    work: &mut Work<'_, S>,
-    words: Words<'_>,
-    wanted: &str,
-) -> Result<Option<bool>, StoreFault> {
-    let series = name("north")?;
-    Ok(Some(match words[0] {
-        "next_held" => is_found(alloc, work.next_held(&series, number(words[1])?)?, wanted)?,
-        "take_held" => is_found(alloc, work.take_held(&series, number(words[1])?)?, wanted)?,
-        "applied_at" => is_found(alloc, work.applied_at(&series, number(words[1])?)?, wanted)?,
-        "gap_rows" => are_all(alloc, work.gap_rows(&series)?, wanted)?,
-        _ => return ask_series(alloc, work, words, wanted),
-    }))
-}
-
-fn ask_record<S: Alter>(
-    alloc: Global,
-    work: &mut Work<'_, S>,
-    words: Words<'_>,
-    wanted: &str,
-) -> Result<Option<bool>, StoreFault> {
-    let series = name("north")?;
-    Ok(Some(match words[0] {
-        "has_record" => work.has_record(&series, words[1])? == (wanted == " true"),
-        "record_rows" => are_all(alloc, work.record_rows(&series)?, wanted)?,
-        "article_rows" => are_all(alloc, work.article_rows(&series)?, wanted)?,
-        "record_articles" => record_articles(alloc, work, words, wanted)?,
-        _ => return ask_number(alloc, work, words, wanted),
-    }))
+) -> Option<Result<bool, StoreFault>> {
+    Some(match words[0] {
+        "version" => version(work, wanted),
+        "series_by_name" => series_by_name(work, words, wanted),
+        "series_by_parties" => series_by_parties(alloc, work, words, wanted),
+        "series_rows" => are_all(work.series_rows(), wanted),
+        _ => return None,
+    })
 }
 
 /// Makes a call that gives something: whether it gives what is wanted; none where the call is
-/// another.
+/// another. What belongs to a series belongs to `north`.
 pub fn ask<S: Alter>(
     alloc: Global,
     work: &mut Work<'_, S>,
+    north: &SeriesName,
     words: Words<'_>,
     wanted: &str,
-) -> Result<Option<bool>, StoreFault> {
-    let series = name("north")?;
-    Ok(Some(match words[0] {
-        "offer_rows" => are_all(alloc, work.offer_rows(&series)?, wanted)?,
-        "record_offers" => record_offers(alloc, work, words, wanted)?,
-        "price_rows" => are_all(alloc, work.price_rows(&series)?, wanted)?,
-        "offer_prices" => offer_prices(alloc, work, words, wanted)?,
-        "offers_by_article" => {
-            let found = work.offers_by_article(&isbn(words[1])?)?;
-            are_all(alloc, found.into_vec(), wanted)?
-        }
-        _ => return ask_record(alloc, work, words, wanted),
-    }))
+) -> Option<Result<bool, StoreFault>> {
+    Some(match words[0] {
+        "next_held" | "take_held" | "applied_at" => ask_number(work, north, words, wanted),
+        "has_record" => has_record(work, north, words, wanted),
+        "record_articles" | "record_offers" => ask_record(alloc, work, words, wanted),
+        "offer_prices" => offer_prices(alloc, work, words, wanted),
+        "offers_by_article" => offers_by_article(work, words, wanted),
+        _ => match ask_rows(work, north, words, wanted) {
+            Some(answer) => answer,
+            None => return ask_series(alloc, work, words, wanted),
+        },
+    })
 }

@@ -1,9 +1,11 @@
 // What is refused, and that it changes nothing.
 
-use crate::tables::cases::{Case, SAMPLE, expect};
+use crate::cases::expect;
+use crate::tables::cases::{Case, SAMPLE};
 use crate::tables::stores::{Before, over_memory};
 use crate::tables::transcripts::{expect_answers, first_wrong, is_right};
 use desk_tables::tables::Tables;
+use desk_tables::work::Work;
 use onix_message::agreement::StoreFault;
 use sqlite::Alter;
 use std::alloc::Global;
@@ -29,6 +31,20 @@ put_offer R2 1: unusable
 put_price 1 2 1: unusable
 put_price 2 1 10: unusable";
 
+// Whether all these calls are answered as they say.
+fn are_answered<S: Alter>(
+    alloc: Global,
+    work: &mut Work<'_, S>,
+    transcripts: [&str; 3],
+) -> Result<bool, StoreFault> {
+    for transcript in transcripts {
+        if first_wrong(alloc, work, transcript)?.is_some() {
+            return Ok(false);
+        }
+    }
+    Ok(true)
+}
+
 // After a call that changes rows this one is refused, and so is each later one, `commit` too.
 fn refuses<S: Alter>(
     alloc: Global,
@@ -36,26 +52,26 @@ fn refuses<S: Alter>(
     call: &str,
 ) -> Result<bool, StoreFault> {
     let mut work = tables.work()?;
-    let before = first_wrong(alloc, &mut work, "put_record north R3")?;
-    let refused = first_wrong(alloc, &mut work, call)?;
-    let after = first_wrong(
-        alloc,
-        &mut work,
-        "set_next north 7: unusable\nversion: unusable",
-    )?;
-    let is_refused = matches!(work.commit(), Err(StoreFault::Unusable));
-    Ok(before.is_none() && refused.is_none() && after.is_none() && is_refused)
+    let after = "set_next north 7: unusable\nversion: unusable";
+    let are_answered = are_answered(alloc, &mut work, ["put_record north R3", call, after])?;
+    Ok(are_answered && matches!(work.commit(), Err(StoreFault::Unusable)))
 }
 
-// Changes rows, and lets the transaction go.
-fn changes<S: Alter>(
+// The same of each call, and that the rows are then as before.
+fn refuses_each<S: Alter>(
     alloc: Global,
     rt: &impl Abort,
     tables: &mut Tables<S>,
 ) -> Result<(), StoreFault> {
-    let transcript = "put_series south 1\ndelete_record north R1\nrecord_rows:";
-    expect_answers(alloc, rt, tables, transcript)
+    for call in REFUSED.lines() {
+        expect(rt, refuses(alloc, tables, call)?, call);
+        expect_answers(alloc, rt, tables, SAMPLE)?;
+    }
+    Ok(())
 }
+
+// Changes rows, in a transaction that is let go.
+const CHANGES: &str = "put_series south 1\ndelete_record north R1\nrecord_rows:";
 
 // Calls for what is not there.
 const NOTHING: &str = "set_next west 7
@@ -69,11 +85,8 @@ pub fn refusals<S: Alter>(
     rt: &impl Abort,
     tables: &mut Tables<S>,
 ) -> Result<(), StoreFault> {
-    for call in REFUSED.lines() {
-        expect(rt, refuses(alloc, tables, call)?, call);
-        expect_answers(alloc, rt, tables, SAMPLE)?;
-    }
-    changes(alloc, rt, tables)?;
+    refuses_each(alloc, rt, tables)?;
+    expect_answers(alloc, rt, tables, CHANGES)?;
     expect_answers(alloc, rt, tables, SAMPLE)?;
     expect(rt, is_right(alloc, tables, NOTHING)?, "what is not there");
     expect_answers(alloc, rt, tables, SAMPLE)

@@ -2,10 +2,10 @@
 // market GB and IE, the supplier North Books, the price 12.99 GBP of the world.
 
 use crate::tables::words::{code, name, number, term, whole};
-use desk_tables::applied::EffectRow;
-use desk_tables::rows::{ArticleRow, OfferRow, PriceRow, RecordRow};
+use desk_rows::applied::EffectRow;
+use desk_rows::rows::{ArticleRow, OfferRow, PriceRow, RecordRow};
 use onix_message::agreement::{Agreement, StoreFault};
-use onix_message::parts::{Price, Supplier};
+use onix_rows::parts::{Price, Supplier};
 use onix_terms::amount::Amount;
 use onix_terms::code::Currency;
 use onix_terms::party::Party;
@@ -37,17 +37,23 @@ pub fn party(alloc: Global, value: &str) -> Result<Party, StoreFault> {
     })
 }
 
+// What takes memory is joined by `zip`: a `?` at each part would let go of the others in place, which
+// is dear to prove.
+
 /// The agreement of a series by its name and its sender.
 pub fn agreement(alloc: Global, series: &str, sender: &str) -> Result<Agreement, StoreFault> {
     let name = name(series)?;
     let first = number("1")?;
-    let addressee = party(alloc, "5012345678900")?;
-    Ok(Agreement {
-        name,
-        sender: party(alloc, sender)?,
-        addressee: Some(addressee),
-        first,
-    })
+    let sender = party(alloc, sender).ok();
+    match sender.zip(party(alloc, "5012345678900").ok()) {
+        Some((sender, addressee)) => Ok(Agreement {
+            name,
+            sender,
+            addressee: Some(addressee),
+            first,
+        }),
+        None => Err(StoreFault::Memory),
+    }
 }
 
 /// The five counts of an effect.
@@ -80,30 +86,30 @@ pub fn article(
     let series = name("north")?;
     let id_place = whole(place)?;
     let id_type = code(id_type)?;
-    let reference = text(alloc, reference)?;
-    Ok(ArticleRow {
-        series,
-        reference,
-        id_place,
-        id_type,
-        id_value: text(alloc, "9781234567897")?,
-    })
+    let reference = text(alloc, reference).ok();
+    match reference.zip(text(alloc, "9781234567897").ok()) {
+        Some((reference, id_value)) => Ok(ArticleRow {
+            series,
+            reference,
+            id_place,
+            id_type,
+            id_value,
+        }),
+        None => Err(StoreFault::Memory),
+    }
 }
 
-/// The supplier of each offer.
-pub fn supplier(alloc: Global) -> Result<Supplier, StoreFault> {
+fn supplier(alloc: Global) -> Result<Supplier, StoreFault> {
     let role = code("04")?;
-    let party = party(alloc, "4012345000009")?;
-    Ok(Supplier {
-        role,
-        party: Some(party),
-        name: text(alloc, "North Books")?,
-    })
-}
-
-/// The market of each offer.
-pub fn market(alloc: Global) -> Result<Territory, StoreFault> {
-    territory(alloc, "GB IE", "")
+    let party = party(alloc, "4012345000009").ok();
+    match party.zip(text(alloc, "North Books").ok()) {
+        Some((party, name)) => Ok(Supplier {
+            role,
+            party: Some(party),
+            name,
+        }),
+        None => Err(StoreFault::Memory),
+    }
 }
 
 /// The offer of a record of `north` by the reference and its place.
@@ -111,22 +117,25 @@ pub fn offer(alloc: Global, reference: &str, place: &str) -> Result<OfferRow, St
     let series = name("north")?;
     let place = whole(place)?;
     let availability = code("21")?;
-    let reference = text(alloc, reference)?;
-    let market = market(alloc)?;
-    Ok(OfferRow {
-        series,
-        reference,
-        place,
-        supply: 1,
-        market,
-        supplier: supplier(alloc)?,
-        availability,
-        unpriced: None,
-    })
+    let reference = text(alloc, reference).ok();
+    let market = territory(alloc, "GB IE", "").ok();
+    match reference.zip(market).zip(supplier(alloc).ok()) {
+        Some(((reference, market), supplier)) => Ok(OfferRow {
+            series,
+            reference,
+            place,
+            supply: 1,
+            market,
+            supplier,
+            availability,
+            unpriced: None,
+        }),
+        None => Err(StoreFault::Memory),
+    }
 }
 
-/// The price from so many copies on.
-pub fn price(alloc: Global, minimum: &str) -> Result<Price, StoreFault> {
+// The price from so many copies on.
+fn price(alloc: Global, minimum: &str) -> Result<Price, StoreFault> {
     let price_type = code("02")?;
     let amount = term(Amount::read("12.99"))?;
     let currency = term(Currency::read("GBP"))?;
@@ -152,12 +161,15 @@ pub fn price_row(
     let series = name("north")?;
     let place = whole(place)?;
     let price_place = whole(price_place)?;
-    let reference = text(alloc, "R1")?;
-    Ok(PriceRow {
-        series,
-        reference,
-        place,
-        price_place,
-        price: price(alloc, minimum)?,
-    })
+    let reference = text(alloc, "R1").ok();
+    match reference.zip(price(alloc, minimum).ok()) {
+        Some((reference, price)) => Ok(PriceRow {
+            series,
+            reference,
+            place,
+            price_place,
+            price,
+        }),
+        None => Err(StoreFault::Memory),
+    }
 }

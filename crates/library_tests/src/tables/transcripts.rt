@@ -2,7 +2,7 @@
 
 use crate::tables::changes::change;
 use crate::tables::queries::ask;
-use crate::tables::words::words_of;
+use crate::tables::words::{name, words_of};
 use desk_tables::tables::Tables;
 use desk_tables::work::Work;
 use onix_message::agreement::StoreFault;
@@ -18,21 +18,19 @@ fn is_answered<S: Alter>(
     wanted: &str,
 ) -> Result<bool, StoreFault> {
     let words = words_of(call);
-    match ask(alloc, work, words, wanted)? {
-        Some(is_right) => Ok(is_right),
-        None => {
-            change(alloc, work, words)?;
-            Ok(wanted.is_empty())
-        }
+    let north = name("north")?;
+    match ask(alloc, work, &north, words, wanted) {
+        Some(answer) => answer,
+        None => match change(alloc, work, words) {
+            Ok(()) => Ok(wanted.is_empty()),
+            Err(fault) => Err(fault),
+        },
     }
 }
 
 // The same of a line, behind whose colon may also stand that the call is `unusable`.
 fn holds<S: Alter>(alloc: Global, work: &mut Work<'_, S>, line: &str) -> Result<bool, StoreFault> {
-    let (call, wanted) = match line.split_once(':') {
-        Some(parts) => parts,
-        None => (line, ""),
-    };
+    let (call, wanted) = line.split_once(':').unwrap_or((line, ""));
     match is_answered(alloc, work, call, wanted) {
         Err(StoreFault::Unusable) => Ok(wanted == " unusable"),
         answer => answer,

@@ -49,3 +49,11 @@ pub fn code(text: &str) -> Result<Code2, StoreFault> {
 pub fn whole(text: &str) -> Result<u32, StoreFault> {
     term(text.parse().ok())
 }
+
+/// Whether a text is this place, count or number of copies.
+pub fn is_whole(text: &str, wanted: u32) -> bool {
+    match text.parse::<u32>() {
+        Ok(value) => value == wanted,
+        Err(_) => false,
+    }
+}

@@ -1,6 +1,6 @@
 use Rattle.std.proofs.Common.{◌++◌, ◌∷◌, ◌∙◌, [], List, ap, sym}
-use Rattle.onix_message.specs.declared.parts.ProductSupply.{ProductSupply}
-use Rattle.onix_message.specs.declared.parts.SupplyDetail.{SupplyDetail}
+use Rattle.onix_rows.specs.declared.parts.ProductSupply.{ProductSupply}
+use Rattle.onix_rows.specs.declared.parts.SupplyDetail.{SupplyDetail}
 use Rattle.catalogue_rows.specs.Assembly.{joined}
 use Rattle.catalogue_rows.proofs.Assembled.{joined-last, on-ok}
 use Rattle.catalogue_rows.proofs.assemble.join.Goals as goal

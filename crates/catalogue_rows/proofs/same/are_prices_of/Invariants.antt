@@ -1,5 +1,5 @@
 use Rattle.std.proofs.Common.{◌≡◌, length, map, take}
-use Rattle.onix_message.specs.declared.parts.SupplyDetail.{SupplyDetail}
+use Rattle.onix_rows.specs.declared.parts.SupplyDetail.{SupplyDetail}
 use Rattle.catalogue_rows.proofs.same.are_prices_of.Given as goal
 
 abbrev pub invariant-loop-i : goal.invariant-loop-i

@@ -1,5 +1,5 @@
 use Rattle.std.proofs.Common.{ap, map, sym, true≢false, ◌∙◌}
-use Rattle.onix_message.specs.declared.parts.SupplyDetail.{SupplyDetail}
+use Rattle.onix_rows.specs.declared.parts.SupplyDetail.{SupplyDetail}
 use Rattle.catalogue_rows.proofs.SamePrices.{next-rest, none-left, other-prices, supplied-prices, too-short}
 use Rattle.catalogue_rows.proofs.same.same_detail_prices.Goals as goal
 

@@ -3,8 +3,8 @@ use Rattle.std.proofs.lemmas.List.{take_all}
 use Rattle.std.specs.List.{AllZip}
 use Rattle.sqlite.specs.Held.{state}
 use Rattle.onix_message.specs.declared.agreement.StoreFault.TheVariants.{Memory}
-use Rattle.onix_message.specs.declared.parts.Price.{Price}
-use Rattle.desk_tables.specs.Rows.{DeskRows, unchanged}
+use Rattle.onix_rows.specs.declared.parts.Price.{Price}
+use Rattle.desk_rows.specs.Rows.{DeskRows, unchanged}
 use Rattle.catalogue_store.specs.AchievesLemmas.{achieves_as, achieves_call_failed, achieves_calls, achieves_nothing, achieves_stopped}
 use Rattle.catalogue_store.specs.ReadRows.{HasPricesOf}
 use Rattle.catalogue_store.proofs.ReadLemmas.{prices_read}

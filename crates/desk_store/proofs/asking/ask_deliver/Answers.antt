@@ -1,12 +1,12 @@
 use Rattle.std.proofs.Common.{ℕ, List, Ok, sym, subst}
 use Rattle.sqlite.specs.Held.{state}
-use Rattle.onix_message.specs.declared.parts.Header.{Header}
-use Rattle.onix_message.specs.declared.parts.Product.{Product}
+use Rattle.onix_rows.specs.declared.parts.Header.{Header}
+use Rattle.onix_rows.specs.declared.parts.Product.{Product}
 use Rattle.series_rules.specs.Answers.{delivery_answer}
 use Rattle.series_rules.specs.declared.answers.DeliveryAnswer.{DeliveryAnswer}
 use Rattle.series_rules.specs.declared.answers.DeliveryAnswer.TheVariants as delivery
 use Rattle.series_rules.specs.declared.requests.Request.TheVariants.{Deliver}
-use Rattle.desk_store.specs.Desks.{IsAsked}
+use Rattle.store_rows.specs.Desks.{IsAsked}
 use Rattle.desk_store.proofs.Alone.{delivers_malformed, delivers_unnumbered}
 use Rattle.desk_store.proofs.asking.ask_deliver.Goals as goal
 

@@ -4,9 +4,9 @@ use Rattle.catalogue_rules.specs.Records.{ByReference}
 use Rattle.catalogue_rules.specs.declared.effect.Effect.{Effect}
 use Rattle.catalogue_rows.specs.Holding.{HoldsCatalogue, IsApplied}
 use Rattle.catalogue_store.specs.AchievesLemmas.{achieves_as}
-use Rattle.desk_tables.specs.Rows.{DeskRows}
-use Rattle.onix_message.specs.declared.parts.Product.{Product}
-use Rattle.desk_store.proofs.Applied.{message_applied}
+use Rattle.desk_rows.specs.Rows.{DeskRows}
+use Rattle.onix_rows.specs.declared.parts.Product.{Product}
+use Rattle.store_rows.proofs.Applied.{message_applied}
 use Rattle.desk_store.proofs.drain.apply_standing.Goals as goal
 
 pub returns-in-Ok-clause-achieves : goal.returns-in-Ok-clause-achieves

@@ -2,14 +2,14 @@ use Rattle.std.proofs.Common.{◌≡◌, Option, Some, None, Ok, refl, sym, ap, 
 use Rattle.sqlite.specs.Held.{state}
 use Rattle.catalogue_store.specs.Achieves.{Achieves}
 use Rattle.catalogue_store.specs.AchievesLemmas.{achieves_as, achieves_call, achieves_call_failed, achieves_calls}
-use Rattle.desk_tables.specs.Rows.{DeskRows, series_at, series_between, with_series}
-use Rattle.desk_tables.specs.Transactions.{NoAnswer}
-use Rattle.desk_tables.specs.declared.series.SeriesRow.{SeriesRow}
+use Rattle.desk_rows.specs.Rows.{DeskRows, series_at, series_between, with_series}
+use Rattle.desk_rows.specs.Transactions.{NoAnswer}
+use Rattle.desk_rows.specs.declared.series.SeriesRow.{SeriesRow}
 use Rattle.series_rules.specs.Answers.{agree_answer}
 use Rattle.series_rules.specs.declared.answers.AgreeAnswer.TheVariants.{Agreed, SeriesTaken}
 use Rattle.series_rules.specs.declared.requests.Request.TheVariants.{Agree}
-use Rattle.desk_store.specs.Desks.{Answers}
-use Rattle.desk_store.proofs.Agreed.{agrees_named, agrees_new, agrees_taken_at}
+use Rattle.store_rows.specs.Desks.{Answers}
+use Rattle.store_rows.proofs.Agreed.{agrees_named, agrees_new, agrees_taken_at}
 use Rattle.desk_store.proofs.requests.agree_in.Goals as goal
 
 pub returns-in-Some-clause-achieves : goal.returns-in-Some-clause-achieves

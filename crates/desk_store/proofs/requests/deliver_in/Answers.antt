@@ -1,14 +1,14 @@
 use Rattle.std.proofs.Common.{◌≡◌, ◌<◌, ◌≤◌, List, Option, Ok, sym, ◌∙◌, arith}
 use Rattle.sqlite.specs.Held.{state}
 use Rattle.catalogue_store.specs.AchievesLemmas.{achieves_as, achieves_call, achieves_then}
-use Rattle.desk_tables.specs.Rows.{DeskRows, series_between}
-use Rattle.desk_tables.specs.declared.series.SeriesRow.{SeriesRow}
-use Rattle.onix_message.specs.declared.parts.Header.{Header}
-use Rattle.onix_message.specs.declared.parts.Product.{Product}
+use Rattle.desk_rows.specs.Rows.{DeskRows, series_between}
+use Rattle.desk_rows.specs.declared.series.SeriesRow.{SeriesRow}
+use Rattle.onix_rows.specs.declared.parts.Header.{Header}
+use Rattle.onix_rows.specs.declared.parts.Product.{Product}
 use Rattle.series_rules.specs.declared.answers.DeliveryAnswer.{DeliveryAnswer}
 use Rattle.series_rules.specs.declared.answers.DeliveryAnswer.TheVariants as delivery
-use Rattle.desk_store.specs.Changes.{DeliversAt}
-use Rattle.desk_store.proofs.Found.{delivers_before, delivers_found, delivers_unknown}
+use Rattle.store_rows.specs.Changes.{DeliversAt}
+use Rattle.store_rows.proofs.Found.{delivers_before, delivers_found, delivers_unknown}
 use Rattle.desk_store.proofs.requests.deliver_in.Goals as goal
 
 pub returns-in_default-clause-achieves : goal.returns-in_default-clause-achieves

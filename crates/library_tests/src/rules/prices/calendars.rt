@@ -1,5 +1,5 @@
 use super::offers::{FOUR_PRICES, field, offer_of, question};
-use crate::rules::cases::expect;
+use crate::cases::expect;
 use onix_terms::Memory;
 use onix_terms::day::Day;
 use onix_terms::items::Items;

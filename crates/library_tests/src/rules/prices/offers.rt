@@ -1,6 +1,6 @@
 // Offers and questions, read from texts: each is `None` where a field is not read.
 
-use onix_message::parts::{Price, Supplier};
+use onix_rows::parts::{Price, Supplier};
 use onix_terms::amount::Amount;
 use onix_terms::code::{Code2, Country, Currency};
 use onix_terms::day::Day;

@@ -1,5 +1,5 @@
 use super::offers::{FOUR_PRICES, field, offer_of, question};
-use crate::rules::cases::expect;
+use crate::cases::expect;
 use onix_terms::amount::Amount;
 use price_rules::current::current_price;
 use std::alloc::Global;

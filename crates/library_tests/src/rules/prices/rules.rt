@@ -1,4 +1,4 @@
-use crate::rules::cases::expect_text;
+use crate::cases::expect_text;
 use onix_terms::Memory;
 use price_rules::precedence::Precedence;
 use std::alloc::Global;

@@ -1,7 +1,7 @@
 use Rattle.sqlite.specs.Held.{state}
-use Rattle.desk_tables.specs.Transactions.{begin_text}
-use Rattle.desk_tables.proofs.Control.{begins_ok, begins_err, fails_as}
-use Rattle.desk_tables.proofs.Outside.{stays_outside}
+use Rattle.desk_rows.specs.Transactions.{begin_text}
+use Rattle.desk_rows.proofs.Control.{begins_ok, begins_err, fails_as}
+use Rattle.desk_rows.proofs.Outside.{stays_outside}
 use Rattle.desk_tables.proofs.tables.Tables.begin.Goals as goal
 
 pub returns-in-Ok-clause-begins : goal.returns-in-Ok-clause-begins

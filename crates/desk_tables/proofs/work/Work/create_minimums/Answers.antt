@@ -1,9 +1,9 @@
 use Rattle.std.proofs.Common.{Ok, Err}
 use Rattle.sqlite.specs.Held.{state}
-use Rattle.desk_tables.specs.Rows.{Holds, HoldsFirst}
-use Rattle.desk_tables.proofs.Creates.{HoldsUnindexed}
-use Rattle.desk_tables.proofs.Makings.{makes_then, makes_no_more, makes_done}
-use Rattle.desk_tables.proofs.TableSteps.{step_price_minimum, step_index}
+use Rattle.desk_rows.specs.Rows.{Holds, HoldsFirst}
+use Rattle.desk_rows.proofs.Creates.{HoldsUnindexed}
+use Rattle.desk_rows.proofs.Makings.{makes_then, makes_no_more, makes_done}
+use Rattle.desk_rows.proofs.TableSteps.{step_price_minimum, step_index}
 use Rattle.desk_tables.proofs.work.Work.create_minimums.Goals as goal
 
 pub returns-in-Ok-run-clause-makes : goal.returns-in-Ok-run-clause-makes

@@ -1,8 +1,8 @@
 use Rattle.std.proofs.Common.{Ok, Err}
 use Rattle.sqlite.specs.Held.{state}
 use Rattle.onix_message.specs.declared.agreement.StoreFault.TheVariants.{Unusable}
-use Rattle.desk_tables.specs.Rows.{Holds, HoldsFirst, with_version}
-use Rattle.desk_tables.proofs.Makings.{makes_then, makes_no_more, makes_stopped, works_made}
+use Rattle.desk_rows.specs.Rows.{Holds, HoldsFirst, with_version}
+use Rattle.desk_rows.proofs.Makings.{makes_then, makes_no_more, makes_stopped, works_made}
 use Rattle.desk_tables.proofs.work.Work.migrate.Goals as goal
 
 pub returns-in-Ok-clause-migrates : goal.returns-in-Ok-clause-migrates

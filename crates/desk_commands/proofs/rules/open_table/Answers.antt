@@ -1,5 +1,0 @@
-use Rattle.std.specs.Prelude.{[]}
-use Rattle.desk_commands.proofs.rules.open_table.Goals as goal
-
-pub returns-in-Err : goal.returns-in-Err
-returns-in-Err c = ([], c.unopened.ensures [])

@@ -1,0 +1,3 @@
+pub mod Keys
+pub mod Place
+pub mod Table

@@ -1,0 +1,4 @@
+pub mod GapText
+pub mod PriceText
+pub mod CatalogueText
+pub mod AnswerText

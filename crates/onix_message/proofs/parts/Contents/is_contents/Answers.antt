@@ -1,6 +1,0 @@
-use Rattle.std.proofs.Common.{subst}
-use Rattle.onix_message.specs.ContentsText.{IsContents}
-use Rattle.onix_message.proofs.parts.Contents.is_contents.Goals as goal
-
-pub returns : goal.returns
-returns c = subst IsContents c.self.view_is c.self.invariant

@@ -1,0 +1,3 @@
+pub mod CleanFields
+pub mod Pairs
+pub mod TenFields

@@ -1,0 +1,50 @@
+-- How the command `gaps` ends.
+use Rattle.std.specs.Prelude.{◌≡◌, ◌⊎◌, ◌++◌, ◌∷◌, ℕ, Bool, List, [], Option, Some, None, Result, Ok, Err, if◌then◌else◌}
+use Rattle.series_rules.specs.Answers.{gaps_answer, gaps_or_unknown}
+use Rattle.series_rules.specs.declared.answers.Answer.{Answer}
+use Rattle.series_rules.specs.declared.answers.Answer.TheVariants.{UnknownSeries}
+use Rattle.series_rules.specs.declared.requests.Request.{Request}
+use Rattle.series_rules.specs.declared.requests.Request.TheVariants.{AskGaps}
+use Rattle.desk_text.specs.AnswerText.{is_refused, text_of}
+use Rattle.desk_batch.specs.declared.batch.RequestFault.{RequestFault}
+use Rattle.desk_batch.specs.declared.batch.RequestFault.TheVariants as fault
+
+-- the answer after L about the gaps of the series of that name. What can be no name is a series that is not agreed
+abbrev pub gaps_named : List Request → Option (List ℕ) → Answer
+gaps_named L None = UnknownSeries
+gaps_named L (Some series) = gaps_or_unknown (gaps_answer L series)
+
+-- L with the question, where there is a series to ask about
+abbrev pub with_question : List Request → Option (List ℕ) → List Request
+with_question L None = L
+with_question L (Some series) = AskGaps series ∷ L
+
+-- how the question can end. Written: these bytes were written. Stands: the desk stands for that list
+abbrev pub QuestionFits : List Request → Option (List ℕ) → (List ℕ → Type 0) → (List Request → Type 0) → Result Bool RequestFault → Type 0
+QuestionFits L name written stands (Ok b) =
+    (b ≡ is_refused (gaps_named L name)) × written (text_of (gaps_named L name)) × stands (with_question L name)
+QuestionFits L name written stands (Err (fault.Store f)) = written [] × stands L
+QuestionFits L name written stands (Err fault.Write) =
+    ((part rest : List ℕ) × (part ++ rest ≡ text_of (gaps_named L name)) × written part) × stands (with_question L name)
+QuestionFits L name written stands (Err fault.Memory) = written [] × stands (with_question L name)
+
+-- how writing that a series is unknown can end
+abbrev pub UnknownFits : (List ℕ → Type 0) → Result Bool RequestFault → Type 0
+UnknownFits written (Ok b) = (b ≡ is_refused UnknownSeries) × written (text_of UnknownSeries)
+UnknownFits written (Err (fault.Store f)) = ⊥
+UnknownFits written (Err fault.Write) = (part rest : List ℕ) × (part ++ rest ≡ text_of UnknownSeries) × written part
+UnknownFits written (Err fault.Memory) = written []
+
+-- the answer is written
+abbrev pub IsWritten : List Request → Option (List ℕ) → (List ℕ → Type 0) → ℕ → Type 0
+IsWritten L name written status =
+    (status ≡ (if is_refused (gaps_named L name) then 1 else 0)) × written (text_of (gaps_named L name))
+
+-- a fault ended it: a first part of the answer is written
+abbrev pub IsCut : List Request → Option (List ℕ) → (List ℕ → Type 0) → ℕ → Type 0
+IsCut L name written status = (status ≡ 3) × ((part rest : List ℕ) × (part ++ rest ≡ text_of (gaps_named L name)) × written part)
+
+-- how the command can end after L. The question changes nothing that the desk stands for
+abbrev pub GapsEnd : List Request → Option (List ℕ) → (List ℕ → Type 0) → (List Request → Type 0) → ℕ → Type 0
+GapsEnd L name written stands status =
+    (IsWritten L name written status ⊎ IsCut L name written status) × (stands L ⊎ stands (with_question L name))

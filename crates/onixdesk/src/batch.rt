@@ -1,0 +1,50 @@
+// The command `batch`: standard input to standard output.
+
+ghost use Rattle.std.specs.Prelude.{◌≤◌, ℕ, List};
+ghost use Rattle.std.specs.Io.KnownBytes.{Appends};
+ghost use Rattle.csv_records.specs.Streams.{IsTold};
+ghost use Rattle.onixdesk.specs.Ends.{Ends};
+ghost use Rattle.series_rules.specs.declared.requests.Request.{Request};
+
+use crate::fault::{Fault, report};
+use desk_batch::batch::{BatchFault, run_batch};
+use price_rules::precedence::Precedence;
+use series_rules::desk::Desk;
+use std::alloc::Global;
+use std::io::{Read, Write};
+
+impl From<BatchFault> for Fault {
+    fn from(fault: BatchFault) -> Fault {
+        match fault {
+            BatchFault::Records(fault) => Fault::from(fault),
+            BatchFault::Store { fault, .. } => Fault::from(fault),
+            BatchFault::Read => Fault::InputRead,
+            BatchFault::Write { .. } => Fault::Output,
+            BatchFault::Memory { .. } => Fault::Memory,
+        }
+    }
+}
+
+/// Runs a batch over a desk, whatever requests it has seen, under a precedence table. Gives 0, or
+/// 1 where an answer was a refusal, or 3 after a fault, which is reported.
+pub fn run<D: Desk, R: Read, W: Write, E: Write>(
+    alloc: Global,
+    desk: &mut D,
+    precedence: &Precedence,
+    input: &mut R,
+    output: &mut W,
+    errors: &mut E,
+) -> u8
+    ensures status { result ≤ 3 }
+    ensures premise { D.is_sound desk.new → D.is_sound desk.old }
+    // There is a text, that of the input where it tells its bytes, of which this is the status and
+    // all answers, or a first part of them, are written.
+    ensures end { (text : List ℕ) × IsTold (R.remaining input.old) text × ((L : List Request) → D.stands_for desk.old L → D.is_sound desk.new →
+        Ends precedence.now L text (Appends (W.contents output.old) (W.contents output.new)) result) }
+{
+    match run_batch(alloc, desk, precedence, input, output) {
+        Ok(0) => 0,
+        Ok(_) => 1,
+        Err(fault) => report(&Fault::from(fault), errors),
+    }
+}

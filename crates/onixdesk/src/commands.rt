@@ -1,0 +1,137 @@
+// The commands of the program and their options, as clap takes them, with their help.
+
+use clap::builder::ValueParser;
+use clap::{Arg, ArgAction, Command};
+use std::alloc::{AllocError, Global};
+
+/// The version that `--version` prints.
+const VERSION: &str = "0.1.0";
+
+fn batch<'a>(alloc: Global) -> Command<'a> {
+    Command::new(alloc, "batch")
+        .about("Read requests from standard input, write their answers to standard output")
+        .long_about(
+            "Reads agreements, messages, waivers and questions as CSV records from standard input, up to 4,194,304 bytes of UTF-8, and writes the answer to each, in order, to standard output. A database file and a precedence table are named before the command: onixdesk --db FILE --rules FILE batch. Without a database file the desk ends with the batch.",
+        )
+}
+
+fn deliver<'a>(alloc: Global) -> Result<Command<'a>, AllocError> {
+    let files = Arg::new(alloc, "file")
+        .value_name("FILE")
+        .required(true)
+        .num_args(1..)
+        .action(ArgAction::Append)
+        .help("A message as CSV records, up to 4,194,304 bytes of UTF-8");
+    Command::new(alloc, "deliver")
+        .about("Deliver the message of each file, write the answer to each")
+        .long_about(
+            "Delivers the message that each file holds, from its record Message to its record EndMessage, in the order of the files, and writes the answer to each to standard output. A file that cannot be read, or a fault, ends the command with status 3; the answers before it stand. The agreements are those of the database file: onixdesk --db FILE deliver FILE. Without one there are none, and a whole message with a number is answered refused,unknown-series.",
+        )
+        .arg(files)
+}
+
+fn gaps<'a>(alloc: Global) -> Result<Command<'a>, AllocError> {
+    let name = Arg::new(alloc, "name")
+        .value_name("NAME")
+        .required(true)
+        .action(ArgAction::Set)
+        .help("The name of the series");
+    Command::new(alloc, "gaps")
+        .about("Write which message numbers of a series lack")
+        .long_about(
+            "Writes the first and the next number of a series, the greatest that has come, how many are held, and the ranges of numbers that lack. A series that is not agreed, and a name that cannot be one, are answered refused,unknown-series with status 1.",
+        )
+        .arg(name)
+}
+
+fn port<'a>(alloc: Global) -> Arg<'a> {
+    Arg::new(alloc, "port")
+        .long("port")
+        .value_name("N")
+        .required(true)
+        .value_parser(ValueParser::unsigned(1, 65_535))
+        .action(ArgAction::Set)
+        .help("The port of 127.0.0.1, 1 to 65535")
+}
+
+fn requests<'a>(alloc: Global) -> Arg<'a> {
+    Arg::new(alloc, "requests")
+        .long("requests")
+        .value_name("K")
+        .required(true)
+        .value_parser(ValueParser::unsigned(1, 1_000_000))
+        .action(ArgAction::Set)
+        .help("How many connections are served, 1 to 1000000; then the program ends")
+}
+
+fn serve<'a>(alloc: Global) -> Result<Command<'a>, AllocError> {
+    Command::new(alloc, "serve")
+        .about("Answer requests over HTTP on a port of this machine")
+        .long_about(
+            "Listens at a port of 127.0.0.1, which only programs on this machine reach, writes the line 'listening N', and serves connections one after the other, one request each. For each connection a line is written: the status of the reply, or 'fault' where none was sent whole. A client has 10 seconds to send its request and 10 seconds to take the reply; over that the connection is a fault, and serving goes on. The desk is that of the database file: onixdesk --db FILE serve; without one it begins without agreements and ends with the program. A port that cannot be listened at ends the program with status 3. TLS and access control are left to a proxy before it.",
+        )
+        .arg(port(alloc))?
+        .arg(requests(alloc))
+}
+
+fn migrate<'a>(alloc: Global) -> Command<'a> {
+    Command::new(alloc, "migrate")
+        .about("Bring a database file of an earlier version to the one that this program keeps")
+        .long_about(
+            "Brings the desk in the database file from version 1, which knows no minimum quantities, to version 2, all at once, and writes 'migrated'; an empty or missing file becomes a desk without agreements. A file of version 2 stays as it is, and 'schema 2' is written. Any other version is a fault, and the file stays. The file is named before the command: onixdesk --db FILE migrate. Copy the file first.",
+        )
+}
+
+// The option `--db FILE`, which stands before the command.
+fn db<'a>(alloc: Global) -> Arg<'a> {
+    Arg::new(alloc, "db")
+        .long("db")
+        .value_name("FILE")
+        .action(ArgAction::Set)
+        .help(
+            "Keep the desk in this SQLite file, which is made where it is missing; it stands before the command, and without it the desk is in memory and ends with the program. One program at a time may use the file",
+        )
+}
+
+// The option `--rules FILE`, which stands before the command.
+fn rules<'a>(alloc: Global) -> Arg<'a> {
+    Arg::new(alloc, "rules")
+        .long("rules")
+        .value_name("FILE")
+        .action(ArgAction::Set)
+        .help(
+            "Choose among offers by the precedence table of this TOML file; it stands before the command, and without it there are no rules",
+        )
+}
+
+// The program's own words.
+fn named<'a>(alloc: Global) -> Command<'a> {
+    Command::new(alloc, "onixdesk")
+        .version(VERSION)
+        .about(
+            "The intake of a bookshop's buying desk: numbered ONIX messages in, proved answers out",
+        )
+        .after_help(
+            "Exit status: 0; 1 where an answer of batch, deliver or gaps was a refusal; 2 for a bad command line or rules file; 3 for a fault of storage, a file, input, output or the port, or for want of memory. While serve runs, a request that cannot be answered ends only its connection.",
+        )
+        .subcommand_required(true)
+}
+
+// The program with one more command. A command that memory lacks for is refused here alone, so that the
+// program is let go of in one place.
+fn with_command<'a>(
+    program: Command<'a>,
+    command: Result<Command<'a>, AllocError>,
+) -> Result<Command<'a>, AllocError> {
+    program.subcommand(command?)
+}
+
+/// The program with all its commands. Without memory there is none.
+pub fn program<'a>(alloc: Global) -> Result<Command<'a>, AllocError> {
+    let program = named(alloc).arg(db(alloc))?.arg(rules(alloc))?;
+    let program = with_command(program, Ok(batch(alloc)))?;
+    let program = with_command(program, deliver(alloc))?;
+    let program = with_command(program, gaps(alloc))?;
+    let program = with_command(program, Ok(migrate(alloc)))?;
+    with_command(program, serve(alloc))
+}

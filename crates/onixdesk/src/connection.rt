@@ -1,0 +1,62 @@
+// One connection of the command `serve`.
+
+ghost use Rattle.std.specs.Prelude.{ℕ, List, OnOk, Result};
+ghost use Rattle.std.specs.Io.KnownBytes.{Appends};
+ghost use Rattle.desk_http.specs.Exchange.{AtMostOneMore};
+ghost use Rattle.desk_http.specs.declared.exchange.HttpFault.{HttpFault};
+ghost use Rattle.series_rules.specs.Faults.{IsFaultOf};
+ghost use Rattle.series_rules.specs.declared.requests.Request.{Request};
+ghost use Rattle.onixdesk.specs.Serving.{ExchangeEnds, line_of};
+
+use crate::fault::Fault;
+use desk_http::exchange::HttpFault;
+use desk_http::serve::serve_one;
+use price_rules::precedence::Precedence;
+use series_rules::desk::Desk;
+use std::alloc::Global;
+use std::io::{self, Read, Write};
+
+// Writes the line of a connection.
+fn write_line<O: Write>(outcome: &Result<u16, HttpFault>, output: &mut O) -> io::Result<()>
+    ensures { OnOk result (Appends (O.contents output.old) (O.contents output.new) (line_of outcome.now)) }
+{
+    match outcome {
+        Ok(status) => write!(output, "{status}\n"),
+        Err(_) => write!(output, "fault\n"),
+    }
+}
+
+/// Writes the line of a connection at once: the status of the reply, or `fault` where no reply was
+/// sent whole. The fault is `Output`.
+pub fn print_line<O: Write>(outcome: &Result<u16, HttpFault>, output: &mut O) -> Result<(), Fault>
+    ensures { OnOk result (Appends (O.contents output.old) (O.contents output.new) (line_of outcome.now)) }
+{
+    if write_line(outcome, output).is_err() {
+        return Err(Fault::Output);
+    }
+    match output.flush() {
+        Ok(()) => Ok(()),
+        Err(_) => Err(Fault::Output),
+    }
+}
+
+/// Serves one connection, and writes its line.
+pub fn serve_connection<D: Desk, R: Read, W: Write, O: Write>(
+    alloc: Global,
+    desk: &mut D,
+    precedence: &Precedence,
+    reader: &mut R,
+    writer: &mut W,
+    output: &mut O,
+) -> Result<(), Fault>
+    ensures premise { D.is_sound desk.new → D.is_sound desk.old }
+    ensures one { (L : List Request) → D.stands_for desk.old L → D.is_sound desk.new → AtMostOneMore L (D.stands_for desk.new) }
+    // There is an outcome of the exchange whose line is written.
+    ensures line { (outcome : Result ℕ HttpFault)
+        × ((L : List Request) → D.stands_for desk.old L → D.is_sound desk.new →
+        ExchangeEnds precedence.now (IsFaultOf D.may_give) L (R.remaining reader.old) (D.stands_for desk.new) (W.contents writer.old) (W.contents writer.new) outcome)
+        × OnOk result (Appends (O.contents output.old) (O.contents output.new) (line_of outcome)) }
+{
+    let outcome = serve_one(alloc, desk, precedence, reader, writer);
+    print_line(&outcome, output)
+}

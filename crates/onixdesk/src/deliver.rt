@@ -1,0 +1,154 @@
+// The command `deliver`: one message a file.
+
+ghost use Rattle.std.specs.Prelude.{◌≡◌, ◌≤◌, ℕ, List, length, if◌then◌else◌};
+ghost use Rattle.std.specs.Io.KnownBytes.{Appends};
+ghost use Rattle.csv_records.specs.Streams.{IsTold};
+ghost use Rattle.onixdesk.specs.Deliveries.{DeliveriesEnd, DeliveryFits, IsUnasked, ReadFits};
+ghost use Rattle.series_rules.specs.declared.requests.Request.{Request};
+
+use crate::fault::{Fault, report, report_file};
+use csv_records::reading::{LIMIT, RecordFault, read_records};
+use csv_records::streams::{InputFault, read_input};
+use desk_batch::batch::{RequestFault, run_request};
+use price_rules::precedence::Precedence;
+use series_rules::desk::Desk;
+use series_rules::requests::Request;
+use std::alloc::Global;
+use std::fs::File;
+use std::io::{Error, ErrorKind, Read, Write};
+
+/// Why the message of a file has no answer that is written whole.
+#[derive(Debug, Drop)]
+pub enum DeliveryFault {
+    /// The file cannot be opened or read. Nothing was asked of the desk.
+    Unreadable,
+    /// Its text has no records, or memory ran out for them. Nothing was asked of the desk.
+    Records(RecordFault),
+    /// The delivery was asked of the desk.
+    Request(RequestFault),
+}
+
+// The delivery of the records of a text.
+fn delivery_of(alloc: Global, bytes: &[u8]) -> Result<Request, DeliveryFault>
+    ensures { ReadFits bytes.now result }
+{
+    match read_records(alloc, bytes) {
+        Ok(records) => Ok(Request::Deliver(records)),
+        Err(fault) => Err(DeliveryFault::Records(fault)),
+    }
+}
+
+// Reads a delivery, of which the bytes are not kept.
+fn read_delivery<R: Read>(alloc: Global, reader: &mut R) -> Result<Request, DeliveryFault>
+    ensures { (text : List ℕ) × IsTold (R.remaining reader.old) text × ReadFits text result }
+{
+    match read_input(alloc, reader, LIMIT) {
+        Ok(bytes) => delivery_of(alloc, bytes.as_slice()),
+        Err(InputFault::Read) => Err(DeliveryFault::Unreadable),
+        Err(InputFault::TooLarge) => Err(DeliveryFault::Records(RecordFault::TooLarge)),
+        Err(InputFault::Memory) => Err(DeliveryFault::Records(RecordFault::Memory)),
+    }
+}
+
+/// Delivers the message that a reader has, to its end or to one byte past 4,194,304, writes the
+/// answer, and says whether that is a refusal.
+pub fn deliver_one<D: Desk, R: Read, W: Write>(
+    alloc: Global,
+    desk: &mut D,
+    precedence: &Precedence,
+    reader: &mut R,
+    writer: &mut W,
+) -> Result<bool, DeliveryFault>
+    ensures premise { D.is_sound desk.new → D.is_sound desk.old }
+    // There is a text, that of the reader where it tells its bytes, whose delivery ends as the definitions have it.
+    ensures run { (text : List ℕ) × IsTold (R.remaining reader.old) text × ((L : List Request) → D.stands_for desk.old L → D.is_sound desk.new →
+        DeliveryFits precedence.now L text (Appends (W.contents writer.old) (W.contents writer.new)) (D.stands_for desk.new) result) }
+{
+    let request = match read_delivery(alloc, reader) {
+        Ok(request) => request,
+        Err(fault) => return Err(fault),
+    };
+    let outcome = run_request(alloc, desk, precedence, &request, writer);
+    drop(request);
+    match outcome {
+        Ok(is_refused) => Ok(is_refused),
+        Err(fault) => Err(DeliveryFault::Request(fault)),
+    }
+}
+
+// Why a file was not opened.
+fn unopened(error: &Error) -> DeliveryFault
+    ensures { IsUnasked result }
+{
+    match error.kind() {
+        ErrorKind::OutOfMemory => DeliveryFault::Records(RecordFault::Memory),
+        _ => DeliveryFault::Unreadable,
+    }
+}
+
+// Delivers the message in the file of this name.
+fn deliver_file<D: Desk, W: Write>(
+    rt: &HostRuntime,
+    desk: &mut D,
+    precedence: &Precedence,
+    name: &str,
+    writer: &mut W,
+) -> Result<bool, DeliveryFault>
+    ensures premise { D.is_sound desk.new → D.is_sound desk.old }
+    // Of some text: no clause can say what a file holds.
+    ensures run { (text : List ℕ) × ((L : List Request) → D.stands_for desk.old L → D.is_sound desk.new →
+        DeliveryFits precedence.now L text (Appends (W.contents writer.old) (W.contents writer.new)) (D.stands_for desk.new) result) }
+{
+    match File::open(rt, name) {
+        Ok(mut file) => deliver_one(rt.alloc(), desk, precedence, &mut file, writer),
+        Err(error) => Err(unopened(&error)),
+    }
+}
+
+// Reports why the message of the file of this name has no answer, and gives the status.
+fn report_delivery<E: Write>(fault: DeliveryFault, name: &str, errors: &mut E) -> u8
+    ensures { result ≡ 3 }
+{
+    match fault {
+        DeliveryFault::Unreadable => {
+            report_file(name, errors);
+            3
+        }
+        DeliveryFault::Records(fault) => report(&Fault::from(fault), errors),
+        DeliveryFault::Request(fault) => report(&Fault::from(fault), errors),
+    }
+}
+
+fn refusal_status(has_refusal: bool) -> u8
+    ensures is { result ≡ (if has_refusal then 1 else 0) }
+    ensures most { result ≤ 1 }
+{
+    if has_refusal { 1 } else { 0 }
+}
+
+/// Delivers the message of each file in turn, and writes each answer before the next file is
+/// opened. Gives 0, or 1 where an answer was a refusal, or 3 after a fault, which is reported and
+/// ends the command.
+pub fn run<D: Desk, W: Write, E: Write>(
+    rt: &HostRuntime,
+    desk: &mut D,
+    precedence: &Precedence,
+    names: &[&str],
+    output: &mut W,
+    errors: &mut E,
+) -> u8
+    ensures status { result ≤ 3 }
+    ensures premise { D.is_sound desk.new → D.is_sound desk.old }
+    // There are texts, one for each file that was delivered: no clause can say what a file holds.
+    ensures end { (texts last : List (List ℕ)) × ((L : List Request) → D.stands_for desk.old L → D.is_sound desk.new →
+        DeliveriesEnd precedence.now L (length names.now) texts last (Appends (W.contents output.old) (W.contents output.new)) (D.stands_for desk.new) result) }
+{
+    let mut has_refusal = false;
+    for name in names {
+        match deliver_file(rt, desk, precedence, name, output) {
+            Ok(is_refused) => has_refusal |= is_refused,
+            Err(fault) => return report_delivery(fault, name, errors),
+        }
+    }
+    refusal_status(has_refusal)
+}

@@ -1,0 +1,177 @@
+// The program run on its words: the command line, the rules file, the desk, and then the command.
+
+ghost use Rattle.std.specs.Prelude.{◌≡◌, ◌≤◌, ◌⊎◌, ℕ, []};
+ghost use Rattle.std.specs.Io.KnownBytes.{Appends};
+ghost use Rattle.onixdesk.specs.TaskEnds.{TaskEnds};
+ghost use Rattle.desk_memory.specs.declared.desk.MemoryDesk.{MemoryDesk};
+
+use crate::command_line::{self, Action, Invocation, Reading, Task};
+use crate::fault::{Fault, report};
+use crate::rules::{open_table, report_rules};
+use crate::{batch, deliver, gaps, migrate, serve};
+use desk_memory::desk::MemoryDesk;
+use desk_store::desk::DeskStore;
+use onix_message::agreement::StoreFault;
+use price_rules::precedence::Precedence;
+use series_rules::desk::Desk;
+use sqlite::{FileStore, Start, Unknown};
+use sqlite_disk::Disk;
+use std::io::{Read, Write};
+use std::rt::HostRuntime;
+
+// Runs a command over a desk.
+fn run_task<D: Desk, R: Read, W: Write, E: Write>(
+    rt: &HostRuntime,
+    desk: &mut D,
+    precedence: &Precedence,
+    task: &Task<'_>,
+    input: &mut R,
+    output: &mut W,
+    errors: &mut E,
+) -> u8
+    ensures status { result ≤ 3 }
+    ensures premise { D.is_sound desk.new → D.is_sound desk.old }
+    ensures end { TaskEnds precedence.now task.now (R.remaining input.old) (D.stands_for desk.old) (D.is_sound desk.new)
+        (Appends (W.contents output.old) (W.contents output.new)) (D.stands_for desk.new) result }
+{
+    match task {
+        Task::Batch => batch::run(rt.alloc(), desk, precedence, input, output, errors),
+        Task::Deliver(names) => {
+            deliver::run(rt, desk, precedence, names.as_slice(), output, errors)
+        }
+        Task::Gaps(name) => gaps::run(rt.alloc(), desk, precedence, name, output, errors),
+        Task::Serve { port, requests } => {
+            serve::run(rt, desk, precedence, *port, *requests, output, errors)
+        }
+    }
+}
+
+// Runs a command over a new desk in memory.
+fn run_in_memory<R: Read, W: Write, E: Write>(
+    rt: &HostRuntime,
+    precedence: &Precedence,
+    task: &Task<'_>,
+    input: &mut R,
+    output: &mut W,
+    errors: &mut E,
+) -> u8
+    ensures status { result ≤ 3 }
+    // Over a desk that has seen no request, and whose store is sound.
+    ensures end { (new left : MemoryDesk) × ⟦<MemoryDesk as Desk>⟧.stands_for new [] × ⟦<MemoryDesk as Desk>⟧.is_sound left
+        × TaskEnds precedence.now task.now (R.remaining input.old) (⟦<MemoryDesk as Desk>⟧.stands_for new) (⟦<MemoryDesk as Desk>⟧.is_sound left)
+        (Appends (W.contents output.old) (W.contents output.new)) (⟦<MemoryDesk as Desk>⟧.stands_for left) result }
+{
+    let mut desk = MemoryDesk::new(rt.alloc());
+    let status = run_task(rt, &mut desk, precedence, task, input, output, errors);
+    desk.is_always_sound();
+    status
+}
+
+// Closes the files of a desk, and lets go of them, or of what is left of them.
+fn close<D: Disk + Drop>(desk: DeskStore<FileStore<D>>) -> Result<(), StoreFault> {
+    match desk.close_files() {
+        Ok(files) => {
+            drop(files);
+            Ok(())
+        }
+        Err((fault, left)) => {
+            drop(left);
+            Err(fault)
+        }
+    }
+}
+
+// Runs a command over a desk in a file, and closes the file.
+fn run_and_close<D: Disk + Drop, R: Read, W: Write, E: Write>(
+    rt: &HostRuntime,
+    mut desk: DeskStore<FileStore<D>>,
+    precedence: &Precedence,
+    task: &Task<'_>,
+    input: &mut R,
+    output: &mut W,
+    errors: &mut E,
+) -> u8
+    ensures status { result ≤ 3 }
+    // The command ends as over any desk, but that the status is 3 where the file cannot be closed.
+    ensures end { (left : _) × (status : ℕ) × ((result ≡ status) ⊎ (result ≡ 3)) × (⟦<DeskStore<FileStore<D>> as Desk>⟧.is_sound left → ⟦<DeskStore<FileStore<D>> as Desk>⟧.is_sound desk)
+        × TaskEnds precedence.now task.now (R.remaining input.old) (⟦<DeskStore<FileStore<D>> as Desk>⟧.stands_for desk) (⟦<DeskStore<FileStore<D>> as Desk>⟧.is_sound left)
+        (Appends (W.contents output.old) (W.contents output.new)) (⟦<DeskStore<FileStore<D>> as Desk>⟧.stands_for left) status }
+{
+    let status = run_task(rt, &mut desk, precedence, task, input, output, errors);
+    match close(desk) {
+        Ok(()) => status,
+        Err(fault) => report(&Fault::from(fault), errors),
+    }
+}
+
+// Runs a command over the desk in the database file of that name, which `start` stands for.
+fn run_in_file<S: Start, R: Read, W: Write, E: Write>(
+    rt: &HostRuntime,
+    name: &str,
+    start: S,
+    precedence: &Precedence,
+    task: &Task<'_>,
+    input: &mut R,
+    output: &mut W,
+    errors: &mut E,
+) -> u8
+    ensures { result ≤ 3 }
+{
+    match DeskStore::open(rt, name, start) {
+        Ok(desk) => run_and_close(rt, desk, precedence, task, input, output, errors),
+        Err((fault, _)) => report(&Fault::from(fault), errors),
+    }
+}
+
+// Runs a command under the rules of a file or under none.
+fn run_invocation<R: Read, W: Write, E: Write>(
+    rt: &HostRuntime,
+    invocation: &Invocation<'_>,
+    input: &mut R,
+    output: &mut W,
+    errors: &mut E,
+) -> u8
+    ensures { result ≤ 3 }
+{
+    let precedence = match invocation.rules {
+        None => Precedence::none(rt.alloc()),
+        Some(name) => match open_table(rt, name) {
+            Ok(precedence) => precedence,
+            Err(fault) => return report_rules(&fault, name, errors),
+        },
+    };
+    let status = match &invocation.action {
+        Action::InMemory(task) => run_in_memory(rt, &precedence, task, input, output, errors),
+        Action::InFile { db, task } => {
+            run_in_file(rt, db, Unknown, &precedence, task, input, output, errors)
+        }
+        Action::Migrate { db } => migrate::run(rt, db, Unknown, output, errors),
+    };
+    drop(precedence);
+    status
+}
+
+/// Runs the program on these words, of which the first is its name, and gives its exit status:
+/// 0, or 1 where an answer was a refusal, 2 for a bad command line or rules file, 3 for a fault of
+/// storage, a file, input, output or the port. The command line is judged first, then the rules
+/// file, then what the command itself meets.
+pub fn run<R: Read, W: Write, E: Write>(
+    rt: &HostRuntime,
+    words: &[&str],
+    input: &mut R,
+    output: &mut W,
+    errors: &mut E,
+) -> u8
+    ensures { result ≤ 3 }
+{
+    let alloc = rt.alloc();
+    match command_line::read(alloc, words) {
+        Reading::Run(invocation) => run_invocation(rt, &invocation, input, output, errors),
+        Reading::Help(text) => command_line::print_help(text.as_str(), output, errors),
+        Reading::Wrong(text) => command_line::print_wrong(text.as_str(), errors),
+        Reading::NoDatabase => {
+            command_line::print_wrong("onixdesk: migrate needs --db\n", errors)
+        }
+        Reading::Memory => report(&Fault::Memory, errors),
+    }
+}

@@ -1,0 +1,170 @@
+// The command `serve`: the desk over HTTP on a port of 127.0.0.1.
+
+ghost use Rattle.std.specs.Prelude.{◌≡◌, ◌≤◌, ℕ, List, OnOk, Result, length};
+ghost use Rattle.std.specs.Io.KnownBytes.{Appends};
+ghost use Rattle.desk_http.specs.Exchange.{AtMostOneMore};
+ghost use Rattle.desk_http.specs.declared.exchange.HttpFault.{HttpFault};
+ghost use Rattle.series_rules.specs.declared.requests.Request.{Request};
+ghost use Rattle.onixdesk.specs.Serving.{AtMostMore, line_of, lines_of};
+
+use crate::connection::{print_line, serve_connection};
+use crate::fault::{Fault, report};
+use crate::timed::Timed;
+use desk_http::exchange::HttpFault;
+use price_rules::precedence::Precedence;
+use series_rules::desk::Desk;
+use std::io::{self, ErrorKind, Read, Write};
+use std::net::{Ipv4Addr, SocketAddr, SocketAddrV4, TcpListener, TcpStream};
+use std::time::Duration;
+
+/// How many seconds a client may take to send its request, and again to take the reply.
+const PATIENCE: u64 = 10;
+
+/// A port that is listened at, and how long its clients may take.
+#[derive(Drop)]
+pub struct Port {
+    pub number: u16,
+    pub listener: TcpListener,
+    pub patience: Duration,
+}
+
+// Takes what a client sent behind its request, as far as it is there: where such bytes are left,
+// the close of the connection can undo a reply that is still on its way.
+fn close(mut stream: TcpStream) {
+    let mut rest = [0u8; 4096];
+    if stream.set_nonblocking(true).is_err() {
+        return;
+    }
+    for _ in 0..1024 {
+        match stream.read(&mut rest) {
+            Ok(0) => return,
+            Ok(_) => {}
+            Err(_) => return,
+        }
+    }
+}
+
+// Serves a connection that was accepted.
+fn serve_stream<D: Desk, O: Write>(
+    rt: &HostRuntime,
+    desk: &mut D,
+    precedence: &Precedence,
+    stream: TcpStream,
+    patience: Duration,
+    output: &mut O,
+) -> Result<(), Fault>
+    ensures premise { D.is_sound desk.new → D.is_sound desk.old }
+    ensures one { (L : List Request) → D.stands_for desk.old L → D.is_sound desk.new → AtMostOneMore L (D.stands_for desk.new) }
+    ensures line { (outcome : Result ℕ HttpFault) × OnOk result (Appends (O.contents output.old) (O.contents output.new) (line_of outcome)) }
+{
+    let mut reader = Timed::new(rt, &stream, patience);
+    let mut writer = Timed::new(rt, &stream, patience);
+    let outcome = serve_connection(
+        rt.alloc(),
+        desk,
+        precedence,
+        &mut reader,
+        &mut writer,
+        output,
+    );
+    close(stream);
+    outcome
+}
+
+// A client was gone before its connection was accepted.
+fn is_lost(error: &io::Error) -> bool {
+    matches!(
+        error.kind(),
+        ErrorKind::ConnectionAborted | ErrorKind::ConnectionReset
+    )
+}
+
+// Waits for a connection and serves it.
+fn serve_next<D: Desk, O: Write>(
+    rt: &HostRuntime,
+    desk: &mut D,
+    precedence: &Precedence,
+    port: &Port,
+    output: &mut O,
+) -> Result<(), Fault>
+    ensures premise { D.is_sound desk.new → D.is_sound desk.old }
+    ensures one { (L : List Request) → D.stands_for desk.old L → D.is_sound desk.new → AtMostOneMore L (D.stands_for desk.new) }
+    ensures line { (outcome : Result ℕ HttpFault) × OnOk result (Appends (O.contents output.old) (O.contents output.new) (line_of outcome)) }
+{
+    match port.listener.accept() {
+        Ok((stream, _)) => serve_stream(rt, desk, precedence, stream, port.patience, output),
+        Err(error) => {
+            if !is_lost(&error) {
+                return Err(Fault::Port(port.number));
+            }
+            print_line(&Err(HttpFault::Read), output)
+        }
+    }
+}
+
+/// Serves so many connections at a port, one after the other, and writes the line of each at once.
+/// Gives 0, or 3 where the port takes no more connections or a line cannot be written, which is
+/// reported.
+pub fn serve_port<D: Desk, O: Write, E: Write>(
+    rt: &HostRuntime,
+    desk: &mut D,
+    precedence: &Precedence,
+    port: &Port,
+    requests: u32,
+    output: &mut O,
+    errors: &mut E,
+) -> u8
+    ensures status { result ≤ 3 }
+    ensures premise { D.is_sound desk.new → D.is_sound desk.old }
+    // At most one request of each connection has had an effect.
+    ensures some { (L : List Request) → D.stands_for desk.old L → D.is_sound desk.new → AtMostMore requests L (D.stands_for desk.new) }
+    // With 0 each connection has its line.
+    ensures lines { result ≡ 0 → (outcomes : List (Result ℕ HttpFault)) × (length outcomes ≡ requests)
+        × Appends (O.contents output.old) (O.contents output.new) (lines_of outcomes) }
+{
+    'serving: for _served in 0..requests {
+        match serve_next(rt, desk, precedence, port, output) {
+            Ok(()) => {}
+            Err(fault) => return report(&fault, errors),
+        }
+    }
+    0
+}
+
+// Listens at a port of 127.0.0.1, and says so.
+fn listen<O: Write>(rt: &HostRuntime, number: u16, output: &mut O) -> Result<Port, Fault> {
+    let address = SocketAddr::V4(SocketAddrV4::new(Ipv4Addr::LOCALHOST, number));
+    let Ok(listener) = TcpListener::bind(rt, address) else {
+        return Err(Fault::Port(number));
+    };
+    if write!(output, "listening {number}\n").is_err() || output.flush().is_err() {
+        return Err(Fault::Output);
+    }
+    Ok(Port {
+        number,
+        listener,
+        patience: Duration::from_secs(PATIENCE),
+    })
+}
+
+/// Listens at a port of 127.0.0.1, writes `listening` and its number, and serves so many
+/// connections. Gives 0, or 3 after a fault of the port or of the output, which is reported.
+pub fn run<D: Desk, O: Write, E: Write>(
+    rt: &HostRuntime,
+    desk: &mut D,
+    precedence: &Precedence,
+    number: u16,
+    requests: u32,
+    output: &mut O,
+    errors: &mut E,
+) -> u8
+    ensures status { result ≤ 3 }
+    ensures premise { D.is_sound desk.new → D.is_sound desk.old }
+    // At most one request of each connection has had an effect.
+    ensures some { (L : List Request) → D.stands_for desk.old L → D.is_sound desk.new → AtMostMore requests L (D.stands_for desk.new) }
+{
+    match listen(rt, number, output) {
+        Ok(port) => serve_port(rt, desk, precedence, &port, requests, output, errors),
+        Err(fault) => report(&fault, errors),
+    }
+}

@@ -1,11 +1,12 @@
 .PHONY: test build
 
-# The gate: every proof from nothing, the edits that the prover must refuse, the tests, and the
-# program as two compilers build it. Its last line is 'N passed, M failed'. The program that it built
-# starts at once from then on.
+# The gate: every proof from nothing, the edits that the prover must refuse, the tests of the libraries,
+# and the program as two compilers build it: 'N passed, M failed'. The program that it built starts at
+# once from then on, and is tested from outside. The last line is 'program: N cases, M failed'.
 test:
 	rt ci
 	@bin/onixdesk --adopt
+	@tests/run
 
 # The proved program, crates/onixdesk/out/onixdesk.
 build:

@@ -1,0 +1,80 @@
+"""Clients of a port that close early, fall silent or send more than they said, and a port that is
+taken."""
+
+import contextlib
+import socket
+from typing import NamedTuple
+
+from program.commands import AGREEMENT
+from program.databases import DATABASE, batch
+from program.room import UNREADABLE, Group, Outcome, Ran
+from program.serving import HOST, Exchange, connected, receive, serving
+
+
+class Client(NamedTuple):
+    """What a client sends, whether it then closes its connection, and the line of it that the desk
+    writes."""
+
+    sends: bytes
+    closes: bool
+    line: str
+
+
+CLIENTS = [
+    # A delivery of message 1 of `north`, without products.
+    Client(
+        b"POST /messages HTTP/1.1\r\nContent-Length: 63\r\n\r\n"
+        b"Message,1,06,4012345000009,06,5012345678900,1,,,,\nEndMessage,1\n",
+        False,
+        "200",
+    ),
+    Client(b"", True, "400"),
+    # Falls silent in its head. The desk waits for it for 10 seconds.
+    Client(b"GET /series/north/gaps", False, "fault"),
+    Client(b"POST /messages HTTP/1.1\r\nContent-Length: 2\r\n\r\nMessage", False, "422"),
+    Client(b"POST /messages HTTP/1.1\r\nContent-Length: 63\r\n\r\nMessage", True, "400"),
+    Client(b"GET /series/north/gaps HTTP/1.1\r\n\r\n", False, "200"),
+]
+
+# The reply to the last client.
+GAPS = Exchange(
+    "the gaps",
+    CLIENTS[-1].sends,
+    "200 OK",
+    '{"answer":"gaps","first":1,"greatest":1,"held":0,"missing":[],"next":2,"series":"north"}',
+)
+
+
+def clients_of_a_port(room):
+    """None of them stops the desk. All are connected before the first that is waited for is let go."""
+    yield Outcome("the agreement", batch(room, AGREEMENT), Ran(0, b"agreed,north,1\n"))
+    with (
+        serving(room, ["--db", DATABASE], len(CLIENTS)) as desk,
+        contextlib.ExitStack() as connections,
+    ):
+        for client in CLIENTS:
+            last = connected(desk.port)
+            last.sendall(client.sends)
+            if client.closes:
+                last.close()
+            else:
+                connections.enter_context(last)
+        yield Outcome("the last of six clients", receive(last), GAPS.reply())
+        wanted = desk.wanted([client.line for client in CLIENTS])
+        yield Outcome("the lines of six clients", desk.ended(), wanted)
+
+
+def a_port_that_is_taken(room):
+    with socket.socket() as listener:
+        listener.bind((HOST, 0))
+        listener.listen()
+        port = listener.getsockname()[1]
+        came = room.run("serve", "--port", str(port), "--requests", "1", given=UNREADABLE)
+        wanted = Ran(3, b"", b"onixdesk: port %d\n" % port)
+        yield Outcome("a port that is taken", came, wanted)
+
+
+GROUPS = [
+    Group("clients of a port", clients_of_a_port),
+    Group("a port that is taken", a_port_that_is_taken),
+]

@@ -1,0 +1,116 @@
+"""The commands `deliver` and `gaps`."""
+
+from functools import partial
+from typing import NamedTuple
+
+from program.databases import DATABASE, batch, gaps
+from program.room import UNREADABLE, Group, Outcome, Ran
+
+AGREEMENT = b"Agree,north,06,4012345000009,06,5012345678900,1\n"
+
+# The file that holds the text of a case.
+FILE = "message.csv"
+
+# Message 1 of the series `north`, and its answer.
+FIRST = b"""\
+Message,1,06,4012345000009,06,5012345678900,1,1,20250301,02,GBP
+Product,R1,03,15,9781234567897
+ProductSupply,GB IE,,
+SupplyDetail,04,06,4012345000009,North Books,21,
+Price,,1,,,,,,
+EndMessage,5
+"""
+
+APPLIED = b"applied,north,1,replaced=1,updated=0,deleted=0,unknown=0,ignored=0\n"
+
+
+class Delivery(NamedTuple):
+    """A text, the files that are delivered, and what comes of it where `north` is agreed."""
+
+    name: str
+    text: bytes
+    files: list[str]
+    wanted: Ran
+
+
+DELIVERIES = [
+    Delivery("a message", FIRST, [FILE], Ran(0, APPLIED)),
+    Delivery("a message again", FIRST, [FILE, FILE], Ran(0, APPLIED * 2)),
+    Delivery(
+        "an unnumbered message",
+        b"Message,1,06,4012345000009,06,5012345678900,,,,,\nEndMessage,1\n",
+        [FILE],
+        Ran(1, b"refused,unnumbered\n"),
+    ),
+    Delivery("an empty file", b"", [FILE], Ran(1, b"refused,malformed,1\n")),
+    Delivery(
+        "two messages in a file",
+        b"Message,1,06,4012345000009,06,5012345678900,1,,,,\nEndMessage,1\n" * 2,
+        [FILE],
+        Ran(1, b"refused,malformed,3\n"),
+    ),
+    Delivery(
+        "a message, and a file that is not there",
+        FIRST,
+        [FILE, "absent.csv", FILE],
+        Ran(3, APPLIED, b"onixdesk: file: absent.csv\n"),
+    ),
+    Delivery(
+        "a refused message, and a folder",
+        b"Foo,1\n",
+        [FILE, "."],
+        Ran(3, b"refused,malformed,1\n", b"onixdesk: file: .\n"),
+    ),
+    Delivery(
+        "a file that is not UTF-8",
+        b"Message,\xff\n",
+        [FILE, FILE],
+        Ran(3, b"", b"onixdesk: input: not UTF-8\n"),
+    ),
+    Delivery(
+        "a file of 4,194,305 bytes",
+        b"\n" * 4_194_305,
+        [FILE],
+        Ran(3, b"", b"onixdesk: input: too large\n"),
+    ),
+    Delivery(
+        "a file of 4,194,304 bytes",
+        b"\n" * 4_194_304,
+        [FILE],
+        Ran(1, b"refused,malformed,1\n"),
+    ),
+]
+
+
+def deliver(case: Delivery, room):
+    room.write(FILE, case.text)
+    agreed = batch(room, AGREEMENT)
+    came = room.run("--db", DATABASE, "deliver", *case.files, given=UNREADABLE)
+    wanted = Ran(0, b"agreed,north,1\n"), case.wanted
+    yield Outcome(f"deliver: {case.name}", (agreed, came), wanted)
+
+
+def without_agreements(room):
+    """Without a database the desk has no agreements."""
+    room.write("north.csv", FIRST)
+    for words in ["deliver", "north.csv"], ["gaps", "north"], ["gaps", "North"], ["gaps", ""]:
+        came = room.run(*words, given=UNREADABLE)
+        wanted = Ran(1, b"refused,unknown-series\n")
+        yield Outcome(f"without agreements: {words}", came, wanted)
+        came = room.run(*words, given=UNREADABLE, is_full=True)
+        wanted = Ran(3, b"", b"onixdesk: output\n")
+        yield Outcome(f"without agreements, unwritten: {words}", came, wanted)
+
+
+def gaps_of_an_agreed_series(room):
+    agreed = batch(room, AGREEMENT)
+    report = b"gaps,north,first=1,next=1,greatest=,held=0,missing=0\n"
+    wanted = Ran(0, b"agreed,north,1\n"), Ran(0, report)
+    yield Outcome("the gaps of an agreed series", (agreed, gaps(room)), wanted)
+
+
+GROUPS = [
+    *(Group(case.name, partial(deliver, case)) for case in DELIVERIES),
+    Group("commands without agreements", without_agreements),
+    Group("the gaps of an agreed series", gaps_of_an_agreed_series),
+]

@@ -1,0 +1,144 @@
+"""Files in which another program has left values that no desk has: the request that meets one is answered
+by a fault and nothing of it is kept, and once the value is put right the desk goes on."""
+
+import sqlite3
+from contextlib import closing
+from functools import partial
+
+from program.databases import DATABASE, batch, execute
+from program.room import Group, Outcome, Ran
+
+# What the desk is asked before, and what it answers.
+BEFORE = (
+    b"""\
+Agree,north,06,4012345000009,06,5012345678900,1
+Message,1,06,4012345000009,06,5012345678900,1,1,20250301,02,GBP
+Product,R1,03,15,9781234567897
+ProductSupply,GB IE,,
+SupplyDetail,04,06,4012345000009,North Books,21,
+Price,,12.99,,,,,,
+EndMessage,5
+Message,1,06,4012345000009,06,5012345678900,3,,,,
+EndMessage,1
+Message,1,06,4012345000009,06,5012345678900,4,,,,
+EndMessage,1
+""",
+    b"""\
+agreed,north,1
+applied,north,1,replaced=1,updated=0,deleted=0,unknown=0,ignored=0
+held,north,3,waiting-for=2
+held,north,4,waiting-for=2
+""",
+)
+
+# Message 2, after which 3 and 4 are applied, and then a report.
+SECOND = (
+    b"""\
+Message,1,06,4012345000009,06,5012345678900,2,,,,
+EndMessage,1
+AskGaps,north
+""",
+    b"""\
+applied,north,2,replaced=0,updated=0,deleted=0,unknown=0,ignored=0
+gaps,north,first=1,next=5,greatest=4,held=0,missing=0
+""",
+)
+
+GAPS = (
+    b"""\
+AskGaps,north
+""",
+    b"""\
+gaps,north,first=1,next=2,greatest=4,held=2,missing=1
+missing,2,2
+""",
+)
+
+CATALOGUE = (
+    b"""\
+AskCatalogue,north
+""",
+    b"""\
+catalogue,north,1
+record,R1,15,9781234567897
+ProductSupply,GB IE,,
+SupplyDetail,04,06,4012345000009,North Books,21,
+Price,02,12.990,GBP,,WORLD,,,
+""",
+)
+
+PRICE = (
+    b"""\
+AskPrice,9781234567897,20250301,GB,GBP,02
+""",
+    b"""\
+price,9781234567897,1
+offer,north,R1,1,21,12.990
+""",
+)
+
+# A statement that leaves a bad value, one that puts it right, what is asked, and what is answered once it
+# is right.
+CASES = [
+    (
+        "UPDATE held SET contents = 'Product' WHERE number = 4",
+        "UPDATE held SET contents = '' WHERE number = 4",
+        SECOND,
+    ),
+    (
+        "UPDATE held SET contents = 'Product,R1,03,15,9781234567897,' WHERE number = 3",
+        "UPDATE held SET contents = '' WHERE number = 3",
+        SECOND,
+    ),
+    (
+        "UPDATE series SET next_number = -1",
+        "UPDATE series SET next_number = 2",
+        GAPS,
+    ),
+    (
+        "UPDATE held SET number = 1000000000 WHERE number = 4",
+        "UPDATE held SET number = 4 WHERE number = 1000000000",
+        GAPS,
+    ),
+    (
+        "UPDATE article SET id_type = '153'",
+        "UPDATE article SET id_type = '15'",
+        CATALOGUE,
+    ),
+    (
+        "UPDATE offer SET availability = '2'",
+        "UPDATE offer SET availability = '21'",
+        CATALOGUE,
+    ),
+    (
+        "UPDATE price SET currency = 'gbp'",
+        "UPDATE price SET currency = 'GBP'",
+        PRICE,
+    ),
+]
+
+
+def dump(room) -> list[str]:
+    """All that is in the file, as statements."""
+    with closing(sqlite3.connect(room.path(DATABASE))) as connection:
+        return list(connection.iterdump())
+
+
+def check(damage: str, repair: str, asked: bytes, answers: bytes, room):
+    first, first_answers = BEFORE
+    came = batch(room, first)
+    yield Outcome(f"before: {damage}", came, Ran(0, first_answers))
+
+    execute(room, damage)
+    damaged = dump(room)
+    fault = Ran(3, b"", b"onixdesk: storage: unusable\n")
+    came = batch(room, asked), batch(room, asked), dump(room) == damaged
+    yield Outcome(f"damaged: {damage}", came, (fault, fault, True))
+
+    execute(room, repair)
+    yield Outcome(f"repaired: {damage}", batch(room, asked), Ran(0, answers))
+
+
+GROUPS = [
+    Group(damage, partial(check, damage, repair, *question)) for damage, repair, question in CASES
+]

@@ -1,0 +1,90 @@
+"""The examples, which are to be answered as the documents say."""
+
+import shlex
+from pathlib import Path
+
+from program.room import Group, Outcome, Ran
+from program.serving import serving
+
+ROOT = Path(__file__).resolve().parent.parent.parent
+
+MARGIN = "    "
+
+
+def blocks(document: str) -> list[list[str]]:
+    """The blocks of lines that a document sets off by a margin."""
+    text = (ROOT / document).read_text(encoding="utf-8")
+    paragraphs = [paragraph.splitlines() for paragraph in text.split("\n\n")]
+    return [
+        [line.removeprefix(MARGIN) for line in lines]
+        for lines in paragraphs
+        if lines and all(line.startswith(MARGIN) for line in lines)
+    ]
+
+
+def block(document: str, first: str) -> list[str]:
+    """The first block that begins with that line."""
+    return next(lines for lines in blocks(document) if lines[0].startswith(first))
+
+
+def written(lines: list[str]) -> bytes:
+    return "".join(f"{line}\n" for line in lines).encode()
+
+
+def example(name: str) -> bytes:
+    return (ROOT / name).read_bytes()
+
+
+def first_batch(room):
+    came = room.run("batch", given=example("examples/first.csv"))
+    wanted = Ran(0, written(block("README.md", "agreed,north,1")))
+    yield Outcome("README.md: the first batch", came, wanted)
+
+
+def week(room):
+    """Each block behind the two commands is part of the answers."""
+    answers = [line for lines in blocks("examples/shop/README.md")[2:] for line in lines]
+    rules = ROOT / "examples/shop/rules.toml"
+    came = room.run("--rules", rules, "batch", given=example("examples/shop/week.csv"))
+    yield Outcome("examples/shop/README.md: the week", came, Ran(1, written(answers)))
+
+
+def commands(lines: list[str]) -> list[tuple[list[str], list[str]]]:
+    """The words of each command of a block behind its program, and the lines that follow it."""
+    found = []
+    for line in lines:
+        if line.startswith(("bin/onixdesk ", "curl ")):
+            found.append((shlex.split(line)[1:], []))
+        else:
+            found[-1][1].append(line)
+    return found
+
+
+def desk_in_a_file(room):
+    """A desk on two days, and then over HTTP."""
+    monday = block("README.md", "bin/onixdesk --db shop.db batch < examples/shop/monday.csv")
+    tuesday = block("README.md", "bin/onixdesk --db shop.db gaps north")
+    for words, lines in commands(monday) + commands(tuesday):
+        given = b""
+        if "<" in words:
+            *words, _, name = words
+            given = example(name)
+        came = room.run(*words, given=given)
+        yield Outcome(f"README.md: {words}", came, Ran(0, written(lines)))
+
+    questions = commands(block("README.md", "curl "))
+    with serving(room, ["--db", "shop.db"], len(questions)) as desk:
+        for (url,), (body,) in questions:
+            target = url.removeprefix("http://127.0.0.1:8080")
+            reply = desk.reply([f"GET {target} HTTP/1.1\r\n\r\n".encode()])
+            came = reply.partition(b"\r\n\r\n")[2]
+            yield Outcome(f"README.md: {target}", came, body.encode())
+        _, *statuses = block("README.md", "listening 8080")
+        yield Outcome("README.md: the lines of serve", desk.ended(), desk.wanted(statuses))
+
+
+GROUPS = [
+    Group("the first batch", first_batch),
+    Group("the week of a shop", week),
+    Group("a desk in a file", desk_in_a_file),
+]

@@ -1,0 +1,161 @@
+"""Exchanges over real sockets with one run of `serve` for each group, over a database that a batch has
+prepared. What is sent and replied stands in `exchange_cases`."""
+
+from functools import partial
+
+from program.databases import DATABASE, batch, execute
+from program.exchange_cases import (
+    AGREEMENTS,
+    APPLIED,
+    BAD_QUERIES,
+    DELIVERIES,
+    DELIVERY,
+    INPUTS,
+    LONG_INPUTS,
+    MOST_INPUT,
+    NO_NUMBERS,
+    NO_PATHS,
+    NO_SERIES,
+    NOT_ALLOWED,
+    ONE_NUMBER,
+    OPEN_INPUTS,
+    QUESTIONS,
+    RULES,
+    refusal,
+)
+from program.room import Group, Outcome, Ran
+from program.serving import Exchange, got, in_pieces, serving
+
+WORDS = ["--db", DATABASE, "--rules", "rules.toml"]
+
+
+def agreed(room) -> Outcome:
+    """Prepares the desk."""
+    room.write("rules.toml", RULES)
+    answers = b"agreed,north,1\nagreed,south,5\nwaived,south,7\n"
+    return Outcome("the agreements", batch(room, AGREEMENTS), Ran(0, answers))
+
+
+def at_once(exchange: Exchange) -> list[bytes]:
+    return [exchange.input]
+
+
+def byte_by_byte(exchange: Exchange) -> list[bytes]:
+    return in_pieces(exchange.input, 1)
+
+
+def all_replied(exchanges: list[Exchange], ways, room):
+    """Each exchange is as it is to be, whichever way its input comes, and so once more."""
+    yield agreed(room)
+    with serving(room, WORDS, len(exchanges) * len(ways)) as desk:
+        for exchange in exchanges:
+            came = [desk.reply(way(exchange)) for way in ways]
+            yield Outcome(exchange.name, came, [exchange.reply()] * len(ways))
+        lines = [exchange.status() for exchange in exchanges for _ in ways]
+        yield Outcome("the lines of exchanges", desk.ended(), desk.wanted(lines))
+
+
+def refused_targets() -> list[Exchange]:
+    return [
+        got(target, line, refusal(reason))
+        for targets, line, reason in [
+            (BAD_QUERIES, "400 Bad Request", "bad-query"),
+            (NO_PATHS, "404 Not Found", "not-found"),
+            (NO_SERIES, "404 Not Found", "unknown-series"),
+        ]
+        for target in targets
+    ]
+
+
+def whole_inputs() -> list[Exchange]:
+    return [Exchange(f"input: {text}", text, line, body) for text, line, body in INPUTS]
+
+
+def long_input(case) -> Exchange:
+    (before, letters, end, more), line, body = case
+    text = before + b"a" * letters + end + b"a" * more
+    return Exchange(f"a long input: {before}, {letters}, {end}, {more}", text, line, body)
+
+
+def long_inputs() -> list[Exchange]:
+    ends = Exchange("line ends", b"\r" * 16384, "414 URI Too Long", refusal("target-too-long"))
+    return [*map(long_input, LONG_INPUTS), ends]
+
+
+def cut_inputs() -> list[Exchange]:
+    """A delivery that is cut off behind each of its bytes. Nothing is delivered."""
+    text = DELIVERY.input
+    head = text.index(b"\r\n\r\n") + len(b"\r\n\r\n")
+    cut = [
+        Exchange(
+            f"a delivery cut off behind {given} bytes",
+            text[:given],
+            "400 Bad Request",
+            refusal("bad-head" if given < head else "short-body"),
+        )
+        for given in range(len(text))
+    ]
+    return [*cut, NO_NUMBERS]
+
+
+def most_input(room):
+    """A head and a body at their limits, in many pieces."""
+    exchange = long_input(MOST_INPUT)
+    yield agreed(room)
+    with serving(room, WORDS, 1) as desk:
+        came = desk.reply(in_pieces(exchange.input, 1_000))
+        yield Outcome("most input", came, exchange.reply())
+        yield Outcome("the line of most input", desk.ended(), desk.wanted([exchange.status()]))
+
+
+def whole_replies(room):
+    """These texts are whole, so that the parts of the other replies are known to be right."""
+    yield agreed(room)
+    with serving(room, WORDS, 2) as desk:
+        yield Outcome("a whole reply: applied", desk.reply([DELIVERY.input]), APPLIED)
+        came = desk.reply([b"GET /messages HTTP/1.1\r\n\r\n"])
+        yield Outcome("a whole reply: not allowed", came, NOT_ALLOWED)
+        yield Outcome("the lines of whole replies", desk.ended(), desk.wanted(["200", "405"]))
+
+
+def open_inputs(room):
+    """Clients that keep their end open."""
+    yield agreed(room)
+    with serving(room, WORDS, len(OPEN_INPUTS) + 1) as desk:
+        for exchange in [*OPEN_INPUTS, ONE_NUMBER]:
+            came = desk.reply([exchange.input], keeps_open=True)
+            yield Outcome(f"an open input: {exchange.name}", came, exchange.reply())
+        wanted = desk.wanted(["200", "400", "200"])
+        yield Outcome("the lines of open inputs", desk.ended(), wanted)
+
+
+def faults_of_storage(room):
+    """A value that no desk has is a fault of each request that meets it, and serving goes on."""
+    yield agreed(room)
+    execute(room, "UPDATE series SET next_number = -1")
+    fault = '{"answer":"fault","reason":"unusable"}'
+    with serving(room, WORDS, 2) as desk:
+        for asked in DELIVERY, NO_NUMBERS:
+            exchange = asked._replace(line="503 Service Unavailable", body=fault)
+            came = desk.reply([exchange.input])
+            yield Outcome(f"a fault of storage: {exchange.name}", came, exchange.reply())
+        yield Outcome("the lines of faults", desk.ended(), desk.wanted(["503", "503"]))
+    execute(room, "UPDATE series SET next_number = first_number")
+    with serving(room, WORDS, 1) as desk:
+        came = desk.reply([NO_NUMBERS.input])
+        yield Outcome("after the repair", came, NO_NUMBERS.reply())
+
+
+BOTH_WAYS = [at_once, byte_by_byte]
+
+GROUPS = [
+    Group("deliveries and questions", partial(all_replied, DELIVERIES + QUESTIONS, BOTH_WAYS)),
+    Group("refused targets", partial(all_replied, refused_targets(), BOTH_WAYS)),
+    Group("whole inputs", partial(all_replied, whole_inputs(), BOTH_WAYS)),
+    Group("inputs at the limits", partial(all_replied, long_inputs(), [at_once])),
+    Group("cut inputs", partial(all_replied, cut_inputs(), BOTH_WAYS)),
+    Group("most input", most_input),
+    Group("whole replies", whole_replies),
+    Group("open inputs", open_inputs),
+    Group("faults of storage", faults_of_storage),
+]

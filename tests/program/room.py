@@ -1,0 +1,74 @@
+"""A folder of its own in which the program is run, and what is said of a case."""
+
+import contextlib
+import os
+import subprocess
+from collections.abc import Callable, Iterator
+from pathlib import Path
+from typing import Any, NamedTuple
+
+# No run of a case takes a tenth of it; a program that hangs fails its case.
+SECONDS = 120
+
+# An input of which each read fails, as that of a folder does.
+UNREADABLE = None
+
+
+class Outcome(NamedTuple):
+    """What came of a case, and what was wanted."""
+
+    name: str
+    came: Any
+    wanted: Any
+
+
+class Ran(NamedTuple):
+    """How a run of the program ended, and what it wrote."""
+
+    status: int
+    output: bytes = b""
+    errors: bytes = b""
+
+
+class Room:
+    def __init__(self, program: Path, folder: Path):
+        self.program = program
+        self.folder = folder
+
+    def path(self, name: str) -> Path:
+        return self.folder / name
+
+    def write(self, name: str, data: bytes):
+        self.path(name).write_bytes(data)
+
+    def run(self, *words, given: bytes | None = b"", is_full=False) -> Ran:
+        """Runs the program on these words and this input; `is_full` gives it an output that takes
+        nothing."""
+        with contextlib.ExitStack() as opened:
+            streams = {"stdout": subprocess.PIPE, "stderr": subprocess.PIPE}
+            if is_full:
+                streams["stdout"] = opened.enter_context(open("/dev/full", "wb"))
+            if given is UNREADABLE:
+                streams["stdin"] = os.open(self.folder, os.O_RDONLY)
+                opened.callback(os.close, streams["stdin"])
+            else:
+                streams["input"] = given
+            done = subprocess.run(
+                [self.program, *words], cwd=self.folder, timeout=SECONDS, **streams
+            )
+        return Ran(done.returncode, done.stdout or b"", done.stderr)
+
+    def start(self, *words) -> subprocess.Popen:
+        """Starts the program, to be asked while it runs."""
+        return subprocess.Popen(
+            [self.program, *words],
+            cwd=self.folder,
+            stdin=subprocess.DEVNULL,
+            stdout=subprocess.PIPE,
+            stderr=subprocess.PIPE,
+        )
+
+
+class Group(NamedTuple):
+    name: str
+    check: Callable[[Room], Iterator[Outcome]]

@@ -1,0 +1,73 @@
+"""Runs all groups, side by side, and prints the cases that failed."""
+
+import os
+import tempfile
+from concurrent.futures import ThreadPoolExecutor
+from pathlib import Path
+
+from program import (
+    batches,
+    clients,
+    command_lines,
+    commands,
+    damage,
+    databases,
+    desks,
+    examples,
+    exchanges,
+    inputs,
+    migrations,
+    rules_files,
+)
+from program.room import Group, Outcome, Room
+
+# `clients` first: one of its clients is waited for.
+MODULES = [
+    clients,
+    exchanges,
+    batches,
+    rules_files,
+    inputs,
+    command_lines,
+    commands,
+    databases,
+    desks,
+    damage,
+    migrations,
+    examples,
+]
+
+# How much of a value a line shows.
+SHOWN = 2000
+
+
+def outcomes(program: Path, group: Group) -> list[Outcome]:
+    """The outcomes of a group's cases, of which the last is an exception where one was raised."""
+    found = []
+    with tempfile.TemporaryDirectory(prefix="onixdesk-") as folder:
+        try:
+            for outcome in group.check(Room(program, Path(folder))):
+                found.append(outcome)
+        except Exception as raised:
+            found.append(Outcome(group.name, raised, "its cases run"))
+    return found
+
+
+def shown(value) -> str:
+    text = repr(value)
+    return text if len(text) <= SHOWN else f"{text[:SHOWN]}.. ({len(text)} characters)"
+
+
+def run_all(program: Path) -> int:
+    """Runs all groups, and gives the number of cases that failed."""
+    groups = [group for module in MODULES for group in module.GROUPS]
+    count = failed = 0
+    with ThreadPoolExecutor(os.cpu_count()) as pool:
+        for found in pool.map(lambda group: outcomes(program, group), groups):
+            for name, came, wanted in found:
+                count += 1
+                if came != wanted:
+                    failed += 1
+                    print(f"{name}: wanted {shown(wanted)}, came {shown(came)}", flush=True)
+    print(f"program: {count} cases, {failed} failed")
+    return failed

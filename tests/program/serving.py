@@ -1,0 +1,128 @@
+"""The desk over HTTP: a run of `serve`, and its clients."""
+
+import contextlib
+import socket
+import subprocess
+from typing import NamedTuple
+
+from program.room import SECONDS, Ran, Room
+
+HOST = "127.0.0.1"
+
+# How often a port is looked for that no other program takes in the meantime.
+TRIES = 20
+
+
+class Exchange(NamedTuple):
+    """What a client sends, and what is replied: the status line behind its version, with the Allow line
+    where there is one, and the body."""
+
+    name: str
+    input: bytes
+    line: str
+    body: str
+
+    def reply(self) -> bytes:
+        body = self.body.encode()
+        head = (
+            f"HTTP/1.1 {self.line}\r\n"
+            "Content-Type: application/json\r\n"
+            f"Content-Length: {len(body)}\r\n"
+            "Connection: close\r\n\r\n"
+        )
+        return head.encode() + body
+
+    def status(self) -> str:
+        return self.line.split(" ")[0]
+
+
+def posted(records: str) -> bytes:
+    body = records.encode()
+    return b"POST /messages HTTP/1.1\r\nContent-Length: %d\r\n\r\n" % len(body) + body
+
+
+def got(target: str, line: str, body: str) -> Exchange:
+    return Exchange(target, f"GET {target} HTTP/1.1\r\n\r\n".encode(), line, body)
+
+
+def in_pieces(text: bytes, size: int) -> list[bytes]:
+    return [text[at : at + size] for at in range(0, len(text), size)]
+
+
+def connected(port: int) -> socket.socket:
+    peer = socket.create_connection((HOST, port), timeout=SECONDS)
+    peer.setsockopt(socket.IPPROTO_TCP, socket.TCP_NODELAY, 1)
+    return peer
+
+
+def send(peer: socket.socket, pieces: list[bytes], keeps_open=False):
+    """Sends the pieces, and then closes this way of the connection. The desk may reply and close before
+    it has taken all of them."""
+    with contextlib.suppress(OSError):
+        for piece in pieces:
+            peer.sendall(piece)
+        if not keeps_open:
+            peer.shutdown(socket.SHUT_WR)
+
+
+def receive(peer: socket.socket) -> bytes:
+    """All that the desk sends."""
+    reply = b""
+    with contextlib.suppress(ConnectionResetError):
+        while piece := peer.recv(65536):
+            reply += piece
+    return reply
+
+
+class Serving:
+    """A run of `serve`."""
+
+    def __init__(self, process: subprocess.Popen, port: int, first_line: bytes):
+        self.process = process
+        self.port = port
+        self.first_line = first_line
+
+    def reply(self, pieces: list[bytes], keeps_open=False) -> bytes:
+        """What is replied to a client that sends these pieces."""
+        with connected(self.port) as peer:
+            send(peer, pieces, keeps_open)
+            return receive(peer)
+
+    def ended(self) -> Ran:
+        """How the run ended, once it has served its connections."""
+        output, errors = self.process.communicate(timeout=SECONDS)
+        return Ran(self.process.returncode, self.first_line + output, errors)
+
+    def wanted(self, lines: list[str]) -> Ran:
+        """How it is to end after connections with these lines."""
+        text = "".join(f"{line}\n" for line in [f"listening {self.port}", *lines])
+        return Ran(0, text.encode())
+
+
+def free_port() -> int:
+    with socket.socket() as listener:
+        listener.bind((HOST, 0))
+        return listener.getsockname()[1]
+
+
+def started(room: Room, words: list[str], connections: int) -> Serving:
+    """Starts `serve` for so many connections, on a port that no other program has."""
+    for _ in range(TRIES):
+        port = free_port()
+        process = room.start(*words, "serve", "--port", str(port), "--requests", str(connections))
+        if line := process.stdout.readline():
+            return Serving(process, port, line)
+        output, errors = process.communicate(timeout=SECONDS)
+        if errors != b"onixdesk: port %d\n" % port:
+            break
+    raise RuntimeError(f"serve does not listen: {errors}")
+
+
+@contextlib.contextmanager
+def serving(room: Room, words: list[str], connections: int):
+    desk = started(room, words, connections)
+    try:
+        yield desk
+    finally:
+        desk.process.kill()
+        desk.process.communicate()

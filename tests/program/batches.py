@@ -89,6 +89,42 @@ HIDDEN = [
         1,
         b"agreed,north,1\nrefused,malformed,2\n",
     ),
+    Case(
+        "a field of 1,025 bytes, characters of control, and the most that a field may hold",
+        b"Agree,north,06,4012345000009,06,5012345678900,1\n"
+        b"Message,1,06,4012345000009,06,5012345678900,1,1,20250301,,\n"
+        b"Product," + b"R" * 1_025 + b",03,15,9781234567897\n"
+        b"EndMessage,2\n"
+        b"Message,1,06,4012345000009,06,5012345678900,1,1,20250301,,\n"
+        b"Product,R\x7f1,03,15,9781234567897\n"
+        b"EndMessage,2\n"
+        b"Message,1,06,4012345000009,06,5012345678900,1,1,a\x1fdate,,\n"
+        b"EndMessage,1\n"
+        b"Message,1,06,4012345000009,06,5012345678900,1,1,20250301,,\n"
+        b"Product,\xc2\x85" + b"R" * 1_022 + b",03,15,9781234567897\n"
+        b"EndMessage,2\n",
+        1,
+        b"agreed,north,1\n"
+        b"refused,malformed,2\n"
+        b"refused,malformed,2\n"
+        b"refused,malformed,1\n"
+        b"applied,north,1,replaced=1,updated=0,deleted=0,unknown=0,ignored=0\n",
+    ),
+    Case(
+        "a byte order mark, empty lines and no last line end",
+        b"\xef\xbb\xbfAgree,north,06,4012345000009,06,5012345678900,1\r\n"
+        b"\n"
+        b"\r\n"
+        b"Message,1,06,4012345000009,06,5012345678900,1,,,,\n"
+        b"\n"
+        b"EndMessage,1\n"
+        b"\n"
+        b"AskGaps,north",
+        0,
+        b"agreed,north,1\n"
+        b"applied,north,1,replaced=0,updated=0,deleted=0,unknown=0,ignored=0\n"
+        b"gaps,north,first=1,next=2,greatest=1,held=0,missing=0\n",
+    ),
 ]
 
 

@@ -1,5 +1,5 @@
-"""Clients of a port that close early, fall silent or send more than they said, and a port that is
-taken."""
+"""Clients of a port that close early, fall silent or send more than they said, a port that is taken, and
+one whose lines cannot be written."""
 
 import contextlib
 import socket
@@ -8,7 +8,7 @@ from typing import NamedTuple
 from program.commands import AGREEMENT
 from program.databases import DATABASE, batch
 from program.room import UNREADABLE, Group, Outcome, Ran
-from program.serving import HOST, Exchange, connected, receive, serving
+from program.serving import HOST, TRIES, Exchange, connected, free_port, receive, serving
 
 
 class Client(NamedTuple):
@@ -74,7 +74,19 @@ def a_port_that_is_taken(room):
         yield Outcome("a port that is taken", came, wanted)
 
 
+def unwritten_lines(room):
+    """The desk ends before it serves a client, where it cannot say that it listens."""
+    wanted = Ran(3, b"", b"onixdesk: output\n")
+    for _ in range(TRIES):
+        words = "serve", "--port", str(free_port()), "--requests", "1"
+        came = room.run(*words, given=UNREADABLE, is_full=True)
+        if came == wanted:
+            break
+    yield Outcome("a port whose lines cannot be written", came, wanted)
+
+
 GROUPS = [
     Group("clients of a port", clients_of_a_port),
     Group("a port that is taken", a_port_that_is_taken),
+    Group("a port whose lines cannot be written", unwritten_lines),
 ]

@@ -7,6 +7,7 @@ from program.room import Group, Outcome, Ran
 LINES = [
     ("a database behind the command", "batch --db shop.db", 2),
     ("a database without a name", "--db", 2),
+    ("a repeated database", "--db shop.db --db shop.db batch", 2),
     ("no command", "", 2),
     ("an unknown command", "frobnicate", 2),
     ("a word too many", "batch first.csv", 2),
@@ -19,6 +20,7 @@ LINES = [
     ("help on deliver", "deliver --help", 0),
     ("no file to deliver", "deliver", 2),
     ("no series", "gaps", 2),
+    ("a word behind migrate", "--db shop.db migrate now", 2),
     ("two series", "gaps north south", 2),
     ("no port", "serve --requests 1", 2),
     ("no number of requests", "serve --port 8080", 2),
@@ -57,6 +59,16 @@ def lines(room):
             "in its own words": False,
         }
         yield Outcome(f"command line: {name}", seen(room.run(*words.split())), wanted)
+    # No database file was made.
+    yield Outcome("command line: the folder then", list(room.folder.iterdir()), [])
+
+
+def version(room):
+    """The program's name stands before its version."""
+    came = room.run("--version")
+    name, _, number = came.output.partition(b" ")
+    wanted = b"onixdesk", True, Ran(0, came.output)
+    yield Outcome("the version's text", (name, number.strip() != b"", came), wanted)
 
 
 def bad_words(room):
@@ -65,4 +77,8 @@ def bad_words(room):
     yield Outcome("command line: a word that is not UTF-8", came, wanted)
 
 
-GROUPS = [Group("command lines", lines), Group("bad words", bad_words)]
+GROUPS = [
+    Group("command lines", lines),
+    Group("the version", version),
+    Group("bad words", bad_words),
+]

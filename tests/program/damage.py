@@ -77,6 +77,21 @@ offer,north,R1,1,21,12.990
 """,
 )
 
+# Message 1 again.
+REPEAT = (
+    b"""\
+Message,1,06,4012345000009,06,5012345678900,1,1,20250301,02,GBP
+Product,R1,03,15,9781234567897
+ProductSupply,GB IE,,
+SupplyDetail,04,06,4012345000009,North Books,21,
+Price,,12.99,,,,,,
+EndMessage,5
+""",
+    b"""\
+applied,north,1,replaced=1,updated=0,deleted=0,unknown=0,ignored=0
+""",
+)
+
 # A statement that leaves a bad value, one that puts it right, what is asked, and what is answered once it
 # is right.
 CASES = [
@@ -115,6 +130,36 @@ CASES = [
         "UPDATE price SET currency = 'GBP'",
         PRICE,
     ),
+    (
+        "UPDATE price SET amount = -1",
+        "UPDATE price SET amount = 12990",
+        PRICE,
+    ),
+    (
+        "UPDATE price SET from_day = 3000000",
+        "UPDATE price SET from_day = NULL",
+        PRICE,
+    ),
+    (
+        "UPDATE applied SET replaced = -1",
+        "UPDATE applied SET replaced = 1",
+        REPEAT,
+    ),
+]
+
+FAULT = Ran(3, b"", b"onixdesk: storage: unusable\n")
+
+# Requests beside the delivery of a message whose text was damaged.
+REQUESTS = [
+    b"AskGaps,north\n",
+    b"AskCatalogue,north\n",
+    b"AskPrice,9781234567897,20250301,GB,GBP,02\n",
+    b"AskChoice,9781234567897,20250301,GB,GBP,02\n",
+    b"AskCalendar,9781234567897,20250301,20250302,GB,GBP,02\n",
+    b"Agree,north,06,4012345000009,06,5012345678900,1\n",
+    b"Waive,north,1\n",
+    b"Waive,north,5\n",
+    SECOND[0],
 ]
 
 
@@ -131,14 +176,38 @@ def check(damage: str, repair: str, asked: bytes, answers: bytes, room):
 
     execute(room, damage)
     damaged = dump(room)
-    fault = Ran(3, b"", b"onixdesk: storage: unusable\n")
     came = batch(room, asked), batch(room, asked), dump(room) == damaged
-    yield Outcome(f"damaged: {damage}", came, (fault, fault, True))
+    yield Outcome(f"damaged: {damage}", came, (FAULT, FAULT, True))
 
     execute(room, repair)
     yield Outcome(f"repaired: {damage}", batch(room, asked), Ran(0, answers))
 
 
+def returns(came: Ran) -> bool:
+    """Whether requests were answered, or one met the fault."""
+    return (came.status, came.errors) in [(0, b""), (1, b""), (FAULT.status, FAULT.errors)]
+
+
+def an_applied_text_that_is_none(room):
+    """A delivery of that number, whose contents are others, is refused or meets the fault, and so does
+    each other request return."""
+    first, first_answers = BEFORE
+    yield Outcome("before an applied text that is none", batch(room, first), Ran(0, first_answers))
+
+    execute(room, "UPDATE applied SET contents = 'x' WHERE number = 1")
+    other_contents = Ran(1, b"refused,other-contents,north,1\n")
+    bare = b"Message,1,06,4012345000009,06,5012345678900,1,,,,\nEndMessage,1\n"
+    for asked in REPEAT[0], bare:
+        came = batch(room, asked)
+        is_refused = came in [other_contents, FAULT]
+        yield Outcome(f"an applied text that is none: {asked}", is_refused or came, True)
+
+    for asked in REQUESTS:
+        came = batch(room, asked)
+        yield Outcome(f"beside a text that is none: {asked}", returns(came) or came, True)
+
+
 GROUPS = [
-    Group(damage, partial(check, damage, repair, *question)) for damage, repair, question in CASES
+    *(Group(damage, partial(check, damage, repair, *question)) for damage, repair, question in CASES),
+    Group("an applied text that is none", an_applied_text_that_is_none),
 ]

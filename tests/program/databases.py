@@ -12,19 +12,29 @@ from program.room import UNREADABLE, Group, Outcome, Ran
 DATABASE = "cases.db"
 
 
-def execute(room, statements: str):
+def execute(room, statements: str, file=DATABASE):
     """Executes statements in the database, which is made where it is missing."""
-    with closing(sqlite3.connect(room.path(DATABASE))) as connection:
+    with closing(sqlite3.connect(room.path(file))) as connection:
         connection.executescript(statements)
 
 
-def rows(room, query: str) -> list[tuple]:
-    with closing(sqlite3.connect(room.path(DATABASE))) as connection:
+def rows(room, query: str, file=DATABASE) -> list[tuple]:
+    with closing(sqlite3.connect(room.path(file))) as connection:
         return connection.execute(query).fetchall()
 
 
 def numbers(room, query: str) -> list[int]:
     return [number for (number,) in rows(room, query)]
+
+
+def table_names(room, file=DATABASE) -> list[str]:
+    query = "SELECT name FROM sqlite_schema WHERE type = 'table' ORDER BY name"
+    return [name for (name,) in rows(room, query, file)]
+
+
+def all_rows(room) -> dict:
+    """The rows of each table, in order of their columns."""
+    return {table: sorted(rows(room, f"SELECT * FROM {table}")) for table in table_names(room)}
 
 
 def complaints(room) -> list[tuple]:
@@ -33,9 +43,10 @@ def complaints(room) -> list[tuple]:
     return [row for row in found if row != ("ok",)]
 
 
-APPLIED = "SELECT number FROM applied ORDER BY number"
+APPLIED = """\
+SELECT number, contents, replaced, updated, deleted, unknown, ignored FROM applied ORDER BY number"""
 
-HELD = "SELECT number FROM held ORDER BY number"
+HELD = "SELECT number, contents FROM held ORDER BY number"
 
 NEXT = "SELECT next_number FROM series"
 
@@ -43,16 +54,37 @@ VERSION = "SELECT amount FROM meta"
 
 
 class Kept(NamedTuple):
-    """A batch, the numbers that are applied, held and next after it, and the report on gaps that the
-    program then gives."""
+    """A batch and its answers, the rows of the numbers that are applied and held and the next number
+    after it, and the report on gaps that the program then gives."""
 
     name: str
     batch: bytes
     status: int
-    applied: list[int]
-    held: list[int]
+    answers: bytes
+    applied: list[tuple]
+    held: list[tuple]
     next: int
     gaps: bytes
+
+
+def contents(reference: str, amount: str) -> str:
+    """The text that is kept of a message that puts one record at a price."""
+    return f"""\
+Product,{reference},03,15,9781234567897
+ProductSupply,GB IE,,
+SupplyDetail,04,06,4012345000009,North Books,21,
+Price,02,{amount},GBP,,WORLD,,,
+"""
+
+
+def put(number: int, reference: str, amount: str) -> tuple:
+    """The row of such a message that was applied."""
+    return (number, contents(reference, amount), 1, 0, 0, 0, 0)
+
+
+def bare(number: int) -> tuple:
+    """The row of a message without products that was applied."""
+    return (number, "", 0, 0, 0, 0, 0)
 
 
 KEPT = [
@@ -60,19 +92,52 @@ KEPT = [
         "late messages",
         b"""\
 Agree,north,06,4012345000009,06,5012345678900,1
-Message,1,06,4012345000009,06,5012345678900,3,,,,
-EndMessage,1
-Message,1,06,4012345000009,06,5012345678900,4,,,,
-EndMessage,1
-Message,1,06,4012345000009,06,5012345678900,1,,,,
-EndMessage,1
-Message,1,06,4012345000009,06,5012345678900,2,,,,
-EndMessage,1
-Message,1,06,4012345000009,06,5012345678900,3,,,,
-EndMessage,1
+Message,1,06,4012345000009,06,5012345678900,3,1,20250301,02,GBP
+Product,R3,03,15,9781234567897
+ProductSupply,GB IE,,
+SupplyDetail,04,06,4012345000009,North Books,21,
+Price,,3,,,,,,
+EndMessage,5
+Message,1,06,4012345000009,06,5012345678900,4,1,20250301,02,GBP
+Product,R4,03,15,9781234567897
+ProductSupply,GB IE,,
+SupplyDetail,04,06,4012345000009,North Books,21,
+Price,,4,,,,,,
+EndMessage,5
+Message,1,06,4012345000009,06,5012345678900,1,1,20250301,02,GBP
+Product,R1,03,15,9781234567897
+ProductSupply,GB IE,,
+SupplyDetail,04,06,4012345000009,North Books,21,
+Price,,1,,,,,,
+EndMessage,5
+Message,1,06,4012345000009,06,5012345678900,2,1,20250301,02,GBP
+Product,R2,03,15,9781234567897
+ProductSupply,GB IE,,
+SupplyDetail,04,06,4012345000009,North Books,21,
+Price,,2,,,,,,
+EndMessage,5
+Message,1,06,4012345000009,06,5012345678900,3,1,20250301,02,GBP
+Product,R3,03,15,9781234567897
+ProductSupply,GB IE,,
+SupplyDetail,04,06,4012345000009,North Books,21,
+Price,,3,,,,,,
+EndMessage,5
 """,
         0,
-        [1, 2, 3, 4],
+        b"""\
+agreed,north,1
+held,north,3,waiting-for=1
+held,north,4,waiting-for=1
+applied,north,1,replaced=1,updated=0,deleted=0,unknown=0,ignored=0
+applied,north,2,replaced=1,updated=0,deleted=0,unknown=0,ignored=0
+applied,north,3,replaced=1,updated=0,deleted=0,unknown=0,ignored=0
+""",
+        [
+            put(1, "R1", "1.000"),
+            put(2, "R2", "2.000"),
+            put(3, "R3", "3.000"),
+            put(4, "R4", "4.000"),
+        ],
         [],
         5,
         b"gaps,north,first=1,next=5,greatest=4,held=0,missing=0\n",
@@ -91,8 +156,15 @@ Message,1,06,4012345000009,06,5012345678900,2,,,,
 EndMessage,1
 """,
         0,
-        [1, 2, 3],
-        [5],
+        b"""\
+agreed,north,1
+applied,north,1,replaced=0,updated=0,deleted=0,unknown=0,ignored=0
+held,north,3,waiting-for=2
+held,north,5,waiting-for=2
+applied,north,2,replaced=0,updated=0,deleted=0,unknown=0,ignored=0
+""",
+        [bare(1), bare(2), bare(3)],
+        [(5, "")],
         4,
         b"gaps,north,first=1,next=4,greatest=5,held=1,missing=1\nmissing,4,4\n",
     ),
@@ -132,7 +204,15 @@ Price,,2.00,,,,,,
 EndMessage,5
 """,
         1,
-        [1, 2, 3],
+        b"""\
+agreed,north,1
+held,north,3,waiting-for=1
+refused,other-contents,north,3
+held,north,3,waiting-for=1
+applied,north,1,replaced=1,updated=0,deleted=0,unknown=0,ignored=0
+applied,north,2,replaced=1,updated=0,deleted=0,unknown=0,ignored=0
+""",
+        [put(1, "R1", "1.000"), put(2, "R2", "2.000"), put(3, "R3", "5.000")],
         [],
         4,
         b"gaps,north,first=1,next=4,greatest=3,held=0,missing=0\n",
@@ -148,10 +228,32 @@ EndMessage,1
 Waive,north,2
 """,
         0,
-        [1, 2, 3],
+        b"""\
+agreed,north,1
+applied,north,1,replaced=0,updated=0,deleted=0,unknown=0,ignored=0
+held,north,3,waiting-for=2
+waived,north,2
+""",
+        [bare(1), (2, "waived", 0, 0, 0, 0, 0), bare(3)],
         [],
         4,
         b"gaps,north,first=1,next=4,greatest=3,held=0,missing=0\n",
+    ),
+    Kept(
+        "a waiver waits behind the gap",
+        b"""\
+Agree,north,06,4012345000009,06,5012345678900,1
+Waive,north,2
+""",
+        0,
+        b"""\
+agreed,north,1
+waived,north,2
+""",
+        [],
+        [(2, "waived")],
+        1,
+        b"gaps,north,first=1,next=1,greatest=2,held=1,missing=1\nmissing,1,1\n",
     ),
 ]
 
@@ -164,29 +266,31 @@ def gaps(room) -> Ran:
     return room.run("--db", DATABASE, "gaps", "north")
 
 
-def tables_after_a_batch(case: Kept, room):
-    ran = batch(room, case.batch)
-    came = {
-        "status": ran.status,
-        "errors": ran.errors,
-        "applied": numbers(room, APPLIED),
-        "held": numbers(room, HELD),
+def tables(room) -> dict:
+    """What the file holds of the one series."""
+    return {
+        "applied": rows(room, APPLIED),
+        "held": rows(room, HELD),
         "next": numbers(room, NEXT),
         "version": numbers(room, VERSION),
-        "gaps": gaps(room),
         "complaints": complaints(room),
     }
+
+
+def tables_after_a_batch(case: Kept, room):
+    """They stay so where the file is opened again and asked for its gaps."""
     wanted = {
-        "status": case.status,
-        "errors": b"",
         "applied": case.applied,
         "held": case.held,
         "next": [case.next],
         "version": [2],
-        "gaps": Ran(0, case.gaps),
         "complaints": [],
     }
-    yield Outcome(f"tables after a batch: {case.name}", came, wanted)
+    came = batch(room, case.batch), tables(room)
+    name = f"tables after a batch: {case.name}"
+    yield Outcome(name, came, (Ran(case.status, case.answers), wanted))
+    came = gaps(room), tables(room)
+    yield Outcome(f"{name}, opened again", came, (Ran(0, case.gaps), wanted))
 
 
 def message(number: int) -> bytes:
@@ -198,17 +302,152 @@ def forty_messages_backwards(room):
     came = batch(room, b"Agree,north,06,4012345000009,06,5012345678900,1\n")
     yield Outcome("forty messages: the agreement", came, Ran(0, b"agreed,north,1\n"))
 
-    ran = batch(room, b"".join(message(number) for number in range(41, 1, -1)))
-    came = ran.status, numbers(room, APPLIED), len(numbers(room, HELD))
-    yield Outcome("forty messages: the first day", came, (0, [], 40))
+    backwards = range(41, 1, -1)
+    ran = batch(room, b"".join(message(number) for number in backwards))
+    came = ran, rows(room, APPLIED), rows(room, HELD), numbers(room, NEXT)
+    answers = b"".join(b"held,north,%d,waiting-for=1\n" % number for number in backwards)
+    wanted = Ran(0, answers), [], [(number, "") for number in range(2, 42)], [1]
+    yield Outcome("forty messages: the first day", came, wanted)
 
     ran = batch(room, message(1))
-    came = ran, len(numbers(room, APPLIED)), numbers(room, HELD), numbers(room, NEXT)
+    came = ran, rows(room, APPLIED), rows(room, HELD), numbers(room, NEXT)
     answer = b"applied,north,1,replaced=0,updated=0,deleted=0,unknown=0,ignored=0\n"
-    yield Outcome("forty messages: the second day", came, (Ran(0, answer), 41, [], [42]))
+    wanted = Ran(0, answer), [bare(number) for number in range(1, 42)], [], [42]
+    yield Outcome("forty messages: the second day", came, wanted)
 
     report = b"gaps,north,first=1,next=42,greatest=41,held=0,missing=0\n"
     yield Outcome("forty messages: the gaps", gaps(room), Ran(0, report))
+
+
+# A batch and its answers, and then another.
+FIRST = (
+    '''\
+Agree,south,06,5000000000005,,,5
+Message,2,06,5000000000005,,,5,,,02,GBP
+Product,S1,03,03,9780000000019,15,9780000000019
+ProductSupply,FR,WORLD,IE FR
+SupplyDetail,01,,,"Süd ""Books""",20,01
+Price,,10,,GB,,,20250401,20250430
+Price,05,9.5,EUR,,WORLD,IE,,,10
+ProductSupply,,,
+SupplyDetail,04,06,5000000000005,,40,
+EndMessage,8
+Waive,south,6
+Message,1,06,5000000000005,,,8,,,,
+EndMessage,1
+'''.encode(),
+    b"""\
+agreed,south,5
+applied,south,5,replaced=1,updated=0,deleted=0,unknown=0,ignored=0
+waived,south,6
+held,south,8,waiting-for=7
+""",
+)
+
+SECOND = (
+    b"""\
+Message,1,06,5000000000005,,,7,,,,
+Product,S1,05,15,9780000000019
+EndMessage,2
+""",
+    b"""\
+applied,south,7,replaced=0,updated=0,deleted=1,unknown=0,ignored=0
+""",
+)
+
+# The rows of each table after the first batch, in order of its key. The 1st of April 2025 is the day
+# 20,179, counted from 1970.
+AFTER_FIRST = {
+    "meta": [("version", 2)],
+    "series": [("south", "06", "5000000000005", "", "", 5, 7)],
+    "held": [("south", 8, "")],
+    "applied": [
+        (
+            "south",
+            5,
+            '''\
+Product,S1,03,03,9780000000019,15,9780000000019
+ProductSupply,FR,WORLD,FR IE
+SupplyDetail,01,,,"Süd ""Books""",20,01
+Price,02,10.000,GBP,GB,,,20250401,20250430
+Price,05,9.500,EUR,,WORLD,IE,,,10
+ProductSupply,,WORLD,
+SupplyDetail,04,06,5000000000005,,40,
+''',
+            1,
+            0,
+            0,
+            0,
+            0,
+        ),
+        ("south", 6, "waived", 0, 0, 0, 0, 0),
+    ],
+    "record": [("south", "S1")],
+    "article": [
+        ("south", "S1", 1, "03", "9780000000019"),
+        ("south", "S1", 2, "15", "9780000000019"),
+    ],
+    "offer": [
+        ("south", "S1", 1, 1, "FR", 1, "FR IE", "01", "", "", 'Süd "Books"', "20", "01"),
+        ("south", "S1", 2, 2, "", 1, "", "04", "06", "5000000000005", "", "40", ""),
+    ],
+    "price": [
+        ("south", "S1", 1, 1, "02", 10_000, "GBP", "GB", 0, "", 20_179, 20_208),
+        ("south", "S1", 1, 2, "05", 9_500, "EUR", "", 1, "IE", None, None),
+    ],
+    "price_minimum": [("south", "S1", 1, 2, 10)],
+}
+
+# And after the second, which deletes the record and lets the number that waits be applied.
+AFTER_SECOND = {
+    "meta": [("version", 2)],
+    "series": [("south", "06", "5000000000005", "", "", 5, 9)],
+    "held": [],
+    "applied": [
+        *AFTER_FIRST["applied"],
+        ("south", 7, "Product,S1,05,15,9780000000019\n", 0, 0, 1, 0, 0),
+        ("south", 8, "", 0, 0, 0, 0, 0),
+    ],
+    "record": [],
+    "article": [],
+    "offer": [],
+    "price": [],
+    "price_minimum": [],
+}
+
+
+def rows_of_every_table(room):
+    for name, (asked, answers), wanted in [
+        ("a record with all that it may have", FIRST, AFTER_FIRST),
+        ("a record that is deleted", SECOND, AFTER_SECOND),
+    ]:
+        came = batch(room, asked), all_rows(room), complaints(room)
+        yield Outcome(f"rows of every table: {name}", came, (Ran(0, answers), wanted, []))
+
+
+def an_empty_file(room):
+    """It counts as an empty database."""
+    room.write(DATABASE, b"")
+    asked = b"""\
+Agree,north,06,4012345000009,06,5012345678900,1
+Message,1,06,4012345000009,06,5012345678900,1,1,20250301,,
+Product,R1,03,15,9781234567897
+ProductSupply,GB IE,,
+SupplyDetail,04,06,4012345000009,North Books,21,
+EndMessage,4
+AskCatalogue,north
+"""
+    answers = b"""\
+agreed,north,1
+applied,north,1,replaced=1,updated=0,deleted=0,unknown=0,ignored=0
+catalogue,north,1
+record,R1,15,9781234567897
+ProductSupply,GB IE,,
+SupplyDetail,04,06,4012345000009,North Books,21,
+"""
+    yield Outcome("an empty file: a batch", batch(room, asked), Ran(0, answers))
+    report = b"gaps,north,first=1,next=2,greatest=1,held=0,missing=0\n"
+    yield Outcome("an empty file: the gaps then", gaps(room), Ran(0, report))
 
 
 META = "CREATE TABLE meta (item TEXT PRIMARY KEY, amount INTEGER);"
@@ -233,6 +472,15 @@ def is_refused(statements: str, line: bytes, room):
     execute(room, statements)
     came = room.run("--db", DATABASE, "batch", given=UNREADABLE)
     yield Outcome(f"refused: {statements}", came, Ran(3, b"", line))
+
+
+def is_opened_first(room):
+    """A database that is refused is found before what the command itself would meet."""
+    statements, line = REFUSED[0]
+    execute(room, statements)
+    for words in "deliver absent.csv", "gaps North", "serve --port 1 --requests 1":
+        came = room.run("--db", DATABASE, *words.split(), given=UNREADABLE)
+        yield Outcome(f"the database before the command: {words}", came, Ran(3, b"", line))
 
 
 def rules_come_first(room):
@@ -273,7 +521,10 @@ def refused_migrations(room):
 GROUPS = [
     *(Group(case.name, partial(tables_after_a_batch, case)) for case in KEPT),
     Group("forty messages backwards", forty_messages_backwards),
+    Group("rows of every table", rows_of_every_table),
+    Group("a batch over an empty file", an_empty_file),
     *(Group(sql, partial(is_refused, sql, line)) for sql, line in REFUSED),
+    Group("the database comes before the command", is_opened_first),
     Group("rules come before the database", rules_come_first),
     Group("migration of an empty file", migration_of_an_empty_file),
     Group("refused migrations", refused_migrations),

@@ -9,7 +9,7 @@ Agree,south,06,5000000000005,06,5012345678900,5
 Waive,south,7
 """
 
-RULES = b'[[rule]]\nseries = "*"\ncodes = ["21"]\n'
+RULES = b'[[rule]]\nseries = "*"\ncodes = ["20", "21"]\n'
 
 
 def refusal(reason: str) -> str:
@@ -170,6 +170,16 @@ QUESTIONS = [
         '{"answer":"choice","choice":null,"isbn":"9780000000002"}',
     ),
     got(
+        "/articles/9780000000019/choice?day=20250401&country=GB&currency=EUR&type=05&quantity=9",
+        "200 OK",
+        '{"answer":"choice","choice":null,"isbn":"9780000000019"}',
+    ),
+    got(
+        "/articles/9780000000019/choice?day=20250401&country=GB&currency=EUR&type=05&quantity=10",
+        "200 OK",
+        '{"answer":"choice","choice":{"amount":"9.500","availability":"20","place":1,"reference":"S1","rule":1,"series":"south"},"isbn":"9780000000019"}',
+    ),
+    got(
         "/articles/9781234567897/calendar?from=20250301&to=20250302&country=GB&currency=GBP&type=02",
         "200 OK",
         '{"answer":"calendar","isbn":"9781234567897","offers":[{"availability":"21","place":1,"reference":"R1","series":"north","spans":[{"amount":"12.990","first":"20250301","last":"20250302"}]}]}',
@@ -180,7 +190,17 @@ QUESTIONS = [
         '{"answer":"calendar","isbn":"9780000000019","offers":[{"availability":"20","place":1,"reference":"S1","series":"south","spans":[{"amount":null,"first":"20250331","last":"20250331"},{"amount":"10.000","first":"20250401","last":"20250430"},{"amount":null,"first":"20250501","last":"20250501"}]},{"availability":"40","place":2,"reference":"S1","series":"south","spans":[{"amount":null,"first":"20250331","last":"20250501"}]}]}',
     ),
     got(
+        "/articles/9780000000019/calendar?from=20250301&to=20250302&country=GB&currency=EUR&type=05&quantity=10",
+        "200 OK",
+        '{"answer":"calendar","isbn":"9780000000019","offers":[{"availability":"20","place":1,"reference":"S1","series":"south","spans":[{"amount":"9.500","first":"20250301","last":"20250302"}]},{"availability":"40","place":2,"reference":"S1","series":"south","spans":[{"amount":null,"first":"20250301","last":"20250302"}]}]}',
+    ),
+    got(
         "/articles/9781234567897/calendar?from=20250402&to=20250401&country=GB&currency=GBP&type=02",
+        "400 Bad Request",
+        '{"answer":"refused","reason":"bad-range"}',
+    ),
+    got(
+        "/articles/9780000000002/calendar?from=20250402&to=20250401&country=GB&currency=GBP&type=02",
         "400 Bad Request",
         '{"answer":"refused","reason":"bad-range"}',
     ),
@@ -237,6 +257,9 @@ BAD_QUERIES = [
     "/articles/9781234567897/calendar?from=20250301&country=GB&currency=GBP&type=02",
     "/articles/9781234567897/calendar?from=20250301&to=20250302&country=GB&currency=GBP&type=02&to=20250302",
     "/articles/9781234567897/calendar?from=20250301&to=2025-03-01&country=GB&currency=GBP&type=02",
+    "/articles/9781234567897/calendar?from=20250301&to=20250302&country=GB&currency=GBP&type=02&quantity=0",
+    "/articles/9781234567897/calendar?from=20250301&to=20250302&country=GB&currency=GBP&type=02&quantity=1&quantity=1",
+    "/articles/9781234567897/calendar?from=20250402&to=20250401&country=GB&currency=GBP",
     "/articles/978123456789X/price?day=20250301&country=GB&currency=GBP&type=02",
     "/articles/978%31234567897/price?day=20250301&country=GB&currency=GBP&type=02",
 ]
@@ -311,6 +334,64 @@ ONE_NUMBER = got(
     "200 OK",
     '{"answer":"gaps","first":1,"greatest":1,"held":0,"missing":[],"next":2,"series":"north"}',
 )
+
+# What comes before number 2 is waived, and after it.
+BEFORE_A_WAIVER = [
+    DELIVERY,
+    Exchange(
+        "held behind the number that is waived",
+        posted("Message,1,06,4012345000009,06,5012345678900,3,,,,\nEndMessage,1\n"),
+        "202 Accepted",
+        '{"answer":"held","number":3,"series":"north","waiting_for":2}',
+    ),
+]
+
+AFTER_A_WAIVER = [
+    Exchange(
+        "the number that is waived",
+        posted("Message,1,06,4012345000009,06,5012345678900,2,,,,\nEndMessage,1\n"),
+        "409 Conflict",
+        '{"answer":"refused","number":2,"reason":"waived","series":"north"}',
+    ),
+    Exchange(
+        "the message that was held",
+        posted("Message,1,06,4012345000009,06,5012345678900,3,,,,\nEndMessage,1\n"),
+        "200 OK",
+        '{"answer":"applied","deleted":0,"ignored":0,"number":3,"replaced":0,"series":"north","unknown":0,"updated":0}',
+    ),
+    got(
+        "/series/north/gaps",
+        "200 OK",
+        '{"answer":"gaps","first":1,"greatest":3,"held":0,"missing":[],"next":4,"series":"north"}',
+    ),
+]
+
+# What a desk without agreements is asked.
+WITHOUT_AGREEMENTS = [
+    DELIVERY._replace(line="422 Unprocessable Content", body=refusal("unknown-series")),
+    got("/series/north/gaps", "404 Not Found", refusal("unknown-series")),
+    got("/series/north/catalogue", "404 Not Found", refusal("unknown-series")),
+    got(
+        "/articles/9781234567897/price?day=20250301&country=GB&currency=GBP&type=02",
+        "200 OK",
+        '{"answer":"price","isbn":"9781234567897","offers":[]}',
+    ),
+    got(
+        "/articles/9781234567897/choice?day=20250301&country=GB&currency=GBP&type=02",
+        "200 OK",
+        '{"answer":"choice","choice":null,"isbn":"9781234567897"}',
+    ),
+    got(
+        "/articles/9781234567897/calendar?from=20250301&to=20250302&country=GB&currency=GBP&type=02",
+        "200 OK",
+        '{"answer":"calendar","isbn":"9781234567897","offers":[]}',
+    ),
+    got(
+        "/articles/9781234567897/calendar?from=20250402&to=20250401&country=GB&currency=GBP&type=02",
+        "400 Bad Request",
+        refusal("bad-range"),
+    ),
+]
 
 # What a client sends that keeps its end open: no byte behind the request is waited for.
 OPEN_INPUTS = [

@@ -5,9 +5,11 @@ from functools import partial
 
 from program.databases import DATABASE, batch, execute
 from program.exchange_cases import (
+    AFTER_A_WAIVER,
     AGREEMENTS,
     APPLIED,
     BAD_QUERIES,
+    BEFORE_A_WAIVER,
     DELIVERIES,
     DELIVERY,
     INPUTS,
@@ -21,6 +23,7 @@ from program.exchange_cases import (
     OPEN_INPUTS,
     QUESTIONS,
     RULES,
+    WITHOUT_AGREEMENTS,
     refusal,
 )
 from program.room import Group, Outcome, Ran
@@ -77,9 +80,20 @@ def long_input(case) -> Exchange:
     return Exchange(f"a long input: {before}, {letters}, {end}, {more}", text, line, body)
 
 
+def many_fields(count: int, line: str, body: str) -> Exchange:
+    """A head with so many fields of three bytes."""
+    head = b"GET / HTTP/1.1\n" + b"A:\n" * count + b"\n"
+    return Exchange(f"a head with {count} fields", head, line, body)
+
+
 def long_inputs() -> list[Exchange]:
-    ends = Exchange("line ends", b"\r" * 16384, "414 URI Too Long", refusal("target-too-long"))
-    return [*map(long_input, LONG_INPUTS), ends]
+    """The most fields that a head may have make 16,384 bytes with its first and its last line."""
+    return [
+        *map(long_input, LONG_INPUTS),
+        Exchange("line ends", b"\r" * 16384, "414 URI Too Long", refusal("target-too-long")),
+        many_fields(5456, "404 Not Found", refusal("not-found")),
+        many_fields(5457, "431 Request Header Fields Too Large", refusal("head-too-large")),
+    ]
 
 
 def cut_inputs() -> list[Exchange]:
@@ -116,6 +130,31 @@ def whole_replies(room):
         came = desk.reply([b"GET /messages HTTP/1.1\r\n\r\n"])
         yield Outcome("a whole reply: not allowed", came, NOT_ALLOWED)
         yield Outcome("the lines of whole replies", desk.ended(), desk.wanted(["200", "405"]))
+
+
+def in_turn(desk, exchanges: list[Exchange]):
+    """Each exchange once, one after the other."""
+    for exchange in exchanges:
+        yield Outcome(exchange.name, desk.reply([exchange.input]), exchange.reply())
+    wanted = desk.wanted([exchange.status() for exchange in exchanges])
+    yield Outcome("the lines of exchanges in turn", desk.ended(), wanted)
+
+
+def a_waived_number(room):
+    """It is waived by a batch, since no request over HTTP waives one."""
+    yield agreed(room)
+    with serving(room, WORDS, len(BEFORE_A_WAIVER)) as desk:
+        yield from in_turn(desk, BEFORE_A_WAIVER)
+    came = batch(room, b"Waive,north,2\nWaive,north,2\n")
+    yield Outcome("the waiver", came, Ran(0, b"waived,north,2\nwaived,north,2\n"))
+    with serving(room, WORDS, len(AFTER_A_WAIVER)) as desk:
+        yield from in_turn(desk, AFTER_A_WAIVER)
+
+
+def a_desk_in_memory(room):
+    """Without a database the desk has no agreements."""
+    with serving(room, [], len(WITHOUT_AGREEMENTS)) as desk:
+        yield from in_turn(desk, WITHOUT_AGREEMENTS)
 
 
 def open_inputs(room):
@@ -156,6 +195,8 @@ GROUPS = [
     Group("cut inputs", partial(all_replied, cut_inputs(), BOTH_WAYS)),
     Group("most input", most_input),
     Group("whole replies", whole_replies),
+    Group("a waived number", a_waived_number),
+    Group("exchanges with a desk in memory", a_desk_in_memory),
     Group("open inputs", open_inputs),
     Group("faults of storage", faults_of_storage),
 ]

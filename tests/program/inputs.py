@@ -1,12 +1,23 @@
 """Inputs that are long or bad, and streams that fail."""
 
-from program.room import UNREADABLE, Group, Outcome, Ran
+import subprocess
+
+from program.databases import DATABASE, batch, gaps
+from program.room import SECONDS, UNREADABLE, Group, Outcome, Ran
 
 AGREEMENT = b"Agree,north,06,4012345000009,06,5012345678900,1\n"
 
 OPENING = b"Message,1,06,4012345000009,06,5012345678900,1,,,,\n"
 
 PRODUCT = b"Product,R1,03,15,9781234567897\n"
+
+# Two messages without products.
+MESSAGES = b"""\
+Message,1,06,4012345000009,06,5012345678900,1,,,,
+EndMessage,1
+Message,1,06,4012345000009,06,5012345678900,2,,,,
+EndMessage,1
+"""
 
 INPUTS = [
     (
@@ -53,7 +64,46 @@ def broken_streams(room):
     yield Outcome("an output that takes nothing", came, Ran(3, b"", b"onixdesk: output\n"))
 
 
+def unended_input(room):
+    """A text above the limit is read to one byte past it, and its end is not waited for."""
+    with room.start("batch", stdin=subprocess.PIPE) as process:
+        try:
+            process.stdin.write(b"\n" * 4_194_305)
+            process.stdin.flush()
+            status = process.wait(timeout=SECONDS)
+            came = Ran(status, process.stdout.read(), process.stderr.read())
+        finally:
+            process.kill()
+    yield Outcome("an input that does not end", came, Ran(3, b"", b"onixdesk: input: too large\n"))
+
+
+def report(text: bytes) -> Ran:
+    return Ran(0, b"gaps,north,first=1,%s,held=0,missing=0\n" % text)
+
+
+def broken_streams_over_a_file(room):
+    """After a failed read the desk is as before, and after the failed write of an answer its request
+    has had its effect, and no later one."""
+    yield Outcome("broken streams: the agreement", batch(room, AGREEMENT), Ran(0, b"agreed,north,1\n"))
+
+    over_a_file = "--db", DATABASE, "batch"
+    for name, text, line in [
+        ("an input that cannot be read", UNREADABLE, b"input: read"),
+        ("a text that is not UTF-8", MESSAGES + b"\xff", b"input: not UTF-8"),
+        ("a text of 4,194,305 bytes", MESSAGES.ljust(4_194_305, b"\n"), b"input: too large"),
+    ]:
+        came = room.run(*over_a_file, given=text), gaps(room)
+        wanted = Ran(3, b"", b"onixdesk: %s\n" % line), report(b"next=1,greatest=")
+        yield Outcome(f"over a file: {name}", came, wanted)
+
+    came = room.run(*over_a_file, given=MESSAGES, is_full=True), gaps(room)
+    wanted = Ran(3, b"", b"onixdesk: output\n"), report(b"next=2,greatest=1")
+    yield Outcome("over a file: an output that takes nothing", came, wanted)
+
+
 GROUPS = [
     Group("long and bad inputs", long_and_bad_inputs),
+    Group("an input that does not end", unended_input),
     Group("broken input and output", broken_streams),
+    Group("broken input and output over a file", broken_streams_over_a_file),
 ]

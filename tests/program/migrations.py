@@ -4,7 +4,15 @@ until they are migrated, and then the desk in them goes on."""
 from functools import partial
 from typing import NamedTuple
 
-from program.databases import DATABASE, batch, complaints, execute
+from program.databases import (
+    DATABASE,
+    all_rows,
+    batch,
+    complaints,
+    execute,
+    rows,
+    table_names,
+)
 from program.room import Group, Outcome, Ran
 
 # The tables of version 1, without a series.
@@ -18,6 +26,11 @@ CREATE TABLE article (series TEXT NOT NULL, reference TEXT NOT NULL, id_place IN
 CREATE TABLE offer (series TEXT NOT NULL, reference TEXT NOT NULL, place INTEGER NOT NULL, supply INTEGER NOT NULL, included TEXT NOT NULL, world INTEGER NOT NULL, excluded TEXT NOT NULL, role TEXT NOT NULL, supplier_type TEXT NOT NULL, supplier_value TEXT NOT NULL, supplier_name TEXT NOT NULL, availability TEXT NOT NULL, unpriced TEXT NOT NULL, PRIMARY KEY (series, reference, place), FOREIGN KEY (series, reference) REFERENCES record (series, reference) ON DELETE CASCADE) STRICT;
 CREATE TABLE price (series TEXT NOT NULL, reference TEXT NOT NULL, place INTEGER NOT NULL, price_place INTEGER NOT NULL, price_type TEXT NOT NULL, amount INTEGER NOT NULL, currency TEXT NOT NULL, included TEXT NOT NULL, world INTEGER NOT NULL, excluded TEXT NOT NULL, from_day INTEGER, until_day INTEGER, PRIMARY KEY (series, reference, place, price_place), FOREIGN KEY (series, reference, place) REFERENCES offer (series, reference, place) ON DELETE CASCADE) STRICT;
 INSERT INTO meta VALUES ('version', 1);
+"""
+
+# The table that version 2 has beside them.
+MINIMUM = """\
+CREATE TABLE price_minimum (series TEXT NOT NULL, reference TEXT NOT NULL, place INTEGER NOT NULL, price_place INTEGER NOT NULL, minimum INTEGER NOT NULL, PRIMARY KEY (series, reference, place, price_place), FOREIGN KEY (series, reference, place, price_place) REFERENCES price (series, reference, place, price_place) ON DELETE CASCADE) STRICT;
 """
 
 
@@ -227,12 +240,51 @@ def check(case: Case, room):
     yield Outcome(f"not opened: {case.name}", batch(room, b""), refused)
 
     migrate = "--db", DATABASE, "migrate"
-    came = room.run(*migrate), complaints(room)
-    yield Outcome(f"migrated: {case.name}", came, (Ran(0, b"migrated\n"), []))
-    yield Outcome(f"migrated again: {case.name}", room.run(*migrate), Ran(0, b"schema 2\n"))
+    kept = all_rows(room) | {"meta": [("version", 2)], "price_minimum": []}
+    came = room.run(*migrate), complaints(room), all_rows(room)
+    yield Outcome(f"migrated: {case.name}", came, (Ran(0, b"migrated\n"), [], kept))
+    came = room.run(*migrate), all_rows(room)
+    yield Outcome(f"migrated again: {case.name}", came, (Ran(0, b"schema 2\n"), kept))
 
     came = batch(room, case.asked), complaints(room)
     yield Outcome(f"goes on: {case.name}", came, (Ran(case.status, case.answers), []))
 
 
-GROUPS = [Group(case.name, partial(check, case)) for case in CASES]
+def keys(room, table: str, file: str) -> list[list[tuple]]:
+    """The columns of each primary or unique key of a table, with how they compare."""
+    found = []
+    for _, name, _, origin, _ in rows(room, f"PRAGMA index_list({table})", file):
+        if origin != "c":
+            columns = rows(room, f"PRAGMA index_xinfo({name})", file)
+            found.append([(column, order) for _, _, column, _, order, is_key in columns if is_key])
+    return sorted(found)
+
+
+def shapes(room, file: str) -> dict:
+    """Of each table whether it is strict, its columns, its keys and its parents."""
+    return {
+        table: {
+            "strict": rows(room, f"SELECT strict FROM pragma_table_list('{table}')", file),
+            "columns": rows(room, f"PRAGMA table_info({table})", file),
+            "keys": keys(room, table, file),
+            "parents": rows(room, f"PRAGMA foreign_key_list({table})", file),
+        }
+        for table in table_names(room, file)
+    }
+
+
+def tables_of_version_2(room):
+    """New files and migrated ones have the same tables."""
+    execute(room, TABLES + MINIMUM, "wanted.db")
+    wanted = shapes(room, "wanted.db")
+    came = batch(room, b""), shapes(room, DATABASE)
+    yield Outcome("the tables of a new file", came, (Ran(0), wanted))
+    execute(room, TABLES, "older.db")
+    came = room.run("--db", "older.db", "migrate"), shapes(room, "older.db")
+    yield Outcome("the tables of a migrated file", came, (Ran(0, b"migrated\n"), wanted))
+
+
+GROUPS = [
+    *(Group(case.name, partial(check, case)) for case in CASES),
+    Group("the tables of version 2", tables_of_version_2),
+]

@@ -58,12 +58,12 @@ class Room:
             )
         return Ran(done.returncode, done.stdout or b"", done.stderr)
 
-    def start(self, *words) -> subprocess.Popen:
+    def start(self, *words, stdin=subprocess.DEVNULL) -> subprocess.Popen:
         """Starts the program, to be asked while it runs."""
         return subprocess.Popen(
             [self.program, *words],
             cwd=self.folder,
-            stdin=subprocess.DEVNULL,
+            stdin=stdin,
             stdout=subprocess.PIPE,
             stderr=subprocess.PIPE,
         )

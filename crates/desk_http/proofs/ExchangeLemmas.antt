@@ -1,7 +1,6 @@
 -- What the steps of an exchange come to.
 use Rattle.std.proofs.Common.{◌≡◌, ℕ, Bool, true, false, List, [], ◌∷◌, arith, Option, None, Result, Ok, Err, refl}
 use Rattle.std.specs.Prelude.{IfSome}
-use Rattle.std.proofs.lemmas.Bool.{false≢true}
 use Rattle.onix_message.specs.declared.agreement.StoreFault.{StoreFault}
 use Rattle.price_rules.specs.declared.precedence.Rule.{Rule}
 use Rattle.series_rules.specs.declared.answers.Answer.{Answer}
@@ -10,13 +9,12 @@ use Rattle.desk_http.specs.declared.exchange.HttpFault.{HttpFault}
 use Rattle.desk_http.specs.declared.exchange.HttpFault.TheVariants as fault
 use Rattle.desk_http.specs.declared.exchange.ReplyText.{ReplyText}
 use Rattle.desk_http.specs.declared.refusal.Refusal.{Refusal}
-use Rattle.desk_http.specs.declared.refusal.Refusal.TheVariants as refusal
 use Rattle.desk_http.specs.AnswerReply.{reply_of_answer}
 use Rattle.desk_http.specs.Asks.{Asks}
 use Rattle.desk_http.specs.Exchange.{AtMostOneMore, Exchanges, Served, Unsent, answers, faults, refuses}
-use Rattle.desk_http.specs.ExchangeSteps.{AskFits, IsAnswered, IfMemory, IfWrite, IsReplied, reply_view}
+use Rattle.desk_http.specs.ExchangeSteps.{AskFits, IsAnswered, IfMemory, IfWrite, IsReplied, IsUnreplied, reply_view}
 use Rattle.desk_http.specs.Reply.{Reply, reply_text}
-use Rattle.desk_http.proofs.KnownLemmas.{IfSome-all, IfSome-map}
+use Rattle.desk_http.proofs.KnownLemmas.{IfSome-map}
 
 -- a status and a body are those of an answer
 pub reply_is : (a : Answer) (status : ℕ) (body : List ℕ) → status ≡ (reply_of_answer a).status → body ≡ (reply_of_answer a).body
@@ -27,7 +25,7 @@ reply_is a status body s b = rw (s, b) refl
 exchanged : (rules : List Rule) (may_give : StoreFault → Type 0) (L : List Request) (wanted : Result Request Refusal)
     (stands : List Request → Type 0) (reply : Reply) (taken : Bool) → IsReplied rules may_give L wanted stands reply taken
     → (after : List Request) × Exchanges rules may_give L wanted reply after × stands after
-exchanged rules may_give L (Err why) stands reply taken is = (L, rw is.0 refuses, is.1)
+exchanged rules may_give L (Err why) stands reply taken is = (L, rw is.0 refuses, is.2)
 exchanged rules may_give L (Ok r) stands reply true is = (r ∷ L, rw is.0 answers, is.1)
 exchanged rules may_give L (Ok r) stands reply false is = (L, rw is.0.2 (faults is.0.1), is.1)
 
@@ -61,18 +59,41 @@ served_in_part rules may_give L wanted stands reply taken is written (fault.Writ
     (served rules may_give L wanted stands reply taken is written front.1) asks)
 served_in_part rules may_give L wanted stands reply taken is written (fault.Memory taken') front known asks = tt
 
--- nothing was asked, and memory ran out
-unsent_before : (L : List Request) (stands : List Request → Type 0) (taken : Bool) → taken ≡ false → stands L
-    → (input : List ℕ) → Unsent L input stands taken
-unsent_before L stands taken e left input = rw e (record { wanted = Err refusal.BadHead; asks = λ q. absurd (false≢true q); stands_after = left })
-
+-- memory ran out before the desk was asked
 pub fault_before : (f : HttpFault) (known : Option (List ℕ)) (L : List Request) (stands : List Request → Type 0) → stands L
     → IfMemory {T = Result Request Refusal} (Err f) (λ taken. taken ≡ false)
-    → IfMemory {T = ℕ} (Err f) (λ taken. IfSome known (λ input. Unsent L input stands taken))
+    → IfMemory {T = ℕ} (Err f) (Unsent L known stands)
 fault_before fault.Read known L stands left h = tt
 fault_before (fault.Write status) known L stands left h = tt
-fault_before (fault.Memory taken) known L stands left h =
-    IfSome-all known (λ input. Unsent L input stands taken) (unsent_before L stands taken h left)
+fault_before (fault.Memory taken) known L stands left h = rw h left
+
+-- while it was asked
+unreplied : (L : List Request) (wanted : Result Request Refusal) (stands : List Request → Type 0) (taken : Bool) → IsUnreplied L wanted stands taken
+    → (known : Option (List ℕ)) → IfSome known (λ input. Asks input wanted) → Unsent L known stands taken
+unreplied L wanted stands false left known asks = left
+unreplied L (Ok r) stands true left known asks = (r, asks, left)
+unreplied L (Err why) stands true left known asks = absurd left
+
+pub fault_between : (rules : List Rule) (may_give : StoreFault → Type 0) (L : List Request) (wanted : Result Request Refusal) (stands : List Request → Type 0) (f : HttpFault)
+    → AskFits rules may_give L wanted stands (Err f) → (known : Option (List ℕ)) → IfSome known (λ input. Asks input wanted)
+    → IfMemory {T = ℕ} (Err f) (Unsent L known stands)
+fault_between rules may_give L wanted stands fault.Read fits known asks = tt
+fault_between rules may_give L wanted stands (fault.Write status) fits known asks = tt
+fault_between rules may_give L wanted stands (fault.Memory taken) fits known asks = unreplied L wanted stands taken fits known asks
+
+-- after it was asked
+replied : (rules : List Rule) (may_give : StoreFault → Type 0) (L : List Request) (wanted : Result Request Refusal) (stands : List Request → Type 0) (reply : Reply) (taken : Bool)
+    → IsReplied rules may_give L wanted stands reply taken → (known : Option (List ℕ)) → IfSome known (λ input. Asks input wanted) → Unsent L known stands taken
+replied rules may_give L (Ok r) stands reply true is known asks = (r, asks, is.1)
+replied rules may_give L (Ok r) stands reply false is known asks = is.1
+replied rules may_give L (Err why) stands reply taken is known asks = rw is.1 is.2
+
+pub fault_after : (rules : List Rule) (may_give : StoreFault → Type 0) (L : List Request) (wanted : Result Request Refusal) (stands : List Request → Type 0) (reply : Reply) (taken : Bool)
+    → IsReplied rules may_give L wanted stands reply taken → (f : HttpFault) → IfMemory {T = Unit {0}} (Err f) (λ t. t ≡ taken)
+    → (known : Option (List ℕ)) → IfSome known (λ input. Asks input wanted) → IfMemory {T = ℕ} (Err f) (Unsent L known stands)
+fault_after rules may_give L wanted stands reply taken is fault.Read same known asks = tt
+fault_after rules may_give L wanted stands reply taken is (fault.Write status) same known asks = tt
+fault_after rules may_give L wanted stands reply taken is (fault.Memory t) same known asks = rw same (replied rules may_give L wanted stands reply taken is known asks)
 
 -- asking leaves what stood, or one request more
 answered_once : (rules : List Rule) (may_give : StoreFault → Type 0) (L : List Request) (r : Request) (stands : List Request → Type 0)
@@ -83,9 +104,9 @@ answered_once rules may_give L r stands reply false is = ([], omega arith, is.1)
 pub asked_once : (rules : List Rule) (may_give : StoreFault → Type 0) (L : List Request) (wanted : Result Request Refusal)
     (stands : List Request → Type 0) (result : Result ReplyText HttpFault) → AskFits rules may_give L wanted stands result → AtMostOneMore L stands
 asked_once rules may_give L (Ok r) stands (Ok reply) fits = answered_once rules may_give L r stands (reply_view reply) reply.taken fits
-asked_once rules may_give L (Err why) stands (Ok reply) fits = ([], omega arith, fits.1)
+asked_once rules may_give L (Err why) stands (Ok reply) fits = ([], omega arith, fits.2)
 asked_once rules may_give L wanted stands (Err fault.Read) fits = absurd fits
 asked_once rules may_give L wanted stands (Err (fault.Write status)) fits = absurd fits
 asked_once rules may_give L (Ok r) stands (Err (fault.Memory true)) fits = (r ∷ [], omega arith, fits)
-asked_once rules may_give L (Err why) stands (Err (fault.Memory true)) fits = ([], omega arith, fits)
+asked_once rules may_give L (Err why) stands (Err (fault.Memory true)) fits = absurd fits
 asked_once rules may_give L wanted stands (Err (fault.Memory false)) fits = ([], omega arith, fits)

@@ -1,5 +1,5 @@
 -- One exchange: what an input asks for, what is replied, and what the desk stands for then.
-use Rattle.std.specs.Prelude.{◌≡◌, ◌≤◌, ◌++◌, ℕ, Bool, true, List, ◌∷◌, length, if◌then◌else◌, Result, Ok, Err}
+use Rattle.std.specs.Prelude.{◌≡◌, ◌≤◌, ◌++◌, ℕ, Bool, true, false, List, ◌∷◌, length, Option, IfSome, Result, Ok, Err}
 use Rattle.onix_message.specs.declared.agreement.StoreFault.{StoreFault}
 use Rattle.price_rules.specs.declared.precedence.Rule.{Rule}
 use Rattle.series_rules.specs.Answers.{answer_to}
@@ -29,16 +29,10 @@ pub record Served (rules : List Rule) (may_give : StoreFault → Type 0) (L : Li
   pub status_is : status ≡ reply.status
   pub text : written (reply_text reply)
 
--- L and then the request, if one is asked for
-abbrev pub followed : Result Request Refusal → List Request → List Request
-followed (Ok r) L = r ∷ L
-followed (Err why) L = L
-
--- an input got no reply, and the desk has answered it or has not
-pub record Unsent (L : List Request) (input : List ℕ) (stands : List Request → Type 0) (taken : Bool) : Type 0 where
-  pub wanted : Result Request Refusal
-  pub asks : taken ≡ true → Asks input wanted
-  pub stands_after : stands (if taken then followed wanted L else L)
+-- An input got no reply. Taken: the desk has answered what the input asks for; else it was not asked, or had a fault. Sent: what the input is, where that is known
+abbrev pub Unsent : List Request → Option (List ℕ) → (List Request → Type 0) → Bool → Type 0
+Unsent L sent stands false = stands L
+Unsent L sent stands true = (r : Request) × IfSome sent (λ input. Asks input (Ok r)) × stands (r ∷ L)
 
 -- what stands is L, or L and one request more
 abbrev pub AtMostOneMore : List Request → (List Request → Type 0) → Type 0

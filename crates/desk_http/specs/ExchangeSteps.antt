@@ -1,5 +1,5 @@
 -- The steps of an exchange.
-use Rattle.std.specs.Prelude.{◌≡◌, ℕ, Bool, true, false, List, ◌∷◌, if◌then◌else◌, Result, Ok, Err, ⊤, option_map}
+use Rattle.std.specs.Prelude.{◌≡◌, ℕ, Bool, true, false, List, ◌∷◌, Result, Ok, Err, ⊤, option_map}
 use Rattle.std.specs.String.{string_bytes}
 use Rattle.onix_message.specs.declared.agreement.StoreFault.{StoreFault}
 use Rattle.price_rules.specs.declared.precedence.Rule.{Rule}
@@ -10,7 +10,6 @@ use Rattle.desk_http.specs.declared.exchange.HttpFault.TheVariants as fault
 use Rattle.desk_http.specs.declared.exchange.ReplyText.{ReplyText}
 use Rattle.desk_http.specs.declared.refusal.Refusal.{Refusal}
 use Rattle.desk_http.specs.AnswerReply.{reply_of_answer, reply_of_fault}
-use Rattle.desk_http.specs.Exchange.{followed}
 use Rattle.desk_http.specs.Refusals.{reply_of_refusal}
 use Rattle.desk_http.specs.Reply.{Reply}
 
@@ -26,14 +25,20 @@ IsAnswered rules may_give L r stands reply false = ((f : StoreFault) × may_give
 -- the same for what is asked for, which may be a refusal
 abbrev pub IsReplied : List Rule → (StoreFault → Type 0) → List Request → Result Request Refusal → (List Request → Type 0) → Reply → Bool → Type 0
 IsReplied rules may_give L (Ok r) stands reply taken = IsAnswered rules may_give L r stands reply taken
-IsReplied rules may_give L (Err why) stands reply taken = (reply ≡ reply_of_refusal why) × stands L
+IsReplied rules may_give L (Err why) stands reply taken = (reply ≡ reply_of_refusal why) × (taken ≡ false) × stands L
+
+-- memory ran out for the reply to what is asked for
+abbrev pub IsUnreplied : List Request → Result Request Refusal → (List Request → Type 0) → Bool → Type 0
+IsUnreplied L wanted stands false = stands L
+IsUnreplied L (Ok r) stands true = stands (r ∷ L)
+IsUnreplied L (Err why) stands true = ⊥
 
 -- how asking can end
 abbrev pub AskFits : List Rule → (StoreFault → Type 0) → List Request → Result Request Refusal → (List Request → Type 0) → Result ReplyText HttpFault → Type 0
 AskFits rules may_give L wanted stands (Ok reply) = IsReplied rules may_give L wanted stands (reply_view reply) reply.taken
 AskFits rules may_give L wanted stands (Err fault.Read) = ⊥
 AskFits rules may_give L wanted stands (Err (fault.Write status)) = ⊥
-AskFits rules may_give L wanted stands (Err (fault.Memory taken)) = stands (if taken then followed wanted L else L)
+AskFits rules may_give L wanted stands (Err (fault.Memory taken)) = IsUnreplied L wanted stands taken
 
 -- what each fault says
 abbrev pub OnRead : {T : Type 0} → Result T HttpFault → Type 0 → Type 0

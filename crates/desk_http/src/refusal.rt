@@ -3,7 +3,9 @@
 /// The method that a path takes.
 #[derive(Clone, Copy, Debug, PartialEq, Eq)]
 pub enum Method {
+    /// The path is asked a question.
     Get,
+    /// The path takes a message.
     Post,
 }
 
@@ -11,7 +13,8 @@ pub enum Method {
 /// one is its refusal.
 #[derive(Clone, Copy, Debug, PartialEq, Eq)]
 pub enum Refusal {
-    /// No head ends in the first 16,384 bytes, and these are one line without an end.
+    /// No head ends in the first 16,384 bytes, and behind line ends at their start these are one
+    /// line without an end, or nothing.
     TargetTooLong,
     /// No head ends in the first 16,384 bytes, and these have a line but no empty one.
     HeadTooLarge,

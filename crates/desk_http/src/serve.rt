@@ -57,7 +57,8 @@ fn terms_of(why: Refusal) -> (u16, &'static str, Option<&'static str>)
 
 // The reply to a refusal.
 fn refuse(alloc: Global, why: Refusal) -> Result<ReplyText, AllocError>
-    ensures { IfOk result (λ r. reply_view r ≡ reply_of_refusal why) }
+    ensures reply { IfOk result (λ r. reply_view r ≡ reply_of_refusal why) }
+    ensures taken { IfOk result (λ r. r.taken ≡ false) }
 {
     let (status, reason, allow) = terms_of(why);
     Ok(ReplyText {
@@ -186,7 +187,7 @@ pub fn serve_one<D: Desk, R: Read, W: Write>(
     ensures read { (L : List Request) → D.stands_for desk.old L → D.is_sound desk.new → OnRead result (D.stands_for desk.new L) }
     ensures unread { OnRead result (Keeps (W.contents writer.old) (W.contents writer.new)) }
     ensures memory { (L : List Request) → D.stands_for desk.old L → D.is_sound desk.new →
-        IfMemory result (λ taken. IfSome (R.remaining reader.old) (λ input. Unsent L input (D.stands_for desk.new) taken)) }
+        IfMemory result (Unsent L (R.remaining reader.old) (D.stands_for desk.new)) }
     ensures unsent { IfMemory result (λ _. Keeps (W.contents writer.old) (W.contents writer.new)) }
     // This holds too where the reader does not tell its bytes, as a socket.
     ensures one { (L : List Request) → D.stands_for desk.old L → D.is_sound desk.new → AtMostOneMore L (D.stands_for desk.new) }

@@ -4,7 +4,7 @@ use Rattle.std.proofs.Common.{◌≡◌, true, false, List, ◌∷◌, Result, O
 use Rattle.std.proofs.Math.Logic.{∥∥₁_elim, ∥∥₁_map}
 use Rattle.sqlite.proofs.Theorems.{next_run}
 use Rattle.sqlite.specs.Effect.{Database, IsDatabase}
-use Rattle.sqlite.specs.Files.{AreFoundIn, Finds, IsOpened, file_state, image_of, over_files}
+use Rattle.sqlite.specs.Files.{Finds, IsOpened, file_state, image_of, over_files}
 use Rattle.sqlite.specs.Held.{Held, state}
 use Rattle.sqlite.specs.State as sqlite
 use Rattle.sqlite.specs.State.{State, HasCleanDisk, IsLive}
@@ -24,7 +24,7 @@ use Rattle.series_rules.specs.declared.answers.Answer.{Answer}
 use Rattle.series_rules.specs.declared.requests.Request.{Request}
 use Rattle.store_rows.specs.ContentLemmas.{keeps_by_content}
 use Rattle.store_rows.specs.Desks.{AreRowsOf, IsAsked, IsQuestioned, KeepsRequests, changes}
-use Rattle.desk_store.specs.Openings.{AreFilesOf, IsReady, ShowsOnly}
+use Rattle.desk_store.specs.Openings.{HoldRowsOf, IsReady, ShowsOnly}
 use Rattle.desk_store.specs.Openings as openings
 use Rattle.desk_stops.specs.Connections.{is_question, storage}
 use Rattle.desk_stops.specs.Clauses.{ClosingsAreEvents, IsEvent, IsQuestionEvent, OpeningsAreEvents, QuestionsAreEvents, RequestsAreEvents, StopsAreEvents, UnaskedAreEvents}
@@ -138,21 +138,17 @@ module _ {Store : Type 0} (g : Ghosts Store) (rules : List Rule) where
 
 module _ {D : Type 0} (g : disk.Ghosts D) (rules : List Rule) where
   closed : (old opened : Held (FileStore D g)) (files : Files D) → (HasCleanDisk (file_state opened) → IsOpened opened) → (HasCleanDisk (file_state opened) → Finds files opened)
-      → (AreClean g files.log files.db → (L : List Request) → KeepsRequests (file_state old) L → AreFilesOf (image_of g files) L)
+      → (AreClean g files.log files.db → (L : List Request) → KeepsRequests (file_state old) L → HoldRowsOf (image_of g files) L)
       → HasCleanDisk (file_state opened) → Closes (storage (over_files {g = g}) rules) old (file_state opened).now.trees
   closed old opened files shown finds holds sound L stands = go (holds (finds sound).honest L stands)
     where
       trees : (file_state opened).committed.trees ≡ (file_state opened).now.trees
       trees = sym (ap (λ (db : Database). db.trees) (shown sound).0.clean)
 
-      go : AreFilesOf (image_of g files) L → IsFoundFor (storage (over_files {g = g}) rules) (file_state opened).now.trees L
-      go (inl (held, both, rows)) =
+      go : HoldRowsOf (image_of g files) L → IsFoundFor (storage (over_files {g = g}) rules) (file_state opened).now.trees L
+      go (held, both, rows) =
           let same : (file_state opened).committed.trees ≡ held = ∥∥₁_elim both (Trees-set _ _) ((finds sound).holds held) in
           inl (subst (λ (d : Trees). AreRowsOf d L) (sym same ∙ trees) rows)
-      go (inr (empty, none)) =
-          let live : IsDatabase (file_state opened).now = ((shown sound).1 (shown sound).0.is_open).0 in
-          let found : AreFoundIn (image_of g files) (file_state opened).now.trees = subst (AreFoundIn (image_of g files)) trees (finds sound).reads in
-          inr (((file_state opened).now, refl, (empty (file_state opened).now live found, live)), none)
 
   pub closings_are_events : ClosingsAreEvents g rules
   closings_are_events = record { ok = closed; stop = λ old last it left leaves. it.quiet.outcomes left leaves }

@@ -33,7 +33,7 @@ use Rattle.series_rules.specs.declared.answers.WaiveAnswer.{WaiveAnswer}
 use Rattle.series_rules.specs.declared.requests.Request.{Request}
 use Rattle.series_rules.specs.declared.requests.Request.TheVariants.{Agree, Deliver, Waive, AskPrice, AskChoice, AskCalendar, AskGaps, AskCatalogue}
 use Rattle.store_rows.specs.Desks.{AreRowsOf, IsAsked, IsQuestioned, KeepsRequests}
-use Rattle.desk_store.specs.Openings.{AreFilesOf, IsReady}
+use Rattle.desk_store.specs.Openings.{AreFilesOf, HoldRowsOf, IsReady}
 use Rattle.desk_store.specs.declared.opening.OpenFault.{OpenFault}
 use Rattle.desk_stops.specs.Connections.{is_question, storage}
 use Rattle.desk_stops.specs.Events.{Stop, Open, Closed}
@@ -97,7 +97,7 @@ module _ {D : Type 0} (g : disk.Ghosts D) (rules : List Rule) where
   pub record ClosingsAreEvents : Type 0 where
     -- where the next opening is of these files
     pub ok : (old opened : Held (FileStore D g)) (files : Files D) → (HasCleanDisk (file_state opened) → IsOpened opened) → (HasCleanDisk (file_state opened) → Finds files opened)
-        → (AreClean g files.log files.db → (L : List Request) → KeepsRequests (file_state old) L → AreFilesOf (image_of g files) L)
+        → (AreClean g files.log files.db → (L : List Request) → KeepsRequests (file_state old) L → HoldRowsOf (image_of g files) L)
         → HasCleanDisk (file_state opened) → Closes (storage over_files rules) old (file_state opened).now.trees
     -- a closing that failed, or that a stop came into, is a stop: it leaves what a stop before it may leave
     pub stop : (old : Held (FileStore D g)) (last : FileStore D g) → IsClosed old last → (left : Trees) → recovers last left → Steps (storage over_files rules) (Open old) Stop (Closed left)

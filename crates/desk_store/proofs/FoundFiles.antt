@@ -16,8 +16,10 @@ use Rattle.desk_rows.specs.Transactions.{IsEmptied}
 use Rattle.series_rules.specs.declared.requests.Request.{Request}
 use Rattle.store_rows.specs.Desks.{AreRowsOf, KeepsRequests}
 use Rattle.desk_store.specs.Migrations.{AreFilesOfEither, IsOfRequests, IsTrueAnswer}
-use Rattle.desk_store.specs.Openings.{AreEmptyFiles, AreFilesOf, AreFilesWith, HoldsAny, IsFoundFor, IsReady, ShowsOnly}
+use Rattle.desk_store.specs.Openings.{AreEmptyFiles, AreFilesOf, AreFilesWith, HasNoMeta, HoldRowsOf, HoldsAny, IsFoundFor, IsReady, LeavesOne, ShowsOnly, TellsFiles, TellsFound}
 use Rattle.desk_store.specs.declared.migrating.MigrateAnswer.{MigrateAnswer}
+use Rattle.desk_store.specs.declared.opening.OpenFault.{OpenFault}
+use Rattle.desk_store.proofs.FoundTables.{no_meta}
 
 -- a connection that was just opened
 pub opened_shows : (s : State) → Opens s → ShowsOnly s.now s
@@ -25,6 +27,10 @@ opened_shows s opens = λ up. (opens.autocommit, refl, sym opens.clean)
 
 pub new_stands : (s0 s1 : State) → Opens s0 → s0.now.schema ≡ schema_0 → IsReady s0 s1 (Ok tt) → HasCleanDisk s1 → KeepsRequests s1 []
 new_stands s0 s1 opens empty ready clean = ready.ok clean s0.now (opened_shows s0 opens) [] (inr (record { schema_is = empty; empty = tt }, refl))
+
+-- a connection to nothing has no version
+pub new_none : (s : State) → Opens s → s.now.schema ≡ schema_0 → HasNoMeta s
+new_none s opens empty = (s.now, opened_shows s opens, no_meta s.now (record { schema_is = empty; empty = tt }))
 
 -- a law of the tables
 abbrev SameTrees : (Database → DeskRows → Type 0) → Type 0
@@ -66,8 +72,23 @@ module _ (image : Image) (s0 s1 : State) (opened : HasCleanDisk s0 → Opens s0 
         made = λ empty. is.made (found_empty clean empty);
       }
 
-  pub files_with : {P : Type 0} → HasCleanDisk s0 → (rows : DeskRows) → AreFilesWith image rows → ((db : Database) → ShowsOnly db s0 → HoldsAny db rows → P) → P
-  files_with clean rows are then = then s0.now (opened_shows s0 (opened clean).0) (found_with clean rows are)
+  -- a fault that is true of the database that was found is true of the files
+  pub files_tell : (IsTrueOf : DeskRows → OpenFault → Type 0) (left : Trees → Type 0) (fault : OpenFault) → HasCleanDisk s0
+      → (IsTrue s0.is_open → TellsFound IsTrueOf (λ db. ShowsOnly db s0) (LeavesOne left) (HasNoMeta s0) fault) → TellsFiles IsTrueOf image left fault
+  files_tell IsTrueOf left fault clean of_open = record {
+    version = λ db both rows any. tells.version s0.now only rows (found_any db both rows any);
+    stays = λ db both rows any other d may. tells.stays s0.now only rows (found_any db both rows any) other d may ∙ same_trees clean db.trees both;
+    none = λ empty. tells.none (s0.now, only, no_meta s0.now (found_empty clean empty));
+  }
+    where
+      only : ShowsOnly s0.now s0
+      only = opened_shows s0 (opened clean).0
+
+      tells : TellsFound IsTrueOf (λ db. ShowsOnly db s0) (LeavesOne left) (HasNoMeta s0) fault
+      tells = of_open (opened clean).0.is_open
+
+      found_any : (db : Database) → ∥ HoldsDatabase image db.trees ∥₁ → (rows : DeskRows) → HoldsAny db rows → HoldsAny s0.now rows
+      found_any db both rows any = found_with clean rows (db, both, any)
 
   pub files_stand : IsReady s0 s1 (Ok tt) → HasCleanDisk s1 → (L : List Request) → AreFilesOf image L → KeepsRequests s1 L
   files_stand ready clean L are = let clean0 = ready.premise clean in ready.ok clean s0.now (opened_shows s0 (opened clean0).0) L (found_for clean0 L are)
@@ -76,8 +97,8 @@ module _ (image : Image) (s0 s1 : State) (opened : HasCleanDisk s0 → Opens s0 
   files_alone ready clean L are = let clean0 = ready.premise clean in ready.alone clean s0.now (opened_shows s0 (opened clean0).0) L (found_for clean0 L are)
 
 -- files that were closed
-pub closed_hold : (image : Image) (s : State) (L : List Request) → IsTrue s.is_open → ∥ HoldsDatabase image s.committed.trees ∥₁ → KeepsRequests s L → AreFilesOf image L
-closed_hold image s L up both keeps = inl (s.committed.trees, both, (s.committed, refl, (keeps up).2))
+pub closed_hold : (image : Image) (s : State) (L : List Request) → IsTrue s.is_open → ∥ HoldsDatabase image s.committed.trees ∥₁ → KeepsRequests s L → HoldRowsOf image L
+closed_hold image s L up both keeps = (s.committed.trees, both, (s.committed, refl, (keeps up).2))
 
 -- a store that is clean was clean
 pub still_clean : (s : State) (b : Bool) → doubt s.is_clean ≤ doubt b → IsTrue b → HasCleanDisk s

@@ -18,8 +18,9 @@ use Rattle.desk_rows.specs.Transactions.{IsEmptied}
 use Rattle.onix_message.specs.declared.agreement.StoreFault.{StoreFault}
 use Rattle.series_rules.specs.declared.requests.Request.{Request}
 use Rattle.store_rows.specs.Desks.{AreRowsOf, HoldsRequests, KeepsRequests}
-use Rattle.desk_store.specs.Openings.{IsCreated, IsFoundFor, IsKnown, IsReady, IsVersionRead, ShowsOnly}
+use Rattle.desk_store.specs.Openings.{HasNoMeta, IsCreated, IsFaultFor, IsFoundFor, IsKnown, IsReady, IsVersionRead, LeavesOne, ShowsOnly, StaysShown, TellsFound}
 use Rattle.store_rows.specs.Stands.{StandsFor}
+use Rattle.desk_store.specs.declared.opening.OpenFault.{OpenFault}
 use Rattle.desk_store.specs.declared.opening.OpenFault.TheVariants.{Store, OtherVersion}
 
 -- ---- tables without requests
@@ -54,11 +55,42 @@ known_if_found db L (inr none) = inl (no_meta db none.0)
 pub keeps_found : (db : Database) (L : List Request) (s : State) → ShowsOnly db s → HoldsRequests db L → KeepsRequests s L
 keeps_found db L s only held = λ up. let is = only up in (is.0, subst (λ d. HoldsRequests d L) (sym is.1) held, subst (λ d. HoldsRequests d L) (sym is.2) held)
 
--- ---- ready
+-- a fault of the store, which is true of everything
+pub tells_store : (IsTrueOf : DeskRows → OpenFault → Type 0) (Found Stays : Database → Type 0) (HasNone : Type 0) (e : StoreFault) → ((rows : DeskRows) → IsTrueOf rows (Store e))
+    → TellsFound IsTrueOf Found Stays HasNone (Store e)
+tells_store IsTrueOf Found Stays HasNone e always = record {
+  version = λ db found rows any. always rows;
+  stays = λ db found rows any other. absurd other;
+  none = λ none other. other;
+}
+
+-- the version that was read
+pub tells_other : (IsTrueOf : DeskRows → OpenFault → Type 0) (s0 s1 : State) (found : ℕ) → IsVersionRead s0 s1 (Ok (Some found)) → HasCleanDisk s1
+    → ((rows : DeskRows) → version_in rows ≡ Some found → IsTrueOf rows (OtherVersion found))
+    → TellsFound IsTrueOf (λ db. ShowsOnly db s0) (StaysShown s0 s1) (HasNoMeta s0) (OtherVersion found)
+tells_other IsTrueOf s0 s1 found read clean is_true = record {
+  version = λ db only rows any. is_true rows (sym (read.present clean db only rows any));
+  stays = λ db only rows any other. (read.left clean db only (inr (rows, any)), read.crash clean db only (inr (rows, any)));
+  none = λ (db, only, no_table) other. some_none (read.absent clean db only no_table);
+}
+  where
+    some_none : ◌≡◌ {A = Option ℕ} (Some found) None → ⊥
+    some_none e = absurd cc
 
 -- while the connection is open, a crash leaves what was committed
 abbrev pub IsSettled : State → Type 0
 IsSettled s = (d : Trees) → IsTrue s.is_open → s.may_leave d → d ≡ s.committed.trees
+
+-- what stays is all that a crash leaves of a connection that was just opened
+pub tells_left : (IsTrueOf : DeskRows → OpenFault → Type 0) (s0 s1 : State) (left : Trees → Type 0) (fault : OpenFault) → IsSettled s0 → ((d : Trees) → left d → s1.may_leave d) → IsTrue s0.is_open
+    → TellsFound IsTrueOf (λ db. ShowsOnly db s0) (StaysShown s0 s1) (HasNoMeta s0) fault → TellsFound IsTrueOf (λ db. ShowsOnly db s0) (LeavesOne left) (HasNoMeta s0) fault
+tells_left IsTrueOf s0 s1 left fault settled leaves up tells = record {
+  version = tells.version;
+  stays = λ db only rows any other d may. settled d up ((tells.stays db only rows any other).1 d (leaves d may)) ∙ ap (λ (x : Database). x.trees) (only up).2;
+  none = tells.none;
+}
+
+-- ---- ready
 
 -- the tables are of version 2
 pub ready_as_found : (s0 s1 : State) → IsSettled s0 → IsVersionRead s0 s1 (Ok (Some 2)) → IsReady s0 s1 (Ok tt)
@@ -66,7 +98,7 @@ ready_as_found s0 s1 settled read = record {
   premise = read.premise;
   ok = λ clean db only L found. held db L s1 (read.left clean db only (known_if_found db L found)) (here clean db only L found);
   err = λ clean db only L found. tt;
-  fault = λ clean db only rows any. tt;
+  fault = λ clean. tt;
   crash = λ clean db only L found d may. inl (read.crash clean db only (known_if_found db L found) d may);
   alone = λ clean db only L found. λ d may.
       let up = read.was_open clean in
@@ -90,7 +122,7 @@ ready_other s0 s1 found other read = record {
   premise = read.premise;
   ok = λ clean db only L it. tt;
   err = λ clean db only L it. read.left clean db only (known_if_found db L it);
-  fault = λ clean db only rows any. (sym (read.present clean db only rows any), other);
+  fault = λ clean. tells_other IsFaultFor s0 s1 found read clean (λ rows is. (is, other));
   crash = λ clean db only L it d may. inl (read.crash clean db only (known_if_found db L it) d may);
   alone = λ clean db only L it. tt;
 }
@@ -100,7 +132,7 @@ ready_unread s0 s1 e read = record {
   premise = read.premise;
   ok = λ clean db only L it. tt;
   err = λ clean db only L it. read.left clean db only (known_if_found db L it);
-  fault = λ clean db only rows any. tt;
+  fault = λ clean. tells_store IsFaultFor (λ db. ShowsOnly db s0) (StaysShown s0 s1) (HasNoMeta s0) e (λ rows. tt);
   crash = λ clean db only L it d may. inl (read.crash clean db only (known_if_found db L it) d may);
   alone = λ clean db only L it. tt;
 }
@@ -139,7 +171,7 @@ module _ (s0 s1 s2 : State) (read : IsVersionRead s0 s1 (Ok None)) where
     premise = λ clean. read.premise (created.premise clean);
     ok = λ clean db only L it. (now clean db only L it).1;
     err = λ clean db only L it. tt;
-    fault = λ clean db only rows any. tt;
+    fault = λ clean. tt;
     crash = crash_here (Ok tt) created;
     alone = λ clean db only L it. λ d may.
         let done = now clean db only L it in
@@ -162,7 +194,7 @@ module _ (s0 s1 s2 : State) (read : IsVersionRead s0 s1 (Ok None)) where
     err = λ clean db only L it.
         let clean1 = created.premise clean in
         created.err clean db (left_here clean1 db only L it) (emptied_here clean1 db only L it).0;
-    fault = λ clean db only rows any. tt;
+    fault = λ clean. tells_store IsFaultFor (λ db. ShowsOnly db s0) (StaysShown s0 s2) (HasNoMeta s0) e (λ rows. tt);
     crash = crash_here (Err e) created;
     alone = λ clean db only L it. tt;
   }

@@ -1,20 +1,21 @@
 -- What bringing the tables to version 2 leaves, against the lists of requests.
 use Rattle.std.proofs.Common.{◌≡◌, ◌⊎◌, inl, inr, ℕ, List, [], Option, Some, None, Ok, Err, Result, refl, sym, ap, ◌∙◌}
-use Rattle.std.specs.Prelude.{⊤}
+use Rattle.std.specs.Prelude.{true, IsSome, ⊤}
+use Rattle.std.specs.List.{list_any}
 use Rattle.sqlite.specs.Effect.{Database}
 use Rattle.sqlite.specs.State.{State, HasCleanDisk}
 use Rattle.sqlite_trees.specs.Tree.{Trees}
 use Rattle.desk_rows.specs.Rows.{DeskRows, Holds, HoldsFirst, first_rows, with_version}
-use Rattle.desk_rows.specs.Schema.{schema_0}
+use Rattle.desk_rows.specs.Schema.{is_meta, schema_0}
 use Rattle.desk_rows.specs.Transactions.{IsEmptied}
 use Rattle.onix_message.specs.declared.agreement.StoreFault.{StoreFault}
 use Rattle.series_rules.specs.declared.requests.Request.{Request}
 use Rattle.store_rows.specs.Desks.{AreRowsOf, HoldsRequests}
-use Rattle.desk_store.specs.Migrations.{HoldsFirstRequests, IsMigrated, IsOfRequests}
-use Rattle.desk_store.specs.Openings.{IsCreated, IsFoundFor, IsKnown, IsReady, IsVersionRead, MakesAll, ShowsOnly}
+use Rattle.desk_store.specs.Migrations.{HoldsFirstRequests, IsMigrated, IsMigrateFaultFor, IsOfRequests}
+use Rattle.desk_store.specs.Openings.{HasNoMeta, HoldsAny, IsCreated, IsFoundFor, IsKnown, IsReady, IsVersionRead, MakesAll, ShowsOnly, StaysShown}
 use Rattle.desk_store.specs.declared.migrating.MigrateAnswer.TheVariants.{Migrated, AlreadyTwo}
 use Rattle.desk_store.specs.declared.opening.OpenFault.TheVariants.{Store, OtherVersion}
-use Rattle.desk_store.proofs.FoundTables.{IsSettled, keeps_found, known_if_found, no_meta, ready_as_found, version_of_requests}
+use Rattle.desk_store.proofs.FoundTables.{IsSettled, keeps_found, known_if_found, no_meta, ready_as_found, tells_other, tells_store, version_of_requests}
 
 known_if_of : (db : Database) (L : List Request) → IsOfRequests db L → IsKnown db
 known_if_of db L (inl first) = inr (first.0, inr first.1)
@@ -25,6 +26,14 @@ some_is m n e = cc
 
 none_is : (n : ℕ) → ◌≡◌ {A = Option ℕ} None (Some n) → ⊥
 none_is n e = absurd cc
+
+-- a desk's tables tell a version
+has_meta : (db : Database) (rows : DeskRows) → HoldsAny db rows → list_any is_meta db.schema.tables ≡ true
+has_meta db rows (inl held) = rw held.schema refl
+has_meta db rows (inr held) = rw held.schema refl
+
+none_is_some : IsSome {T = ℕ} None → ⊥
+none_is_some e = absurd cc
 
 one_two : ◌≡◌ {A = ℕ} 1 2 → ⊥
 one_two e = absurd cc
@@ -52,7 +61,7 @@ migrated_already s0 s1 settled read = record {
     version = λ rows any. sym (read.present clean db only rows any);
     made = λ emptied. absurd (none_is 2 (sym (none_says s0 s1 (Some 2) read clean db only emptied)));
   };
-  fault = λ clean db only rows any. tt;
+  fault = λ clean. tt;
   crash = λ clean db only L of d may. inl (read.crash clean db only (known_if_of db L of) d may);
   alone = λ clean db only L of. ready.alone clean db only L (inl (held clean db only L of));
 }
@@ -72,7 +81,7 @@ migrated_other s0 s1 found not_one not_two read = record {
   ok = λ clean db only L of. tt;
   err = λ clean db only L of. read.left clean db only (known_if_of db L of);
   answer = λ clean db only. tt;
-  fault = λ clean db only rows any. (sym (read.present clean db only rows any), not_one, not_two);
+  fault = λ clean. tells_other IsMigrateFaultFor s0 s1 found read clean (λ rows is. (is, not_one, not_two));
   crash = λ clean db only L of d may. inl (read.crash clean db only (known_if_of db L of) d may);
   alone = λ clean db only L of. tt;
 }
@@ -83,7 +92,7 @@ migrated_unread s0 s1 e read = record {
   ok = λ clean db only L of. tt;
   err = λ clean db only L of. read.left clean db only (known_if_of db L of);
   answer = λ clean db only. tt;
-  fault = λ clean db only rows any. tt;
+  fault = λ clean. tells_store IsMigrateFaultFor (λ db. ShowsOnly db s0) (StaysShown s0 s1) (HasNoMeta s0) e (λ rows. tt);
   crash = λ clean db only L of d may. inl (read.crash clean db only (known_if_of db L of) d may);
   alone = λ clean db only L of. tt;
 }
@@ -123,10 +132,10 @@ module _ (s0 s1 s2 : State) (read : IsVersionRead s0 s1 (Ok (Some 1))) where
     answer = λ clean db only.
         let clean1 = (makes first_rows).premise clean in
         record {
-          version = λ rows any found is. sym (some_is 1 found (read.present clean1 db only rows any ∙ is));
+          version = λ rows any. sym (read.present clean1 db only rows any);
           made = λ emptied. refl;
         };
-    fault = λ clean db only rows any. tt;
+    fault = λ clean. tt;
     crash = first_crash (Ok tt) makes;
     alone = λ clean db only L of. λ d may.
         let now = made_now clean db only L of in
@@ -150,7 +159,7 @@ module _ (s0 s1 s2 : State) (read : IsVersionRead s0 s1 (Ok (Some 1))) where
         let first = first_here clean1 db only L of in
         (makes first.0).err clean db (first_left clean1 db only L of) first.1;
     answer = λ clean db only. tt;
-    fault = λ clean db only rows any. tt;
+    fault = λ clean. tells_store IsMigrateFaultFor (λ db. ShowsOnly db s0) (StaysShown s0 s2) (HasNoMeta s0) e (λ rows. tt);
     crash = first_crash (Err e) makes;
     alone = λ clean db only L of. tt;
   }
@@ -172,10 +181,10 @@ module _ (s0 s1 s2 : State) (read : IsVersionRead s0 s1 (Ok None)) where
     ok = λ clean db only L of. ready.ok clean db only L (found_here (created.premise clean) db only L of);
     err = λ clean db only L of. tt;
     answer = λ clean db only. record {
-      version = λ rows any found is. absurd (none_is found (read.present (created.premise clean) db only rows any ∙ is));
+      version = λ rows any. absurd (none_is_some (read.some (created.premise clean) db only (has_meta db rows any)));
       made = λ emptied. refl;
     };
-    fault = λ clean db only rows any. tt;
+    fault = λ clean. tt;
     crash = λ clean db only L of. ready.crash clean db only L (found_here (created.premise clean) db only L of);
     alone = λ clean db only L of. ready.alone clean db only L (found_here (created.premise clean) db only L of);
   }
@@ -186,7 +195,7 @@ module _ (s0 s1 s2 : State) (read : IsVersionRead s0 s1 (Ok None)) where
     ok = λ clean db only L of. tt;
     err = λ clean db only L of. ready.err clean db only L (found_here (created.premise clean) db only L of);
     answer = λ clean db only. tt;
-    fault = λ clean db only rows any. tt;
+    fault = λ clean. tells_store IsMigrateFaultFor (λ db. ShowsOnly db s0) (StaysShown s0 s2) (HasNoMeta s0) e (λ rows. tt);
     crash = λ clean db only L of. ready.crash clean db only L (found_here (created.premise clean) db only L of);
     alone = λ clean db only L of. tt;
   }

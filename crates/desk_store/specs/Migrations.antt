@@ -10,7 +10,7 @@ use Rattle.desk_rows.specs.Schema.{schema_0}
 use Rattle.desk_rows.specs.Transactions.{IsEmptied}
 use Rattle.series_rules.specs.declared.requests.Request.{Request}
 use Rattle.store_rows.specs.Desks.{AreRowsOf, KeepsRequests}
-use Rattle.desk_store.specs.Openings.{AreFilesOf, HoldsAny, IsFoundFor, ShowsOnly}
+use Rattle.desk_store.specs.Openings.{AreFilesOf, HasNoMeta, HoldsAny, IsFoundFor, ShowsOnly, StaysShown, TellsFound}
 use Rattle.store_rows.specs.Stands.{StandsFor}
 use Rattle.desk_store.specs.declared.migrating.MigrateAnswer.{MigrateAnswer}
 use Rattle.desk_store.specs.declared.migrating.MigrateAnswer.TheVariants.{Migrated, AlreadyTwo}
@@ -27,7 +27,7 @@ IsOfRequests db L = HoldsFirstRequests db L ⊎ IsFoundFor db L
 
 -- the answer is true of the rows that were found
 abbrev pub IsAnswerFor : DeskRows → MigrateAnswer → Type 0
-IsAnswerFor rows Migrated = (found : ℕ) → version_in rows ≡ Some found → found ≡ 1
+IsAnswerFor rows Migrated = version_in rows ≡ Some 1
 IsAnswerFor rows AlreadyTwo = version_in rows ≡ Some 2
 
 -- The answer is true of what was found: a desk's tables with certain rows, or nothing.
@@ -46,7 +46,7 @@ pub record IsMigrated (old new : State) (result : Result MigrateAnswer OpenFault
   pub ok : HasCleanDisk new → (db : Database) → ShowsOnly db old → (L : List Request) → IsOfRequests db L → OnOk result (KeepsRequests new L)
   pub err : HasCleanDisk new → (db : Database) → ShowsOnly db old → (L : List Request) → IsOfRequests db L → OnErr result (ShowsOnly db new)
   pub answer : HasCleanDisk new → (db : Database) → ShowsOnly db old → IfOk result (IsTrueAnswer (HoldsAny db) (IsEmptied schema_0 db))
-  pub fault : HasCleanDisk new → (db : Database) → ShowsOnly db old → (rows : DeskRows) → HoldsAny db rows → IfErr result (IsMigrateFaultFor rows)
+  pub fault : HasCleanDisk new → IfErr result (TellsFound IsMigrateFaultFor (λ db. ShowsOnly db old) (StaysShown old new) (HasNoMeta old))
   -- a crash leaves what it could leave before, or the tables of those requests
   pub crash : HasCleanDisk new → (db : Database) → ShowsOnly db old → (L : List Request) → IsOfRequests db L → (d : Trees) → new.may_leave d → old.may_leave d ⊎ AreRowsOf d L
   -- once they are brought there, a crash leaves the rows of the requests and nothing else

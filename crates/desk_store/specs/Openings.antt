@@ -1,9 +1,12 @@
 -- What is found where a desk is opened, and what opening it leaves.
-use Rattle.std.specs.Prelude.{◌≡◌, ◌⊎◌, ℕ, false, List, [], Option, Some, None, Result, IfOk, IfErr, OnOk, OnErr, IsTrue, ⊤}
+use Rattle.std.specs.Prelude.{◌≡◌, ◌⊎◌, ℕ, true, false, List, [], Option, Some, None, Result, IfOk, IfErr, OnOk, OnErr, IsSome, IsTrue, ⊤}
 use Rattle.std.specs.List.{list_any}
 use Rattle.sqlite.specs.Effect.{Database, IsDatabase}
-use Rattle.sqlite.specs.Files.{AreFoundIn, HoldsDatabase}
+use Rattle.sqlite.specs.Files.{AreFoundIn, HoldsDatabase, over_files}
 use Rattle.sqlite.specs.State.{State, HasCleanDisk}
+use Rattle.sqlite.specs.declared.file.Leftover.{Leftover}
+use Rattle.sqlite.specs.declared.file.Leftover.TheVariants as leftover
+use Rattle.sqlite_disk.specs.declared.Disk as disk
 use Rattle.sqlite_trees.specs.Tree.{Trees}
 use Rattle.sqlite_wal.specs.Recovery.{Image}
 use Rattle.desk_rows.specs.Rows.{DeskRows, Holds, HoldsFirst, first_rows, version_in}
@@ -36,6 +39,7 @@ pub record IsVersionRead (old new : State) (result : Result (Option ℕ) StoreFa
   pub premise : HasCleanDisk new → HasCleanDisk old
   pub was_open : HasCleanDisk new → OnOk result (IsTrue old.is_open)
   pub absent : HasCleanDisk new → (db : Database) → ShowsOnly db old → list_any is_meta db.schema.tables ≡ false → IfOk result (λ version. version ≡ None)
+  pub some : HasCleanDisk new → (db : Database) → ShowsOnly db old → list_any is_meta db.schema.tables ≡ true → IfOk result (λ version. IsSome version)
   pub present : HasCleanDisk new → (db : Database) → ShowsOnly db old → (rows : DeskRows) → HoldsAny db rows → IfOk result (λ version. version ≡ version_in rows)
   pub left : HasCleanDisk new → (db : Database) → ShowsOnly db old → IsKnown db → ShowsOnly db new
   pub crash : HasCleanDisk new → (db : Database) → ShowsOnly db old → IsKnown db → (d : Trees) → new.may_leave d → old.may_leave d
@@ -57,12 +61,37 @@ abbrev pub IsFaultFor : DeskRows → OpenFault → Type 0
 IsFaultFor rows (Store fault) = ⊤
 IsFaultFor rows (OtherVersion found) = (version_in rows ≡ Some found) × ¬ (found ≡ 2)
 
+-- the fault is that another version was found
+abbrev pub IsOther : OpenFault → Type 0
+IsOther (Store fault) = ⊥
+IsOther (OtherVersion found) = ⊤
+
+-- A fault is true of what was found. Found: this is the database. Stays: it is there as before. HasNone: no table tells a version.
+pub record TellsFound (IsTrueOf : DeskRows → OpenFault → Type 0) (Found Stays : Database → Type 0) (HasNone : Type 0) (fault : OpenFault) : Type 0 where
+  pub version : (db : Database) → Found db → (rows : DeskRows) → HoldsAny db rows → IsTrueOf rows fault
+  -- what is of another version stays
+  pub stays : (db : Database) → Found db → (rows : DeskRows) → HoldsAny db rows → IsOther fault → Stays db
+  -- without a version the fault is one of the store
+  pub none : HasNone → ¬ IsOther fault
+
+-- the connection shows a database without a table `meta` of a desk
+abbrev pub HasNoMeta : State → Type 0
+HasNoMeta s = (db : Database) × ShowsOnly db s × (list_any is_meta db.schema.tables ≡ false)
+
+-- the database is shown as before, and a crash leaves what it could leave before
+abbrev pub StaysShown : State → State → Database → Type 0
+StaysShown old new db = ShowsOnly db new × ((d : Trees) → new.may_leave d → old.may_leave d)
+
+-- what a crash may leave is the database, and nothing else
+abbrev pub LeavesOne : (Trees → Type 0) → Database → Type 0
+LeavesOne left db = (d : Trees) → left d → d ≡ db.trees
+
 -- A connection that was just opened was made ready for a desk: what was found stands for the same requests.
 pub record IsReady (old new : State) (result : Result ⊤ OpenFault) : Type 0 where
   pub premise : HasCleanDisk new → HasCleanDisk old
   pub ok : HasCleanDisk new → (db : Database) → ShowsOnly db old → (L : List Request) → IsFoundFor db L → OnOk result (KeepsRequests new L)
   pub err : HasCleanDisk new → (db : Database) → ShowsOnly db old → (L : List Request) → IsFoundFor db L → OnErr result (ShowsOnly db new)
-  pub fault : HasCleanDisk new → (db : Database) → ShowsOnly db old → (rows : DeskRows) → HoldsAny db rows → IfErr result (IsFaultFor rows)
+  pub fault : HasCleanDisk new → IfErr result (TellsFound IsFaultFor (λ db. ShowsOnly db old) (StaysShown old new) (HasNoMeta old))
   -- a crash leaves what it could leave before, or the tables of no request where there were none
   pub crash : HasCleanDisk new → (db : Database) → ShowsOnly db old → (L : List Request) → IsFoundFor db L → (d : Trees) → new.may_leave d → old.may_leave d ⊎ AreRowsOf d L
   -- once it is ready, a crash leaves the rows of the requests and nothing else
@@ -74,10 +103,24 @@ pub record IsReady (old new : State) (result : Result ⊤ OpenFault) : Type 0 wh
 abbrev pub AreEmptyFiles : Image → Type 0
 AreEmptyFiles image = (db : Database) → IsDatabase db → AreFoundIn image db.trees → IsEmptied schema_0 db
 
+-- the two files hold the rows of what those requests come to
+abbrev pub HoldRowsOf : Image → List Request → Type 0
+HoldRowsOf image L = (trees : Trees) × ∥ HoldsDatabase image trees ∥₁ × AreRowsOf trees L
+
 -- The two files hold what those requests come to, or they hold an empty database and the requests are none.
 abbrev pub AreFilesOf : Image → List Request → Type 0
-AreFilesOf image L = ((trees : Trees) × ∥ HoldsDatabase image trees ∥₁ × AreRowsOf trees L) ⊎ (AreEmptyFiles image × (L ≡ []))
+AreFilesOf image L = HoldRowsOf image L ⊎ (AreEmptyFiles image × (L ≡ []))
 
 -- the files hold a desk's database, of version 2 or of version 1, with these rows
 abbrev pub AreFilesWith : Image → DeskRows → Type 0
 AreFilesWith image rows = (db : Database) × ∥ HoldsDatabase image db.trees ∥₁ × HoldsAny db rows
+
+-- what a crash may leave of a store that is left of files. Of files that no store was made of it may be anything
+abbrev pub left_in : {D : Type 0} → {g : disk.Ghosts D} → Leftover D g → Trees → Type 0
+left_in {g} (leftover.Files files) d = ⊤
+left_in {g} (leftover.Unopened files) d = ⊤
+left_in {g} (leftover.Store it) d = (over_files {g = g}).recovers it d
+
+-- a fault of opening two files is true of what they held. Left: what a crash may then leave of them
+abbrev pub TellsFiles : (DeskRows → OpenFault → Type 0) → Image → (Trees → Type 0) → OpenFault → Type 0
+TellsFiles IsTrueOf image left fault = TellsFound IsTrueOf (λ db. ∥ HoldsDatabase image db.trees ∥₁) (LeavesOne left) (AreEmptyFiles image) fault

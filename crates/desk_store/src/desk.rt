@@ -1,7 +1,6 @@
 // The desk in a SQLite file.
 
-ghost use Rattle.std.specs.Prelude.{◌≡◌, ◌↔◌, [], List, IfOk, IfErr, IfSome, IsTrue, Ok, Err};
-ghost use Rattle.sqlite.specs.Effect.{Database};
+ghost use Rattle.std.specs.Prelude.{◌≡◌, ◌↔◌, [], List, IfOk, IfErr, IfSome, IsTrue, None, Ok, Err};
 ghost use Rattle.sqlite.specs.Files.{file_state, image_of, IsCleanLeft, IsClosed};
 ghost use Rattle.sqlite.specs.Held.{state};
 ghost use Rattle.sqlite.specs.State.{HasCleanDisk};
@@ -10,8 +9,7 @@ ghost use Rattle.sqlite_trees.specs.Tree.{Trees};
 ghost use Rattle.sqlite_wal.specs.Files.{image_at};
 ghost use Rattle.sqlite_wal.specs.Reads.{AreClean};
 ghost use Rattle.store_rows.specs.Desks.{AreRowsOf, IsAsked, IsQuestioned, KeepsRequests};
-ghost use Rattle.desk_store.specs.Openings.{AreFilesOf, AreFilesWith, HoldsAny, IsFaultFor, IsReady, ShowsOnly};
-ghost use Rattle.desk_rows.specs.Rows.{DeskRows};
+ghost use Rattle.desk_store.specs.Openings.{AreFilesOf, HasNoMeta, HoldRowsOf, IsFaultFor, IsOther, IsReady, LeavesOne, ShowsOnly, TellsFiles, TellsFound, left_in};
 ghost use Rattle.series_rules.specs.Answers.{agree_answer, catalogue_answer, delivery_answer, gaps_answer, waive_answer};
 ghost use Rattle.series_rules.specs.Offers.{offers_after};
 ghost use Rattle.series_rules.specs.declared.requests.Request.{Request};
@@ -39,7 +37,7 @@ use std::rt::HostRuntime;
 
 /// A desk in a SQLite file. Each agreement, delivery and waiver is a transaction: once it is
 /// answered, a crash leaves all of it, and before that all of it or nothing. After a fault the desk
-/// stands for what it did. All this rests on a clean disk.
+/// stands for what it stood for before. All this rests on a clean disk.
 #[derive(Drop)]
 pub struct DeskStore<S: Alter> {
     alloc: Global,
@@ -50,7 +48,7 @@ impl<S: Alter + Drop> DeskStore<S> {
     // The desk over a connection that was just opened, or its store beside the fault.
     fn over(alloc: Global, connection: Connection<S>) -> Result<DeskStore<S>, (OpenFault, S)>
         ensures ok { IfOk result (λ d. IsReady (state S.Store connection) (state S.Store d.tables.connection) (Ok tt)) }
-        ensures fault { IfErr result (λ e. IsTrue (S.Store.view e.1).is_clean → HasCleanDisk (state S.Store connection) × ((db : Database) → ShowsOnly db (state S.Store connection) → (rows : DeskRows) → HoldsAny db rows → IsFaultFor rows e.0)) }
+        ensures fault { IfErr result (λ e. IsTrue (S.Store.view e.1).is_clean → HasCleanDisk (state S.Store connection) × (IsTrue (state S.Store connection).is_open → TellsFound IsFaultFor (λ db. ShowsOnly db (state S.Store connection)) (LeavesOne (S.Store.recovers e.1)) (HasNoMeta (state S.Store connection)) e.0)) }
     {
         let mut tables = Tables::new(connection);
         match prepare(&mut tables) {
@@ -80,6 +78,7 @@ impl DeskStore<MemStore> {
     /// A desk whose tables are in memory. It has seen no request.
     pub fn open_in_memory(alloc: Global) -> Result<DeskStore<MemStore>, OpenFault>
         ensures stands { IfOk result (λ d. KeepsRequests (state over_memory d.tables.connection) []) }
+        ensures fault { IfErr result (λ e. ¬ IsOther e) }
     {
         let connection = match Connection::open_in_memory(alloc) {
             Ok(connection) => connection,
@@ -100,7 +99,7 @@ impl<D: Disk + Drop> DeskStore<FileStore<D>> {
         connection: Connection<FileStore<D>>,
     ) -> Result<DeskStore<FileStore<D>>, (OpenFault, Leftover<D>)>
         ensures ok { IfOk result (λ d. IsReady (file_state connection) (file_state d.tables.connection) (Ok tt)) }
-        ensures fault { IfErr result (λ e. IsCleanLeft e.1 → HasCleanDisk (file_state connection) × ((db : Database) → ShowsOnly db (file_state connection) → (rows : DeskRows) → HoldsAny db rows → IsFaultFor rows e.0)) }
+        ensures fault { IfErr result (λ e. IsCleanLeft e.1 → HasCleanDisk (file_state connection) × (IsTrue (file_state connection).is_open → TellsFound IsFaultFor (λ db. ShowsOnly db (file_state connection)) (LeavesOne (left_in e.1)) (HasNoMeta (file_state connection)) e.0)) }
     {
         match DeskStore::over(alloc, connection) {
             Ok(desk) => Ok(desk),
@@ -110,8 +109,8 @@ impl<D: Disk + Drop> DeskStore<FileStore<D>> {
 
     /// The desk in two files, the database and its log. What they hold stands; in an empty database
     /// the tables are made. A database without a table `meta` of a desk counts as empty, and is
-    /// `Unusable` where one of the desk's tables is there. A fault comes with what is left of the
-    /// files.
+    /// `Unusable` where one of the desk's tables is there. Tables of another version are
+    /// `OtherVersion`, and stay. A fault comes with what is left of the files.
     pub fn open_files(
         alloc: Global,
         files: Files<D>,
@@ -121,7 +120,7 @@ impl<D: Disk + Drop> DeskStore<FileStore<D>> {
         requires db { IsTrue (D.Disk.is_usable files.db) }
         ensures stands { IfOk result (λ d. HasCleanDisk (file_state d.tables.connection) → (L : List Request) → AreFilesOf (image_of D.Disk files) L → KeepsRequests (file_state d.tables.connection) L) }
         ensures alone { IfOk result (λ d. HasCleanDisk (file_state d.tables.connection) → (L : List Request) → AreFilesOf (image_of D.Disk files) L → (left : Trees) → (file_state d.tables.connection).may_leave left → AreRowsOf left L) }
-        ensures fault { IfErr result (λ e. IsCleanLeft e.1 → (rows : DeskRows) → AreFilesWith (image_of D.Disk files) rows → IsFaultFor rows e.0) }
+        ensures fault { IfErr result (λ e. IsCleanLeft e.1 → TellsFiles IsFaultFor (image_of D.Disk files) (left_in e.1) e.0) }
     {
         same_trees_hold_the_same_rows();
         let connection = match Connection::open_files(alloc, files, options) {
@@ -138,7 +137,7 @@ impl<D: Disk + Drop> DeskStore<FileStore<D>> {
     /// with what is left of the files: a crash then leaves of them what it could leave before.
     pub fn close_files(self) -> Result<Files<D>, (StoreFault, FileStore<D>)>
         ensures usable { IfOk result (λ files. IsTrue (D.Disk.is_usable files.log) × IsTrue (D.Disk.is_usable files.db)) }
-        ensures holds { IfOk result (λ files. AreClean D.Disk files.log files.db → (L : List Request) → KeepsRequests (file_state self.tables.connection) L → AreFilesOf (image_of D.Disk files) L) }
+        ensures holds { IfOk result (λ files. AreClean D.Disk files.log files.db → (L : List Request) → KeepsRequests (file_state self.tables.connection) L → HoldRowsOf (image_of D.Disk files) L) }
         ensures left { IfErr result (λ e. IsClosed self.tables.connection e.1) }
     {
         let DeskStore { alloc: _, tables } = self;
@@ -160,7 +159,8 @@ impl<S: Start> DeskStore<FileStore<FileFrom<S>>> {
     ) -> Result<DeskStore<FileStore<FileFrom<S>>>, (OpenFault, Option<Leftover<FileFrom<S>>>)>
         ensures stands { IfOk result (λ d. HasCleanDisk (file_state d.tables.connection) → (L : List Request) → AreFilesOf (image_at S.Start) L → KeepsRequests (file_state d.tables.connection) L) }
         ensures alone { IfOk result (λ d. HasCleanDisk (file_state d.tables.connection) → (L : List Request) → AreFilesOf (image_at S.Start) L → (left : Trees) → (file_state d.tables.connection).may_leave left → AreRowsOf left L) }
-        ensures fault { IfErr result (λ e. IfSome e.1 (λ left. IsCleanLeft left → (rows : DeskRows) → AreFilesWith (image_at S.Start) rows → IsFaultFor rows e.0)) }
+        ensures fault { IfErr result (λ e. IfSome e.1 (λ left. IsCleanLeft left → TellsFiles IsFaultFor (image_at S.Start) (left_in left) e.0)) }
+        ensures unopened { IfErr result (λ e. e.1 ≡ None → ¬ IsOther e.0) }
     {
         same_trees_hold_the_same_rows();
         let connection = match Connection::open_from(rt, path, false, start) {

@@ -1,6 +1,6 @@
 // A desk's tables brought from version 1 to version 2.
 
-ghost use Rattle.std.specs.Prelude.{◌≡◌, List, Err, IfErr, IfOk, IfSome, IsTrue, Ok};
+ghost use Rattle.std.specs.Prelude.{◌≡◌, List, Err, IfErr, IfOk, IfSome, IsTrue, None, Ok};
 ghost use Rattle.sqlite.specs.Effect.{Database};
 ghost use Rattle.sqlite.specs.Files.{file_state, image_of, IsCleanLeft};
 ghost use Rattle.sqlite.specs.Held.{state};
@@ -11,7 +11,7 @@ ghost use Rattle.desk_rows.specs.Rows.{DeskRows, Holds, HoldsFirst, with_version
 ghost use Rattle.desk_rows.specs.Schema.{schema_0};
 ghost use Rattle.desk_rows.specs.Transactions.{IsEmptied};
 ghost use Rattle.desk_store.specs.Migrations.{AreFilesOfEither, IsMigrateFaultFor, IsMigrated, IsOfRequests, IsTrueAnswer};
-ghost use Rattle.desk_store.specs.Openings.{AreEmptyFiles, AreFilesOf, AreFilesWith, HoldsAny, MakesAll, ShowsOnly};
+ghost use Rattle.desk_store.specs.Openings.{AreEmptyFiles, AreFilesWith, HasNoMeta, HoldRowsOf, HoldsAny, IsOther, LeavesOne, MakesAll, ShowsOnly, TellsFiles, TellsFound, left_in};
 ghost use Rattle.series_rules.specs.declared.requests.Request.{Request};
 
 use crate::opening::{OpenFault, create_tables, read_version};
@@ -69,7 +69,7 @@ fn migrate_tables<S: Alter + Drop>(
     connection: Connection<S>,
 ) -> Result<(MigrateAnswer, Connection<S>), (OpenFault, S)>
     ensures ok { IfOk result (λ a. IsMigrated (state S.Store connection) (state S.Store a.1) (Ok a.0)) }
-    ensures fault { IfErr result (λ e. IsTrue (S.Store.view e.1).is_clean → HasCleanDisk (state S.Store connection) × ((db : Database) → ShowsOnly db (state S.Store connection) → (rows : DeskRows) → HoldsAny db rows → IsMigrateFaultFor rows e.0)) }
+    ensures fault { IfErr result (λ e. IsTrue (S.Store.view e.1).is_clean → HasCleanDisk (state S.Store connection) × (IsTrue (state S.Store connection).is_open → TellsFound IsMigrateFaultFor (λ db. ShowsOnly db (state S.Store connection)) (LeavesOne (S.Store.recovers e.1)) (HasNoMeta (state S.Store connection)) e.0)) }
 {
     let mut tables = Tables::new(connection);
     match bring_to_two(&mut tables) {
@@ -84,10 +84,10 @@ fn migrate_connection<D: Disk + Drop>(
 ) -> Result<(MigrateAnswer, Files<D>), (OpenFault, Leftover<D>)>
     ensures usable { IfOk result (λ a. IsTrue (D.Disk.is_usable a.1.log) × IsTrue (D.Disk.is_usable a.1.db)) }
     ensures clean { IfOk result (λ a. AreClean D.Disk a.1.log a.1.db → HasCleanDisk (file_state connection)) }
-    ensures holds { IfOk result (λ a. AreClean D.Disk a.1.log a.1.db → (db : Database) → ShowsOnly db (file_state connection) → (L : List Request) → IsOfRequests db L → AreFilesOf (image_of D.Disk a.1) L) }
+    ensures holds { IfOk result (λ a. AreClean D.Disk a.1.log a.1.db → (db : Database) → ShowsOnly db (file_state connection) → (L : List Request) → IsOfRequests db L → HoldRowsOf (image_of D.Disk a.1) L) }
     ensures clean_left { IfErr result (λ e. IsCleanLeft e.1 → HasCleanDisk (file_state connection)) }
     ensures answer { IfOk result (λ a. AreClean D.Disk a.1.log a.1.db → (db : Database) → ShowsOnly db (file_state connection) → IsTrueAnswer (HoldsAny db) (IsEmptied schema_0 db) a.0) }
-    ensures fault { IfErr result (λ e. IsCleanLeft e.1 → (db : Database) → ShowsOnly db (file_state connection) → (rows : DeskRows) → HoldsAny db rows → IsMigrateFaultFor rows e.0) }
+    ensures fault { IfErr result (λ e. IsCleanLeft e.1 → IsTrue (file_state connection).is_open → TellsFound IsMigrateFaultFor (λ db. ShowsOnly db (file_state connection)) (LeavesOne (left_in e.1)) (HasNoMeta (file_state connection)) e.0) }
 {
     match migrate_tables(connection) {
         Ok((answer, migrated)) => match migrated.close_files() {
@@ -110,9 +110,9 @@ pub fn migrate_files<D: Disk + Drop>(
     requires log { IsTrue (D.Disk.is_usable files.log) }
     requires db { IsTrue (D.Disk.is_usable files.db) }
     ensures usable { IfOk result (λ a. IsTrue (D.Disk.is_usable a.1.log) × IsTrue (D.Disk.is_usable a.1.db)) }
-    ensures holds { IfOk result (λ a. AreClean D.Disk a.1.log a.1.db → (L : List Request) → AreFilesOfEither (image_of D.Disk files) L → AreFilesOf (image_of D.Disk a.1) L) }
+    ensures holds { IfOk result (λ a. AreClean D.Disk a.1.log a.1.db → (L : List Request) → AreFilesOfEither (image_of D.Disk files) L → HoldRowsOf (image_of D.Disk a.1) L) }
     ensures answer { IfOk result (λ a. AreClean D.Disk a.1.log a.1.db → IsTrueAnswer (AreFilesWith (image_of D.Disk files)) (AreEmptyFiles (image_of D.Disk files)) a.0) }
-    ensures fault { IfErr result (λ e. IsCleanLeft e.1 → (rows : DeskRows) → AreFilesWith (image_of D.Disk files) rows → IsMigrateFaultFor rows e.0) }
+    ensures fault { IfErr result (λ e. IsCleanLeft e.1 → TellsFiles IsMigrateFaultFor (image_of D.Disk files) (left_in e.1) e.0) }
 {
     same_trees_hold_the_same_rows();
     let connection = match Connection::open_files(alloc, files, options) {
@@ -133,9 +133,10 @@ pub fn migrate<S: Start>(
     path: &str,
     start: S,
 ) -> Result<(MigrateAnswer, Files<FileFrom<S>>), (OpenFault, Option<Leftover<FileFrom<S>>>)>
-    ensures holds { IfOk result (λ a. AreClean ⟦<FileFrom<S> as Disk>⟧ a.1.log a.1.db → (L : List Request) → AreFilesOfEither (image_at S.Start) L → AreFilesOf (image_of ⟦<FileFrom<S> as Disk>⟧ a.1) L) }
+    ensures holds { IfOk result (λ a. AreClean ⟦<FileFrom<S> as Disk>⟧ a.1.log a.1.db → (L : List Request) → AreFilesOfEither (image_at S.Start) L → HoldRowsOf (image_of ⟦<FileFrom<S> as Disk>⟧ a.1) L) }
     ensures answer { IfOk result (λ a. AreClean ⟦<FileFrom<S> as Disk>⟧ a.1.log a.1.db → IsTrueAnswer (AreFilesWith (image_at S.Start)) (AreEmptyFiles (image_at S.Start)) a.0) }
-    ensures fault { IfErr result (λ e. IfSome e.1 (λ left. IsCleanLeft left → (rows : DeskRows) → AreFilesWith (image_at S.Start) rows → IsMigrateFaultFor rows e.0)) }
+    ensures fault { IfErr result (λ e. IfSome e.1 (λ left. IsCleanLeft left → TellsFiles IsMigrateFaultFor (image_at S.Start) (left_in left) e.0)) }
+    ensures unopened { IfErr result (λ e. e.1 ≡ None → ¬ IsOther e.0) }
 {
     same_trees_hold_the_same_rows();
     let connection = match Connection::open_from(rt, path, false, start) {

@@ -15,7 +15,7 @@ pub enum OpenFault {
     /// The store could not be opened, read or written.
     #[error("{0}")]
     Store(StoreFault),
-    /// The tables are those of another version, `found`, than 2.
+    /// The tables are of another version, `found`, than those that are taken: 2, and to migrate 1.
     #[error("other version {found}")]
     OtherVersion { found: u32 },
 }

@@ -20,7 +20,7 @@ ExchangeEnds rules may_give L sent stands was holds (Err (fault.Write status)) =
     IfSome sent (λ input. Served rules may_give L input stands (AppendsFront was holds) status)
 ExchangeEnds rules may_give L sent stands was holds (Err fault.Read) = stands L × Keeps was holds
 ExchangeEnds rules may_give L sent stands was holds (Err (fault.Memory taken)) =
-    IfSome sent (λ input. Unsent L input stands taken) × Keeps was holds
+    Unsent L sent stands taken × Keeps was holds
 
 -- the line of a connection: the status of its reply, or that none was sent whole
 abbrev pub line_of : Result ℕ HttpFault → List ℕ

@@ -5,13 +5,25 @@ use Rattle.desk_http.specs.Asks.{Asks}
 use Rattle.desk_http.specs.Exchange.{Served}
 use Rattle.desk_http.specs.ExchangeSteps.{reply_view}
 use Rattle.desk_http.specs.Writing.{AppendsFront}
-use Rattle.desk_http.proofs.ExchangeLemmas.{asked_once, fault_before, served, served_in_part}
+use Rattle.desk_http.proofs.ExchangeLemmas.{asked_once, fault_after, fault_before, fault_between, served, served_in_part}
 use Rattle.desk_http.proofs.KnownLemmas.{IfSome-map}
 use Rattle.desk_http.proofs.serve.serve_one.Goals as goal
 
 pub returns-in-Err-clause-memory : goal.returns-in-Err-clause-memory
 returns-in-Err-clause-memory g c L stands sound =
     fault_before c.in-Err.fault (g.R.Read.remaining c.args.reader.now) L (g.D.Desk.stands_for c.args.desk.now) stands c.in-Err.ensures.memory
+
+pub returns-in-Err-perform-clause-memory : goal.returns-in-Err-perform-clause-memory
+returns-in-Err-perform-clause-memory g c L stands sound =
+    fault_between c.args.precedence.now (IsFaultOf g.D.Desk.may_give) L c.in-Ok.wanted (g.D.Desk.stands_for c.perform.new.desk) c.in-Err-perform.fault (c.in-Err-perform.ensures.asked L stands sound)
+    (g.R.Read.remaining c.args.reader.now) c.in-Ok.ensures.asks
+
+pub returns-clause-memory : goal.returns-clause-memory
+returns-clause-memory g c L stands sound =
+    let reply = c.in-Ok-perform.reply in
+    fault_after c.args.precedence.now (IsFaultOf g.D.Desk.may_give) L c.in-Ok.wanted (g.D.Desk.stands_for c.perform.new.desk) (reply_view reply) reply.taken
+    (c.in-Ok-perform.ensures.asked L stands sound) c.in-Err-send.fault c.in-Err-send.ensures.memory
+    (g.R.Read.remaining c.args.reader.now) c.in-Ok.ensures.asks
 
 pub returns-in-Ok-send-clause-ok : goal.returns-in-Ok-send-clause-ok
 returns-in-Ok-send-clause-ok g c L stands sound =

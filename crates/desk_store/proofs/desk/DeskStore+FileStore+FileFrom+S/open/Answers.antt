@@ -1,6 +1,7 @@
 use Rattle.sqlite.specs.Files.{file_state}
 use Rattle.sqlite_wal.specs.Files.{image_at}
-use Rattle.desk_store.proofs.FoundFiles.{files_alone, files_stand, files_with}
+use Rattle.desk_store.proofs.FoundFiles.{files_alone, files_stand, files_tell}
+use Rattle.desk_store.specs.Openings.{IsFaultFor}
 use Rattle.desk_store.proofs.desk.DeskStore+FileStore+FileFrom+S.open.Goals as goal
 
 pub returns-in-Ok-over_files-clause-stands : goal.returns-in-Ok-over_files-clause-stands
@@ -14,8 +15,8 @@ returns-in-Ok-over_files-clause-alone g c =
     (λ clean. (c.in-Ok.ensures.found clean).holds) (λ clean. (c.in-Ok.ensures.found clean).reads) c.same_trees_hold_the_same_rows.ensures.second c.same_trees_hold_the_same_rows.ensures.first c.in-Ok-over_files.ensures.ok
 
 pub returns-in-Err-over_files-clause-fault : goal.returns-in-Err-over_files-clause-fault
-returns-in-Err-over_files-clause-fault g c = λ clean rows are.
+returns-in-Err-over_files-clause-fault g c = λ clean.
     let known = c.in-Err-over_files.ensures.fault clean in
-    files_with (image_at g.S.Start) (file_state c.in-Ok.connection) (file_state c.in-Ok.connection) c.in-Ok.ensures.opened
+    files_tell (image_at g.S.Start) (file_state c.in-Ok.connection) (file_state c.in-Ok.connection) c.in-Ok.ensures.opened
     (λ clean. (c.in-Ok.ensures.found clean).holds) (λ clean. (c.in-Ok.ensures.found clean).reads) c.same_trees_hold_the_same_rows.ensures.second c.same_trees_hold_the_same_rows.ensures.first
-    known.0 rows are (λ db only any. known.1 db only rows any)
+    IsFaultFor _ _ known.0 known.1

@@ -4,7 +4,7 @@ ghost use Rattle.std.specs.Prelude.{◌≡◌, true, false, Err, None, Some, IsT
 ghost use Rattle.std.specs.List.{list_any};
 ghost use Rattle.sqlite.specs.Held.{state};
 ghost use Rattle.sqlite.specs.State.{HasCleanDisk};
-ghost use Rattle.desk_rows.specs.Schema.{is_meta, is_desk_table, first_schema, schema_0, schema_3, schema_6};
+ghost use Rattle.desk_rows.specs.Schema.{is_meta, is_desk_table, desk_schema, first_schema, schema_0, schema_3, schema_6};
 ghost use Rattle.desk_rows.specs.Rows.{DeskRows, Holds, HoldsFirst, first_rows, no_rows, version_in, unchanged};
 ghost use Rattle.desk_rows.specs.Transactions.{HasNoRows, IsEmptied, Makes, Works};
 
@@ -95,11 +95,12 @@ impl<S: Alter> Work<'_, S> {
     }
 
     // What version 1 lacks: the table of minimums, and the index by which the records of an
-    // article are found.
+    // article are found. Over the tables of version 2 it is never `Ok`, and commits nothing.
     pub(crate) fn create_minimums(&mut self) -> Result<(), StoreFault>
         ensures same_reference { self.new.tables.ghost_name ≡ self.old.tables.ghost_name }
         ensures untouched { IsTrue self.old.spent → (result ≡ Err StoreFault.Unusable) × (self.new.tables.now ≡ self.old.tables.now) }
         ensures makes { (rows : DeskRows) → Makes (λ db. HoldsFirst db rows) (λ db. Holds db rows) (state S.Store self.old.tables.now.connection) (state S.Store self.new.tables.now.connection) self.old.spent self.new.spent result }
+        ensures again { Makes (λ db. db.schema ≡ desk_schema) (λ _. ⊥) (state S.Store self.old.tables.now.connection) (state S.Store self.new.tables.now.connection) self.old.spent self.new.spent result }
     {
         match self.run(
             "CREATE TABLE price_minimum (series TEXT NOT NULL, reference TEXT NOT NULL, place INTEGER NOT NULL, price_place INTEGER NOT NULL, minimum INTEGER NOT NULL, PRIMARY KEY (series, reference, place, price_place), FOREIGN KEY (series, reference, place, price_place) REFERENCES price (series, reference, place, price_place) ON DELETE CASCADE) STRICT",
@@ -138,11 +139,11 @@ impl<S: Alter> Work<'_, S> {
     }
 
     /// Makes the tables, and the row of their version, 2. It is `Unusable` where one of the tables is
-    /// there. What it makes is said of a database that has no table.
+    /// there, and then touches nothing. What it makes is said of a database that has no table.
     pub fn create(&mut self) -> Result<(), StoreFault>
         ensures same_reference { self.new.tables.ghost_name ≡ self.old.tables.ghost_name }
         ensures untouched { IsTrue self.old.spent → (result ≡ Err StoreFault.Unusable) × (self.new.tables.now ≡ self.old.tables.now) }
-        ensures taken { list_any is_desk_table (state S.Store self.old.tables.now.connection).now.schema.tables ≡ true → result ≡ Err StoreFault.Unusable }
+        ensures taken { list_any is_desk_table (state S.Store self.old.tables.now.connection).now.schema.tables ≡ true → (result ≡ Err StoreFault.Unusable) × (self.new.tables.now ≡ self.old.tables.now) }
         ensures makes { Makes (IsEmptied schema_0) (λ db. Holds db first_rows) (state S.Store self.old.tables.now.connection) (state S.Store self.new.tables.now.connection) self.old.spent self.new.spent result }
     {
         if has_desk_table(self.tables.connection.schema()) {

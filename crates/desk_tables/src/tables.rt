@@ -1,12 +1,13 @@
 // The tables, and how a transaction on them begins and ends.
 
-ghost use Rattle.std.specs.Prelude.{◌≡◌, false, IfOk, OnOk};
+ghost use Rattle.std.specs.Prelude.{◌≡◌, false, Err, IfOk, IsTrue, OnOk};
 ghost use Rattle.std.specs.Borrow.{sem, RestsIfErr};
 ghost use Rattle.sqlite.specs.State.{HasCleanDisk, Survives};
 ghost use Rattle.sqlite.specs.Held.{state};
 ghost use Rattle.desk_tables.specs.contracts.tables.Tables.{the_row};
 ghost use Rattle.desk_rows.specs.Refusals.{FailsOutside};
 ghost use Rattle.desk_rows.specs.Transactions.{BeginsWork, EndsWork, IsUndone, LeavesOnly, NoTrees};
+ghost use Rattle.desk_tables.specs.Inside.{FailsInside};
 
 use crate::work::Work;
 use desk_rows::fault::fault_of;
@@ -37,6 +38,7 @@ impl<S: Alter> Tables<S> {
     fn begin(&mut self) -> Result<(), StoreFault>
         ensures begins { BeginsWork (state S.Store self.old.connection) (state S.Store self.new.connection) result }
         ensures outside { FailsOutside (state S.Store self.old.connection) (state S.Store self.new.connection) result }
+        ensures inside { FailsInside (state S.Store self.old.connection) (state S.Store self.new.connection) result }
     {
         match self.connection.execute("BEGIN", &[]) {
             Ok(_) => Ok(()),
@@ -57,6 +59,7 @@ impl<S: Alter> Tables<S> {
     pub(crate) fn finish(&mut self, spent: bool) -> Result<(), StoreFault>
         ensures ends { EndsWork (state S.Store self.old.connection) (state S.Store self.new.connection) spent result }
         ensures durable { HasCleanDisk (state S.Store self.new.connection) → OnOk result (LeavesOnly (state S.Store self.new.connection)) }
+        ensures refused { IsTrue spent → result ≡ Err StoreFault.Unusable }
     {
         if spent || self.connection.is_autocommit() {
             self.roll_back();
@@ -68,10 +71,10 @@ impl<S: Alter> Tables<S> {
         }
     }
 
-    /// Begins a transaction. It is refused where the connection still stands in one; otherwise a
-    /// fault is one of the store, and the last commit stays.
+    /// Begins a transaction. It is refused where the connection still stands in one, which it leaves
+    /// as it was if it is `Unusable`; otherwise a fault is one of the store, and the last commit stays.
     pub fn work(&mut self) -> Result<Work<'_, S>, StoreFault>
-        ensures* rests { sem 𝓛 (RestsIfErr (the_row S.row S.Store) self.entry (λ w. w.tables.ghost_name) result (λ last. BeginsWork (state S.Store self.old.connection) (state S.Store last.connection) result × FailsOutside (state S.Store self.old.connection) (state S.Store last.connection) result)) }
+        ensures* rests { sem 𝓛 (RestsIfErr (the_row S.row S.Store) self.entry (λ w. w.tables.ghost_name) result (λ last. BeginsWork (state S.Store self.old.connection) (state S.Store last.connection) result × FailsOutside (state S.Store self.old.connection) (state S.Store last.connection) result × FailsInside (state S.Store self.old.connection) (state S.Store last.connection) result)) }
         ensures same_reference { IfOk result (λ w. w.tables.ghost_name ≡ self.entry.ghost_name) }
         ensures begun { IfOk result (λ w. BeginsWork (state S.Store self.old.connection) (state S.Store w.tables.now.connection) result) }
         ensures fresh { IfOk result (λ w. w.spent ≡ false) }

@@ -73,6 +73,7 @@ impl<S: Alter> Work<'_, S> {
     pub fn commit(self) -> Result<(), StoreFault>
         ensures ends { EndsWork (state S.Store self.entry.tables.now.connection) (state S.Store self.exit.0.now.connection) self.entry.spent result }
         ensures durable { HasCleanDisk (state S.Store self.exit.0.now.connection) → OnOk result (LeavesOnly (state S.Store self.exit.0.now.connection)) }
+        ensures refused { IsTrue self.entry.spent → result ≡ Err StoreFault.Unusable }
     {
         let Work { tables, spent } = self;
         tables.finish(spent)

@@ -1,7 +1,9 @@
+use Rattle.std.proofs.Common.{sym, ◌∙◌}
 use Rattle.sqlite.specs.Held.{state}
 use Rattle.desk_rows.specs.Transactions.{begin_text}
 use Rattle.desk_rows.proofs.Control.{begins_ok, begins_err, fails_as}
 use Rattle.desk_rows.proofs.Outside.{stays_outside}
+use Rattle.desk_tables.proofs.Beginnings.{stays_inside}
 use Rattle.desk_tables.proofs.tables.Tables.begin.Goals as goal
 
 pub returns-in-Ok-clause-begins : goal.returns-in-Ok-clause-begins
@@ -15,3 +17,9 @@ returns-in-Err-clause-outside g c clean =
     let old = state g.S.Store c.args.self.now.connection in
     let new = state g.S.Store c.execute.new.self in
     stays_outside old new (fails_as begin_text _ old new c.in-Err.error (c.in-Err.ensures.runs clean))
+
+pub returns-in-Err-clause-inside : goal.returns-in-Err-clause-inside
+returns-in-Err-clause-inside g c clean inside unusable =
+    let old = state g.S.Store c.args.self.now.connection in
+    let new = state g.S.Store c.execute.new.self in
+    stays_inside begin_text _ old new c.in-Err.error inside (sym c.fault_of.ensures ∙ unusable) (c.in-Err.ensures.runs clean)

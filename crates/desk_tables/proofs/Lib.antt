@@ -1,0 +1,2 @@
+mod SecondVersion
+mod Beginnings

@@ -1,5 +1,5 @@
--- The part of a batch's answers that is written where it ends by a fault.
-use Rattle.std.proofs.Common.{◌≡◌, ◌-◌, ℕ, zero, suc, List, [], ◌∷◌, ◌++◌, Err, inl, inr, refl, ap, sym, ◌∙◌, take}
+-- What is written of a batch's answers where it ends by a fault, and what the desk stands for.
+use Rattle.std.proofs.Common.{◌≡◌, ◌-◌, ℕ, zero, suc, List, [], ◌∷◌, ◌++◌, Err, inl, inr, refl, ap, sym, subst, ◌∙◌, append-nil, arith, take}
 use Rattle.std.proofs.lemmas.List.{append_assoc}
 use Rattle.price_rules.specs.declared.precedence.Rule.{Rule}
 use Rattle.series_rules.specs.Answers.{answer_to}
@@ -10,39 +10,67 @@ use Rattle.desk_batch.specs.declared.batch.BatchFault.{BatchFault}
 use Rattle.desk_batch.specs.declared.batch.BatchFault.TheVariants as fault
 use Rattle.series_rules.specs.declared.requests.Request.{Request}
 
--- the answers to the first requests begin the answers to all
-front_of_output : (rules : List Rule) (L rs : List Request) (n : ℕ) → (rest : List ℕ) × (output rules L (take n rs) ++ rest ≡ output rules L rs)
-front_of_output rules L rs zero = (output rules L rs, refl)
-front_of_output rules L [] (suc n) = ([], refl)
-front_of_output rules L (r ∷ rs) (suc n) =
-    let more = front_of_output rules (r ∷ L) rs n in
+-- the answers to the first requests begin the answers to these and the next
+next_answer : (rules : List Rule) (L rs : List Request) (n : ℕ) → (rest : List ℕ) × (output rules L (take n rs) ++ rest ≡ output rules L (take (suc n) rs))
+next_answer rules L rs zero = (output rules L (take 1 rs), refl)
+next_answer rules L [] (suc n) = ([], refl)
+next_answer rules L (r ∷ rs) (suc n) =
+    let more = next_answer rules (r ∷ L) rs n in
     let text = text_of (answer_to rules L r) in
     (more.0, append_assoc text (output rules (r ∷ L) (take n rs)) more.0 ∙ ap (λ xs. text ++ xs) more.1)
 
--- how a batch that ends by a fault leaves what is written
+-- how a batch that ends by a fault leaves what is written and what stands
 pub ends-by : (rules : List Rule) (L : List Request) (text : List ℕ) (written : List ℕ → Type 0) (stands : List Request → Type 0) (f : BatchFault) (status : ℕ)
-    → status ≡ 3 → BatchFits rules L text written stands (Err f) → Ends rules L text written status
-ends-by rules L text written stands (fault.Records f) status three fits = inr (inr (three, fits.1))
-ends-by rules L text written stands fault.Read status three fits = inr (inr (three, fits.0))
+    → status ≡ 3 → BatchFits rules L text written stands (Err f) → Ends rules L text written stands status
+ends-by rules L text written stands (fault.Records f) status three fits = inr (inr (three, fits.1, fits.2))
+ends-by rules L text written stands fault.Read status three fits = inr (inr (three, fits.0, fits.1))
 ends-by rules L text written stands (fault.Store done f) status three fits =
-    let front = front_of_output rules L (requests_of text) done in
-    inr (inl (three, (fits.0, fits.1), (output rules L (take done (requests_of text)), front.0, front.1, fits.2.1)))
+    let whole = append-nil (output rules L (take done (requests_of text))) in
+    inr (inl record {
+      status_is = three;
+      has_records = (fits.0, fits.1);
+      done = done;
+      within = omega (arith, fits.2.0);
+      answered = done;
+      no_more = omega arith;
+      all_but_one = omega arith;
+      part = [];
+      rest = [];
+      last_is = whole;
+      answers_are = subst written (sym whole) fits.2.1;
+      stands_after = fits.2.2;
+    })
 ends-by rules L text written stands (fault.Write done) status three fits =
     let begun = fits.2.2 in
-    let before = output rules L (take (done - 1) (requests_of text)) in
-    let front = front_of_output rules L (requests_of text) done in
-    inr (inl (
-      three,
-      (fits.0, fits.1),
-      (
-        before ++ begun.0,
-        begun.1 ++ front.0,
-        sym (append_assoc (before ++ begun.0) begun.1 front.0)
-            ∙ ap (λ xs. xs ++ front.0) (append_assoc before begun.0 begun.1 ∙ begun.2)
-            ∙ front.1,
-        begun.3,
-      ),
-    ))
+    inr (inl record {
+      status_is = three;
+      has_records = (fits.0, fits.1);
+      done = done;
+      within = fits.2.1;
+      answered = done - 1;
+      no_more = omega arith;
+      all_but_one = omega (arith, fits.2.0);
+      part = begun.0;
+      rest = begun.1;
+      last_is = begun.2;
+      answers_are = begun.3;
+      stands_after = fits.2.3;
+    })
 ends-by rules L text written stands (fault.Memory done) status three fits =
-    let front = front_of_output rules L (requests_of text) (done - 1) in
-    inr (inl (three, (fits.0, fits.1), (output rules L (take (done - 1) (requests_of text)), front.0, front.1, fits.2.2)))
+    let before = output rules L (take (done - 1) (requests_of text)) in
+    let last = next_answer rules L (requests_of text) (done - 1) in
+    let all : suc (done - 1) ≡ done = omega (arith, fits.2.0) in
+    inr (inl record {
+      status_is = three;
+      has_records = (fits.0, fits.1);
+      done = done;
+      within = fits.2.1;
+      answered = done - 1;
+      no_more = omega arith;
+      all_but_one = omega (arith, fits.2.0);
+      part = [];
+      rest = last.0;
+      last_is = last.1 ∙ ap (λ n. output rules L (take n (requests_of text))) all;
+      answers_are = subst written (sym (append-nil before)) fits.2.2;
+      stands_after = fits.2.3;
+    })

@@ -16,7 +16,7 @@ use Rattle.onixdesk.specs.declared.command_line.Task.TheVariants as task
 -- were written. Stands: the desk stands for that list then. No clause can say what a file holds
 abbrev pub TaskEnds : List Rule → Task → Option (List ℕ) → (List Request → Type 0) → Type 0 → (List ℕ → Type 0) → (List Request → Type 0) → ℕ → Type 0
 TaskEnds rules task.Batch told stood sound written stands status =
-    (text : List ℕ) × IsTold told text × ((L : List Request) → stood L → sound → Ends rules L text written status)
+    (text : List ℕ) × IsTold told text × ((L : List Request) → stood L → sound → Ends rules L text written stands status)
 TaskEnds rules (task.Deliver names) told stood sound written stands status =
     (texts last : List (List ℕ)) × ((L : List Request) → stood L → sound → DeliveriesEnd rules L (length names.items) texts last written stands status)
 TaskEnds rules (task.Gaps name) told stood sound written stands status =

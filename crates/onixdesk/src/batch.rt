@@ -37,10 +37,11 @@ pub fn run<D: Desk, R: Read, W: Write, E: Write>(
 ) -> u8
     ensures status { result ≤ 3 }
     ensures premise { D.is_sound desk.new → D.is_sound desk.old }
-    // There is a text, that of the input where it tells its bytes, of which this is the status and
-    // all answers, or a first part of them, are written.
+    // There is a text, that of the input where it tells its bytes, of which this is the status. All
+    // its requests have taken effect, and all answers are written; or the first of them have, and
+    // all answers to these are written, but perhaps a part of the last or the whole of it; or none.
     ensures end { (text : List ℕ) × IsTold (R.remaining input.old) text × ((L : List Request) → D.stands_for desk.old L → D.is_sound desk.new →
-        Ends precedence.now L text (Appends (W.contents output.old) (W.contents output.new)) result) }
+        Ends precedence.now L text (Appends (W.contents output.old) (W.contents output.new)) (D.stands_for desk.new) result) }
 {
     match run_batch(alloc, desk, precedence, input, output) {
         Ok(0) => 0,

@@ -93,6 +93,8 @@ fn run_and_close<D: Disk + Drop, R: Read, W: Write, E: Write>(
 ) -> u8
     ensures status { result ≤ 3 }
     // The command ends as over any desk, but that the status is 3 where the file cannot be closed.
+    // The desk is let go of here, so that this clause cannot name it as it was left, and where its
+    // disk is not clean it binds nothing; that of `run_task` names it.
     ensures end { (left : _) × (status : ℕ) × ((result ≡ status) ⊎ (result ≡ 3)) × (⟦<DeskStore<FileStore<D>> as Desk>⟧.is_sound left → ⟦<DeskStore<FileStore<D>> as Desk>⟧.is_sound desk)
         × TaskEnds precedence.now task.now (R.remaining input.old) (⟦<DeskStore<FileStore<D>> as Desk>⟧.stands_for desk) (⟦<DeskStore<FileStore<D>> as Desk>⟧.is_sound left)
         (Appends (W.contents output.old) (W.contents output.new)) (⟦<DeskStore<FileStore<D>> as Desk>⟧.stands_for left) status }

@@ -18,14 +18,14 @@ use std::net::{Ipv4Addr, SocketAddr, SocketAddrV4, TcpListener, TcpStream};
 use std::time::Duration;
 
 /// How many seconds a client may take to send its request, and again to take the reply.
-const PATIENCE: u64 = 10;
+const CLIENT_SECONDS: u64 = 10;
 
 /// A port that is listened at, and how long its clients may take.
 #[derive(Drop)]
 pub struct Port {
     pub number: u16,
     pub listener: TcpListener,
-    pub patience: Duration,
+    pub limit: Duration,
 }
 
 // Takes what a client sent behind its request, as far as it is there: where such bytes are left,
@@ -50,15 +50,15 @@ fn serve_stream<D: Desk, O: Write>(
     desk: &mut D,
     precedence: &Precedence,
     stream: TcpStream,
-    patience: Duration,
+    limit: Duration,
     output: &mut O,
 ) -> Result<(), Fault>
     ensures premise { D.is_sound desk.new → D.is_sound desk.old }
     ensures one { (L : List Request) → D.stands_for desk.old L → D.is_sound desk.new → AtMostOneMore L (D.stands_for desk.new) }
     ensures line { (outcome : Result ℕ HttpFault) × OnOk result (Appends (O.contents output.old) (O.contents output.new) (line_of outcome)) }
 {
-    let mut reader = Timed::new(rt, &stream, patience);
-    let mut writer = Timed::new(rt, &stream, patience);
+    let mut reader = Timed::new(rt, &stream, limit);
+    let mut writer = Timed::new(rt, &stream, limit);
     let outcome = serve_connection(
         rt.alloc(),
         desk,
@@ -92,7 +92,7 @@ fn serve_next<D: Desk, O: Write>(
     ensures line { (outcome : Result ℕ HttpFault) × OnOk result (Appends (O.contents output.old) (O.contents output.new) (line_of outcome)) }
 {
     match port.listener.accept() {
-        Ok((stream, _)) => serve_stream(rt, desk, precedence, stream, port.patience, output),
+        Ok((stream, _)) => serve_stream(rt, desk, precedence, stream, port.limit, output),
         Err(error) => {
             if !is_lost(&error) {
                 return Err(Fault::Port(port.number));
@@ -143,7 +143,7 @@ fn listen<O: Write>(rt: &HostRuntime, number: u16, output: &mut O) -> Result<Por
     Ok(Port {
         number,
         listener,
-        patience: Duration::from_secs(PATIENCE),
+        limit: Duration::from_secs(CLIENT_SECONDS),
     })
 }
 

@@ -10,16 +10,17 @@ use std::time::{Duration, Instant};
 pub struct Timed<'a> {
     rt: &'a HostRuntime,
     stream: &'a TcpStream,
-    patience: Duration,
+    limit: Duration,
     began: Option<Instant>,
 }
 
 impl<'a> Timed<'a> {
-    pub fn new(rt: &'a HostRuntime, stream: &'a TcpStream, patience: Duration) -> Timed<'a> {
+    /// One way of this connection, with so much time for all its reads, or for all its writes.
+    pub fn new(rt: &'a HostRuntime, stream: &'a TcpStream, limit: Duration) -> Timed<'a> {
         Timed {
             rt,
             stream,
-            patience,
+            limit,
             began: None,
         }
     }
@@ -29,7 +30,7 @@ impl<'a> Timed<'a> {
         let now = Instant::now(self.rt)?;
         let began = self.began.unwrap_or(now);
         self.began = Some(began);
-        Ok(self.patience.saturating_sub(now.duration_since(began)))
+        Ok(self.limit.saturating_sub(now.duration_since(began)))
     }
 }
 

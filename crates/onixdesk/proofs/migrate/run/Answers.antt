@@ -1,27 +1,5 @@
-use Rattle.std.proofs.Common.{◌≡◌, ◌∙◌, inl, inr, refl, rules, subst}
-use Rattle.std.specs.Io.KnownBytes.{Appends}
-use Rattle.onixdesk.specs.MigrationEnd.{migration_line}
+use Rattle.onixdesk.proofs.MigrationLemmas.{end_with_less}
 use Rattle.onixdesk.proofs.migrate.run.Goals as goal
 
-pub returns-in-Ok-write_whole-clause-end : goal.returns-in-Ok-write_whole-clause-end
-returns-in-Ok-write_whole-clause-end g c =
-    let same : c.as_bytes.result.now ≡ migration_line c.in-Ok.answer = search rules in
-    inl (
-      c.in-Ok.answer,
-      (c.in-Ok.files, λ clean. (c.in-Ok.ensures.answer clean, c.in-Ok.ensures.holds clean)),
-      subst (Appends (g.W.Write.contents c.args.output.now) (g.W.Write.contents c.write_whole.new.writer)) same c.in-Ok-write_whole.ensures.ok,
-      refl,
-    )
-
-pub returns-in-Err-write_whole-clause-end : goal.returns-in-Err-write_whole-clause-end
-returns-in-Err-write_whole-clause-end g c =
-    let same : c.as_bytes.result.now ≡ migration_line c.in-Ok.answer = search rules in
-    let err = c.in-Err-write_whole.ensures.err in
-    inr (
-      c.report-in-Err-write_whole.ensures,
-      inr (
-        c.in-Ok.answer,
-        (c.in-Ok.files, λ clean. (c.in-Ok.ensures.answer clean, c.in-Ok.ensures.holds clean)),
-        (err.0, err.1, err.2 ∙ same, err.3),
-      ),
-    )
+pub returns-clause-end : goal.returns-clause-end
+returns-clause-end g c = end_with_less _ _ _ _ (λ answer done. (done.0, done.2)) c.migrate_and_write-status.ensures.end

@@ -6,7 +6,7 @@ ghost use Rattle.sqlite_wal.specs.Files.{image_at};
 ghost use Rattle.sqlite_wal.specs.Reads.{AreClean};
 ghost use Rattle.sqlite.specs.Files.{image_of};
 ghost use Rattle.desk_store.specs.Migrations.{AreFilesOfEither, IsTrueAnswer};
-ghost use Rattle.desk_store.specs.Openings.{AreEmptyFiles, AreFilesOf, AreFilesWith};
+ghost use Rattle.desk_store.specs.Openings.{AreEmptyFiles, AreFilesWith, HoldRowsOf};
 ghost use Rattle.onixdesk.specs.MigrationEnd.{MigrationEnd, migration_line};
 ghost use Rattle.series_rules.specs.declared.requests.Request.{Request};
 
@@ -40,7 +40,7 @@ fn migrate_and_write<S: Start, W: Write, E: Write>(
     // What is written is true of the files that are given back, and these are a desk of the same requests.
     ensures end { MigrationEnd (λ answer. (files : _) × (result.1 ≡ Some files) × (AreClean ⟦<FileFrom<S> as Disk>⟧ files.log files.db →
         IsTrueAnswer (AreFilesWith (image_at S.Start)) (AreEmptyFiles (image_at S.Start)) answer
-        × ((L : List Request) → AreFilesOfEither (image_at S.Start) L → AreFilesOf (image_of ⟦<FileFrom<S> as Disk>⟧ files) L)))
+        × ((L : List Request) → AreFilesOfEither (image_at S.Start) L → HoldRowsOf (image_of ⟦<FileFrom<S> as Disk>⟧ files) L)))
         (Appends (W.contents output.old) (W.contents output.new)) result.0 }
 {
     let (answer, files) = match migrate(rt, name, start) {
@@ -69,7 +69,7 @@ pub fn run<S: Start, W: Write, E: Write>(
     // disk is not clean it binds neither the answer nor them; that of `migrate_and_write` names them.
     ensures end { MigrationEnd (λ answer. (left : _) × (AreClean ⟦<FileFrom<S> as Disk>⟧ left.log left.db →
         IsTrueAnswer (AreFilesWith (image_at S.Start)) (AreEmptyFiles (image_at S.Start)) answer
-        × ((L : List Request) → AreFilesOfEither (image_at S.Start) L → AreFilesOf (image_of ⟦<FileFrom<S> as Disk>⟧ left) L)))
+        × ((L : List Request) → AreFilesOfEither (image_at S.Start) L → HoldRowsOf (image_of ⟦<FileFrom<S> as Disk>⟧ left) L)))
         (Appends (W.contents output.old) (W.contents output.new)) result }
 {
     let (status, files) = migrate_and_write(rt, name, start, output, errors);

@@ -88,8 +88,8 @@ fn make_price(
     })
 }
 
-/// The Price that the fields of a record say in a message that begins so: an empty type, currency or
-/// territory is the default of the header, and form 1 has no minimum.
+/// The Price that the fields of a record say in a message that begins so: an empty type or currency
+/// is the default of the header, an empty territory the world, and form 1 has no minimum.
 #[tactic(auto, unfolding(crate::specs::Price::price_of))]
 pub fn read_price(alloc: Global, opening: &Opening, fields: &[&str]) -> Result<Price, RowFault>
     ensures { Gives result (price_of opening.now (map (λ f. f.now) fields.now)) }

@@ -1,4 +1,4 @@
--- Lemmas on agreements: no two share a name, nor a sender and addressee.
+-- Lemmas on agreements: what is found by its name, and by its sender and addressee.
 use Rattle.std.proofs.Common.{◌≡◌, ℕ, Bool, true, false, List, [], ◌∷◌, ◌++◌, Option, Some, None, refl, sym, ap, ◌∙◌, cond, ◌&&◌}
 use Rattle.std.specs.Prelude.{bytes_eq, find}
 use Rattle.std.specs.Option.{option_or}

@@ -41,7 +41,7 @@ agreements_of [] = []
 agreements_of (Agree a ∷ L) = with_agreement (agreements_of L) a
 agreements_of (_ ∷ L) = agreements_of L
 
--- what is found by its name is found by its sender and addressee too, and the other way round. So no two share a name, nor a sender and addressee
+-- what is found by its name is found by its sender and addressee too, and the other way round
 pub record AreDistinct (agreements : List Agreement) : Type 0 where
   pub by_name : (name : List ℕ) (a : Agreement) → named agreements name ≡ Some a → between agreements a.sender a.addressee ≡ Some a
   pub by_parties : (sender : Party) (addressee : Option Party) (a : Agreement) → between agreements sender addressee ≡ Some a → named agreements a.name ≡ Some a

@@ -11,7 +11,7 @@ use Rattle.price_rules.specs.declared.precedence.Rule.{Rule}
 use Rattle.series_rules.specs.declared.requests.Request.{Request}
 use Rattle.series_rules.specs.declared.requests.Standing.{Standing}
 
--- the agreements that stand are distinct by their names, and by their senders and addressees
+-- the agreements that stand are found alike by their names, and by their senders and addressees
 abbrev pub AgreementsAreDistinct : Type 0
 AgreementsAreDistinct = (L : List Request) → AreDistinct (agreements_of L)
 

@@ -5,7 +5,8 @@ ghost use Rattle.series_rules.specs.PriceLaws.{CalendarsAreTrue, ChoiceIsTrue, P
 
 use price_rules::laws::{calendar_is_exact, choice_is_exact, current_is_exact};
 
-/// No two agreements that stand share a name, nor a sender and addressee.
+/// An agreement that is found by its name is found by its sender and addressee too, and the other way
+/// round.
 pub fn agreements_are_distinct()
     ensures { AgreementsAreDistinct }
 {}

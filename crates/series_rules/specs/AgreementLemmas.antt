@@ -1,15 +1,17 @@
 -- Lemmas on agreements: what is found by its name, and by its sender and addressee.
-use Rattle.std.proofs.Common.{◌≡◌, ℕ, Bool, true, false, List, [], ◌∷◌, ◌++◌, Option, Some, None, refl, sym, ap, ◌∙◌, cond, ◌&&◌}
-use Rattle.std.specs.Prelude.{bytes_eq, find}
+use Rattle.std.proofs.Common.{◌≡◌, ◌≢◌, ◌<◌, ℕ, Bool, true, false, List, [], ◌∷◌, ◌++◌, Option, Some, None, length, get_or, refl, sym, ap, ◌∙◌, cond, ◌&&◌, arith}
+use Rattle.std.specs.Prelude.{All, bytes_eq, find}
 use Rattle.std.specs.Option.{option_or}
 use Rattle.std.proofs.lemmas.Slice.Eq.{bytes_eq-Decides}
+use Rattle.std.proofs.lemmas.List.Elements.{All-cons, All-get_or, All-nil}
 use Rattle.std.proofs.lemmas.List.Folds.{find-append}
+use Rattle.std.proofs.lemmas.List.Quantifiers.{all_pairs_push}
 use Rattle.std.proofs.lemmas.Option.{cond_some}
 use Rattle.onix_terms.specs.declared.party.Party.{Party}
 use Rattle.onix_terms.specs.Plain.{option-decides}
 use Rattle.onix_message.specs.SameContents.{same_party, same_party-Decides}
 use Rattle.onix_message.specs.declared.agreement.Agreement.{Agreement}
-use Rattle.series_rules.specs.Agreements.{same_addressee, has_name, has_parties, named, between, clashes, with_agreement, agreements_of, AreDistinct}
+use Rattle.series_rules.specs.Agreements.{same_addressee, has_name, has_parties, named, between, clashes, with_agreement, agreements_of, AreDistinct, NoTwoClash}
 use Rattle.series_rules.specs.declared.requests.Request.{Request}
 use Rattle.series_rules.specs.declared.requests.Request.TheVariants.{Agree, Deliver, Waive, AskGaps, AskCatalogue, AskPrice, AskChoice, AskCalendar, Malformed}
 
@@ -104,6 +106,55 @@ agreements_are_distinct (AskPrice x y ∷ L) = agreements_are_distinct L
 agreements_are_distinct (AskChoice x y ∷ L) = agreements_are_distinct L
 agreements_are_distinct (AskCalendar x1 x2 ∷ L) = agreements_are_distinct L
 agreements_are_distinct (Malformed x ∷ L) = agreements_are_distinct L
+
+-- where none is found, each fails the test
+none_passes : (p : Agreement → Bool) (xs : List Agreement) → find p xs ≡ None → All (λ x. p x ≡ false) xs
+none_passes p [] e = All-nil (λ x. p x ≡ false)
+none_passes p (x ∷ xs) e = go (λ rest. none_passes p xs rest) (p x) refl e
+  where
+    go : (find p xs ≡ None → All (λ y. p y ≡ false) xs) → (b : Bool) → p x ≡ b → cond b (Some x) (find p xs) ≡ None → All (λ y. p y ≡ false) (x ∷ xs)
+    go ih true t e = absurd cc
+    go ih false t e = All-cons (λ y. p y ≡ false) x xs t (ih e)
+
+fails_at : (p : Agreement → Bool) (xs : List Agreement) (k : ℕ) (d : Agreement) → k < length xs → find p xs ≡ None → p (get_or xs k d) ≡ false
+fails_at p xs k d below none = All-get_or (λ x. p x ≡ false) xs k d below (none_passes p xs none)
+
+other_name : (a b : Agreement) → has_name b.name a ≡ false → a.name ≢ b.name
+other_name a b fails same = let passes : has_name b.name a ≡ true = (bytes_eq-Decides a.name b.name).1 same in absurd cc
+
+other_parties : (a b : Agreement) → has_parties b.sender b.addressee a ≡ false → a.sender ≡ b.sender → a.addressee ≢ b.addressee
+other_parties a b fails sender addressee =
+    let passes : has_parties b.sender b.addressee a ≡ true = ap (λ p. has_parties p b.addressee a) (sym sender) ∙ ap (λ q. has_parties a.sender q a) (sym addressee) ∙ has_own_parties a in
+    absurd cc
+
+no_more_clash : (as' : List Agreement) (b : Agreement) → NoTwoClash as' → named as' b.name ≡ None → between as' b.sender b.addressee ≡ None → NoTwoClash (as' ++ b ∷ [])
+no_more_clash as' b apart no_name no_parties = record {
+  by_name = all_pairs_push (λ x y. x.name ≢ y.name) as' b apart.by_name
+      (λ k d below. other_name (get_or as' k d) b (fails_at (has_name b.name) as' k d below no_name));
+  by_parties = all_pairs_push (λ x y. x.sender ≡ y.sender → x.addressee ≢ y.addressee) as' b apart.by_parties
+      (λ k d below. other_parties (get_or as' k d) b (fails_at (has_parties b.sender b.addressee) as' k d below no_parties));
+}
+
+none_clash_with : (as' : List Agreement) (b : Agreement) → NoTwoClash as' → NoTwoClash (with_agreement as' b)
+none_clash_with as' b apart = go (named as' b.name) refl (between as' b.sender b.addressee) refl
+  where
+    go : (o : Option Agreement) → named as' b.name ≡ o → (u : Option Agreement) → between as' b.sender b.addressee ≡ u → NoTwoClash (with_agreement as' b)
+    go (Some x) e u e' = rw e apart
+    go None e (Some x) e' = rw (e, e') apart
+    go None e None e' = rw (e, e') (no_more_clash as' b apart e e')
+
+-- no two of the agreements that stand clash
+pub no_two_clash : (L : List Request) → NoTwoClash (agreements_of L)
+no_two_clash [] = record { by_name = λ i j d before below. absurd (omega arith); by_parties = λ i j d before below. absurd (omega arith) }
+no_two_clash (Agree b ∷ L) = none_clash_with (agreements_of L) b (no_two_clash L)
+no_two_clash (Deliver x ∷ L) = no_two_clash L
+no_two_clash (Waive x y ∷ L) = no_two_clash L
+no_two_clash (AskGaps x ∷ L) = no_two_clash L
+no_two_clash (AskCatalogue x ∷ L) = no_two_clash L
+no_two_clash (AskPrice x y ∷ L) = no_two_clash L
+no_two_clash (AskChoice x y ∷ L) = no_two_clash L
+no_two_clash (AskCalendar x1 x2 ∷ L) = no_two_clash L
+no_two_clash (Malformed x ∷ L) = no_two_clash L
 
 -- what one finds by its parties, the other finds too, where both find the same by each name
 found_too : (as' bs : List Agreement) → AreDistinct as' → AreDistinct bs → ((name : List ℕ) → named as' name ≡ named bs name) → (s : Party) (d : Option Party) (a : Agreement) → between as' s d ≡ Some a → between bs s d ≡ Some a

@@ -1,5 +1,5 @@
 -- The agreements that a list of requests comes to. A list of requests has its latest request first, so that `r ∷ L` is L and then r.
-use Rattle.std.specs.Prelude.{◌≡◌, Bool, ◌||◌, ◌&&◌, List, [], ◌∷◌, ◌++◌, Option, Some, bytes_eq, find, is_some, if◌then◌else◌, ℕ}
+use Rattle.std.specs.Prelude.{◌≡◌, ◌≢◌, AllPairs, Bool, ◌||◌, ◌&&◌, List, [], ◌∷◌, ◌++◌, Option, Some, bytes_eq, find, is_some, if◌then◌else◌, ℕ}
 use Rattle.std.specs.Option.{option_eq}
 use Rattle.onix_terms.specs.declared.party.Party.{Party}
 use Rattle.onix_message.specs.SameContents.{same_party}
@@ -45,3 +45,8 @@ agreements_of (_ ∷ L) = agreements_of L
 pub record AreDistinct (agreements : List Agreement) : Type 0 where
   pub by_name : (name : List ℕ) (a : Agreement) → named agreements name ≡ Some a → between agreements a.sender a.addressee ≡ Some a
   pub by_parties : (sender : Party) (addressee : Option Party) (a : Agreement) → between agreements sender addressee ≡ Some a → named agreements a.name ≡ Some a
+
+-- no two have a name in common, nor a sender and addressee
+pub record NoTwoClash (agreements : List Agreement) : Type 0 where
+  pub by_name : AllPairs (λ a b. a.name ≢ b.name) agreements
+  pub by_parties : AllPairs (λ a b. a.sender ≡ b.sender → a.addressee ≢ b.addressee) agreements

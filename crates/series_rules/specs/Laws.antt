@@ -1,7 +1,7 @@
 -- Laws of the definitions.
 use Rattle.std.specs.Prelude.{◌≡◌, ◌<◌, ◌≤◌, ◌++◌, ℕ, List, ◌∷◌, Some}
 use Rattle.onix_message.specs.declared.agreement.Agreement.{Agreement}
-use Rattle.series_rules.specs.Agreements.{AreDistinct, agreements_of, named}
+use Rattle.series_rules.specs.Agreements.{AreDistinct, NoTwoClash, agreements_of, named}
 use Rattle.series_rules.specs.Firsts.{first_at}
 use Rattle.series_rules.specs.Series.{front_of, next_of, kept_at, IsFront, IsNext}
 use Rattle.series_rules.specs.Gaps.{IsGapReport, gaps_of}
@@ -11,9 +11,10 @@ use Rattle.price_rules.specs.declared.precedence.Rule.{Rule}
 use Rattle.series_rules.specs.declared.requests.Request.{Request}
 use Rattle.series_rules.specs.declared.requests.Standing.{Standing}
 
--- the agreements that stand are found alike by their names, and by their senders and addressees
-abbrev pub AgreementsAreDistinct : Type 0
-AgreementsAreDistinct = (L : List Request) → AreDistinct (agreements_of L)
+-- no two of the agreements that stand have a name in common, nor a sender and addressee; what is found by the one is found by the other
+pub record AgreementsAreDistinct : Type 0 where
+  pub no_two_clash : (L : List Request) → NoTwoClash (agreements_of L)
+  pub found_alike : (L : List Request) → AreDistinct (agreements_of L)
 
 -- the next number of a series is the least, from the agreed first on, that nothing stands at
 abbrev pub NextIsLeast : Type 0

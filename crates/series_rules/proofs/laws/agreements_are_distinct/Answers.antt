@@ -1,5 +1,5 @@
-use Rattle.series_rules.specs.AgreementLemmas.{agreements_are_distinct}
+use Rattle.series_rules.specs.AgreementLemmas.{agreements_are_distinct, no_two_clash}
 use Rattle.series_rules.proofs.laws.agreements_are_distinct.Goals as goal
 
 pub returns : goal.returns
-returns c = agreements_are_distinct
+returns c = record { no_two_clash = no_two_clash; found_alike = agreements_are_distinct }

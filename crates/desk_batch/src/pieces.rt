@@ -1,6 +1,6 @@
 // The pieces of a batch.
 
-ghost use Rattle.std.specs.Prelude.{◌≡◌, ◌++◌, IfOk, OnOk};
+ghost use Rattle.std.specs.Prelude.{◌≡◌, ◌++◌, [], IfOk, OnOk};
 ghost use Rattle.csv.specs.Records.{fields_of};
 ghost use Rattle.desk_batch.specs.Pieces.{begins_request, is_question_name, is_request_name, pieces};
 ghost use Rattle.desk_batch.specs.Closed.{closed};
@@ -50,12 +50,14 @@ fn close_piece(cut: &mut Items<RecordBuffer>, piece: RecordBuffer) -> Result<(),
 }
 
 /// Cuts the records that a reader has left before each that begins a request. Each piece has a
-/// buffer of its own, so that it can be let go of when its request is answered.
+/// buffer of its own, so that it can be let go of when its request is answered. With `Ok` nothing is
+/// left to read; without memory how much is left is not said.
 pub fn read_pieces(
     alloc: Global,
     reader: &mut RecordReader<'_>,
 ) -> Result<Items<RecordBuffer>, AllocError>
-    ensures { IfOk result (λ cut. cut ≡ pieces reader.old) }
+    ensures pieces { IfOk result (λ cut. cut ≡ pieces reader.old) }
+    ensures left { OnOk result (reader.new ≡ []) }
 {
     let mut cut = Items::new(alloc);
     let mut piece = RecordBuffer::new(alloc);

@@ -1,6 +1,6 @@
 // Requests, read from the pieces of a batch.
 
-ghost use Rattle.std.specs.Prelude.{◌≡◌, IfOk, map};
+ghost use Rattle.std.specs.Prelude.{◌≡◌, [], IfOk, OnOk, map};
 ghost use Rattle.desk_batch.specs.Pieces.{pieces};
 ghost use Rattle.onix_rows.specs.Gives.{Gives};
 ghost use Rattle.desk_batch.specs.RequestRows.{agreement_from, agreement_of, begins_message, calendar_query_from, calendar_question_of, named_request, price_question_of, quantity_asked, question_of, query_from, request_of, row_request, series_of, waiver_of};
@@ -263,12 +263,14 @@ pub fn read_request(alloc: Global, piece: RecordBuffer) -> Result<Request, Alloc
     }
 }
 
-/// The requests of the records that a reader has left, in order.
+/// The requests of the records that a reader has left, in order. With `Ok` nothing is left to read;
+/// without memory how much is left is not said.
 pub fn read_requests(
     alloc: Global,
     reader: &mut RecordReader<'_>,
 ) -> Result<Items<Request>, AllocError>
-    ensures { IfOk result (λ requests. requests ≡ map request_of (pieces reader.old)) }
+    ensures requests { IfOk result (λ requests. requests ≡ map request_of (pieces reader.old)) }
+    ensures left { OnOk result (reader.new ≡ []) }
 {
     let mut requests = Items::new(alloc);
     for piece in read_pieces(alloc, reader)?.into_vec() {

@@ -8,4 +8,4 @@ pub returns-in-Ok : goal.returns-in-Ok
 unfolding requests_of
 returns-in-Ok c =
     let read = c.in_ok-reader.ensures.records in
-    (read.0, read.1, c.in-Ok.ensures ∙ ap (λ rows. map request_of (pieces rows)) read.2)
+    (read.0, read.1, c.in-Ok.ensures.requests ∙ ap (λ rows. map request_of (pieces rows)) read.2)

@@ -25,8 +25,8 @@ reading-preserved c =
           }
     ]
 
-pub returns : goal.returns
-returns c =
+pub returns-clause-pieces : goal.returns-clause-pieces
+returns-clause-pieces c =
     let inv = c.reading.invariant in
     let none = c.in_ok-read.ensures.ended c.if-branch.false in
     rw c.in_ok-close_piece-2.ensures (none_next c.reading.cut _ c.reading.piece c.reading.reader inv.whole (ap length none.0) inv.so_far)

@@ -30,7 +30,9 @@ pub enum BatchFault {
     /// of the desk.
     #[error("the batch has no records: {0:?}")]
     Records(RecordFault),
-    /// The desk's store failed. The first `done` requests have taken effect and are answered.
+    /// The desk's store failed. The first `done` requests have taken effect and are answered, and the
+    /// desk stands for the list without the next one; after a commit that failed on its disk a crash
+    /// may leave the list with it.
     #[error("the store failed after {done} requests: {fault:?}")]
     Store { done: u64, fault: StoreFault },
     /// A read failed. Nothing was asked of the desk.
@@ -56,7 +58,8 @@ enum UnreadFault {
 /// Why one request has no answer that is written whole.
 #[derive(Debug, Drop, Error)]
 pub enum RequestFault {
-    /// The store failed. The request has had no effect.
+    /// The store failed. The desk stands for the list without the request; after a commit that failed
+    /// on its disk a crash may leave the list with it. Nothing is written.
     #[error("the store failed: {0:?}")]
     Store(StoreFault),
     /// A write failed or took nothing. The request has taken effect, and a part of its answer is

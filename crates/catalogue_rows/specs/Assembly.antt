@@ -1,4 +1,4 @@
--- The entry that rows give: its identifiers, and its supplies, gathered of one SupplyDetail after the other.
+-- The entry that rows give: its identifiers, and its supplies, grouped of one SupplyDetail after the other.
 use Rattle.std.specs.Prelude.{◌==◌, ℕ, List, [], ◌∷◌, ◌++◌, if◌then◌else◌}
 use Rattle.onix_rows.specs.declared.parts.Price.{Price}
 use Rattle.onix_rows.specs.declared.parts.ProductIdentifier.{ProductIdentifier}
@@ -25,6 +25,6 @@ joined (s ∷ []) d = record s { details = s.details ++ d ∷ [] } ∷ []
 joined (s ∷ t ∷ more) d = s ∷ joined (t ∷ more) d
 
 -- a row of the number of the last supply joins it, and any other begins a supply
-abbrev pub gathered : ℕ → List ProductSupply → List (typed.OfferRow × List Price) → List ProductSupply
-gathered number supplies [] = supplies
-gathered number supplies (p ∷ more) = gathered p.0.supply (if p.0.supply == number then joined supplies (detail_of p) else supplies ++ supply_of p ∷ []) more
+abbrev pub grouped : ℕ → List ProductSupply → List (typed.OfferRow × List Price) → List ProductSupply
+grouped number supplies [] = supplies
+grouped number supplies (p ∷ more) = grouped p.0.supply (if p.0.supply == number then joined supplies (detail_of p) else supplies ++ supply_of p ∷ []) more

@@ -4,7 +4,7 @@ ghost use Rattle.std.specs.Prelude.{◌≡◌, ◌++◌, ◌∷◌, ◌≤◌, [
 ghost use Rattle.std.specs.List.{zip};
 ghost use Rattle.catalogue_rules.specs.Records.{HasFewDetails};
 ghost use Rattle.catalogue_rules.specs.declared.entry.Entry.{Entry as TheEntry};
-ghost use Rattle.catalogue_rows.specs.Assembly.{detail_of, gathered, identifier_of, joined, supply_of};
+ghost use Rattle.catalogue_rows.specs.Assembly.{detail_of, grouped, identifier_of, joined, supply_of};
 ghost use Rattle.catalogue_rows.specs.EntryRows.{article_rows, detail_rows, supplied_details};
 ghost use Rattle.catalogue_rows.specs.Storable.{IsStorable};
 
@@ -86,7 +86,7 @@ fn add_row(
     row: &OfferRow,
     prices: &Items<Price>,
 ) -> Result<(), StoreFault>
-    ensures { (more : List _) → OnOk result (gathered row.now.supply supplies.new more ≡ gathered number supplies.old ((row.now, prices.now) ∷ more)) }
+    ensures { (more : List _) → OnOk result (grouped row.now.supply supplies.new more ≡ grouped number supplies.old ((row.now, prices.now) ∷ more)) }
 {
     let Ok(detail) = detail(row, prices) else {
         return Err(StoreFault::Memory);
@@ -101,12 +101,12 @@ fn add_row(
 }
 
 // The supplies of rows, which have the prices of the same place.
-fn gather(
+fn group(
     alloc: Global,
     details: &[OfferRow],
     prices: &[Items<Price>],
 ) -> Result<Items<ProductSupply>, StoreFault>
-    ensures { IfOk result (λ supplies. supplies ≡ gathered 0 [] (zip details.now prices.now)) }
+    ensures { IfOk result (λ supplies. supplies ≡ grouped 0 [] (zip details.now prices.now)) }
 {
     if details.len() != prices.len() {
         return Err(StoreFault::Unusable);
@@ -139,6 +139,6 @@ pub fn entry_of(
     let Ok(ids) = identifiers(alloc, articles) else {
         return Err(StoreFault::Memory);
     };
-    let supplies = gather(alloc, details, prices)?;
+    let supplies = group(alloc, details, prices)?;
     Ok(Entry { ids, supplies })
 }

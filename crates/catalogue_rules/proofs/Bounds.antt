@@ -82,7 +82,7 @@ few-change was None h = tt
 few-change was (Some now) h = h
 
 -- and so do the changes that make it
-pub few-changes : (base : ByReference) (draft : Changes) (fresh : List (List ℕ)) (m : ByReference) → IsPlan base draft fresh m
+pub few-changes : (base : ByReference) (draft : Changes) (new_references : List (List ℕ)) (m : ByReference) → IsPlan base draft new_references m
     → EachHas HasFewDetails m → EachHas (λ w. IfSome w HasFewDetails) draft
-few-changes base draft fresh m plan each q =
+few-changes base draft new_references m plan each q =
     few-change (fin.get base q) (fin.get draft q) (subst (λ o. IfSome o HasFewDetails) (sym (plan.gives q)) (each q))

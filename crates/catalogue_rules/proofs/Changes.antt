@@ -21,10 +21,10 @@ at_test was before w true f = ap (entry_now was) (sym (f refl))
 at_test was before w false f = refl
 
 -- after a change at k the changes that are left lead to the same
-pub settled_more : (was now : ByReference) (before rest : Changes) (k : List ℕ) (w : Option Entry)
+pub applied_more : (was now : ByReference) (before rest : Changes) (k : List ℕ) (w : Option Entry)
     → ChangesAt was now k w → fin.get before k ≡ Some w → rest ≡ fin.remove before k
     → (q : List ℕ) → entry_now (fin.get now q) (fin.get rest q) ≡ entry_now (fin.get was q) (fin.get before q)
-settled_more was now before rest k w u e r q =
+applied_more was now before rest k w u e r q =
     ap (λ n. entry_now (fin.get now q) (fin.get n q)) r
     ∙ ap (λ o. entry_now (fin.get now q) o) (get-remove nat_list_cmp_total before k q)
     ∙ ap (λ o. entry_now o (cond (eq_by_cmp (slice_cmp nat_cmp) q k) None (fin.get before q))) (u q)
@@ -43,8 +43,8 @@ ready_more was now before rest k w u r h q =
     subst (λ o. IsReady o (fin.get rest q)) (sym (u q)) (subst (λ o. IsReady (cond (eq_by_cmp (slice_cmp nat_cmp) q k) w (fin.get was q)) o) (sym e) (ready_at (fin.get was q) (fin.get before q) w (eq_by_cmp (slice_cmp nat_cmp) q k) (h q)))
 
 -- with no change left all is done
-pub all_settled : (was : Option Entry) (o : Option (Option Entry)) → o ≡ None → entry_now was o ≡ was
-all_settled was o e = ap (entry_now was) e
+pub all_applied : (was : Option Entry) (o : Option (Option Entry)) → o ≡ None → entry_now was o ≡ was
+all_applied was o e = ap (entry_now was) e
 
 -- ---- room for the new references
 
@@ -80,31 +80,31 @@ all_taken references i P past h =
     subst (All P) (take_all i (all_bytes references) (omega (arith, l, past))) h
 
 -- a catalogue that lacks the new references again is the old one
-pub undone : (old mid new : ByReference) (fresh : List (List ℕ))
-    → All (λ k. fin.get old k ≡ None) fresh
-    → ((q : List ℕ) → (Contains fresh q → ⊥) → fin.get mid q ≡ fin.get old q)
-    → ((q : List ℕ) → (Contains fresh q → ⊥) → fin.get new q ≡ fin.get mid q)
-    → All (λ k. fin.get new k ≡ None) fresh → new ≡ old
-undone old mid new fresh absent first second gone =
+pub undone : (old mid new : ByReference) (new_references : List (List ℕ))
+    → All (λ k. fin.get old k ≡ None) new_references
+    → ((q : List ℕ) → (Contains new_references q → ⊥) → fin.get mid q ≡ fin.get old q)
+    → ((q : List ℕ) → (Contains new_references q → ⊥) → fin.get new q ≡ fin.get mid q)
+    → All (λ k. fin.get new k ≡ None) new_references → new ≡ old
+undone old mid new new_references absent first second gone =
     equal_maps new old
     (λ q. ⊎_elim
-    (λ h. All-contains (λ k. fin.get new k ≡ None) fresh q gone h ∙ sym (All-contains (λ k. fin.get old k ≡ None) fresh q absent h))
+    (λ h. All-contains (λ k. fin.get new k ≡ None) new_references q gone h ∙ sym (All-contains (λ k. fin.get old k ≡ None) new_references q absent h))
     (λ f. second q f ∙ first q f)
-    (in_or_not fresh q))
+    (in_or_not new_references q))
 
 entry_now-named : (was other : Option Entry) (o : Option (Option Entry)) → IsSome o → entry_now was o ≡ entry_now other o
 entry_now-named was other None h = absurd (not_some h)
 entry_now-named was other (Some now) h = refl
 
 -- where the new references have places, the changes give what the plan says
-pub carried_out : (base : ByReference) (draft : Changes) (fresh : List (List ℕ)) (m room new : ByReference) → IsPlan base draft fresh m
-    → ((q : List ℕ) → (Contains fresh q → ⊥) → fin.get room q ≡ fin.get base q)
+pub carried_out : (base : ByReference) (draft : Changes) (new_references : List (List ℕ)) (m room new : ByReference) → IsPlan base draft new_references m
+    → ((q : List ℕ) → (Contains new_references q → ⊥) → fin.get room q ≡ fin.get base q)
     → ((q : List ℕ) → fin.get new q ≡ entry_now (fin.get room q) (fin.get draft q)) → new ≡ m
-carried_out base draft fresh m room new plan others settled =
+carried_out base draft new_references m room new plan others applied =
     equal_maps new m
-    (λ q. settled q
+    (λ q. applied q
     ∙ ⊎_elim
     (λ h. entry_now-named (fin.get room q) (fin.get base q) (fin.get draft q) ((plan.lacks q).0 h).0)
     (λ f. ap (λ was. entry_now was (fin.get draft q)) (others q f))
-    (in_or_not fresh q)
+    (in_or_not new_references q)
     ∙ plan.gives q)

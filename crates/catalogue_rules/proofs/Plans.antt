@@ -39,13 +39,13 @@ kept : (b : Bool) (was : Option Entry) (w : Option Entry) → (b ≡ true → wa
 kept true was w f = sym (f refl)
 kept false was w f = refl
 
-module _ (base m : ByReference) (draft : Changes) (fresh : List (List ℕ)) (plan : IsPlan base draft fresh m) (k : List ℕ) where
+module _ (base m : ByReference) (draft : Changes) (new_references : List (List ℕ)) (plan : IsPlan base draft new_references m) (k : List ℕ) where
   -- what a reference has after the changes
   pub had : (w : Option Entry) → entry_now (fin.get base k) (fin.get draft k) ≡ w → fin.get m k ≡ w
   had w e = sym (plan.gives k) ∙ e
 
   -- a product that leaves the entry of its reference alone changes nothing
-  pub left_alone : IsPlan base draft fresh (with_entry m k (fin.get m k))
+  pub left_alone : IsPlan base draft new_references (with_entry m k (fin.get m k))
   left_alone = record {
     gives = λ q. plan.gives q ∙ sym (changes_at-with_entry m k (fin.get m k) q ∙ kept (eq_by_cmp (slice_cmp nat_cmp) q k) (fin.get m q) (fin.get m k) (λ t. ap (fin.get m) (same_key q k t)));
     lacks = plan.lacks;
@@ -69,17 +69,17 @@ module _ (base m : ByReference) (draft : Changes) (fresh : List (List ℕ)) (pla
     named_before q f h = subst IsSome (changed_there draft (fin.insert draft k now) k q (Some now) in_draft (λ e. f (sym e))) h
 
     -- a change at a reference that the catalogue and the draft lack
-    pub put_new : fin.get base k ≡ None → IsPlan base (fin.insert draft k now) (fresh ++ k ∷ []) (with_entry m k now)
+    pub put_new : fin.get base k ≡ None → IsPlan base (fin.insert draft k now) (new_references ++ k ∷ []) (with_entry m k now)
     put_new none = record {
       gives = gives_more;
       lacks = λ q. (
         λ h. ⊎_elim
             (λ before. (still_some draft (fin.insert draft k now) k q now in_draft ((plan.lacks q).0 before).0, ((plan.lacks q).0 before).1))
             (λ e. (is_named q e, subst (λ x. fin.get base x ≡ None) e none))
-            (Contains-push_cases fresh k q h),
+            (Contains-push_cases new_references k q h),
         λ h. ⊎_elim
-            (λ e. subst (Contains (fresh ++ k ∷ [])) e (Contains-push fresh k))
-            (λ f. Contains-append_left fresh (k ∷ []) q ((plan.lacks q).1 (named_before q f h.0, h.1)))
+            (λ e. subst (Contains (new_references ++ k ∷ [])) e (Contains-push new_references k))
+            (λ f. Contains-append_left new_references (k ∷ []) q ((plan.lacks q).1 (named_before q f h.0, h.1)))
             (same_or_not k q),
       );
     }
@@ -89,13 +89,13 @@ module _ (base m : ByReference) (draft : Changes) (fresh : List (List ℕ)) (pla
     in_one (Some x) f = refl
 
     -- a change at a reference that one of them has
-    pub put_known : ((fin.get base k ≡ None) × (fin.get draft k ≡ None) → ⊥) → IsPlan base (fin.insert draft k now) fresh (with_entry m k now)
+    pub put_known : ((fin.get base k ≡ None) × (fin.get draft k ≡ None) → ⊥) → IsPlan base (fin.insert draft k now) new_references (with_entry m k now)
     put_known known = record {
       gives = gives_more;
       lacks = λ q. (
         λ h. (still_some draft (fin.insert draft k now) k q now in_draft ((plan.lacks q).0 h).0, ((plan.lacks q).0 h).1),
         λ h. ⊎_elim
-            (λ e. subst (Contains fresh) e ((plan.lacks k).1 (
+            (λ e. subst (Contains new_references) e ((plan.lacks k).1 (
               in_one (fin.get draft k) (λ none. known (ap (fin.get base) e ∙ h.1, none)),
               ap (fin.get base) e ∙ h.1,
             )))
@@ -105,6 +105,6 @@ module _ (base m : ByReference) (draft : Changes) (fresh : List (List ℕ)) (pla
     }
 
 -- a plan in other words
-pub same_plan : (base m : ByReference) (draft other : Changes) (fresh others : List (List ℕ)) → other ≡ draft → others ≡ fresh
-    → IsPlan base draft fresh m → IsPlan base other others m
-same_plan base m draft other fresh others d f plan = subst (λ ks. IsPlan base other ks m) (sym f) (subst (λ o. IsPlan base o fresh m) (sym d) plan)
+pub same_plan : (base m : ByReference) (draft other : Changes) (new_references others : List (List ℕ)) → other ≡ draft → others ≡ new_references
+    → IsPlan base draft new_references m → IsPlan base other others m
+same_plan base m draft other new_references others d f plan = subst (λ ks. IsPlan base other ks m) (sym f) (subst (λ o. IsPlan base o new_references m) (sym d) plan)

@@ -105,11 +105,11 @@ impl Catalogue {
     }
 
     // Puts an empty entry at each of these references, as far as memory goes.
-    fn put_all(&mut self, alloc: Global, fresh: &[&str]) -> Result<(), AllocError>
-        ensures others { (q : List ℕ) → (Contains (all_bytes fresh.now) q → ⊥) → map.get self.new q ≡ map.get self.old q }
-        ensures there { OnOk result (All (λ k. IsSome (map.get self.new k)) (all_bytes fresh.now)) }
+    fn put_all(&mut self, alloc: Global, new_references: &[&str]) -> Result<(), AllocError>
+        ensures others { (q : List ℕ) → (Contains (all_bytes new_references.now) q → ⊥) → map.get self.new q ≡ map.get self.old q }
+        ensures there { OnOk result (All (λ k. IsSome (map.get self.new k)) (all_bytes new_references.now)) }
     {
-        for reference in fresh {
+        for reference in new_references {
             self.put(
                 *reference,
                 Entry {
@@ -122,31 +122,31 @@ impl Catalogue {
     }
 
     // Takes out what these references had.
-    fn remove_all(&mut self, fresh: &[&str])
-        ensures others { (q : List ℕ) → (Contains (all_bytes fresh.now) q → ⊥) → map.get self.new q ≡ map.get self.old q }
-        ensures gone { All (λ k. map.get self.new k ≡ None) (all_bytes fresh.now) }
+    fn remove_all(&mut self, new_references: &[&str])
+        ensures others { (q : List ℕ) → (Contains (all_bytes new_references.now) q → ⊥) → map.get self.new q ≡ map.get self.old q }
+        ensures gone { All (λ k. map.get self.new k ≡ None) (all_bytes new_references.now) }
     {
-        for reference in fresh {
+        for reference in new_references {
             self.remove(*reference);
         }
     }
 
     // Makes a place for each of these new references, or leaves the catalogue as it was.
-    fn make_room(&mut self, alloc: Global, fresh: &[&str]) -> Result<(), AllocError>
-        requires { All (λ k. map.get self.old k ≡ None) (all_bytes fresh.now) }
+    fn make_room(&mut self, alloc: Global, new_references: &[&str]) -> Result<(), AllocError>
+        requires { All (λ k. map.get self.old k ≡ None) (all_bytes new_references.now) }
         ensures err { OnErr result (self.new ≡ self.old) }
-        ensures others { OnOk result ((q : List ℕ) → (Contains (all_bytes fresh.now) q → ⊥) → map.get self.new q ≡ map.get self.old q) }
-        ensures there { OnOk result (All (λ k. IsSome (map.get self.new k)) (all_bytes fresh.now)) }
+        ensures others { OnOk result ((q : List ℕ) → (Contains (all_bytes new_references.now) q → ⊥) → map.get self.new q ≡ map.get self.old q) }
+        ensures there { OnOk result (All (λ k. IsSome (map.get self.new k)) (all_bytes new_references.now)) }
     {
-        if let Err(refused) = self.put_all(alloc, fresh) {
-            self.remove_all(fresh);
+        if let Err(refused) = self.put_all(alloc, new_references) {
+            self.remove_all(new_references);
             return Err(refused);
         }
         Ok(())
     }
 
     // Carries out the changes, which takes no memory where each new reference has its place.
-    fn settle(&mut self, draft: Draft<'_>)
+    fn apply_draft(&mut self, draft: Draft<'_>)
         requires ready { (q : List ℕ) → IsReady (map.get self.old q) (map.get draft q) }
         requires few { EachHas (λ w. IfSome w HasFewDetails) draft }
         ensures { (q : List ℕ) → map.get self.new q ≡ entry_now (map.get self.old q) (map.get draft.entry q) }
@@ -170,11 +170,11 @@ impl Catalogue {
         let alloc = self.alloc;
         let Plan {
             draft,
-            fresh,
+            new_references,
             effect,
         } = Plan::of(alloc, self, contents.products())?;
-        self.make_room(alloc, fresh.as_slice())?;
-        self.settle(draft);
+        self.make_room(alloc, new_references.as_slice())?;
+        self.apply_draft(draft);
         Ok(effect)
     }
 

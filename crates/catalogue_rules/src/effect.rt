@@ -5,11 +5,11 @@ use onix_terms::code::Code2;
 /// How many products of a message did what. Each product is counted once.
 #[derive(Clone, Copy, Debug, PartialEq, Eq)]
 pub struct Effect {
-    /// Records added or replaced whole.
+    /// Products that added a record or replaced it whole.
     pub replaced: u32,
-    /// Known records whose update was taken.
+    /// Updates of references that have a record.
     pub updated: u32,
-    /// Known records that were removed.
+    /// Products that removed a record.
     pub deleted: u32,
     /// Updates and deletions of references that have no record.
     pub unknown: u32,

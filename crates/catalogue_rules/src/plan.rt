@@ -19,7 +19,7 @@ pub struct Plan<'a> {
     /// The changes.
     pub draft: Draft<'a>,
     /// Those of their references that the catalogue lacks, each once.
-    pub fresh: Vec<&'a str>,
+    pub new_references: Vec<&'a str>,
     /// What the products did.
     pub effect: Effect,
 }
@@ -51,12 +51,12 @@ fn change_by(
 impl<'a> Plan<'a> {
     /// A plan that changes nothing.
     fn new(alloc: Global) -> Plan<'a>
-        ensures plan { (base : ByReference) → IsPlan base result.draft (all_bytes result.fresh.items) base }
+        ensures plan { (base : ByReference) → IsPlan base result.draft (all_bytes result.new_references.items) base }
         ensures effect { result.effect ≡ no_effect }
     {
         Plan {
             draft: Draft::new(alloc),
-            fresh: Vec::new(alloc),
+            new_references: Vec::new(alloc),
             effect: Effect::none(),
         }
     }
@@ -86,12 +86,12 @@ impl<'a> Plan<'a> {
         reference: &'a str,
         change: Option<Entry>,
     ) -> Result<(), AllocError>
-        ensures plan { OnOk result ((m : ByReference) → IsPlan catalogue.now self.old.draft (all_bytes self.old.fresh.items) m
-            → IsPlan catalogue.now self.new.draft (all_bytes self.new.fresh.items) (with_entry m reference.now change)) }
+        ensures plan { OnOk result ((m : ByReference) → IsPlan catalogue.now self.old.draft (all_bytes self.old.new_references.items) m
+            → IsPlan catalogue.now self.new.draft (all_bytes self.new.new_references.items) (with_entry m reference.now change)) }
         ensures effect { OnOk result (self.new.effect ≡ self.old.effect) }
     {
         if self.is_new(catalogue, reference) {
-            self.fresh.push(reference)?;
+            self.new_references.push(reference)?;
         }
         self.draft.set(reference, change)?;
         Ok(())
@@ -100,9 +100,9 @@ impl<'a> Plan<'a> {
     /// Adds what one product changes.
     fn add(&mut self, catalogue: &Catalogue, product: &'a Product) -> Result<(), AllocError>
         requires { total self.old.effect + 1 < 2 ^ 32 }
-        ensures plan { OnOk result ((m : ByReference) → IsPlan catalogue.now self.old.draft (all_bytes self.old.fresh.items) m
-            → IsPlan catalogue.now self.new.draft (all_bytes self.new.fresh.items) (after_product m product.now)) }
-        ensures effect { OnOk result ((m : ByReference) → IsPlan catalogue.now self.old.draft (all_bytes self.old.fresh.items) m
+        ensures plan { OnOk result ((m : ByReference) → IsPlan catalogue.now self.old.draft (all_bytes self.old.new_references.items) m
+            → IsPlan catalogue.now self.new.draft (all_bytes self.new.new_references.items) (after_product m product.now)) }
+        ensures effect { OnOk result ((m : ByReference) → IsPlan catalogue.now self.old.draft (all_bytes self.old.new_references.items) m
             → self.new.effect ≡ counted (change_of product.now.notification) (map.get m product.now.reference) self.old.effect) }
     {
         let reference = product.reference.as_str();
@@ -123,7 +123,7 @@ impl<'a> Plan<'a> {
         products: &'a [Product],
     ) -> Result<Plan<'a>, AllocError>
         requires { length products.now < 2 ^ 32 }
-        ensures plan { IfOk result (λ p. IsPlan catalogue.now p.draft (all_bytes p.fresh.items) (after catalogue.now products.now)) }
+        ensures plan { IfOk result (λ p. IsPlan catalogue.now p.draft (all_bytes p.new_references.items) (after catalogue.now products.now)) }
         ensures effect { IfOk result (λ p. p.effect ≡ effect_of catalogue.now products.now) }
     {
         let mut plan = Plan::new(alloc);

@@ -4,7 +4,7 @@ use Rattle.sqlite.specs.State.{State, HasCleanDisk, Survives, KeepsCommit}
 use Rattle.onix_message.specs.declared.agreement.StoreFault.{StoreFault}
 use Rattle.desk_rows.specs.Rows.{DeskRows, Holds}
 use Rattle.desk_rows.specs.Schema.{desk_schema}
-use Rattle.desk_rows.specs.Transactions.{IsForeign}
+use Rattle.desk_rows.specs.Transactions.{HasOtherSchema}
 
 -- With `Ok`, `Post` is said of the rows before, the answer and the rows after; and nothing is committed.
 pub record Achieves {A : Type 0} (Post : DeskRows → A → DeskRows → Type 0) (old new : State) (result : Result A StoreFault) : Type 0 where
@@ -13,4 +13,4 @@ pub record Achieves {A : Type 0} (Post : DeskRows → A → DeskRows → Type 0)
   pub stays_open : HasCleanDisk new → old.now.schema ≡ desk_schema → IsTrue old.in_transaction → IsTrue old.is_open → OnOk result (IsTrue new.in_transaction × IsTrue new.is_open)
   -- nothing is committed: a crash leaves what it could leave before
   pub kept : HasCleanDisk new → old.now.schema ≡ desk_schema → KeepsCommit old new
-  pub survives : Survives old new (IsForeign old)
+  pub survives : Survives old new (HasOtherSchema old)

@@ -5,7 +5,7 @@ use Rattle.sqlite.proofs.StateLemmas.{survives_then}
 use Rattle.onix_message.specs.declared.agreement.StoreFault.{StoreFault}
 use Rattle.desk_rows.specs.Rows.{DeskRows, Holds}
 use Rattle.desk_rows.specs.Schema.{desk_schema}
-use Rattle.desk_rows.specs.Transactions.{Works, IsForeign}
+use Rattle.desk_rows.specs.Transactions.{Works, HasOtherSchema}
 use Rattle.desk_rows.proofs.Control.{kept_itself, survives_itself}
 use Rattle.catalogue_store.specs.Achieves.{Achieves}
 
@@ -108,7 +108,7 @@ achieves_then {A} {B} First Second Post old mid new a r first second join = reco
   goes_on = λ clean has. second.goes_on clean (first.goes_on (early clean) has);
   stays_open = λ clean has began opened. let still = first.stays_open (early clean) has began opened in second.stays_open clean (first.goes_on (early clean) has) still.0 still.1;
   kept = λ clean has. kept_then (first.kept (early clean) has) (second.kept clean (first.goes_on (early clean) has));
-  survives = survives_then old mid new (IsForeign old) (IsForeign mid) (IsForeign old) (λ _ db foreign. foreign) (λ clean db foreign has. foreign (first.goes_on (early clean) has)) first.survives second.survives;
+  survives = survives_then old mid new (HasOtherSchema old) (HasOtherSchema mid) (HasOtherSchema old) (λ _ db foreign. foreign) (λ clean db foreign has. foreign (first.goes_on (early clean) has)) first.survives second.survives;
 }
   where
     early : HasCleanDisk new → HasCleanDisk mid

@@ -8,7 +8,7 @@ use Rattle.series_rules.specs.declared.requests.Request.{Request}
 use Rattle.desk_http.specs.declared.fault.InputFault.{InputFault}
 use Rattle.desk_http.specs.declared.fault.InputFault.TheVariants as fault
 use Rattle.desk_http.specs.declared.refusal.Refusal.{Refusal}
-use Rattle.desk_http.specs.Asks.{Asks, IfTold, asks_of, with_head}
+use Rattle.desk_http.specs.Asks.{Asks, IfDecided, asks_of, with_head}
 use Rattle.desk_http.specs.Head.{HasHead}
 use Rattle.desk_http.specs.Steps.{Gives}
 
@@ -27,14 +27,14 @@ head_of_more text more rest h reads fits = record {
 }
 
 pub told : (r : Result Request InputFault) (wanted : Result Request Refusal) (P : Result Request Refusal → Type 0)
-    → Gives r wanted → P wanted → IfTold r P
+    → Gives r wanted → P wanted → IfDecided r P
 told (Ok x) wanted P is p = subst P is p
 told (Err (fault.Refused why)) wanted P is p = subst P is p
 told (Err fault.Read) wanted P is p = tt
 told (Err fault.Memory) wanted P is p = tt
 
 -- what was made of a head and the bytes behind it was asked for
-pub asked_for : (r : Result Request InputFault) (text early more : List ℕ) (h : RequestHead) → ReadsRequest text h early → length text ≤ 16384
-    → Gives r (asks_of h (early ++ more)) → IfTold r (Asks (text ++ more))
-asked_for r text early more h reads fits gives =
-    told r (asks_of h (early ++ more)) (Asks (text ++ more)) gives (with_head (head_of_more text more early h reads fits))
+pub asked_for : (r : Result Request InputFault) (text behind more : List ℕ) (h : RequestHead) → ReadsRequest text h behind → length text ≤ 16384
+    → Gives r (asks_of h (behind ++ more)) → IfDecided r (Asks (text ++ more))
+asked_for r text behind more h reads fits gives =
+    told r (asks_of h (behind ++ more)) (Asks (text ++ more)) gives (with_head (head_of_more text more behind h reads fits))

@@ -10,17 +10,17 @@ use Rattle.csv_records.specs.Streams.{IsTold}
 use Rattle.desk_http.specs.declared.refusal.Refusal.TheVariants as refusal
 use Rattle.desk_http.specs.Posted.{body_of, records_in}
 
--- what is told of the first bytes of the early ones and then of those that follow
-pub front_told : (size : ℕ) (early : List ℕ) (known : Option (List ℕ)) (bytes : List ℕ)
-    → IsTold (option_map (take size) (option_append (Some early) known)) bytes → IfSome known (λ more. bytes ≡ take size (early ++ more))
-front_told size early None bytes told = tt
-front_told size early (Some more) bytes told = sym told
+-- what is told of the first bytes that came with the head and then of those that follow
+pub front_told : (size : ℕ) (behind : List ℕ) (known : Option (List ℕ)) (bytes : List ℕ)
+    → IsTold (option_map (take size) (option_append (Some behind) known)) bytes → IfSome known (λ more. bytes ≡ take size (behind ++ more))
+front_told size behind None bytes told = tt
+front_told size behind (Some more) bytes told = sym told
 
 -- these are not more than so many
-pub front_fits : (size : ℕ) (early : List ℕ) (known : Option (List ℕ)) (bytes : List ℕ)
-    → IsTold (option_map (take size) (option_append (Some early) known)) bytes → size < length bytes → IfSome known (λ _. ⊥)
-front_fits size early None bytes told above = tt
-front_fits size early (Some more) bytes told above = absurd (omega (arith, above, ap length told, length-take size (early ++ more)))
+pub front_fits : (size : ℕ) (behind : List ℕ) (known : Option (List ℕ)) (bytes : List ℕ)
+    → IsTold (option_map (take size) (option_append (Some behind) known)) bytes → size < length bytes → IfSome known (λ _. ⊥)
+front_fits size behind None bytes told above = tt
+front_fits size behind (Some more) bytes told above = absurd (omega (arith, above, ap length told, length-take size (behind ++ more)))
 
 -- a front of so many bytes is the body
 pub body_there : (size : ℕ) (rest body : List ℕ) → body ≡ take size rest → size ≤ length body → body_of size rest ≡ Ok body

@@ -50,8 +50,8 @@ pub data Asks : List ℕ → Result Request Refusal → Type 0 where
   with_head : {input rest : List ℕ} {h : RequestHead} → HasHead input h rest → Asks input (asks_of h rest)
 
 -- P of what was asked for, unless a read failed or memory ran out
-abbrev pub IfTold : Result Request InputFault → (Result Request Refusal → Type 0) → Type 0
-IfTold (Ok r) P = P (Ok r)
-IfTold (Err (fault.Refused why)) P = P (Err why)
-IfTold (Err fault.Read) P = ⊤
-IfTold (Err fault.Memory) P = ⊤
+abbrev pub IfDecided : Result Request InputFault → (Result Request Refusal → Type 0) → Type 0
+IfDecided (Ok r) P = P (Ok r)
+IfDecided (Err (fault.Refused why)) P = P (Err why)
+IfDecided (Err fault.Read) P = ⊤
+IfDecided (Err fault.Memory) P = ⊤

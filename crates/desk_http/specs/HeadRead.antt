@@ -4,7 +4,7 @@ use Rattle.httparse.specs.Grammar.{RequestHead}
 use Rattle.httparse.specs.Spans.{IsRequestAt}
 use Rattle.desk_http.specs.declared.parts.Head.{Head}
 use Rattle.desk_http.specs.declared.parts.HeadRead.{HeadRead}
-use Rattle.desk_http.specs.declared.parts.HeadRead.TheVariants.{Whole, Refused}
+use Rattle.desk_http.specs.declared.parts.HeadRead.TheVariants.{Complete, Refused}
 use Rattle.desk_http.specs.declared.refusal.Refusal.{Refusal}
 
 -- the bytes that were read
@@ -16,11 +16,11 @@ abbrev pub IsHeadOf : Head → RequestHead → Type 0
 IsHeadOf head h = IsRequestAt (head_text head) head.spans.items head.parts h
 
 -- P of the head, if there is one
-abbrev pub IfWhole : HeadRead → (Head → Type 0) → Type 0
-IfWhole (Whole head) P = P head
-IfWhole (Refused why) P = ⊤
+abbrev pub IfComplete : HeadRead → (Head → Type 0) → Type 0
+IfComplete (Complete head) P = P head
+IfComplete (Refused why) P = ⊤
 
 -- P of the refusal, if there is no head
 abbrev pub IfRefused : HeadRead → (Refusal → Type 0) → Type 0
-IfRefused (Whole head) P = ⊤
+IfRefused (Complete head) P = ⊤
 IfRefused (Refused why) P = P why

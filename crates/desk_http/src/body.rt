@@ -16,19 +16,19 @@ use csv_records::streams::{self, read_input};
 use std::alloc::Global;
 use std::io::Read;
 
-// The first bytes, at most so many, of the early ones and those that follow them in the input. No
-// more than these are read.
+// The first bytes, at most so many, of those that were read behind the head and of those that follow
+// them in the input. No more than these are read.
 fn read_front<R: Read>(
     alloc: Global,
     reader: &mut R,
-    early: &[u8],
+    behind: &[u8],
     size: usize,
 ) -> Result<Vec<u8>, InputFault>
-    ensures front { IfOk result (λ bytes. IfSome (R.remaining reader.old) (λ more. bytes.items ≡ take size (early.now ++ more))) }
+    ensures front { IfOk result (λ bytes. IfSome (R.remaining reader.old) (λ more. bytes.items ≡ take size (behind.now ++ more))) }
     ensures size { IfOk result (λ bytes. length bytes.items ≤ size) }
     ensures fault { IfSome (R.remaining reader.old) (λ _. RefusesNothing result) }
 {
-    match read_input(alloc, &mut early.chain(reader).take(size as u64), size) {
+    match read_input(alloc, &mut behind.chain(reader).take(size as u64), size) {
         Ok(bytes) => Ok(bytes),
         Err(streams::InputFault::Read) => Err(InputFault::Read),
         Err(streams::InputFault::TooLarge) => Err(InputFault::Refused(Refusal::TooLarge)),
@@ -53,13 +53,13 @@ fn records_in(alloc: Global, body: &[u8]) -> Result<RecordBuffer, InputFault>
 fn read_delivery<R: Read>(
     alloc: Global,
     reader: &mut R,
-    early: &[u8],
+    behind: &[u8],
     size: usize,
 ) -> Result<RecordBuffer, InputFault>
     requires { size ≤ limit }
-    ensures { IfSome (R.remaining reader.old) (λ more. Gives result (records_behind size (early.now ++ more))) }
+    ensures { IfSome (R.remaining reader.old) (λ more. Gives result (records_behind size (behind.now ++ more))) }
 {
-    let body = match read_front(alloc, reader, early, size) {
+    let body = match read_front(alloc, reader, behind, size) {
         Ok(body) => body,
         Err(fault) => return Err(fault),
     };
@@ -75,13 +75,13 @@ pub(crate) fn read_posted<R: Read>(
     alloc: Global,
     reader: &mut R,
     head: &Head,
-    early: &[u8],
+    behind: &[u8],
 ) -> Result<RecordBuffer, InputFault>
     ensures { (h : RequestHead) → IsHeadOf head.now h → IfSome (R.remaining reader.old) (λ more.
-        Gives result (records_posted h (early.now ++ more))) }
+        Gives result (records_posted h (behind.now ++ more))) }
 {
     match head.body_size() {
-        Ok(size) => read_delivery(alloc, reader, early, size),
+        Ok(size) => read_delivery(alloc, reader, behind, size),
         Err(why) => Err(InputFault::Refused(why)),
     }
 }

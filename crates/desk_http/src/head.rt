@@ -9,7 +9,7 @@ ghost use Rattle.desk_http.specs.Head.{HasNoHead, IsNeverHead, has_empty_line, s
 ghost use Rattle.desk_http.specs.Fields.{field_values, only_value};
 ghost use Rattle.desk_http.specs.Steps.{RefusesNothing};
 ghost use Rattle.desk_http.specs.Posted.{size_asked};
-ghost use Rattle.desk_http.specs.HeadRead.{IfWhole, IfRefused, head_text, IsHeadOf};
+ghost use Rattle.desk_http.specs.HeadRead.{IfComplete, IfRefused, head_text, IsHeadOf};
 
 use crate::fault::InputFault;
 use crate::fields::{Repeated, body_size, only_value};
@@ -44,7 +44,7 @@ impl Head {
     }
 
     /// The bytes that were read behind the head.
-    pub(crate) fn early(&self) -> &[u8]
+    pub(crate) fn behind(&self) -> &[u8]
         ensures { (h : RequestHead) → IsHeadOf self.now h → head_text self.now ≡ print_request h ++ result.now }
     {
         &self.bytes[self.parts.len..self.filled]
@@ -174,9 +174,9 @@ fn field_spans(alloc: Global) -> Result<Vec<HeaderSpan>, AllocError>
 
 /// Reads until the head is whole or a refusal is decided.
 pub(crate) fn read_head<R: Read>(alloc: Global, reader: &mut R) -> Result<HeadRead, InputFault>
-    ensures whole { IfOk result (λ read. IfWhole read (λ head. (h : RequestHead) × IsHeadOf head h)) }
-    ensures limit { IfOk result (λ read. IfWhole read (λ head. length (head_text head) ≤ HEAD_LIMIT)) }
-    ensures read { IfOk result (λ read. IfWhole read (λ head.
+    ensures whole { IfOk result (λ read. IfComplete read (λ head. (h : RequestHead) × IsHeadOf head h)) }
+    ensures limit { IfOk result (λ read. IfComplete read (λ head. length (head_text head) ≤ HEAD_LIMIT)) }
+    ensures read { IfOk result (λ read. IfComplete read (λ head.
         Consumes (R.remaining reader.old) (R.remaining reader.new) (head_text head))) }
     ensures refused { IfOk result (λ read. IfRefused read (λ why.
         IfSome (R.remaining reader.old) (λ input. IsRefused input why))) }
@@ -185,7 +185,7 @@ pub(crate) fn read_head<R: Read>(alloc: Global, reader: &mut R) -> Result<HeadRe
     let mut bytes = head_buffer(alloc)?;
     let mut spans = field_spans(alloc)?;
     match fill_head(reader, &mut bytes, &mut spans)? {
-        Ok(Found { filled, parts }) => Ok(HeadRead::Whole(Head {
+        Ok(Found { filled, parts }) => Ok(HeadRead::Complete(Head {
             bytes,
             filled,
             spans,

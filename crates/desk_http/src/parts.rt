@@ -21,6 +21,6 @@ pub(crate) struct Head {
 /// What an input begins with.
 #[derive(Drop)]
 pub(crate) enum HeadRead {
-    Whole(Head),
+    Complete(Head),
     Refused(Refusal),
 }

@@ -2,7 +2,7 @@
 
 ghost use Rattle.std.specs.Prelude.{◌≡◌, ◌++◌, ℕ, List, IfSome};
 ghost use Rattle.httparse.specs.Grammar.{RequestHead};
-ghost use Rattle.desk_http.specs.Asks.{Asks, IfTold, asks_of, question_at, question_of, request_at};
+ghost use Rattle.desk_http.specs.Asks.{Asks, IfDecided, asks_of, question_at, question_of, request_at};
 ghost use Rattle.desk_http.specs.HeadRead.{IsHeadOf};
 ghost use Rattle.desk_http.specs.Steps.{Gives};
 
@@ -69,14 +69,14 @@ fn read_at<R: Read>(
     alloc: Global,
     reader: &mut R,
     head: &Head,
-    early: &[u8],
+    behind: &[u8],
     route: Route,
 ) -> Result<Request, InputFault>
     ensures { (h : RequestHead) → IsHeadOf head.now h → IfSome (R.remaining reader.old) (λ more.
-        Gives result (request_at h (early.now ++ more) route)) }
+        Gives result (request_at h (behind.now ++ more) route)) }
 {
     match route {
-        Route::Messages => match read_posted(alloc, reader, head, early) {
+        Route::Messages => match read_posted(alloc, reader, head, behind) {
             Ok(records) => Ok(Request::Deliver(records)),
             Err(fault) => Err(fault),
         },
@@ -91,13 +91,13 @@ fn read_behind<R: Read>(
     alloc: Global,
     reader: &mut R,
     head: &Head,
-    early: &[u8],
+    behind: &[u8],
 ) -> Result<Request, InputFault>
     ensures { (h : RequestHead) → IsHeadOf head.now h → IfSome (R.remaining reader.old) (λ more.
-        Gives result (asks_of h (early.now ++ more))) }
+        Gives result (asks_of h (behind.now ++ more))) }
 {
     match read_route(alloc, head) {
-        Ok(route) => read_at(alloc, reader, head, early, route),
+        Ok(route) => read_at(alloc, reader, head, behind, route),
         Err(fault) => Err(fault),
     }
 }
@@ -105,10 +105,10 @@ fn read_behind<R: Read>(
 /// Reads the request that an input asks for: its head, and the body of a POST that gets so far. A
 /// refusal comes as soon as the bytes that were read decide it.
 pub(crate) fn read_request<R: Read>(alloc: Global, reader: &mut R) -> Result<Request, InputFault>
-    ensures { IfSome (R.remaining reader.old) (λ input. IfTold result (Asks input)) }
+    ensures { IfSome (R.remaining reader.old) (λ input. IfDecided result (Asks input)) }
 {
     match read_head(alloc, reader) {
-        Ok(HeadRead::Whole(head)) => read_behind(alloc, reader, &head, head.early()),
+        Ok(HeadRead::Complete(head)) => read_behind(alloc, reader, &head, head.behind()),
         Ok(HeadRead::Refused(why)) => Err(InputFault::Refused(why)),
         Err(fault) => Err(fault),
     }

@@ -19,7 +19,7 @@ use Rattle.desk_rows.proofs.Control.{kept_itself, survives_itself}
 use Rattle.desk_rows.proofs.Returned.{wrote_by}
 use Rattle.desk_rows.proofs.RowWrites.{writes_rows, no_commit, no_release, rows_written, keeps_schema}
 use Rattle.desk_rows.proofs.StatementTexts.{returning_of, formats_of}
-use Rattle.desk_rows.specs.Transactions.{RunsIn, ReadsIn, Works, IsForeign, NoTrees}
+use Rattle.desk_rows.specs.Transactions.{RunsIn, ReadsIn, Works, HasOtherSchema, NoTrees}
 
 module _ (sql : List ℕ) (command : Command) (is : command_of (understood desk_schema sql) ≡ command) (plain : IsPlain (understood desk_schema sql)) (rows : writes_rows command ≡ true) where
   wrote : (params : Row) (old new : State) (count : ℕ) → old.now.schema ≡ desk_schema → Executes sql params old new (Ok count) → Writes old new None command (statement_of sql (understood desk_schema sql)) params count
@@ -42,8 +42,8 @@ module _ (sql : List ℕ) (command : Command) (is : command_of (understood desk_
         | inr wrote ↦ absurd (let x = wrote.0 in cc)
       ]
 
-  survives_inside : (params : Row) (old new : State) (r : Result ℕ StoreFault) → RunsIn sql params old new r → Survives old new (IsForeign old)
-  survives_inside params old new r ran = survives_weaker old new _ (IsForeign old) (λ _ db may has. commits_nothing params old db has may.0 may.1) ran.survives
+  survives_inside : (params : Row) (old new : State) (r : Result ℕ StoreFault) → RunsIn sql params old new r → Survives old new (HasOtherSchema old)
+  survives_inside params old new r ran = survives_weaker old new _ (HasOtherSchema old) (λ _ db may has. commits_nothing params old db has may.0 may.1) ran.survives
 
   pub works_ok : {A : Type 0} (Answer : DeskRows → A → Type 0) (change : DeskRows → DeskRows) (params : Row) (old new : State) (was now : Bool) (count : ℕ) (a : A) → RunsIn sql params old new (Ok count) → now ≡ false
       → (IsTrue was → ◌≡◌ {A = Result ℕ StoreFault} (Ok count) (Err Unusable))
@@ -97,7 +97,7 @@ module _ (sql : List ℕ) (plain : IsPlain (understood desk_schema sql)) where
     goes_on = λ clean has.
         let same = unchanged params old new (rows_of got) has (ran.shown clean) in (same.0.mode ∙ ran.inside, same.0.is_open, ap (λ (d : Database). d.schema) same.0.now_is ∙ has);
     kept = λ clean has. kept_by params old new (rows_of got) has (ran.shown clean);
-    survives = survives_weaker old new NoTrees (IsForeign old) (λ _ db none. absurd none) ran.survives;
+    survives = survives_weaker old new NoTrees (HasOtherSchema old) (λ _ db none. absurd none) ran.survives;
   }
 
   -- its rows could not be read
@@ -110,7 +110,7 @@ module _ (sql : List ℕ) (plain : IsPlain (understood desk_schema sql)) where
     gives = λ clean rows h. tt;
     goes_on = λ clean has. tt;
     kept = λ clean has. kept_by params old new (rows_of got) has (ran.shown clean);
-    survives = survives_weaker old new NoTrees (IsForeign old) (λ _ db none. absurd none) ran.survives;
+    survives = survives_weaker old new NoTrees (HasOtherSchema old) (λ _ db none. absurd none) ran.survives;
   }
 
 pub reads_err : {A V : Type 0} (Answer : DeskRows → A → Type 0) (change : DeskRows → DeskRows) (sql : List ℕ) (params : Row) (old new : State) (was now : Bool) (rows_of : V → List Row) (e : StoreFault) → ReadsIn sql params old new rows_of (Err e) → now ≡ true
@@ -122,7 +122,7 @@ reads_err Answer change sql params old new was now rows_of e ran spent unspent =
   gives = λ clean rows h. tt;
   goes_on = λ clean has. tt;
   kept = λ clean has. ran.failed clean;
-  survives = survives_weaker old new NoTrees (IsForeign old) (λ _ db none. absurd none) ran.survives;
+  survives = survives_weaker old new NoTrees (HasOtherSchema old) (λ _ db none. absurd none) ran.survives;
 }
 
 -- a write with RETURNING
@@ -148,7 +148,7 @@ module _ (sql : List ℕ) (command : Command) (what : Returning) (is : command_o
     goes_on = λ clean has.
         let shown = shows_written params old new (rows_of got) has ran.inside (ran.shown clean) in (shown.mode, shown.is_open, schema_written params old new (rows_of got) has (ran.shown clean));
     kept = λ clean has. let shown = shows_written params old new (rows_of got) has ran.inside (ran.shown clean) in record { was_open = λ _. shown.was_open; committed = λ _. shown.committed_is };
-    survives = survives_weaker old new NoTrees (IsForeign old) (λ _ db none. absurd none) ran.survives;
+    survives = survives_weaker old new NoTrees (HasOtherSchema old) (λ _ db none. absurd none) ran.survives;
   }
 
   pub takes_late : {A V : Type 0} (Answer : DeskRows → A → Type 0) (change : DeskRows → DeskRows) (params : Row) (old new : State) (was now : Bool) (rows_of : V → List Row) (got : V) (e : StoreFault) → ReadsIn sql params old new rows_of (Ok got) → now ≡ true
@@ -160,7 +160,7 @@ module _ (sql : List ℕ) (command : Command) (what : Returning) (is : command_o
     gives = λ clean rows h. tt;
     goes_on = λ clean has. tt;
     kept = λ clean has. let shown = shows_written params old new (rows_of got) has ran.inside (ran.shown clean) in record { was_open = λ _. shown.was_open; committed = λ _. shown.committed_is };
-    survives = survives_weaker old new NoTrees (IsForeign old) (λ _ db none. absurd none) ran.survives;
+    survives = survives_weaker old new NoTrees (HasOtherSchema old) (λ _ db none. absurd none) ran.survives;
   }
 
 -- a call that does not touch the database, and is refused

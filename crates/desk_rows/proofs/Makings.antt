@@ -14,7 +14,7 @@ use Rattle.onix_message.specs.declared.agreement.StoreFault.{StoreFault}
 use Rattle.onix_message.specs.declared.agreement.StoreFault.TheVariants.{Unusable}
 use Rattle.desk_rows.proofs.Control.{kept_itself, survives_itself}
 use Rattle.desk_rows.proofs.Calls.{unchanged_in}
-use Rattle.desk_rows.specs.Transactions.{ReadsIn, RunsIn, Makes, Works, NoAnswer, IsForeign, NoTrees}
+use Rattle.desk_rows.specs.Transactions.{ReadsIn, RunsIn, Makes, Works, NoAnswer, HasOtherSchema, NoTrees}
 use Rattle.desk_rows.specs.Rows.{DeskRows, Holds}
 use Rattle.desk_rows.specs.Schema.{desk_schema}
 
@@ -179,7 +179,7 @@ works_made {A} rows change old new was now r works = record {
   made = λ clean h. made r (works.gives clean rows h);
   goes_on = λ clean h. on r (works.goes_on clean h.schema);
   kept = λ clean h. works.kept clean h.schema;
-  survives = survives_weaker old new (IsForeign old) (λ _. ¬ Holds old.now rows) (λ _ db foreign h. foreign h.schema) works.survives;
+  survives = survives_weaker old new (HasOtherSchema old) (λ _. ¬ Holds old.now rows) (λ _ db foreign h. foreign h.schema) works.survives;
 }
   where
     made : (r : Result A StoreFault) → IfOk r (λ a. NoAnswer rows a × Holds new.now (change rows)) → OnOk r (Holds new.now (change rows))

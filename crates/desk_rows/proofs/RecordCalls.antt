@@ -8,7 +8,7 @@ use Rattle.desk_rows.specs.Rows.{DeskRows, Holds}
 use Rattle.desk_rows.specs.RecordRows.{price_row, minimum_row}
 use Rattle.desk_rows.specs.RecordChanges.{with_price, with_minimum, with_price_and_minimum}
 use Rattle.desk_rows.specs.declared.rows.PriceRow as typed
-use Rattle.desk_rows.specs.Transactions.{Works, NoAnswer, IsForeign}
+use Rattle.desk_rows.specs.Transactions.{Works, NoAnswer, HasOtherSchema}
 use Rattle.desk_rows.proofs.Control.{kept_itself, survives_itself}
 
 -- a call that stops before its statement
@@ -33,7 +33,7 @@ works_both {A} f f′ old mid new was between now x result first second = record
   gives = λ clean rows h. second.gives clean (f rows) (first.gives (early clean) rows h).1;
   goes_on = λ clean has. second.goes_on clean (first.goes_on (early clean) has).2;
   kept = λ clean has. kept_then (first.kept (early clean) has) (second.kept clean (first.goes_on (early clean) has).2);
-  survives = survives_then old mid new (IsForeign old) (IsForeign mid) (IsForeign old) (λ _ db foreign. foreign) (λ clean db foreign has. foreign (first.goes_on (early clean) has).2) first.survives second.survives;
+  survives = survives_then old mid new (HasOtherSchema old) (HasOtherSchema mid) (HasOtherSchema old) (λ _ db foreign. foreign) (λ clean db foreign has. foreign (first.goes_on (early clean) has).2) first.survives second.survives;
 }
   where
     early : HasCleanDisk new → HasCleanDisk mid
@@ -63,7 +63,7 @@ reads_then {A} {B} First Second Both old mid new was between now a result first 
   gives = λ clean rows h. let one = first.gives (early clean) rows h in both rows h one.0 result (second.gives clean rows one.1);
   goes_on = λ clean has. second.goes_on clean (first.goes_on (early clean) has).2;
   kept = λ clean has. kept_then (first.kept (early clean) has) (second.kept clean (first.goes_on (early clean) has).2);
-  survives = survives_then old mid new (IsForeign old) (IsForeign mid) (IsForeign old) (λ _ db foreign. foreign) (λ clean db foreign has. foreign (first.goes_on (early clean) has).2) first.survives second.survives;
+  survives = survives_then old mid new (HasOtherSchema old) (HasOtherSchema mid) (HasOtherSchema old) (λ _ db foreign. foreign) (λ clean db foreign has. foreign (first.goes_on (early clean) has).2) first.survives second.survives;
 }
   where
     early : HasCleanDisk new → HasCleanDisk mid

@@ -12,7 +12,7 @@ use Rattle.onix_terms.specs.declared.party.Party.{Party}
 use Rattle.desk_rows.specs.declared.applied.EffectRow.{EffectRow}
 use Rattle.desk_rows.specs.declared.series.SeriesRow.{SeriesRow}
 use Rattle.desk_rows.specs.Rows.{AppliedRow, DeskRows, AreSeriesInOrder, IsAddressee, series_columns, party_type, party_value, applied_part}
-use Rattle.desk_rows.specs.Shown.{six_columns, seven_columns, IsToldRow, applied_part_columns}
+use Rattle.desk_rows.specs.Shown.{six_columns, seven_columns, HasAddresseeType, applied_part_columns}
 
 same_addressee : (p q : Option Party) → IsAddressee p → IsAddressee q → party_type p ≡ party_type q → party_value p ≡ party_value q → p ≡ q
 same_addressee None None told told′ e f = refl
@@ -50,18 +50,18 @@ same_series x y told told′ e =
         made x.agreement.name y.agreement.name x.agreement.sender.id_type y.agreement.sender.id_type x.agreement.sender.id_value y.agreement.sender.id_value x.agreement.addressee y.agreement.addressee
         x.agreement.first y.agreement.first x.next y.next a b c d e f
 
-found_told : (p : SeriesRow → Bool) (rows : List SeriesRow) → AllByRecursion (λ (r : SeriesRow). IsAddressee r.agreement.addressee) rows → IsToldRow (find p rows)
+found_told : (p : SeriesRow → Bool) (rows : List SeriesRow) → AllByRecursion (λ (r : SeriesRow). IsAddressee r.agreement.addressee) rows → HasAddresseeType (find p rows)
 found_told p [] told = tt
 found_told p (r ∷ rows) told = elim (cases_Bool (p r)) [ inl here ↦ rw here told.0 | inr misses ↦ rw misses (found_told p rows told.1) ]
 
-first_is : (found : Option SeriesRow) (first : Option Row) (series : Option SeriesRow) → IsToldRow found → IsToldRow series → first ≡ option_map series_columns found → option_map series_columns series ≡ option_map seven_columns first → series ≡ found
+first_is : (found : Option SeriesRow) (first : Option Row) (series : Option SeriesRow) → HasAddresseeType found → HasAddresseeType series → first ≡ option_map series_columns found → option_map series_columns series ≡ option_map seven_columns first → series ≡ found
 first_is None first None told told′ is read = refl
 first_is None first (Some s) told told′ is read = absurd (let a = rw is at read in cc)
 first_is (Some x) first None told told′ is read = absurd (let a = rw is at read in cc)
 first_is (Some x) first (Some s) told told′ is read = let a : series_columns s ≡ series_columns x = let b = rw is at read in cc in ap Some (same_series s x told′ told a)
 
 -- the series that is read of the first row is the one that is found
-pub first_series_is : (p : SeriesRow → Bool) (rows : List SeriesRow) (first : Option Row) (series : Option SeriesRow) → AllByRecursion (λ (r : SeriesRow). IsAddressee r.agreement.addressee) rows → IsToldRow series
+pub first_series_is : (p : SeriesRow → Bool) (rows : List SeriesRow) (first : Option Row) (series : Option SeriesRow) → AllByRecursion (λ (r : SeriesRow). IsAddressee r.agreement.addressee) rows → HasAddresseeType series
     → first ≡ option_map series_columns (find p rows) → option_map series_columns series ≡ option_map seven_columns first → series ≡ find p rows
 first_series_is p rows first series told told′ is read = first_is (find p rows) first series (found_told p rows told) told′ is read
 

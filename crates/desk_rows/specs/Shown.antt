@@ -15,9 +15,9 @@ abbrev pub seven_columns : Row → Row
 seven_columns row = column row 0 ∷ column row 1 ∷ column row 2 ∷ column row 3 ∷ column row 4 ∷ column row 5 ∷ column row 6 ∷ []
 
 -- the addressee, where there is a row with one, has a type
-abbrev pub IsToldRow : Option SeriesRow → Type 0
-IsToldRow None = ⊤
-IsToldRow (Some row) = IsAddressee row.agreement.addressee
+abbrev pub HasAddresseeType : Option SeriesRow → Type 0
+HasAddresseeType None = ⊤
+HasAddresseeType (Some row) = IsAddressee row.agreement.addressee
 
 -- contents with their counts, as the query of an applied number shows them
 abbrev pub applied_part_columns : List ℕ × EffectRow → Row

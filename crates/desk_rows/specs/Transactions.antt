@@ -81,8 +81,8 @@ pub record EndsWork {A E : Type 0} (old new : State) (spent : Bool) (result : Re
   pub survives : Survives old new (λ db. (spent ≡ false) × (db ≡ old.now.trees))
 
 -- the tables are not the desk's, so that nothing is known of what a text does
-abbrev pub IsForeign : State → Trees → Type 0
-IsForeign s db = ¬ (s.now.schema ≡ desk_schema)
+abbrev pub HasOtherSchema : State → Trees → Type 0
+HasOtherSchema s db = ¬ (s.now.schema ≡ desk_schema)
 
 -- What a call does to the rows: `change` is the rows after those before, and `Answer` is said of the rows before and the answer.
 pub record Works {A : Type 0} (Answer : DeskRows → A → Type 0) (change : DeskRows → DeskRows) (old new : State) (was now : Bool) (result : Result A StoreFault) : Type 0 where
@@ -94,7 +94,7 @@ pub record Works {A : Type 0} (Answer : DeskRows → A → Type 0) (change : Des
   pub goes_on : HasCleanDisk new → old.now.schema ≡ desk_schema → OnOk result (IsTrue new.in_transaction × IsTrue new.is_open × (new.now.schema ≡ desk_schema))
   -- nothing is committed: a crash leaves what it could leave before
   pub kept : HasCleanDisk new → old.now.schema ≡ desk_schema → KeepsCommit old new
-  pub survives : Survives old new (IsForeign old)
+  pub survives : Survives old new (HasOtherSchema old)
 
 -- a call that answers nothing but that it was done
 abbrev pub NoAnswer : {A : Type 0} → DeskRows → A → Type 0

@@ -168,7 +168,7 @@ pub(crate) fn territory_columns(
 pub(crate) fn party_columns(row: &Row, type_at: usize, value_at: usize) -> Result<Party, StoreFault>
     ensures id_type { IfOk result (λ party. column row.now type_at ≡ SqlText party.id_type) }
     ensures id_value { IfOk result (λ party. column row.now value_at ≡ SqlText party.id_value) }
-    ensures told { IfOk result (λ party. IsAddressee (Some party)) }
+    ensures has_type { IfOk result (λ party. IsAddressee (Some party)) }
 {
     let id_type = code_column(row, type_at)?;
     let id_value = text_column(row, value_at)?;
@@ -183,7 +183,7 @@ pub(crate) fn addressee_columns(
 ) -> Result<Option<Party>, StoreFault>
     ensures id_type { IfOk result (λ addressee. column row.now type_at ≡ SqlText (party_type addressee)) }
     ensures id_value { IfOk result (λ addressee. column row.now value_at ≡ SqlText (party_value addressee)) }
-    ensures told { IfOk result IsAddressee }
+    ensures has_type { IfOk result IsAddressee }
 {
     if str_column(row, type_at)?.is_empty() && str_column(row, value_at)?.is_empty() {
         return Ok(None);

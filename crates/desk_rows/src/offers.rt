@@ -22,7 +22,7 @@ fn supplier_columns(row: &Row) -> Result<Supplier, StoreFault>
     ensures role { IfOk result (λ s. column row.now 7 ≡ SqlText s.role) }
     ensures id_type { IfOk result (λ s. column row.now 8 ≡ SqlText (party_type s.party)) }
     ensures id_value { IfOk result (λ s. column row.now 9 ≡ SqlText (party_value s.party)) }
-    ensures told { IfOk result (λ s. IsAddressee s.party) }
+    ensures has_type { IfOk result (λ s. IsAddressee s.party) }
     ensures name { IfOk result (λ s. column row.now 10 ≡ SqlText s.name) }
 {
     Ok(Supplier {

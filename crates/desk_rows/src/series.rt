@@ -2,7 +2,7 @@
 
 ghost use Rattle.std.specs.Prelude.{◌≡◌, Err, IfOk, map, option_map, slice_get};
 ghost use Rattle.std.specs.List.{AllByRecursion};
-ghost use Rattle.desk_rows.specs.Shown.{seven_columns, IsToldRow};
+ghost use Rattle.desk_rows.specs.Shown.{seven_columns, HasAddresseeType};
 ghost use Rattle.desk_rows.specs.Rows.{series_columns, IsAddressee};
 
 use crate::columns::{addressee_columns, name_column, number_column, party_columns, whole_column};
@@ -19,7 +19,7 @@ pub struct SeriesRow {
 // The row of the table that a query shows.
 fn series_row(row: &Row) -> Result<SeriesRow, StoreFault>
     ensures columns { IfOk result (λ series. series_columns series ≡ seven_columns row.now) }
-    ensures told { IfOk result (λ series. IsAddressee series.agreement.addressee) }
+    ensures has_type { IfOk result (λ series. IsAddressee series.agreement.addressee) }
 {
     // What takes no memory comes first, so that few ways out let go of anything.
     let name = name_column(row, 0)?;
@@ -39,7 +39,7 @@ fn series_row(row: &Row) -> Result<SeriesRow, StoreFault>
 /// The agreement of the first row that a query shows, or `None` where it shows none.
 pub fn first_series(rows: &Vec<Row>) -> Result<Option<SeriesRow>, StoreFault>
     ensures columns { IfOk result (λ series. option_map series_columns series ≡ option_map seven_columns (slice_get rows.now.items 0)) }
-    ensures told { IfOk result (λ series. IsToldRow series) }
+    ensures has_type { IfOk result (λ series. HasAddresseeType series) }
 {
     match rows.first() {
         Some(row) => Ok(Some(series_row(row)?)),
@@ -50,7 +50,7 @@ pub fn first_series(rows: &Vec<Row>) -> Result<Option<SeriesRow>, StoreFault>
 /// The agreement of each row that a query shows.
 pub fn all_series(rows: &Vec<Row>) -> Result<Vec<SeriesRow>, StoreFault>
     ensures columns { IfOk result (λ series. map series_columns series.items ≡ map seven_columns rows.now.items) }
-    ensures told { IfOk result (λ series. AllByRecursion (λ r. IsAddressee r.agreement.addressee) series.items) }
+    ensures has_type { IfOk result (λ series. AllByRecursion (λ r. IsAddressee r.agreement.addressee) series.items) }
 {
     let mut series = Vec::new(*rows.allocator());
     for row in rows.as_slice() {

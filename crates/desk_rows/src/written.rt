@@ -58,7 +58,7 @@ pub fn code_or_empty(code: &Option<Code2>) -> &str
 /// The columns of a party, which are empty where there is none.
 pub fn party_type(party: &Option<Party>) -> &str
     ensures text { result.now ≡ party_type party.now }
-    ensures told { IsAddressee party.now }
+    ensures has_type { IsAddressee party.now }
 {
     match party {
         Some(party) => party.id_type.as_str(),

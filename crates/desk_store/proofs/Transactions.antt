@@ -6,7 +6,7 @@ use Rattle.sqlite_trees.specs.Tree.{Trees}
 use Rattle.catalogue_store.specs.Achieves.{Achieves}
 use Rattle.desk_rows.specs.Rows.{DeskRows, Holds}
 use Rattle.desk_rows.specs.Schema.{desk_schema}
-use Rattle.desk_rows.specs.Transactions.{BeginsWork, EndsWork, IsForeign, IsUndone, LeavesOnly, NoTrees}
+use Rattle.desk_rows.specs.Transactions.{BeginsWork, EndsWork, HasOtherSchema, IsUndone, LeavesOnly, NoTrees}
 use Rattle.onix_message.specs.declared.agreement.StoreFault.{StoreFault}
 use Rattle.series_rules.specs.declared.requests.Request.{Request}
 use Rattle.store_rows.specs.Desks.{Answers, AreRowsOf, HoldsRequests, IsAsked, IsQuestioned, KeepsRequests, Tells, changes}
@@ -51,7 +51,7 @@ undone_keeps L s0 s1 s2 s3 begun kept undone = λ up.
     )
 
 -- a crash in a transaction leaves what it could leave before
-crash_inside : (L : List Request) (s0 s1 s2 : State) (P : Type 0) (d : Trees) → IsBegun L s0 s1 → s1.may_leave d ⊎ IsForeign s1 d → s0.may_leave d ⊎ P
+crash_inside : (L : List Request) (s0 s1 s2 : State) (P : Type 0) (d : Trees) → IsBegun L s0 s1 → s1.may_leave d ⊎ HasOtherSchema s1 d → s0.may_leave d ⊎ P
 crash_inside L s0 s1 s2 P d begun (inl may) = inl (begun.crash d may)
 crash_inside L s0 s1 s2 P d begun (inr foreign) = absurd (foreign begun.schema)
 
@@ -160,7 +160,7 @@ asked_unasked r answer s e = record {
 
 -- ---- questions
 
-crash_unchanged : (L : List Request) (s0 s1 : State) (d : Trees) → IsBegun L s0 s1 → s1.may_leave d ⊎ IsForeign s1 d → s0.may_leave d
+crash_unchanged : (L : List Request) (s0 s1 : State) (d : Trees) → IsBegun L s0 s1 → s1.may_leave d ⊎ HasOtherSchema s1 d → s0.may_leave d
 crash_unchanged L s0 s1 d begun (inl may) = begun.crash d may
 crash_unchanged L s0 s1 d begun (inr foreign) = absurd (foreign begun.schema)
 

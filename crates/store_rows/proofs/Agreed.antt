@@ -22,9 +22,9 @@ use Rattle.series_rules.specs.declared.requests.Standing.TheVariants.{Message, W
 use Rattle.onix_message.specs.Message.{message_of}
 use Rattle.onix_rows.specs.declared.parts.Header.{Header}
 use Rattle.onix_rows.specs.declared.parts.Product.{Product}
-use Rattle.store_rows.specs.ContentLemmas.{whole_same}
+use Rattle.store_rows.specs.ContentLemmas.{applied_to_gap_same}
 use Rattle.store_rows.specs.Desks.{Answers}
-use Rattle.store_rows.specs.Stands.{StandsFor, Whole, IsBare, agreement_at, series_of}
+use Rattle.store_rows.specs.Stands.{StandsFor, IsAppliedToGap, HasNothing, agreement_at, series_of}
 use Rattle.store_rows.specs.Texts.{IsReadable, standing_text}
 use Rattle.store_rows.proofs.CatalogueRows.{KeepsCatalogues, catalogue_kept}
 use Rattle.store_rows.proofs.Found.{named_row, no_parties, no_row, parties_row}
@@ -194,7 +194,7 @@ module _ (rows : DeskRows) (L : List Request) (a : Agreement) (stands : StandsFo
   lacks : (n : ℕ) → first_at (Agree a ∷ L) a.name n ≡ None
   lacks n = same a.name n ∙ none_under L a.name n no_name
 
-  own_whole : Whole (first_at (Agree a ∷ L) a.name) a after
+  own_whole : IsAppliedToGap (first_at (Agree a ∷ L) a.name) a after
   own_whole =
       let bare = stands.others a.name no_name in
       let zero : a.first ≡ a.first + 0 = omega arith in (
@@ -212,10 +212,10 @@ module _ (rows : DeskRows) (L : List Request) (a : Agreement) (stands : StandsFo
         },
       )
 
-  old_whole : (b : Agreement) → named (agreements_of L) b.name ≡ Some b → Whole (first_at (Agree a ∷ L) b.name) b after
+  old_whole : (b : Agreement) → named (agreements_of L) b.name ≡ Some b → IsAppliedToGap (first_at (Agree a ∷ L) b.name) b after
   old_whole b found =
       let w = stands.series b found in
-      whole_same (first_at L b.name) (first_at (Agree a ∷ L) b.name) b after (same b.name) (
+      applied_to_gap_same (first_at L b.name) (first_at (Agree a ∷ L) b.name) b after (same b.name) (
         w.0,
         w.1,
         record {
@@ -230,7 +230,7 @@ module _ (rows : DeskRows) (L : List Request) (a : Agreement) (stands : StandsFo
         },
       )
 
-  whole_of : (b : Agreement) → (o : Option Agreement) → named (agreements_of L) b.name ≡ o → named (agreements_of (Agree a ∷ L)) b.name ≡ Some b → Whole (first_at (Agree a ∷ L) b.name) b after
+  whole_of : (b : Agreement) → (o : Option Agreement) → named (agreements_of L) b.name ≡ o → named (agreements_of (Agree a ∷ L)) b.name ≡ Some b → IsAppliedToGap (first_at (Agree a ∷ L) b.name) b after
   whole_of b (Some d) e found =
       let still : named (agreements_of (Agree a ∷ L)) b.name ≡ Some d = now_named b.name ∙ ap (λ o. option_or o (find (has_name b.name) (a ∷ []))) e in
       let one : Some d ≡ Some b = sym still ∙ found in
@@ -240,11 +240,11 @@ module _ (rows : DeskRows) (L : List Request) (a : Agreement) (stands : StandsFo
       last : find (has_name b.name) (a ∷ []) ≡ Some b
       last = sym (now_named b.name ∙ ap (λ o. option_or o (find (has_name b.name) (a ∷ []))) e) ∙ found
 
-      go : (t : Bool) → bytes_eq a.name b.name ≡ t → Whole (first_at (Agree a ∷ L) b.name) b after
-      go true i = let it : Some a ≡ Some b = ap (λ t. cond t (Some a) None) (sym i) ∙ last in let one : a ≡ b = cc in subst (λ c. Whole (first_at (Agree a ∷ L) c.name) c after) one own_whole
+      go : (t : Bool) → bytes_eq a.name b.name ≡ t → IsAppliedToGap (first_at (Agree a ∷ L) b.name) b after
+      go true i = let it : Some a ≡ Some b = ap (λ t. cond t (Some a) None) (sym i) ∙ last in let one : a ≡ b = cc in subst (λ c. IsAppliedToGap (first_at (Agree a ∷ L) c.name) c after) one own_whole
       go false i = absurd (let none : Some b ≡ None = sym last ∙ ap (λ t. cond t (Some a) None) i in cc)
 
-  others : (s : List ℕ) → named (agreements_of (Agree a ∷ L)) s ≡ None → IsBare s after
+  others : (s : List ℕ) → named (agreements_of (Agree a ∷ L)) s ≡ None → HasNothing s after
   others s none =
       let bare = stands.others s (none_before L (Agree a) s none) in
       record { held = bare.held; applied = bare.applied; catalogue = catalogue_kept s _ rows after keeps bare.catalogue }

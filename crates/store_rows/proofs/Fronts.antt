@@ -15,12 +15,12 @@ use Rattle.series_rules.specs.Series.{front_of, kept_of, next_of}
 use Rattle.series_rules.specs.declared.answers.DeliveryAnswer.TheVariants.{Applied, Held}
 use Rattle.series_rules.specs.declared.requests.Request.{Request}
 use Rattle.series_rules.specs.declared.requests.Standing.{Standing}
-use Rattle.store_rows.specs.Stands.{SeriesStands, Whole, StandsFor, applied_of, stored_text}
+use Rattle.store_rows.specs.Stands.{SeriesStands, IsAppliedToGap, StandsFor, applied_of, stored_text}
 use Rattle.store_rows.specs.Texts.{effect_row, standing_text}
 use Rattle.store_rows.proofs.Folds.{get_beyond, get_some}
 use Rattle.store_rows.proofs.RequestRows.{same_next}
 
-whole_front : (rows : DeskRows) (L : List Request) (a : Agreement) → (w : Whole (first_at L a.name) a rows) → w.0 ≡ front_of L a
+whole_front : (rows : DeskRows) (L : List Request) (a : Agreement) → (w : IsAppliedToGap (first_at L a.name) a rows) → w.0 ≡ front_of L a
 whole_front rows L a w = front_unique (first_at L a.name) a.first w.0 (front_of L a) (record { each = w.2.begins; ends = w.1 }) (front_is L a.name a.first)
 
 pub stands_front : (rows : DeskRows) (L : List Request) (a : Agreement) → StandsFor rows L → named (agreements_of L) a.name ≡ Some a → SeriesStands (first_at L a.name) a (front_of L a) rows

@@ -29,7 +29,7 @@ use Rattle.series_rules.specs.declared.requests.Request.TheVariants.{Deliver, Wa
 use Rattle.series_rules.specs.declared.requests.Standing.{Standing}
 use Rattle.series_rules.specs.declared.requests.Standing.TheVariants.{Message, Waived}
 use Rattle.store_rows.specs.FirstForm.{AreOfFormOne, ComeFromFirst, IsOfFormOne}
-use Rattle.store_rows.specs.Stands.{StandsFor, Whole}
+use Rattle.store_rows.specs.Stands.{StandsFor, IsAppliedToGap}
 use Rattle.store_rows.proofs.FirstForm.{HasNoMinimum, contents_are}
 use Rattle.store_rows.proofs.FirstEntries.{EntryHasNone, StandingHasNone, none_after_all, none_at_start, none_of_entry}
 
@@ -105,7 +105,7 @@ none_at_all (x ∷ xs) each =
     cc none
 
 module _ (rows : DeskRows) (L : List Request) (stands : StandsFor rows L) (one : AreOfFormOne L) where
-  none_of_series : (a : Agreement) → Whole (first_at L a.name) a rows → (reference : List ℕ) → filter (is_minimum_of a.name reference) rows.minimums ≡ []
+  none_of_series : (a : Agreement) → IsAppliedToGap (first_at L a.name) a rows → (reference : List ℕ) → filter (is_minimum_of a.name reference) rows.minimums ≡ []
   none_of_series a whole =
       none_in a.name (after_all fin.empty whole.0) rows
       (none_after_all fin.empty whole.0 (begun_have_none (first_at L a.name) (firsts_have_none L one a.name) a.first whole.0 whole.2.begins) none_at_start)

@@ -16,8 +16,8 @@ use Rattle.series_rules.specs.Firsts.{Placement, admitted, first_at}
 use Rattle.series_rules.specs.Series.{after_all}
 use Rattle.series_rules.specs.declared.requests.Request.{Request}
 use Rattle.series_rules.specs.declared.requests.Standing.{Standing}
-use Rattle.store_rows.specs.Stands.{SeriesStands, SameElsewhere, CutAt, Whole, IsAppliedAt, IsBare, StandsFor, IsFor, IsNew, agreement_at, series_of}
-use Rattle.store_rows.specs.ContentLemmas.{stands_by_content, whole_same}
+use Rattle.store_rows.specs.Stands.{SeriesStands, SameElsewhere, CutAt, IsAppliedToGap, IsAppliedAt, HasNothing, StandsFor, IsFor, IsNew, agreement_at, series_of}
+use Rattle.store_rows.specs.ContentLemmas.{stands_by_content, applied_to_gap_same}
 use Rattle.store_rows.specs.Texts.{CanBeKept, IsReadable, standing_text}
 use Rattle.store_rows.proofs.CatalogueRows.{catalogue_kept}
 use Rattle.store_rows.proofs.Folds.{get_some}
@@ -46,7 +46,7 @@ stands_elsewhere f b hs s rows now other same w = record {
   catalogue = same.catalogues b.name _ other w.catalogue;
 }
 
-bare_elsewhere : (t s : List ℕ) (rows now : DeskRows) → ¬ (t ≡ s) → SameElsewhere s rows now → IsBare t rows → IsBare t now
+bare_elsewhere : (t s : List ℕ) (rows now : DeskRows) → ¬ (t ≡ s) → SameElsewhere s rows now → HasNothing t rows → HasNothing t now
 bare_elsewhere t s rows now other same bare = record {
   held = λ n. same.held t n other ∙ bare.held n;
   applied = λ n. same.applied t n other ∙ bare.applied n;
@@ -161,13 +161,13 @@ cut_stands rows now L r a n k h stands is cut ends = record {
         ∙ sym (ap (named (agreements_of (r ∷ L))) i ∙ ap (λ as'. named as' a.name) is.left ∙ is.agreed)
     name_of s (inr o) = ap (option_map (λ (x : SeriesRow). x.agreement)) (cut.elsewhere.series s o) ∙ stands.by_name s ∙ ap (λ as'. named as' s) (sym is.left)
 
-    whole_of : (b : Agreement) → named (agreements_of L) b.name ≡ Some b → (b.name ≡ a.name) ⊎ (¬ (b.name ≡ a.name)) → Whole (first_at (r ∷ L) b.name) b now
+    whole_of : (b : Agreement) → named (agreements_of L) b.name ≡ Some b → (b.name ≡ a.name) ⊎ (¬ (b.name ≡ a.name)) → IsAppliedToGap (first_at (r ∷ L) b.name) b now
     whole_of b found (inl i) =
         let one : a ≡ b = let e : named (agreements_of L) a.name ≡ Some b = ap (named (agreements_of L)) (sym i) ∙ found in let own = is.agreed in cc in
-        subst (λ c. Whole (first_at (r ∷ L) c.name) c now) one (cut.hs, ap (first_at (r ∷ L) a.name) (sym cut.ends) ∙ ends, cut.stands)
+        subst (λ c. IsAppliedToGap (first_at (r ∷ L) c.name) c now) one (cut.hs, ap (first_at (r ∷ L) a.name) (sym cut.ends) ∙ ends, cut.stands)
     whole_of b found (inr o) =
         let w = stands.series b found in
-        whole_same (first_at L b.name) (first_at (r ∷ L) b.name) b now (new_elsewhere L r a n h is b.name o) (w.0, w.1, stands_elsewhere (first_at L b.name) b w.0 a.name rows now o cut.elsewhere w.2)
+        applied_to_gap_same (first_at L b.name) (first_at (r ∷ L) b.name) b now (new_elsewhere L r a n h is b.name o) (w.0, w.1, stands_elsewhere (first_at L b.name) b w.0 a.name rows now o cut.elsewhere w.2)
 
 -- ---- the number in the row of a series
 

@@ -11,7 +11,7 @@ use Rattle.series_rules.specs.Firsts.{first_at}
 use Rattle.series_rules.specs.declared.requests.Request.{Request}
 use Rattle.series_rules.specs.declared.requests.Standing.{Standing}
 use Rattle.store_rows.specs.Desks.{HoldsRequests}
-use Rattle.store_rows.specs.Stands.{SeriesStands, StandsFor, Whole, series_of}
+use Rattle.store_rows.specs.Stands.{SeriesStands, StandsFor, IsAppliedToGap, series_of}
 use Rattle.store_rows.specs.Texts.{CanBeKept, IsReadable, standing_text}
 
 -- ---- what stands, told of another function
@@ -34,8 +34,8 @@ stands_same f g a hs rows same s = record {
   catalogue = s.catalogue;
 }
 
-pub whole_same : (f g : ℕ → Option Standing) (a : Agreement) (rows : DeskRows) → ((n : ℕ) → g n ≡ f n) → Whole f a rows → Whole g a rows
-whole_same f g a rows same w = (w.0, same (a.first + length w.0) ∙ w.1, stands_same f g a w.0 rows same w.2)
+pub applied_to_gap_same : (f g : ℕ → Option Standing) (a : Agreement) (rows : DeskRows) → ((n : ℕ) → g n ≡ f n) → IsAppliedToGap f a rows → IsAppliedToGap g a rows
+applied_to_gap_same f g a rows same w = (w.0, same (a.first + length w.0) ∙ w.1, stands_same f g a w.0 rows same w.2)
 
 -- ---- the tables
 
@@ -45,7 +45,7 @@ stands_by_content rows L M same stands = record {
   version = stands.version;
   by_name = λ s. stands.by_name s ∙ same.agreements s;
   by_parties = λ x y. stands.by_parties x y ∙ ap (λ o. series_of o rows) (between_by_name (agreements_of L) (agreements_of M) (agreements_are_distinct L) (agreements_are_distinct M) same.agreements x y);
-  series = λ a found. whole_same (first_at L a.name) (first_at M a.name) a rows (λ n. sym (same.firsts a.name n)) (stands.series a (same.agreements a.name ∙ found));
+  series = λ a found. applied_to_gap_same (first_at L a.name) (first_at M a.name) a rows (λ n. sym (same.firsts a.name n)) (stands.series a (same.agreements a.name ∙ found));
   others = λ s none. stands.others s (same.agreements s ∙ none);
 }
 

@@ -34,11 +34,11 @@ pub record SeriesStands (f : ℕ → Option Standing) (a : Agreement) (hs : List
   pub catalogue : HoldsCatalogue a.name (after_all fin.empty hs) rows
 
 -- all that stands up to the first gap is applied
-abbrev pub Whole : (ℕ → Option Standing) → Agreement → DeskRows → Type 0
-Whole f a rows = (hs : List Standing) × (f (a.first + length hs) ≡ None) × SeriesStands f a hs rows
+abbrev pub IsAppliedToGap : (ℕ → Option Standing) → Agreement → DeskRows → Type 0
+IsAppliedToGap f a rows = (hs : List Standing) × (f (a.first + length hs) ≡ None) × SeriesStands f a hs rows
 
 -- nothing is kept under that name but perhaps a series
-pub record IsBare (name : List ℕ) (rows : DeskRows) : Type 0 where
+pub record HasNothing (name : List ℕ) (rows : DeskRows) : Type 0 where
   pub held : (n : ℕ) → held_at name n rows ≡ None
   pub applied : (n : ℕ) → applied_at name n rows ≡ None
   pub catalogue : HoldsCatalogue name fin.empty rows
@@ -59,8 +59,8 @@ pub record StandsFor (rows : DeskRows) (L : List Request) : Type 0 where
   pub version : rows.meta ≡ record { item = codes "version"; amount = 2 } ∷ []
   pub by_name : (name : List ℕ) → agreement_at name rows ≡ named (agreements_of L) name
   pub by_parties : (sender : Party) (addressee : Option Party) → series_between sender addressee rows ≡ series_of (between (agreements_of L) sender addressee) rows
-  pub series : (a : Agreement) → named (agreements_of L) a.name ≡ Some a → Whole (first_at L a.name) a rows
-  pub others : (name : List ℕ) → named (agreements_of L) name ≡ None → IsBare name rows
+  pub series : (a : Agreement) → named (agreements_of L) a.name ≡ Some a → IsAppliedToGap (first_at L a.name) a rows
+  pub others : (name : List ℕ) → named (agreements_of L) name ≡ None → HasNothing name rows
 
 -- ---- the tables between two statements
 

@@ -1,9 +1,9 @@
 use Rattle.std.proofs.Common.{◌∙◌, [], ap, arith, map}
 use Rattle.std.specs.List.{zip}
 use Rattle.onix_message.specs.DetailCount.{detail_count}
-use Rattle.catalogue_rows.specs.Assembly.{gathered, identifier_of}
+use Rattle.catalogue_rows.specs.Assembly.{grouped, identifier_of}
 use Rattle.catalogue_rows.specs.EntryRows.{detail_rows}
-use Rattle.catalogue_rows.proofs.Assembled.{count-gathered, gathered-back, ids-back}
+use Rattle.catalogue_rows.proofs.Assembled.{count-grouped, grouped-back, ids-back}
 use Rattle.catalogue_rows.proofs.assemble.entry_of.Goals as goal
 
 pub returns-clause-entry : goal.returns-clause-entry
@@ -11,14 +11,14 @@ returns-clause-entry c = λ series reference e storable articles details prices.
     let ids = c.in-Ok.ensures ∙ ap (map identifier_of) articles ∙ ids-back series reference e.ids in
     let supplies =
     c.in_ok-supplies.ensures
-    ∙ ap (λ l. gathered 0 [] (zip l c.args.prices.now)) details
-    ∙ ap (λ l. gathered 0 [] (zip (detail_rows series reference e.supplies) l)) prices
-    ∙ gathered-back series reference e.supplies storable.1 in
+    ∙ ap (λ l. grouped 0 [] (zip l c.args.prices.now)) details
+    ∙ ap (λ l. grouped 0 [] (zip (detail_rows series reference e.supplies) l)) prices
+    ∙ grouped-back series reference e.supplies storable.1 in
     λ i. record { ids = ids i; supplies = supplies i }
 
 pub returns-clause-few : goal.returns-clause-few
 returns-clause-few c =
-    let count = count-gathered 0 [] c.args.details.now c.args.prices.now in
+    let count = count-grouped 0 [] c.args.details.now c.args.prices.now in
     let same = ap detail_count c.in_ok-supplies.ensures in
     let few = c.if-details-gt-MOST_DETAILS.false in
     omega (arith, count, same, few)

@@ -8,22 +8,22 @@ use Rattle.desk_http.proofs.body.read_delivery.Goals as goal
 pub returns-in-Err : goal.returns-in-Err
 returns-in-Err g c =
     IfSome-map (g.R.Read.remaining c.args.reader.now) (λ _. RefusesNothing {A = List (List (List ℕ))} (Err c.in-Err.fault))
-    (λ more. Gives {A = List (List (List ℕ))} (Err c.in-Err.fault) (records_behind c.args.size (c.args.early.now ++ more)))
-    (λ more nothing. fault_gives c.in-Err.fault (records_behind c.args.size (c.args.early.now ++ more)) nothing)
+    (λ more. Gives {A = List (List (List ℕ))} (Err c.in-Err.fault) (records_behind c.args.size (c.args.behind.now ++ more)))
+    (λ more nothing. fault_gives c.in-Err.fault (records_behind c.args.size (c.args.behind.now ++ more)) nothing)
     c.in-Err.ensures.fault
 
 pub returns-then-len-size : goal.returns-then-len-size
 unfolding records_behind
 returns-then-len-size g c =
-    IfSome-map (g.R.Read.remaining c.args.reader.now) (λ more. c.in-Ok.body.items ≡ take c.args.size (c.args.early.now ++ more)) _
-    (λ more is. rw (body_short c.args.size (c.args.early.now ++ more) c.in-Ok.body.items is (omega (arith, c.if-len-size.true))) refl)
+    IfSome-map (g.R.Read.remaining c.args.reader.now) (λ more. c.in-Ok.body.items ≡ take c.args.size (c.args.behind.now ++ more)) _
+    (λ more is. rw (body_short c.args.size (c.args.behind.now ++ more) c.in-Ok.body.items is (omega (arith, c.if-len-size.true))) refl)
     c.in-Ok.ensures.front
 
 pub returns : goal.returns
 unfolding records_behind
 returns g c =
-    IfSome-map (g.R.Read.remaining c.args.reader.now) (λ more. c.in-Ok.body.items ≡ take c.args.size (c.args.early.now ++ more))
-    (λ more. Gives c.records_in.result (records_behind c.args.size (c.args.early.now ++ more)))
-    (λ more is. gives_next (body_of c.args.size (c.args.early.now ++ more)) c.in-Ok.body.items records_in c.records_in.result
-    (body_there c.args.size (c.args.early.now ++ more) c.in-Ok.body.items is (omega (arith, c.if-len-size.false))) (rw c.as_slice.ensures.value at c.records_in.ensures))
+    IfSome-map (g.R.Read.remaining c.args.reader.now) (λ more. c.in-Ok.body.items ≡ take c.args.size (c.args.behind.now ++ more))
+    (λ more. Gives c.records_in.result (records_behind c.args.size (c.args.behind.now ++ more)))
+    (λ more is. gives_next (body_of c.args.size (c.args.behind.now ++ more)) c.in-Ok.body.items records_in c.records_in.result
+    (body_there c.args.size (c.args.behind.now ++ more) c.in-Ok.body.items is (omega (arith, c.if-len-size.false))) (rw c.as_slice.ensures.value at c.records_in.ensures))
     c.in-Ok.ensures.front

@@ -7,8 +7,8 @@ use Rattle.desk_http.proofs.body.read_posted.Goals as goal
 pub returns-in-Ok : goal.returns-in-Ok
 unfolding records_posted
 returns-in-Ok g c h is =
-    IfSome-map (g.R.Read.remaining c.args.reader.now) (λ more. Gives c.read_delivery.result (records_behind c.in-Ok.size (c.args.early.now ++ more))) _
-    (λ more gives. gives_next (size_asked h) c.in-Ok.size (λ size. records_behind size (c.args.early.now ++ more)) c.read_delivery.result (sym (c.in-Ok.ensures.size h is)) gives)
+    IfSome-map (g.R.Read.remaining c.args.reader.now) (λ more. Gives c.read_delivery.result (records_behind c.in-Ok.size (c.args.behind.now ++ more))) _
+    (λ more gives. gives_next (size_asked h) c.in-Ok.size (λ size. records_behind size (c.args.behind.now ++ more)) c.read_delivery.result (sym (c.in-Ok.ensures.size h is)) gives)
     c.read_delivery.ensures
 
 pub returns-in-Err : goal.returns-in-Err

@@ -9,13 +9,13 @@ use Rattle.desk_http.proofs.request.read_behind.Goals as goal
 pub returns-in-Ok : goal.returns-in-Ok
 unfolding asks_of
 returns-in-Ok g c h is =
-    IfSome-map (g.R.Read.remaining c.args.reader.now) (λ more. Gives c.read_at.result (request_at h (c.args.early.now ++ more) c.in-Ok.route))
-    (λ more. Gives c.read_at.result (asks_of h (c.args.early.now ++ more)))
-    (λ more gives. gives_next (route_asked h) c.in-Ok.route (request_at h (c.args.early.now ++ more)) c.read_at.result (c.in-Ok.ensures h is) gives)
+    IfSome-map (g.R.Read.remaining c.args.reader.now) (λ more. Gives c.read_at.result (request_at h (c.args.behind.now ++ more) c.in-Ok.route))
+    (λ more. Gives c.read_at.result (asks_of h (c.args.behind.now ++ more)))
+    (λ more gives. gives_next (route_asked h) c.in-Ok.route (request_at h (c.args.behind.now ++ more)) c.read_at.result (c.in-Ok.ensures h is) gives)
     (c.read_at.ensures h is)
 
 pub returns-in-Err : goal.returns-in-Err
 unfolding asks_of
 returns-in-Err g c h is =
-    IfSome-all (g.R.Read.remaining c.args.reader.now) (λ more. Gives {A = Request} (Err c.in-Err.fault) (asks_of h (c.args.early.now ++ more)))
-    (λ more. gives_refused (route_asked h) (request_at h (c.args.early.now ++ more)) c.in-Err.fault (c.in-Err.ensures h is))
+    IfSome-all (g.R.Read.remaining c.args.reader.now) (λ more. Gives {A = Request} (Err c.in-Err.fault) (asks_of h (c.args.behind.now ++ more)))
+    (λ more. gives_refused (route_asked h) (request_at h (c.args.behind.now ++ more)) c.in-Err.fault (c.in-Err.ensures h is))

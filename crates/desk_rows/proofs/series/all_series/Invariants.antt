@@ -7,5 +7,5 @@ use Rattle.desk_rows.proofs.series.all_series.Given as goal
 abbrev pub invariant-loop-row : goal.invariant-loop-row
 invariant-loop-row l = record {
   columns : map series_columns l.series.items ≡ map seven_columns (take l.row-index l.rows.items);
-  told : AllByRecursion (λ r. IsAddressee r.agreement.addressee) l.series.items;
+  has_type : AllByRecursion (λ r. IsAddressee r.agreement.addressee) l.series.items;
 }

@@ -15,17 +15,17 @@ pub returns-clause-ok : goal.returns-clause-ok
 returns-clause-ok c =
     let base = c.args.self.now in
     let plan = c.in_ok-draft.field-0 in
-    let others = subst (λ (fresh : List (Bor (List ℕ))). (q : List ℕ) → (Contains (all_bytes fresh) q → ⊥) → map.get c.make_room.new.self q ≡ map.get base q) c.as_slice.ensures.value c.in_ok-make_room.ensures.others in
-    carried_out base plan.draft (all_bytes plan.fresh.items) (after base c.products.result.now) c.make_room.new.self c.settle.new.self c.in_ok-draft.ensures.plan others c.settle.ensures
+    let others = subst (λ (new_references : List (Bor (List ℕ))). (q : List ℕ) → (Contains (all_bytes new_references) q → ⊥) → map.get c.make_room.new.self q ≡ map.get base q) c.as_slice.ensures.value c.in_ok-make_room.ensures.others in
+    carried_out base plan.draft (all_bytes plan.new_references.items) (after base c.products.result.now) c.make_room.new.self c.apply_draft.new.self c.in_ok-draft.ensures.plan others c.apply_draft.ensures
     ∙ ap (after base) c.products.ensures.products
 
-pub settle-requires-clause-few : goal.settle-requires-clause-few
-settle-requires-clause-few c =
+pub apply_draft-requires-clause-few : goal.apply_draft-requires-clause-few
+apply_draft-requires-clause-few c =
     let base = c.args.self.now in
     let plan = c.in_ok-draft.field-0 in
     let products = c.products.result.now in
     let few = subst (λ (ps : List Product). All (λ p. detail_count p.supplies ≤ 19998) ps) (sym c.products.ensures.products) c.products.ensures.few_details in
-    few-changes base plan.draft (all_bytes plan.fresh.items) (after base products) c.in_ok-draft.ensures.plan
+    few-changes base plan.draft (all_bytes plan.new_references.items) (after base products) c.in_ok-draft.ensures.plan
     (few-after base products few (subst (EachHas HasFewDetails) c.self.view_is c.self.invariant))
 
 pub returns-in_err-draft-clause-ok : goal.returns-in_err-draft-clause-ok

@@ -9,9 +9,9 @@ pub loop-reference-preserved : goal.loop-reference-preserved
 loop-reference-preserved c =
     let was = c.loop-reference.self in
     let now = λ (q : List ℕ). ap (λ m. map.get m q) c.remove.ensures ∙ get-remove nat_list_cmp_total was _ q in (
-      others_stay c.args.fresh.now c.loop-reference.reference-index _ c.args.self.now was c.remove.new.self None c.loop-reference-test.true now c.loop-reference.invariant.0,
-      one_more c.args.fresh.now c.loop-reference.reference-index _ c.args.self.now was c.remove.new.self None c.loop-reference-test.true now (λ o. o ≡ None) refl c.loop-reference.invariant.1,
+      others_stay c.args.new_references.now c.loop-reference.reference-index _ c.args.self.now was c.remove.new.self None c.loop-reference-test.true now c.loop-reference.invariant.0,
+      one_more c.args.new_references.now c.loop-reference.reference-index _ c.args.self.now was c.remove.new.self None c.loop-reference-test.true now (λ o. o ≡ None) refl c.loop-reference.invariant.1,
     )
 
 pub returns-clause-gone : goal.returns-clause-gone
-returns-clause-gone c = all_taken c.args.fresh.now c.loop-reference.reference-index (λ k. map.get c.loop-reference.self k ≡ None) c.loop-reference-test.false c.loop-reference.invariant.1
+returns-clause-gone c = all_taken c.args.new_references.now c.loop-reference.reference-index (λ k. map.get c.loop-reference.self k ≡ None) c.loop-reference-test.false c.loop-reference.invariant.1

@@ -25,7 +25,7 @@ loop-product-preserved c =
     let more : take (i + 1) c.args.products.now ≡ past ++ p ∷ [] =
     take_more c.args.products.now i p c.loop-product-test.true ∙ ap (λ x. past ++ x ∷ []) (sym c.product-item.is) in
     record {
-      plan = subst (λ (m : ByReference). IsPlan base c.add.new.self.draft (all_bytes c.add.new.self.fresh.items) m) (sym (ap (after base) more ∙ after-push base past p))
+      plan = subst (λ (m : ByReference). IsPlan base c.add.new.self.draft (all_bytes c.add.new.self.new_references.items) m) (sym (ap (after base) more ∙ after-push base past p))
           (c.in_ok-add.ensures.plan (after base past) c.loop-product.invariant.plan);
       effect = c.in_ok-add.ensures.effect (after base past) c.loop-product.invariant.plan
           ∙ ap (counted (change_of p.notification) (map.get (after base past) p.reference)) c.loop-product.invariant.effect
@@ -43,7 +43,7 @@ returns-clause-plan c =
     let base = c.args.catalogue.now in
     let made = c.loop-product.plan in
     let all = take_all c.loop-product.product-index c.args.products.now c.loop-product-test.false in
-    subst (λ ps. IsPlan base made.draft (all_bytes made.fresh.items) (after base ps)) all c.loop-product.invariant.plan
+    subst (λ ps. IsPlan base made.draft (all_bytes made.new_references.items) (after base ps)) all c.loop-product.invariant.plan
 
 pub returns-clause-effect : goal.returns-clause-effect
 returns-clause-effect c =

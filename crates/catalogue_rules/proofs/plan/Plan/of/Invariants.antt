@@ -5,6 +5,6 @@ use Rattle.catalogue_rules.proofs.plan.Plan.of.Given as goal
 
 abbrev pub invariant-loop-product : goal.invariant-loop-product
 invariant-loop-product l = record {
-  plan : IsPlan l.catalogue l.plan.draft (all_bytes l.plan.fresh.items) (after l.catalogue (take l.product-index l.products));
+  plan : IsPlan l.catalogue l.plan.draft (all_bytes l.plan.new_references.items) (after l.catalogue (take l.product-index l.products));
   effect : l.plan.effect ≡ effect_of l.catalogue (take l.product-index l.products);
 }

@@ -12,18 +12,18 @@ pub returns-clause-plan : goal.returns-clause-plan
 returns-clause-plan c = λ m plan.
     let base = c.args.catalogue.now in
     let old = c.args.self.now in
-    let fresh = all_bytes old.fresh.items in
+    let new_references = all_bytes old.new_references.items in
     let key = c.args.reference.now in
     let now = c.args.change in
     elim c.if-is_new.branch [
       | then-is_new+in_ok-push w ↦
-          same_plan base (with_entry m key now) (map.insert old.draft key now) c.set.new.self (fresh ++ key ∷ []) (all_bytes c.if-is_new.self.fresh.items)
+          same_plan base (with_entry m key now) (map.insert old.draft key now) c.set.new.self (new_references ++ key ∷ []) (all_bytes c.if-is_new.self.new_references.items)
           (c.in_ok-set.ensures ∙ ap (λ (p : Plan). map.insert p.draft key now) w.self-is)
-          (ap (λ (p : Plan). all_bytes p.fresh.items) w.self-is ∙ ap all_bytes w.in_ok-push.ensures.items ∙ map-append str_bytes old.fresh.items (c.args.reference ∷ []))
-          (put_new base m old.draft fresh plan key now (c.is_new.ensures.0 w.if-is_new.true).0)
+          (ap (λ (p : Plan). all_bytes p.new_references.items) w.self-is ∙ ap all_bytes w.in_ok-push.ensures.items ∙ map-append str_bytes old.new_references.items (c.args.reference ∷ []))
+          (put_new base m old.draft new_references plan key now (c.is_new.ensures.0 w.if-is_new.true).0)
       | else-is_new w ↦
-          same_plan base (with_entry m key now) (map.insert old.draft key now) c.set.new.self fresh (all_bytes c.if-is_new.self.fresh.items)
+          same_plan base (with_entry m key now) (map.insert old.draft key now) c.set.new.self new_references (all_bytes c.if-is_new.self.new_references.items)
           (c.in_ok-set.ensures ∙ ap (λ (p : Plan). map.insert p.draft key now) w.self-is)
-          (ap (λ (p : Plan). all_bytes p.fresh.items) w.self-is)
-          (put_known base m old.draft fresh plan key now (λ h. let new = c.is_new.ensures.1 h in cc))
+          (ap (λ (p : Plan). all_bytes p.new_references.items) w.self-is)
+          (put_known base m old.draft new_references plan key now (λ h. let new = c.is_new.ensures.1 h in cc))
     ]

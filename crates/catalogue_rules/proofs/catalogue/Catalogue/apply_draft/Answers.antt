@@ -6,8 +6,8 @@ use Rattle.catalogue_rules.specs.Records.{EachHas, HasFewDetails}
 use Rattle.catalogue_rules.specs.Plans.{Changes, IsReady}
 use Rattle.catalogue_rules.specs.declared.entry.Entry.{Entry}
 use Rattle.catalogue_rules.proofs.Bounds.{each-removed}
-use Rattle.catalogue_rules.proofs.Changes.{settled_more, ready_more, all_settled}
-use Rattle.catalogue_rules.proofs.catalogue.Catalogue.settle.Goals as goal
+use Rattle.catalogue_rules.proofs.Changes.{applied_more, ready_more, all_applied}
+use Rattle.catalogue_rules.proofs.catalogue.Catalogue.apply_draft.Goals as goal
 
 pub loop-reference-init : goal.loop-reference-init
 loop-reference-init c = (c.requires.ready, λ q. refl, c.requires.few)
@@ -34,7 +34,7 @@ loop-reference-preserved-in-Some-change c =
     let now = λ (q : List ℕ). ap (λ m. map.get m q) c.replace.ensures ∙ get-insert nat_list_cmp_total c.loop-reference.self key c.in-Some-change.entry q in
     let found : map.get c.loop-reference.rest key ≡ Some (Some c.in-Some-change.entry) = c.in-Some.ensures.some ∙ ap (λ o. Some o) c.in-Some-change.is in (
       ready_more c.loop-reference.self c.replace.new.self c.loop-reference.rest c.pop.new.self key (Some c.in-Some-change.entry) now c.in-Some.ensures.rest c.loop-reference.invariant.0,
-      λ q. settled_more c.loop-reference.self c.replace.new.self c.loop-reference.rest c.pop.new.self key (Some c.in-Some-change.entry) now found c.in-Some.ensures.rest q ∙ c.loop-reference.invariant.1 q,
+      λ q. applied_more c.loop-reference.self c.replace.new.self c.loop-reference.rest c.pop.new.self key (Some c.in-Some-change.entry) now found c.in-Some.ensures.rest q ∙ c.loop-reference.invariant.1 q,
       still_few c.loop-reference.rest c.pop.new.self key c.in-Some.ensures.rest c.loop-reference.invariant.2,
     )
 
@@ -44,9 +44,9 @@ loop-reference-preserved c =
     let now = λ (q : List ℕ). ap (λ m. map.get m q) c.remove.ensures ∙ get-remove nat_list_cmp_total c.loop-reference.self key q in
     let found : map.get c.loop-reference.rest key ≡ Some None = c.in-Some.ensures.some ∙ ap (λ o. Some o) c.in-None.is in (
       ready_more c.loop-reference.self c.remove.new.self c.loop-reference.rest c.pop.new.self key None now c.in-Some.ensures.rest c.loop-reference.invariant.0,
-      λ q. settled_more c.loop-reference.self c.remove.new.self c.loop-reference.rest c.pop.new.self key None now found c.in-Some.ensures.rest q ∙ c.loop-reference.invariant.1 q,
+      λ q. applied_more c.loop-reference.self c.remove.new.self c.loop-reference.rest c.pop.new.self key None now found c.in-Some.ensures.rest q ∙ c.loop-reference.invariant.1 q,
       still_few c.loop-reference.rest c.pop.new.self key c.in-Some.ensures.rest c.loop-reference.invariant.2,
     )
 
 pub returns : goal.returns
-returns c = λ q. sym (all_settled (map.get c.loop-reference.self q) (map.get c.loop-reference.rest q) (c.in_default.ensures.none q)) ∙ c.loop-reference.invariant.1 q
+returns c = λ q. sym (all_applied (map.get c.loop-reference.self q) (map.get c.loop-reference.rest q) (c.in_default.ensures.none q)) ∙ c.loop-reference.invariant.1 q

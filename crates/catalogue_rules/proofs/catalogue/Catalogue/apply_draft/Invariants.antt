@@ -2,7 +2,7 @@ use Rattle.std.proofs.Common.{◌≡◌, ℕ, List, IfSome}
 use Rattle.std.specs.FinMap as map
 use Rattle.catalogue_rules.specs.Records.{EachHas, HasFewDetails}
 use Rattle.catalogue_rules.specs.Plans.{IsReady, entry_now}
-use Rattle.catalogue_rules.proofs.catalogue.Catalogue.settle.Given as goal
+use Rattle.catalogue_rules.proofs.catalogue.Catalogue.apply_draft.Given as goal
 
 abbrev pub invariant-loop-reference : goal.invariant-loop-reference
 invariant-loop-reference l =

@@ -1,6 +1,6 @@
 // Files on disks in memory, and files that fail from some call on.
 
-use sqlite::{Connection, FileStore, Files, Options};
+use sqlite::{Alter, Connection, FileStore, Files, Options};
 use sqlite_disk::{Crash, Disk, Fuse, Memory};
 use std::alloc::Global;
 
@@ -48,24 +48,43 @@ pub fn new_files(alloc: Global) -> Files<Memory> {
     }
 }
 
-/// A connection to files, or the files where they cannot be opened.
-pub fn connect<D: Disk + Drop>(
-    alloc: Global,
-    files: Files<D>,
-) -> Result<Connection<FileStore<D>>, Files<D>> {
-    if !files.may_be_used() {
-        return Err(files);
-    }
-    match Connection::open_files(alloc, files, OPTIONS) {
-        Ok(connection) => Ok(connection),
-        Err((_, left)) => Err(left.into_files()),
-    }
+/// What is done with a connection.
+pub trait ConnectionTask {
+    /// What it finds.
+    type Found;
+
+    /// Does it, and hands the connection back.
+    fn run<S: Alter + Drop>(
+        &self,
+        alloc: Global,
+        connection: Connection<S>,
+    ) -> (Connection<S>, Self::Found);
 }
 
-/// Closes files, whether or not their log can be copied.
-pub fn disconnect<D: Disk + Drop>(connection: Connection<FileStore<D>>) -> Files<D> {
+// Closes files, whether or not their log can be copied.
+fn disconnect<D: Disk + Drop>(connection: Connection<FileStore<D>>) -> Files<D> {
     match connection.close_files() {
         Ok(files) => files,
         Err((_, store)) => store.close(),
+    }
+}
+
+/// Opens files, does the task with the connection and closes them: what it found, or none where they
+/// cannot be opened. All tests that have a connection of their own to files open them here: a function
+/// that calls what is generic over a store with that of files is dear to prove.
+pub fn over_connection<D: Disk + Drop, T: ConnectionTask>(
+    alloc: Global,
+    files: Files<D>,
+    task: &T,
+) -> (Files<D>, Option<T::Found>) {
+    if !files.may_be_used() {
+        return (files, None);
+    }
+    match Connection::open_files(alloc, files, OPTIONS) {
+        Ok(connection) => {
+            let (connection, found) = task.run(alloc, connection);
+            (disconnect(connection), Some(found))
+        }
+        Err((_, left)) => (left.into_files(), None),
     }
 }

@@ -1,10 +1,16 @@
 // Statements of the tests' own over files.
 
-use crate::disks::{connect, disconnect};
-use sqlite::{Alter, Connection, FileStore, Files};
+use crate::disks::{ConnectionTask, over_connection};
+use sqlite::{Alter, Connection, Files};
 use sqlite_disk::Disk;
 use std::alloc::Global;
 use std::process::Abort;
+
+// Statements that are executed one after the other.
+#[derive(Clone, Copy)]
+struct Statements<'a> {
+    statements: &'a [&'a str],
+}
 
 // Whether all the statements could be executed.
 fn executes<S: Alter>(connection: &mut Connection<S>, statements: &[&str]) -> bool {
@@ -16,22 +22,16 @@ fn executes<S: Alter>(connection: &mut Connection<S>, statements: &[&str]) -> bo
     true
 }
 
-fn execute_and_close<D: Disk + Drop>(
-    mut connection: Connection<FileStore<D>>,
-    statements: &[&str],
-) -> (Files<D>, bool) {
-    let is_done = executes(&mut connection, statements);
-    (disconnect(connection), is_done)
-}
+impl<'a> ConnectionTask for Statements<'a> {
+    type Found = bool;
 
-fn execute<D: Disk + Drop>(
-    alloc: Global,
-    files: Files<D>,
-    statements: &[&str],
-) -> (Files<D>, bool) {
-    match connect(alloc, files) {
-        Ok(connection) => execute_and_close(connection, statements),
-        Err(files) => (files, false),
+    fn run<S: Alter + Drop>(
+        &self,
+        _alloc: Global,
+        mut connection: Connection<S>,
+    ) -> (Connection<S>, bool) {
+        let is_done = executes(&mut connection, self.statements);
+        (connection, is_done)
     }
 }
 
@@ -42,7 +42,7 @@ pub fn with_statements<D: Disk + Drop>(
     files: Files<D>,
     statements: &[&str],
 ) -> Files<D> {
-    let (files, is_done) = execute(alloc, files, statements);
-    assert!(stop; is_done, "statements that are not executed");
+    let (files, is_done) = over_connection(alloc, files, &Statements { statements });
+    assert!(stop; is_done == Some(true), "statements that are not executed");
     files
 }

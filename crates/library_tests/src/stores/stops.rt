@@ -12,21 +12,27 @@ use std::process::Abort;
 use std::test::Fail;
 
 /// Asks for what the requests before it left.
-pub const REPORT: &str = "AskGaps,north\nAskPrice,9781234567897,20250301,GB,GBP,02\n";
+pub const REPORT: &str =
+    "AskGaps,north\nAskPrice,9781234567897,20250301,GB,GBP,02\nAskCatalogue,north\n";
 
 // What is reported before the first request.
-const NOTHING: &str = "refused,unknown-series\nprice,9781234567897,0\n";
+const NOTHING: &str = "refused,unknown-series\nprice,9781234567897,0\nrefused,unknown-series\n";
 
 /// A request, what it is answered, and what is reported after it.
 pub type Step = (&'static str, &'static str, &'static str);
 
-/// Requests one after the other: messages that are late, one with other contents, waivers, a drain up
-/// to a second gap, a repeat, a deletion and an update.
-pub const STEPS: [Step; 9] = [
+/// Requests one after the other: messages that are late, two behind a gap and an update behind a second
+/// one, other contents of a number that waits, waivers of a number that waits and of one that is a gap,
+/// a drain up to the second gap and one that begins with a waiver, a deletion, updates, products that
+/// change nothing, repeats of what was applied, and what is refused of a number that was waived or had.
+pub const STEPS: [Step; 15] = [
     (
         "Agree,north,06,4012345000009,06,5012345678900,1\n",
         "agreed,north,1\n",
-        "gaps,north,first=1,next=1,greatest=,held=0,missing=0\nprice,9781234567897,0\n",
+        "gaps,north,first=1,next=1,greatest=,held=0,missing=0
+price,9781234567897,0
+catalogue,north,0
+",
     ),
     (
         "Message,1,06,4012345000009,06,5012345678900,3,1,20250301,02,GBP
@@ -37,22 +43,62 @@ Price,,3,,,,,,
 EndMessage,5
 ",
         "held,north,3,waiting-for=1\n",
-        "gaps,north,first=1,next=1,greatest=3,held=1,missing=1\nmissing,1,2\nprice,9781234567897,0\n",
+        "gaps,north,first=1,next=1,greatest=3,held=1,missing=1
+missing,1,2
+price,9781234567897,0
+catalogue,north,0
+",
     ),
     (
-        "Message,1,06,4012345000009,06,5012345678900,3,,,,\nEndMessage,1\n",
+        "Message,1,06,4012345000009,06,5012345678900,3,,,,
+EndMessage,1
+",
         "refused,other-contents,north,3\n",
-        "gaps,north,first=1,next=1,greatest=3,held=1,missing=1\nmissing,1,2\nprice,9781234567897,0\n",
+        "gaps,north,first=1,next=1,greatest=3,held=1,missing=1
+missing,1,2
+price,9781234567897,0
+catalogue,north,0
+",
     ),
     (
-        "Waive,north,4\n",
-        "waived,north,4\n",
-        "gaps,north,first=1,next=1,greatest=4,held=2,missing=1\nmissing,1,2\nprice,9781234567897,0\n",
+        "Message,1,06,4012345000009,06,5012345678900,4,1,20250301,02,GBP
+Product,R4,03,15,9781234567897
+ProductSupply,GB IE,,
+SupplyDetail,04,06,4012345000009,North Books,21,
+Price,,4,,,,,,
+EndMessage,5
+",
+        "held,north,4,waiting-for=1\n",
+        "gaps,north,first=1,next=1,greatest=4,held=2,missing=1
+missing,1,2
+price,9781234567897,0
+catalogue,north,0
+",
     ),
     (
-        "Message,1,06,4012345000009,06,5012345678900,7,,,,\nEndMessage,1\n",
-        "held,north,7,waiting-for=1\n",
-        "gaps,north,first=1,next=1,greatest=7,held=3,missing=2\nmissing,1,2\nmissing,5,6\nprice,9781234567897,0\n",
+        "Waive,north,5\n",
+        "waived,north,5\n",
+        "gaps,north,first=1,next=1,greatest=5,held=3,missing=1
+missing,1,2
+price,9781234567897,0
+catalogue,north,0
+",
+    ),
+    (
+        "Message,1,06,4012345000009,06,5012345678900,8,1,20250301,02,GBP
+Product,R3,04,15,9781234567897
+ProductSupply,GB,,
+SupplyDetail,04,06,4012345000009,North Books,21,
+Price,,7,,,,,,
+EndMessage,5
+",
+        "held,north,8,waiting-for=1\n",
+        "gaps,north,first=1,next=1,greatest=8,held=4,missing=2
+missing,1,2
+missing,6,7
+price,9781234567897,0
+catalogue,north,0
+",
     ),
     (
         "Message,1,06,4012345000009,06,5012345678900,1,1,20250301,02,GBP
@@ -63,7 +109,17 @@ Price,,1,,,,,,
 EndMessage,5
 ",
         "applied,north,1,replaced=1,updated=0,deleted=0,unknown=0,ignored=0\n",
-        "gaps,north,first=1,next=2,greatest=7,held=3,missing=2\nmissing,2,2\nmissing,5,6\nprice,9781234567897,1\noffer,north,R1,1,21,1.000\n",
+        "gaps,north,first=1,next=2,greatest=8,held=4,missing=2
+missing,2,2
+missing,6,7
+price,9781234567897,1
+offer,north,R1,1,21,1.000
+catalogue,north,1
+record,R1,15,9781234567897
+ProductSupply,GB IE,,
+SupplyDetail,04,06,4012345000009,North Books,21,
+Price,02,1.000,GBP,,WORLD,,,
+",
     ),
     (
         "Message,1,06,4012345000009,06,5012345678900,2,1,20250301,,
@@ -71,7 +127,7 @@ Product,R1,05,15,9781234567897
 EndMessage,2
 ",
         "applied,north,2,replaced=0,updated=0,deleted=1,unknown=0,ignored=0\n",
-        "gaps,north,first=1,next=5,greatest=7,held=1,missing=1\nmissing,5,6\nprice,9781234567897,1\noffer,north,R3,1,21,3.000\n",
+        DRAINED,
     ),
     (
         "Message,1,06,4012345000009,06,5012345678900,2,2,20250302,,
@@ -79,20 +135,115 @@ Product,R1,05,15,9781234567897
 EndMessage,2
 ",
         "applied,north,2,replaced=0,updated=0,deleted=1,unknown=0,ignored=0\n",
-        "gaps,north,first=1,next=5,greatest=7,held=1,missing=1\nmissing,5,6\nprice,9781234567897,1\noffer,north,R3,1,21,3.000\n",
+        DRAINED,
     ),
     (
-        "Message,1,06,4012345000009,06,5012345678900,5,1,20250301,02,GBP
+        "Message,1,06,4012345000009,06,5012345678900,6,1,20250301,02,GBP
 Product,R3,04,15,9781234567897
 ProductSupply,,WORLD,
 SupplyDetail,04,06,4012345000009,North Books,20,
 Price,,8,,,,,,
 EndMessage,5
 ",
-        "applied,north,5,replaced=0,updated=1,deleted=0,unknown=0,ignored=0\n",
-        "gaps,north,first=1,next=6,greatest=7,held=1,missing=1\nmissing,6,6\nprice,9781234567897,1\noffer,north,R3,1,20,8.000\n",
+        "applied,north,6,replaced=0,updated=1,deleted=0,unknown=0,ignored=0\n",
+        "gaps,north,first=1,next=7,greatest=8,held=1,missing=1
+missing,7,7
+price,9781234567897,2
+offer,north,R3,1,20,8.000
+offer,north,R4,1,21,4.000
+catalogue,north,2
+record,R3,15,9781234567897
+ProductSupply,,WORLD,
+SupplyDetail,04,06,4012345000009,North Books,20,
+Price,02,8.000,GBP,,WORLD,,,
+record,R4,15,9781234567897
+ProductSupply,GB IE,,
+SupplyDetail,04,06,4012345000009,North Books,21,
+Price,02,4.000,GBP,,WORLD,,,
+",
     ),
+    (
+        "Waive,north,7\n",
+        "waived,north,7\n",
+        "gaps,north,first=1,next=9,greatest=8,held=0,missing=0
+price,9781234567897,2
+offer,north,R3,1,21,7.000
+offer,north,R4,1,21,4.000
+catalogue,north,2
+record,R3,15,9781234567897
+ProductSupply,GB,,
+SupplyDetail,04,06,4012345000009,North Books,21,
+Price,02,7.000,GBP,,WORLD,,,
+record,R4,15,9781234567897
+ProductSupply,GB IE,,
+SupplyDetail,04,06,4012345000009,North Books,21,
+Price,02,4.000,GBP,,WORLD,,,
+",
+    ),
+    (
+        "Message,1,06,4012345000009,06,5012345678900,9,1,20250301,,
+Product,R3,04,15,9780000000002
+Product,R9,04,15,9780000000002
+Product,R9,05,15,9780000000002
+Product,R3,88,15,9780000000002
+EndMessage,5
+",
+        "applied,north,9,replaced=0,updated=1,deleted=0,unknown=2,ignored=1\n",
+        LAST,
+    ),
+    (
+        "Message,1,06,4012345000009,06,5012345678900,1,1,20250301,02,GBP
+Product,R1,03,15,9781234567897
+ProductSupply,GB IE,,
+SupplyDetail,04,06,4012345000009,North Books,21,
+Price,,1,,,,,,
+EndMessage,5
+",
+        "applied,north,1,replaced=1,updated=0,deleted=0,unknown=0,ignored=0\n",
+        LAST,
+    ),
+    (
+        "Message,1,06,4012345000009,06,5012345678900,7,,,,
+EndMessage,1
+",
+        "refused,waived,north,7\n",
+        LAST,
+    ),
+    ("Waive,north,9\n", "refused,had,north,9\n", LAST),
 ];
+
+// What is reported where 8 alone waits, behind 6 and 7.
+const DRAINED: &str = "gaps,north,first=1,next=6,greatest=8,held=1,missing=1
+missing,6,7
+price,9781234567897,2
+offer,north,R3,1,21,3.000
+offer,north,R4,1,21,4.000
+catalogue,north,2
+record,R3,15,9781234567897
+ProductSupply,GB IE,,
+SupplyDetail,04,06,4012345000009,North Books,21,
+Price,02,3.000,GBP,,WORLD,,,
+record,R4,15,9781234567897
+ProductSupply,GB IE,,
+SupplyDetail,04,06,4012345000009,North Books,21,
+Price,02,4.000,GBP,,WORLD,,,
+";
+
+// What is reported where all numbers up to 9 are applied.
+const LAST: &str = "gaps,north,first=1,next=10,greatest=9,held=0,missing=0
+price,9781234567897,2
+offer,north,R3,1,21,7.000
+offer,north,R4,1,21,4.000
+catalogue,north,2
+record,R3,15,9781234567897
+ProductSupply,GB,,
+SupplyDetail,04,06,4012345000009,North Books,21,
+Price,02,7.000,GBP,,WORLD,,,
+record,R4,15,9781234567897
+ProductSupply,GB IE,,
+SupplyDetail,04,06,4012345000009,North Books,21,
+Price,02,4.000,GBP,,WORLD,,,
+";
 
 // What is reported after so many requests.
 fn report_after(count: usize) -> Option<&'static str> {
@@ -161,27 +312,36 @@ fn answered(output: &[u8]) -> Option<usize> {
     rest.is_empty().then_some(STEPS.len())
 }
 
-// How many of the requests were answered before a fault of the store; where the files were not opened,
-// none was. No other fault may come.
-fn count_of(stop: &impl Abort, asked: &Result<Asked, OpenFault>) -> usize {
+// How many of the requests were answered before a fault of the store, or none where the files were not
+// opened. No other fault may come.
+fn count_of(stop: &impl Abort, asked: &Result<Asked, OpenFault>) -> Option<usize> {
     let Ok(asked) = asked else {
-        return 0;
+        return None;
     };
     let is_store = matches!(asked.ended, Ok(_) | Err(BatchFault::Store { .. }));
     assert!(stop; is_store, "a fault that is not the store's");
     match answered(asked.output.as_slice()) {
-        Some(count) => count,
+        Some(count) => Some(count),
         None => stop.panic("a wrong answer"),
     }
 }
 
-// Whether a report is the one after so many requests, or after one more, all requests are answered when
-// they are made again, and the last report is that of a desk that was never stopped.
-fn goes_on(asked: &Result<Asked, OpenFault>, count: usize) -> bool {
+// Whether a report is the one after so many requests, or after one more, and that of no request where the
+// files were not opened.
+fn is_left(text: &[u8], count: Option<usize>) -> bool {
+    match count {
+        Some(count) => begins_near(text, count),
+        None => begins_after(text, 0),
+    }
+}
+
+// Whether the report is one that may be left, all requests are answered when they are made again, and the
+// last report is that of a desk that was never stopped.
+fn goes_on(asked: &Result<Asked, OpenFault>, count: Option<usize>) -> bool {
     match asked {
         Ok(asked) => {
             let output = asked.output.as_slice();
-            asked.ended.is_ok() && begins_near(output, count) && ends_after(output, STEPS.len())
+            asked.ended.is_ok() && is_left(output, count) && ends_after(output, STEPS.len())
         }
         Err(_) => false,
     }
@@ -198,7 +358,10 @@ fn stops(
     let count = count_of(stop, &asked);
     drop(asked);
     let failed = stop_machine(&mut files);
-    assert!(stop; failed || count == STEPS.len(), "a fault without a cause");
+    assert!(stop;
+        failed || count == Some(STEPS.len()),
+        "a fault without a cause"
+    );
     let (files, asked) = ask_files(alloc, files, texts.1);
     drop(files);
     assert!(stop; goes_on(&asked, count), "what stands after a stop");

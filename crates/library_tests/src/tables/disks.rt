@@ -2,13 +2,13 @@
 // two transactions leave of files of which one fails from some call on.
 
 use crate::cases::expect;
-use crate::disks::{connect, disconnect, failing, new_files, stop_machine};
+use crate::disks::{ConnectionTask, failing, new_files, over_connection, stop_machine};
 use crate::tables::cases::{NO_ROWS, PUT_SAMPLE, SAMPLE};
 use crate::tables::every_call::EVERY_CALL;
 use crate::tables::transcripts::{first_wrong, is_right};
 use desk_tables::tables::Tables;
 use onix_message::agreement::StoreFault;
-use sqlite::{Alter, FileStore, Files};
+use sqlite::{Alter, Connection, Files};
 use sqlite_disk::{Disk, Fuse, Memory};
 use std::alloc::Global;
 use std::process::Abort;
@@ -49,49 +49,72 @@ fn held<S: Alter>(alloc: Global, tables: &mut Tables<S>) -> Result<Option<u32>, 
     Ok(None)
 }
 
-// What is done with tables over files: the two transactions, a look at what they hold, or all calls,
-// which leave what none of the two does.
+// What is done with tables over files: the two transactions, a look at what they hold, or the calls of a
+// transcript, in one transaction that is let go.
 #[derive(Clone, Copy)]
-enum Task {
+enum Task<'a> {
     Fill,
     Look,
-    Calls,
+    Calls(&'a str),
 }
 
 fn perform<S: Alter>(
     alloc: Global,
     tables: &mut Tables<S>,
-    task: Task,
+    task: Task<'_>,
 ) -> Result<Option<u32>, StoreFault> {
     match task {
         Task::Fill => Ok(fill(alloc, tables)),
         Task::Look => held(alloc, tables),
-        Task::Calls => Ok(answers(alloc, tables, EVERY_CALL)?.then_some(0)),
+        Task::Calls(transcript) => Ok(answers(alloc, tables, transcript)?.then_some(0)),
     }
 }
 
-fn perform_and_close<D: Disk + Drop>(
-    alloc: Global,
-    mut tables: Tables<FileStore<D>>,
-    task: Task,
-) -> (Files<D>, Result<Option<u32>, StoreFault>) {
-    let outcome = perform(alloc, &mut tables, task);
-    (disconnect(tables.into_connection()), outcome)
+impl<'a> ConnectionTask for Task<'a> {
+    type Found = Result<Option<u32>, StoreFault>;
+
+    fn run<S: Alter + Drop>(
+        &self,
+        alloc: Global,
+        connection: Connection<S>,
+    ) -> (Connection<S>, Result<Option<u32>, StoreFault>) {
+        let mut tables = Tables::new(connection);
+        let outcome = perform(alloc, &mut tables, *self);
+        (tables.into_connection(), outcome)
+    }
 }
 
-// Opens files, does the task and closes them. Where they cannot be opened no transaction is answered,
-// and what they hold is not known.
+// What comes of a task where files cannot be opened: no transaction is answered, and what they hold is
+// not known.
+fn unopened(task: Task<'_>) -> Result<Option<u32>, StoreFault> {
+    match task {
+        Task::Fill => Ok(Some(0)),
+        Task::Look | Task::Calls(_) => Err(StoreFault::Disk),
+    }
+}
+
+// Opens files, does the task and closes them.
 fn perform_on<D: Disk + Drop>(
     alloc: Global,
     files: Files<D>,
-    task: Task,
+    task: Task<'_>,
 ) -> (Files<D>, Result<Option<u32>, StoreFault>) {
-    match connect(alloc, files) {
-        Ok(connection) => perform_and_close(alloc, Tables::new(connection), task),
-        Err(files) => match task {
-            Task::Fill => (files, Ok(Some(0))),
-            Task::Look | Task::Calls => (files, Err(StoreFault::Disk)),
-        },
+    let (files, outcome) = over_connection(alloc, files, &task);
+    match outcome {
+        Some(outcome) => (files, outcome),
+        None => (files, unopened(task)),
+    }
+}
+
+/// Whether the tables in files answer a transcript as it says. What it changes is let go of.
+pub fn files_answer<D: Disk + Drop>(
+    alloc: Global,
+    files: Files<D>,
+    transcript: &str,
+) -> (Files<D>, Result<bool, StoreFault>) {
+    match perform_on(alloc, files, Task::Calls(transcript)) {
+        (files, Ok(answered)) => (files, Ok(answered.is_some())),
+        (files, Err(fault)) => (files, Err(fault)),
     }
 }
 
@@ -186,9 +209,9 @@ fn failing_database(rt: HostRuntime) -> Result<(), Fail> {
 
 #[test]
 fn calls_over_files(rt: HostRuntime) -> Result<(), Fail> {
-    let (files, answered) = perform_on(rt.alloc(), new_files(rt.alloc()), Task::Calls);
+    let (files, are_right) = files_answer(rt.alloc(), new_files(rt.alloc()), EVERY_CALL);
     drop(files);
-    expect(&rt, answered?.is_some(), "the calls over files");
+    expect(&rt, are_right?, "the calls over files");
     Ok(())
 }
 

@@ -7,10 +7,10 @@
 mod answers;
 mod cases;
 mod changes;
-mod disks;
+pub mod disks;
 mod every_call;
 mod little_memory;
-mod migration;
+pub mod migration;
 mod queries;
 mod refusals;
 mod sample;

@@ -1,3 +1,6 @@
+// Messages and the texts of their contents. `bench/refused_memory` refuses each request for memory of two
+// of these tests in turn: `contents_have_one_text` and `rows_at_which_a_text_is_no_message`.
+
 use crate::cases::{expect, expect_text, repeated};
 use csv_records::reading::{RecordFault, read_records};
 use csv_records::writing::write_records;
@@ -41,7 +44,7 @@ Price,02,12.990,GBP,,WORLD,,,
 Price,02,9.990,GBP,,WORLD,,,,10
 ";
 
-fn contents_of(alloc: Global, text: &[u8]) -> Result<Contents, MessageFault> {
+fn contents_once(alloc: Global, text: &[u8]) -> Result<Contents, MessageFault> {
     let Ok(records) = read_records(alloc, text) else {
         return Err(MessageFault::Memory);
     };
@@ -53,6 +56,15 @@ fn contents_of(alloc: Global, text: &[u8]) -> Result<Contents, MessageFault> {
             Ok(contents)
         }
         Err(fault) => Err(fault),
+    }
+}
+
+// The contents of a text. Where memory is refused it is read once more, and so it is with the texts of
+// contents below.
+fn contents_of(alloc: Global, text: &[u8]) -> Result<Contents, MessageFault> {
+    match contents_once(alloc, text) {
+        Err(MessageFault::Memory) => contents_once(alloc, text),
+        read => read,
     }
 }
 
@@ -190,15 +202,29 @@ fn contents_are_equal_by_their_values(rt: HostRuntime) {
 // Messages, and the text of their contents.
 const CONTENTS: &[(&str, &str)] = &[(MESSAGE, TEXT), (WITH_QUANTITY, TEXT_WITH_QUANTITY)];
 
-fn is_written(alloc: Global, contents: &Contents, text: &str) -> bool {
+fn text_of(alloc: Global, contents: &Contents) -> Result<String, Memory> {
     match write_contents(alloc, contents) {
+        Err(_) => write_contents(alloc, contents),
+        written => written,
+    }
+}
+
+fn contents_by(alloc: Global, text: &str) -> Result<Contents, ContentsFault> {
+    match read_contents(alloc, text) {
+        Err(ContentsFault::Memory) => read_contents(alloc, text),
+        read => read,
+    }
+}
+
+fn is_written(alloc: Global, contents: &Contents, text: &str) -> bool {
+    match text_of(alloc, contents) {
         Ok(written) => written.as_str() == text,
         Err(_) => false,
     }
 }
 
 fn is_read(alloc: Global, contents: &Contents, text: &str) -> bool {
-    match read_contents(alloc, text) {
+    match contents_by(alloc, text) {
         Ok(read) => read.is_same(contents),
         Err(_) => false,
     }
@@ -212,7 +238,7 @@ fn is_text_of(alloc: Global, text: &str, message: &str) -> bool {
 }
 
 fn is_without_products(alloc: Global, text: &str) -> bool {
-    match read_contents(alloc, text) {
+    match contents_by(alloc, text) {
         Ok(contents) => contents.products().is_empty(),
         Err(_) => false,
     }
@@ -227,7 +253,7 @@ const NO_CONTENTS: &[&str] = &[
 ];
 
 fn are_no_contents(alloc: Global, text: &str) -> bool {
-    let fault = read_contents(alloc, text).err();
+    let fault = contents_by(alloc, text).err();
     matches!(fault, Some(ContentsFault::NotContents))
 }
 

@@ -74,12 +74,16 @@ pub struct Asked {
     pub ended: Result<u64, BatchFault>,
 }
 
-/// Asks a desk a batch.
-pub fn ask<D: Desk>(alloc: Global, desk: &mut D, text: &str) -> Asked {
-    let precedence = Precedence::none(alloc);
+/// Asks a desk a batch under these rules.
+pub fn ask_by<D: Desk>(alloc: Global, desk: &mut D, rules: &Precedence, text: &str) -> Asked {
     let mut output = Vec::new(alloc);
-    let ended = run_batch(alloc, desk, &precedence, &mut text.as_bytes(), &mut output);
+    let ended = run_batch(alloc, desk, rules, &mut text.as_bytes(), &mut output);
     Asked { output, ended }
+}
+
+/// Asks a desk a batch without rules.
+pub fn ask<D: Desk>(alloc: Global, desk: &mut D, text: &str) -> Asked {
+    ask_by(alloc, desk, &Precedence::none(alloc), text)
 }
 
 // Asks a desk a batch, and closes its files.
@@ -113,6 +117,11 @@ pub fn ask_files<D: Disk + Drop>(
         }
         Err((fault, left)) => (left.into_files(), Err(fault)),
     }
+}
+
+/// Whether a batch was asked to its end, and these are its answers.
+pub fn is_answered(asked: &Asked, answers: &str) -> bool {
+    asked.ended.is_ok() && asked.output.as_slice() == answers.as_bytes()
 }
 
 /// Ends the test where these are not the answers to a batch.

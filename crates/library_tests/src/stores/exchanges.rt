@@ -4,12 +4,13 @@
 
 use crate::stores::desks::expect_asked;
 use crate::stores::little_memory::ask_again;
+use crate::stores::questions::{RULES, rules_again};
 use crate::stores::stops::STEPS;
 use desk_http::exchange::HttpFault;
 use desk_http::serve::serve_one;
 use desk_memory::desk::MemoryDesk;
 use desk_store::desk::DeskStore;
-use price_rules::precedence::Precedence;
+use price_rules::precedence::{Precedence, PrecedenceFault};
 use series_rules::desk::Desk;
 use std::alloc::Global;
 use std::process::Abort;
@@ -24,7 +25,11 @@ const GAPS: &str = "GET /series/north/gaps HTTP/1.1\r\n\r\n";
 const AGREED: &str =
     "{\"answer\":\"gaps\",\"first\":1,\"greatest\":null,\"held\":0,\"missing\":[],\"next\":1,\"series\":\"north\"}";
 
-const EXCHANGES: [Exchange; 3] = [
+// The reply to GAPS after both messages.
+const APPLIED: &str =
+    "{\"answer\":\"gaps\",\"first\":1,\"greatest\":2,\"held\":0,\"missing\":[],\"next\":3,\"series\":\"north\"}";
+
+const EXCHANGES: [Exchange; 5] = [
     (
         "POST /messages HTTP/1.1\r\nContent-Length: 63\r\n\r\nMessage,1,06,4012345000009,06,5012345678900,2,,,,\nEndMessage,1\n",
         202,
@@ -35,13 +40,25 @@ const EXCHANGES: [Exchange; 3] = [
         "POST /messages HTTP/1.1\r\nContent-Length: 194\r\n\r\nMessage,1,06,4012345000009,06,5012345678900,1,1,20250301,02,GBP\nProduct,R1,03,15,9781234567897\nProductSupply,GB IE,,\nSupplyDetail,04,06,4012345000009,North Books,21,\nPrice,,1,,,,,,\nEndMessage,5\n",
         200,
         "{\"answer\":\"applied\",\"deleted\":0,\"ignored\":0,\"number\":1,\"replaced\":1,\"series\":\"north\",\"unknown\":0,\"updated\":0}",
-        "{\"answer\":\"gaps\",\"first\":1,\"greatest\":2,\"held\":0,\"missing\":[],\"next\":3,\"series\":\"north\"}",
+        APPLIED,
     ),
     (
         "GET /articles/9781234567897/price?day=20250301&country=GB&currency=GBP&type=02 HTTP/1.1\r\n\r\n",
         200,
         "{\"answer\":\"price\",\"isbn\":\"9781234567897\",\"offers\":[{\"amount\":\"1.000\",\"availability\":\"21\",\"place\":1,\"reference\":\"R1\",\"series\":\"north\"}]}",
-        "{\"answer\":\"gaps\",\"first\":1,\"greatest\":2,\"held\":0,\"missing\":[],\"next\":3,\"series\":\"north\"}",
+        APPLIED,
+    ),
+    (
+        "GET /articles/9781234567897/choice?day=20250301&country=GB&currency=GBP&type=02 HTTP/1.1\r\n\r\n",
+        200,
+        "{\"answer\":\"choice\",\"choice\":{\"amount\":\"1.000\",\"availability\":\"21\",\"place\":1,\"reference\":\"R1\",\"rule\":2,\"series\":\"north\"},\"isbn\":\"9781234567897\"}",
+        APPLIED,
+    ),
+    (
+        "GET /articles/9781234567897/calendar?from=20250301&to=20250331&country=GB&currency=GBP&type=02 HTTP/1.1\r\n\r\n",
+        200,
+        "{\"answer\":\"calendar\",\"isbn\":\"9781234567897\",\"offers\":[{\"availability\":\"21\",\"place\":1,\"reference\":\"R1\",\"series\":\"north\",\"spans\":[{\"amount\":\"1.000\",\"first\":\"20250301\",\"last\":\"20250331\"}]}]}",
+        APPLIED,
     ),
 ];
 
@@ -54,11 +71,10 @@ struct Exchanged {
     written: Vec<u8>,
 }
 
-fn exchange<D: Desk>(alloc: Global, desk: &mut D, request: &str) -> Exchanged {
-    let precedence = Precedence::none(alloc);
+fn exchange<D: Desk>(alloc: Global, desk: &mut D, rules: &Precedence, request: &str) -> Exchanged {
     let mut reader = request.as_bytes();
     let mut written = Vec::new(alloc);
-    let ended = serve_one(alloc, desk, &precedence, &mut reader, &mut written);
+    let ended = serve_one(alloc, desk, rules, &mut reader, &mut written);
     Exchanged { ended, written }
 }
 
@@ -75,26 +91,26 @@ fn lacked_memory(exchanged: &Exchanged) -> bool {
     }
 }
 
-// The exchange. Where memory is refused, what lacks then is what lacked before the request, or after
-// it, and the request is made again.
+// The exchange. Where memory is refused, what lacks then is near: what lacked before the request, or
+// after it, and the request is made again.
 fn exchange_again<D: Desk>(
     alloc: Global,
     stop: &impl Abort,
     desk: &mut D,
+    rules: &Precedence,
     request: &str,
-    before: &str,
-    after: &str,
+    near: (&str, &str),
 ) -> Exchanged {
-    let first = exchange(alloc, desk, request);
+    let first = exchange(alloc, desk, rules, request);
     if !lacked_memory(&first) {
         return first;
     }
     drop(first);
-    let gaps = exchange(alloc, desk, GAPS);
-    let is_near = has_reply(&gaps, 200, before) || has_reply(&gaps, 200, after);
+    let gaps = exchange(alloc, desk, rules, GAPS);
+    let is_near = has_reply(&gaps, 200, near.0) || has_reply(&gaps, 200, near.1);
     assert!(stop; is_near, "{request}");
     drop(gaps);
-    exchange(alloc, desk, request)
+    exchange(alloc, desk, rules, request)
 }
 
 // Ends the test where the exchange, made again where memory is refused, does not have this reply.
@@ -102,15 +118,21 @@ fn expect_reply<D: Desk>(
     alloc: Global,
     stop: &impl Abort,
     desk: &mut D,
+    rules: &Precedence,
     exchange: &Exchange,
     before: &str,
 ) {
     let (request, status, body, after) = *exchange;
-    let exchanged = exchange_again(alloc, stop, desk, request, before, after);
+    let exchanged = exchange_again(alloc, stop, desk, rules, request, (before, after));
     assert!(stop; has_reply(&exchanged, status, body), "{request}");
 }
 
-fn replies_to_all<D: Desk>(alloc: Global, stop: &impl Abort, desk: &mut D) {
+fn replies_to_all<D: Desk>(
+    alloc: Global,
+    stop: &impl Abort,
+    desk: &mut D,
+) -> Result<(), PrecedenceFault> {
+    let rules = rules_again(alloc, RULES)?;
     let (agreement, agreed, _) = STEPS[0];
     let asked = ask_again(alloc, stop, desk, agreement, 0);
     expect_asked(stop, &asked, agreed);
@@ -118,20 +140,22 @@ fn replies_to_all<D: Desk>(alloc: Global, stop: &impl Abort, desk: &mut D) {
     let mut before = AGREED;
     for exchange in EXCHANGES.as_slice() {
         let after = exchange.3;
-        expect_reply(alloc, stop, desk, exchange, before);
-        expect_reply(alloc, stop, desk, &(GAPS, 200, after, after), after);
+        expect_reply(alloc, stop, desk, &rules, exchange, before);
+        expect_reply(alloc, stop, desk, &rules, &(GAPS, 200, after, after), after);
         before = after;
     }
+    Ok(())
 }
 
 #[test]
-fn desk_in_memory(rt: HostRuntime) {
-    replies_to_all(rt.alloc(), &rt, &mut MemoryDesk::new(rt.alloc()));
+fn desk_in_memory(rt: HostRuntime) -> Result<(), Fail> {
+    replies_to_all(rt.alloc(), &rt, &mut MemoryDesk::new(rt.alloc()))?;
+    Ok(())
 }
 
 #[test]
 fn tables_in_memory(rt: HostRuntime) -> Result<(), Fail> {
     let mut desk = DeskStore::open_in_memory(rt.alloc())?;
-    replies_to_all(rt.alloc(), &rt, &mut desk);
+    replies_to_all(rt.alloc(), &rt, &mut desk)?;
     Ok(())
 }

@@ -3,7 +3,7 @@
 // for memory of these tests in turn.
 
 use crate::disks::new_files;
-use crate::stores::desks::{Asked, ask, ask_files, expect_asked};
+use crate::stores::desks::{Asked, ask, ask_by, ask_files, expect_asked};
 use crate::stores::stops::{REPORT, STEPS, Step, begins_near};
 use csv_records::reading::RecordFault;
 use desk_batch::batch::BatchFault;
@@ -11,6 +11,7 @@ use desk_memory::desk::MemoryDesk;
 use desk_store::desk::DeskStore;
 use desk_store::opening::OpenFault;
 use onix_message::agreement::StoreFault;
+use price_rules::precedence::Precedence;
 use series_rules::desk::Desk;
 use sqlite::Files;
 use sqlite_disk::Memory;
@@ -18,8 +19,8 @@ use std::alloc::Global;
 use std::process::Abort;
 use std::test::Fail;
 
-// Whether a batch ended by want of memory, of the desk or of the text that the test lets it write to.
-fn lacked_memory(asked: &Asked) -> bool {
+/// Whether a batch ended by want of memory, of the desk or of the text that the test lets it write to.
+pub fn lacked_memory(asked: &Asked) -> bool {
     matches!(
         asked.ended,
         Err(
@@ -54,6 +55,27 @@ pub fn ask_again<D: Desk>(
     ask(alloc, desk, text)
 }
 
+/// Ends the test where these are not a desk's answers to a batch under rules. Where memory is refused,
+/// those before are to be so, and then all of them, where it is asked again.
+pub fn expect_answers<D: Desk>(
+    alloc: Global,
+    stop: &impl Abort,
+    desk: &mut D,
+    rules: &Precedence,
+    case: (&str, &str),
+) {
+    let (text, answers) = case;
+    let asked = ask_by(alloc, desk, rules, text);
+    if !lacked_memory(&asked) {
+        expect_asked(stop, &asked, answers);
+        return;
+    }
+    let is_begun = answers.as_bytes().starts_with(asked.output.as_slice());
+    assert!(stop; is_begun, "{text}");
+    drop(asked);
+    expect_asked(stop, &ask_by(alloc, desk, rules, text), answers);
+}
+
 fn answers_all<D: Desk>(alloc: Global, stop: &impl Abort, desk: &mut D) {
     for (count, (request, answer, report)) in STEPS.as_slice().iter().enumerate() {
         let asked = ask_again(alloc, stop, desk, request, count);
@@ -75,9 +97,9 @@ fn tables_in_memory(rt: HostRuntime) -> Result<(), Fail> {
     Ok(())
 }
 
-// Whether want of memory came in the way of a batch over files. Their disks lie in memory, so one that
-// cannot grow fails.
-fn lacked_memory_of(asked: &Result<Asked, OpenFault>) -> bool {
+/// Whether want of memory came in the way of a batch over files. Their disks lie in memory, so one that
+/// cannot grow fails.
+pub fn lacked_memory_of(asked: &Result<Asked, OpenFault>) -> bool {
     match asked {
         Ok(asked) => lacked_memory(asked) || has_failed_disk(asked),
         Err(OpenFault::Store(StoreFault::Memory | StoreFault::Disk)) => true,
@@ -109,8 +131,10 @@ fn ask_files_again(
     ask_files(alloc, files, text)
 }
 
-// The files, or none where a disk has failed to keep what it was given: it may not be used again.
-fn expect_again(
+/// Asks the desk in files, where memory is refused once more, and ends the test where these are not its
+/// answers. It gives the files, or none where a disk has failed to keep what it was given: it may not be
+/// used again.
+pub fn expect_again(
     alloc: Global,
     stop: &impl Abort,
     files: Files<Memory>,

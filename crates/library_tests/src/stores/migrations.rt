@@ -1,10 +1,12 @@
 // Files of version 1, made by the test's own statements, are brought to version 2 where memory may be
 // refused once (by `bench/refused_memory`), and over disks that fail on the way: what is left is
-// migrated then, and the desk in it goes on.
+// migrated then, and the desk in it goes on. Empty files are migrated too, and other versions stay.
 
 use crate::disks::{OPTIONS, failing, new_files, stop_machine};
-use crate::stores::desks::expect_files;
+use crate::stores::desks::{ask_files, expect_files};
 use crate::stores::statements::with_statements;
+use crate::tables::disks::files_answer;
+use crate::tables::migration::ROWS;
 use crate::tables::version_1::TABLES;
 use desk_store::migrating::{MigrateAnswer, migrate_files};
 use desk_store::opening::OpenFault;
@@ -185,6 +187,61 @@ fn desks_of_version_1_go_on(rt: HostRuntime) -> Result<(), Fail> {
         goes_on(rt.alloc(), &rt, case)?;
     }
     Ok(())
+}
+
+#[test]
+fn empty_files(rt: HostRuntime) {
+    let files = migrates(rt.alloc(), &rt, new_files(rt.alloc()));
+    let case = ("AskGaps,north\n", "refused,unknown-series\n");
+    drop(expect_files(rt.alloc(), &rt, files, case));
+}
+
+fn is_other<T>(answered: &Result<T, OpenFault>, version: u32) -> bool {
+    matches!(answered, Err(OpenFault::OtherVersion { found }) if *found == version)
+}
+
+// Ends the test unless the tables in files answer so.
+fn expect_kept(
+    alloc: Global,
+    stop: &impl Abort,
+    files: Files<Memory>,
+    transcript: &str,
+) -> Files<Memory> {
+    let (files, is_kept) = files_answer(alloc, files, transcript);
+    assert!(stop; matches!(is_kept, Ok(true)), "{transcript}");
+    files
+}
+
+// What the tables answer that hold ROWS, in version 1 and in one that is not known.
+const OF_VERSION_1: &str = "version: 1
+series_rows: north 4012345000009 2;
+next_held 5: later
+applied_at 1: first 1 2 3 4 5
+offer_rows: R1 1;";
+
+const OF_VERSION_7: &str = "version: 7
+series_rows: north 4012345000009 2;
+next_held 5: later
+applied_at 1: first 1 2 3 4 5
+offer_rows: R1 1;";
+
+#[test]
+fn other_versions(rt: HostRuntime) {
+    let alloc = rt.alloc();
+    let statements = [TABLES, ROWS];
+    let files = with_statements(alloc, &rt, new_files(alloc), statements.as_slice());
+    let (files, opened) = ask_files(alloc, files, "");
+    assert!(rt; is_other(&opened, 1), "version 1 is not opened");
+    drop(opened);
+    let files = expect_kept(alloc, &rt, files, OF_VERSION_1);
+    let statements = ["UPDATE meta SET amount = 7"];
+    let files = with_statements(alloc, &rt, files, statements.as_slice());
+    let (files, opened) = ask_files(alloc, files, "");
+    assert!(rt; is_other(&opened, 7), "version 7 is not opened");
+    drop(opened);
+    let (files, migrated) = migrate(alloc, files);
+    assert!(rt; is_other(&migrated, 7), "version 7 is not migrated");
+    drop(expect_kept(alloc, &rt, files, OF_VERSION_7));
 }
 
 // Migrates files of which one fails, stops the machine, and migrates what is left: whether a disk

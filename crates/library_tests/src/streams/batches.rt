@@ -2,6 +2,7 @@
 // answer. What is to be written is taken from the desk's written rules.
 
 use crate::streams::streams::{FailingReader, FailingWriter, OneByte};
+use csv_records::reading::RecordFault;
 use desk_batch::batch::{BatchFault, run_batch};
 use desk_memory::desk::MemoryDesk;
 use price_rules::precedence::Precedence;
@@ -56,7 +57,12 @@ const PARTS: [(&str, &str); 13] = [
 
 const GAPS: &str = "AskGaps,north\n";
 
-// What GAPS is answered after the agreement alone, and after the message too.
+// A byte for each of the most that a batch may have, one more, and the end.
+const MOST_READS: usize = 4_194_306;
+
+// What GAPS is answered before the agreement, after it alone, and after the message too.
+const NOT_AGREED: &str = "refused,unknown-series\n";
+
 const NONE_APPLIED: &str = "gaps,north,first=1,next=1,greatest=,held=0,missing=0\n";
 
 const ONE_APPLIED: &str = "gaps,north,first=1,next=2,greatest=1,held=0,missing=0\n";
@@ -85,8 +91,8 @@ fn expect_answers(
     Ok(())
 }
 
-// A batch whose read fails after these bytes asks nothing and answers nothing.
-fn expect_unread(alloc: Global, stop: &impl Abort, batch: &[u8]) {
+// A batch whose read fails after these bytes asks nothing, also not the agreement, and answers nothing.
+fn expect_unread(alloc: Global, stop: &impl Abort, batch: &[u8]) -> Result<(), Fail> {
     let mut desk = MemoryDesk::new(alloc);
     let mut written = Vec::new(alloc);
     let mut reader = FailingReader { rest: batch };
@@ -99,6 +105,33 @@ fn expect_unread(alloc: Global, stop: &impl Abort, batch: &[u8]) {
     );
     assert!(stop; matches!(&ended, Err(BatchFault::Read)), "a failed read");
     assert!(stop; written.is_empty(), "an answer after a failed read");
+    expect_answers(alloc, stop, &mut desk, GAPS.as_bytes(), NOT_AGREED)
+}
+
+// A text of one byte more than a batch may have is read to its end, one byte a read, and to no more.
+#[test]
+fn most_reads(rt: HostRuntime) -> Result<(), Fail> {
+    let alloc = rt.alloc();
+    let text = vec![in alloc; b'a'; 4_194_305]?;
+    let mut desk = MemoryDesk::new(alloc);
+    let mut written = Vec::new(alloc);
+    let mut reader = OneByte {
+        rest: text.as_slice(),
+        reads: 0,
+    };
+    let ended = run_batch(
+        alloc,
+        &mut desk,
+        &Precedence::none(alloc),
+        &mut reader,
+        &mut written,
+    );
+    let is_too_large = matches!(&ended, Err(BatchFault::Records(RecordFault::TooLarge)));
+    assert!(rt; is_too_large, "a byte more");
+    assert!(rt; written.is_empty(), "an answer to a text that is too large");
+    let reads = reader.reads;
+    assert!(rt; reads <= MOST_READS, "{reads} reads");
+    Ok(())
 }
 
 // The same for what was read before and each further byte of a part.
@@ -113,7 +146,7 @@ fn expect_part(
         begun.push(*byte)?;
         let mut desk = MemoryDesk::new(alloc);
         expect_answers(alloc, stop, &mut desk, begun.as_slice(), answers)?;
-        expect_unread(alloc, stop, begun.as_slice());
+        expect_unread(alloc, stop, begun.as_slice())?;
     }
     Ok(())
 }

@@ -281,7 +281,7 @@ fn cut_reply(given: usize) -> Case {
 }
 
 // Wherever a delivery is cut off, or a read of it fails, nothing is delivered, and after a failed
-// read nothing is written.
+// read nothing is written. The whole one then has its reply, also where it comes one byte a read.
 #[test]
 fn cut_inputs_and_failing_reads(rt: HostRuntime) -> Result<(), Fail> {
     let alloc = rt.alloc();
@@ -297,7 +297,8 @@ fn cut_inputs_and_failing_reads(rt: HostRuntime) -> Result<(), Fail> {
         assert!(rt; is_read, "{given}");
         assert!(rt; written.is_empty(), "{given}");
     }
-    expect_case(alloc, &rt, &mut desk, NO_NUMBERS.0.as_bytes(), &NO_NUMBERS)
+    expect_case(alloc, &rt, &mut desk, NO_NUMBERS.0.as_bytes(), &NO_NUMBERS)?;
+    expect_case(alloc, &rt, &mut desk, DELIVERY.0.as_bytes(), &DELIVERY)
 }
 
 // A writer that fails, or takes nothing, after so many bytes has the reply's first bytes.

@@ -80,16 +80,22 @@ impl Answer for SeriesRow {
     }
 }
 
+// Whether a word is this text. Two apostrophes are the empty one.
+fn is_text(text: &Text, word: &str) -> bool {
+    let wanted = if word == "''" { "" } else { word };
+    text.as_str() == wanted
+}
+
 impl Answer for Text {
     fn is(&self, words: Words<'_>) -> bool {
-        self.as_str() == words[0]
+        is_text(self, words[0])
     }
 }
 
 impl Answer for (Text, EffectRow) {
     fn is(&self, words: Words<'_>) -> bool {
         let (contents, counts) = self;
-        contents.as_str() == words[0]
+        is_text(contents, words[0])
             && is_whole(words[1], counts.replaced)
             && is_whole(words[2], counts.updated)
             && is_whole(words[3], counts.deleted)

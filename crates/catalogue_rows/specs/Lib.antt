@@ -12,3 +12,5 @@ pub mod ArticleLemmas
 pub mod ArticleOffers
 pub mod KeyLemmas
 pub mod OfferLemmas
+pub mod Minimums
+pub mod MinimumLemmas

@@ -101,10 +101,9 @@ pub none_applied : (s : List ℕ) (m : ByReference) (rows : DeskRows) → HoldsC
 none_applied s m rows held = record { catalogue = held; counts = refl; others = refl }
 
 pub more_applied : (s : List ℕ) (m : ByReference) (ps : List Product) (i : ℕ) (p : Product) (rows between after : DeskRows) (before effect : Effect) → i < length ps → p ≡ get_or ps i p
-    → IsApplied s m (take i ps) rows before between → ((n : ByReference) → HoldsCatalogue s n between → IsProductApplied s n p before between effect after) → IsApplied s m (take (i + 1) ps) rows effect after
-more_applied s m ps i p rows between after before effect low is so_far applies =
+    → IsApplied s m (take i ps) rows before between → IsProductApplied s (after_all m (take i ps)) p before between effect after → IsApplied s m (take (i + 1) ps) rows effect after
+more_applied s m ps i p rows between after before effect low is so_far one =
     let past = take i ps in
-    let one = applies (after_all m past) so_far.catalogue in
     subst (λ l. IsApplied s m l rows effect after) (sym (take_push ps i p low is)) (record {
       catalogue = subst (λ (n : ByReference). HoldsCatalogue s n after) (sym (after-push m past p)) one.catalogue;
       counts = one.counts ∙ ap (counted (change_of p.notification) (fin.get (after_all m past) p.reference)) so_far.counts ∙ sym (effect_from-push no_effect m past p);

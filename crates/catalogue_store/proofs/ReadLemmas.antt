@@ -1,6 +1,6 @@
 -- What the rows that were read of one record say of its entry.
-use Rattle.std.proofs.Common.{◌≡◌, ℕ, ◌+◌, ◌<◌, List, [], ◌∷◌, ◌++◌, length, get_or, take, map, Option, Some, None, Result, Ok, Err, IfOk, IsTrue, Bool, true, refl, sym, ap, subst, ◌∙◌}
-use Rattle.std.specs.List.{AllZip, enumerate_from, flat_map}
+use Rattle.std.proofs.Common.{◌≡◌, ℕ, ◌+◌, ◌<◌, List, [], ◌∷◌, ◌++◌, length, get_or, take, map, Option, Some, None, Result, Ok, Err, IfOk, IsTrue, Bool, true, refl, sym, ap, subst, ◌∙◌, false}
+use Rattle.std.specs.List.{AllZip, enumerate_from, flat_map, All}
 use Rattle.std.proofs.lemmas.Option.{same_Some}
 use Rattle.onix_message.specs.declared.agreement.StoreFault.{StoreFault}
 use Rattle.onix_rows.specs.declared.parts.Price.{Price}
@@ -12,13 +12,15 @@ use Rattle.desk_rows.specs.Rows.{DeskRows}
 use Rattle.desk_rows.specs.declared.rows.ArticleRow.{ArticleRow}
 use Rattle.desk_rows.specs.declared.rows.OfferRow as typed
 use Rattle.desk_rows.specs.declared.rows.RecordRow.{RecordRow}
-use Rattle.catalogue_rows.specs.EntryRows.{SuppliedDetail, article_rows, detail_rows, detail_price_row, detail_price_rows, supplied_details, supplies_of}
+use Rattle.catalogue_rows.specs.EntryRows.{SuppliedDetail, article_rows, detail_rows, detail_price_row, detail_price_rows, supplied_details, supplies_of, detail_row}
 use Rattle.catalogue_rows.specs.HeldLemmas.{held_articles, held_details}
 use Rattle.catalogue_rows.specs.HeldPriceLemmas.{held_prices}
 use Rattle.catalogue_rows.specs.Holding.{HoldsEntry}
 use Rattle.catalogue_rows.specs.Storable.{IsStorable}
-use Rattle.catalogue_store.specs.ReadRows.{Finds, HasPricesOf, HoldsSupplies}
+use Rattle.catalogue_store.specs.ReadRows.{Finds, HasPricesOf, HoldsSupplies, AreReadAs, IsReadAs}
 use Rattle.catalogue_store.proofs.Additions.{take_push}
+use Rattle.std.proofs.lemmas.List.Elements.{All-map}
+use Rattle.desk_rows.specs.RecordChanges.{has_minimums_of}
 
 zip_push : {A B : Type 0} (R : A → B → Type 0) (xs : List A) (ys : List B) (x : A) (y : B) → AllZip R xs ys → R x y → AllZip R (xs ++ x ∷ []) (ys ++ y ∷ [])
 zip_push R [] [] x y all here = (here, tt)
@@ -85,11 +87,27 @@ same_price_rows s r k (x ∷ xs) (y ∷ ys) e =
     ap (λ l. map (detail_price_row s r k) (enumerate_from 1 l) ++ flat_map (detail_price_rows s r) (enumerate_from (k + 1) xs)) here
     ∙ ap (λ l. map (detail_price_row s r k) (enumerate_from 1 y.detail.prices) ++ l) (same_price_rows s r (k + 1) xs ys later)
 
+-- one of the SupplyDetails is of a record without minimums, where they are read so
+pub one_read_as : (with_minimums : Bool) (details : List typed.OfferRow) (i : ℕ) (x : typed.OfferRow) (rows : DeskRows) → i < length details → x ≡ get_or details i x → AreReadAs with_minimums details rows
+    → with_minimums ≡ false → has_minimums_of x.series x.reference rows ≡ false
+one_read_as with_minimums details i x rows low is reads without = subst (λ (d : typed.OfferRow). has_minimums_of d.series d.reference rows ≡ false) (sym is) (reads without i x low)
+
+-- prices that are read with their minimums
+pub read_whole : (details : List typed.OfferRow) (rows : DeskRows) → AreReadAs true details rows
+read_whole details rows without = absurd cc
+
+-- those of a record that is held are all of that record
+all_read_as : (with_minimums : Bool) (row : RecordRow) (o : Option Entry) (rows : DeskRows) (details : List typed.OfferRow) → details ≡ detail_rows row.series row.reference (supplies_of o) → IsReadAs with_minimums row rows → AreReadAs with_minimums details rows
+all_read_as with_minimums row o rows details are reads = λ without.
+    let Lacks : typed.OfferRow → Type 0 = λ d. has_minimums_of d.series d.reference rows ≡ false in
+    subst (λ (l : List typed.OfferRow). All Lacks l) (sym are) (All-map Lacks (detail_row row.series row.reference) (enumerate_from 1 (supplied_details (supplies_of o))) (λ i d low. reads without))
+
 -- the supplies of the record are those that were wanted
-pub supplies_held : (row : RecordRow) (supplies : List ProductSupply) (rows : DeskRows) (got wanted : List typed.OfferRow) (prices : List (List Price)) (b : Bool) → AreOfferRowsOf rows row got → wanted ≡ detail_rows row.series row.reference supplies
-    → got ≡ wanted → AllZip (HasPricesOf rows) got prices → (IsTrue b → prices ≡ map (λ (d : SuppliedDetail). d.detail.prices) (supplied_details supplies)) → HoldsSupplies row supplies rows b
-supplies_held row supplies rows got wanted prices b are is same all priced = λ o held true.
+pub supplies_held : (with_minimums : Bool) (row : RecordRow) (supplies : List ProductSupply) (rows : DeskRows) (got wanted : List typed.OfferRow) (prices : List (List Price)) (b : Bool) → AreOfferRowsOf rows row got → wanted ≡ detail_rows row.series row.reference supplies
+    → got ≡ wanted → (AreReadAs with_minimums got rows → AllZip (HasPricesOf rows) got prices) → (IsTrue b → prices ≡ map (λ (d : SuppliedDetail). d.detail.prices) (supplied_details supplies)) → IsReadAs with_minimums row rows → HoldsSupplies row supplies rows b
+supplies_held with_minimums row supplies rows got wanted prices b are is same all priced reads = λ o held true.
     let s = row.series in
     let r = row.reference in
     let own = held_details s r o rows got held are in
-    record { details = sym own ∙ same ∙ is; prices = same_price_rows s r 1 (supplied_details (supplies_of o)) (supplied_details supplies) (sym (prices_of_held s r o rows got prices held own all) ∙ priced true) }
+    let each = all (all_read_as with_minimums row o rows got own reads) in
+    record { details = sym own ∙ same ∙ is; prices = same_price_rows s r 1 (supplied_details (supplies_of o)) (supplied_details supplies) (sym (prices_of_held s r o rows got prices held own each) ∙ priced true) }

@@ -1,9 +1,9 @@
 -- What one product does to the rows of a catalogue.
-use Rattle.std.specs.Prelude.{◌≡◌, ℕ, Bool, List, Option}
+use Rattle.std.specs.Prelude.{◌≡◌, ℕ, Bool, List, Option, false}
 use Rattle.std.specs.FinMap as map
 use Rattle.onix_rows.specs.declared.parts.Product.{Product}
 use Rattle.catalogue_rules.specs.Effects.{after_product, change_of, counted, entry_after}
-use Rattle.catalogue_rules.specs.Records.{ByReference}
+use Rattle.catalogue_rules.specs.Records.{ByReference, EachHas}
 use Rattle.catalogue_rules.specs.declared.effect.Change.{Change}
 use Rattle.catalogue_rules.specs.declared.effect.Effect.{Effect}
 use Rattle.catalogue_rules.specs.declared.entry.Entry.{Entry}
@@ -12,6 +12,7 @@ use Rattle.desk_rows.specs.declared.rows.RecordRow.{RecordRow}
 use Rattle.catalogue_rows.specs.Holding.{Became, HoldsCatalogue, HoldsEntry, other_catalogues}
 use Rattle.catalogue_rows.specs.Storable.{IsStorableProduct}
 use Rattle.catalogue_store.specs.ReadRows.{IsFound}
+use Rattle.catalogue_rows.specs.Minimums.{HasNoMinimums}
 
 -- the record, of which that was found, became what the product asks for
 abbrev pub IsChanged : Change → RecordRow → Product → Option Bool → DeskRows → DeskRows → Type 0
@@ -23,3 +24,7 @@ pub record IsProductApplied (series : List ℕ) (m : ByReference) (p : Product) 
   pub catalogue : HoldsCatalogue series (after_product m p) after
   pub counts : effect ≡ counted (change_of p.notification) (map.get m p.reference) before
   pub others : other_catalogues series after ≡ other_catalogues series rows
+
+-- where prices are read as those of records without minimums, the catalogue has none
+abbrev pub IsCatalogueReadAs : Bool → ByReference → Type 0
+IsCatalogueReadAs with_minimums m = with_minimums ≡ false → EachHas HasNoMinimums m

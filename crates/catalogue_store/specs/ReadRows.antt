@@ -1,16 +1,18 @@
 -- What is read of one record.
-use Rattle.std.specs.Prelude.{◌≡◌, Bool, IsTrue, List, Option, Some, true}
+use Rattle.std.specs.Prelude.{◌≡◌, Bool, IsTrue, List, Option, Some, false, true}
 use Rattle.std.specs.Option.{is_some}
 use Rattle.onix_rows.specs.declared.parts.Price.{Price}
 use Rattle.onix_rows.specs.declared.parts.ProductIdentifier.{ProductIdentifier}
 use Rattle.onix_rows.specs.declared.parts.ProductSupply.{ProductSupply}
 use Rattle.catalogue_rules.specs.declared.entry.Entry.{Entry}
 use Rattle.desk_rows.specs.ArticleAnswers.{ArePricesAt}
+use Rattle.desk_rows.specs.RecordChanges.{has_minimums_of}
 use Rattle.desk_rows.specs.Rows.{DeskRows}
 use Rattle.desk_rows.specs.declared.rows.OfferRow as typed
 use Rattle.desk_rows.specs.declared.rows.RecordRow.{RecordRow}
 use Rattle.catalogue_rows.specs.EntryRows.{article_rows, detail_rows, price_rows_of, ids_of, supplies_of}
 use Rattle.catalogue_rows.specs.Holding.{HoldsEntry}
+use Rattle.std.specs.List.{All}
 
 -- the prices are those of the SupplyDetail of that row
 abbrev pub HasPricesOf : DeskRows → typed.OfferRow → List Price → Type 0
@@ -32,3 +34,11 @@ pub record HasSupplyRows (row : RecordRow) (supplies was : List ProductSupply) :
 -- with `true` the supplies of the record have the rows of these
 abbrev pub HoldsSupplies : RecordRow → List ProductSupply → DeskRows → Bool → Type 0
 HoldsSupplies row supplies rows b = (o : Option Entry) → HoldsEntry row.series row.reference o rows → IsTrue b → HasSupplyRows row supplies (supplies_of o)
+
+-- where prices are read as those of records without minimums, the tables have none of these records
+abbrev pub AreReadAs : Bool → List typed.OfferRow → DeskRows → Type 0
+AreReadAs with_minimums details rows = with_minimums ≡ false → All (λ (d : typed.OfferRow). has_minimums_of d.series d.reference rows ≡ false) details
+
+-- the same of one record
+abbrev pub IsReadAs : Bool → RecordRow → DeskRows → Type 0
+IsReadAs with_minimums row rows = with_minimums ≡ false → has_minimums_of row.series row.reference rows ≡ false

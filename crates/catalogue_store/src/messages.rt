@@ -1,6 +1,6 @@
 // A message applied to the rows of a catalogue.
 
-ghost use Rattle.std.specs.Prelude.{◌≡◌, ◌≢◌, ◌+◌, ◌<◌, ◌^◌, [], IfOk, Option, Some};
+ghost use Rattle.std.specs.Prelude.{◌≡◌, ◌≢◌, ◌+◌, ◌<◌, ◌^◌, [], false, IfOk, Option, Some};
 ghost use Rattle.std.specs.Option.{is_some};
 ghost use Rattle.sqlite.specs.Held.{state};
 ghost use Rattle.catalogue_rules.specs.Effects.{change_of, counted};
@@ -11,11 +11,14 @@ ghost use Rattle.catalogue_rules.specs.declared.entry.Entry.{Entry};
 ghost use Rattle.catalogue_rows.specs.Holding.{Became, HoldsCatalogue, HoldsEntry, IsApplied};
 ghost use Rattle.catalogue_rows.specs.Storable.{AreStorable, IsStorableProduct};
 ghost use Rattle.catalogue_store.specs.Achieves.{Achieves};
-ghost use Rattle.catalogue_store.specs.AppliedProducts.{IsChanged, IsProductApplied};
-ghost use Rattle.catalogue_store.specs.ReadRows.{IsFound};
+ghost use Rattle.catalogue_rows.specs.Minimums.{products_have_minimums};
+ghost use Rattle.catalogue_store.specs.AppliedProducts.{IsCatalogueReadAs, IsChanged, IsProductApplied};
+ghost use Rattle.catalogue_store.specs.ReadRows.{IsFound, IsReadAs};
+ghost use Rattle.desk_rows.specs.RecordAnswers.{has_minimums};
 
 use crate::reading::{find_record, has_supplies};
 use crate::records::{remove_record, replace_supplies, write_record};
+use catalogue_rows::minimums::products_have_minimums;
 use catalogue_rules::effect::{Change, Effect};
 use desk_rows::rows::RecordRow;
 use desk_tables::work::Work;
@@ -85,16 +88,17 @@ fn keep_record<S: Alter>(
     ids: &[ProductIdentifier],
     supplies: &[ProductSupply],
     has_ids: bool,
+    with_minimums: bool,
 ) -> Result<(), StoreFault>
     ensures same_reference { work.new.tables.ghost_name ≡ work.old.tables.ghost_name }
-    ensures achieves { Achieves (λ rows _ after. (e : Entry) → HoldsEntry row.now.series row.now.reference (Some e) rows → IsFound row.now ids.now (Some e) (Some has_ids) → ids.now ≢ [] → AreStorable supplies.now
+    ensures achieves { Achieves (λ rows _ after. IsReadAs with_minimums row.now rows → (e : Entry) → HoldsEntry row.now.series row.now.reference (Some e) rows → IsFound row.now ids.now (Some e) (Some has_ids) → ids.now ≢ [] → AreStorable supplies.now
         → Became row.now.series row.now.reference (Some (record { ids = ids.now; supplies = supplies.now })) rows after)
         (state S.Store work.old.tables.now.connection) (state S.Store work.new.tables.now.connection) result }
 {
     if !has_ids {
         return rewrite_record(alloc, work, row, ids, supplies);
     }
-    let same = match has_supplies(alloc, work, row, supplies) {
+    let same = match has_supplies(alloc, work, row, supplies, with_minimums) {
         Ok(same) => same,
         Err(fault) => return Err(fault),
     };
@@ -110,13 +114,14 @@ fn keep_supplies<S: Alter>(
     work: &mut Work<'_, S>,
     row: &RecordRow,
     supplies: &[ProductSupply],
+    with_minimums: bool,
 ) -> Result<(), StoreFault>
     ensures same_reference { work.new.tables.ghost_name ≡ work.old.tables.ghost_name }
-    ensures achieves { Achieves (λ rows _ after. (e : Entry) → HoldsEntry row.now.series row.now.reference (Some e) rows → AreStorable supplies.now
+    ensures achieves { Achieves (λ rows _ after. IsReadAs with_minimums row.now rows → (e : Entry) → HoldsEntry row.now.series row.now.reference (Some e) rows → AreStorable supplies.now
         → Became row.now.series row.now.reference (Some (record e { supplies = supplies.now })) rows after)
         (state S.Store work.old.tables.now.connection) (state S.Store work.new.tables.now.connection) result }
 {
-    let same = match has_supplies(alloc, work, row, supplies) {
+    let same = match has_supplies(alloc, work, row, supplies, with_minimums) {
         Ok(same) => same,
         Err(fault) => return Err(fault),
     };
@@ -133,15 +138,16 @@ fn replace<S: Alter>(
     row: &RecordRow,
     product: &Product,
     found: Option<bool>,
+    with_minimums: bool,
 ) -> Result<(), StoreFault>
     ensures same_reference { work.new.tables.ghost_name ≡ work.old.tables.ghost_name }
-    ensures achieves { Achieves (λ rows _ after. IsChanged asked.Replace row.now product.now found rows after)
+    ensures achieves { Achieves (λ rows _ after. IsReadAs with_minimums row.now rows → IsChanged asked.Replace row.now product.now found rows after)
         (state S.Store work.old.tables.now.connection) (state S.Store work.new.tables.now.connection) result }
 {
     let ids = product.ids.as_slice();
     let supplies = product.supplies.as_slice();
     match found {
-        Some(has_ids) => keep_record(alloc, work, row, ids, supplies, has_ids),
+        Some(has_ids) => keep_record(alloc, work, row, ids, supplies, has_ids, with_minimums),
         None => write_record(alloc, work, row, ids, supplies),
     }
 }
@@ -153,9 +159,10 @@ fn update<S: Alter>(
     row: &RecordRow,
     product: &Product,
     found: Option<bool>,
+    with_minimums: bool,
 ) -> Result<(), StoreFault>
     ensures same_reference { work.new.tables.ghost_name ≡ work.old.tables.ghost_name }
-    ensures achieves { Achieves (λ rows _ after. IsChanged asked.Update row.now product.now found rows after)
+    ensures achieves { Achieves (λ rows _ after. IsReadAs with_minimums row.now rows → IsChanged asked.Update row.now product.now found rows after)
         (state S.Store work.old.tables.now.connection) (state S.Store work.new.tables.now.connection) result }
 {
     let is_empty = product.supplies.is_empty();
@@ -163,7 +170,7 @@ fn update<S: Alter>(
         return Ok(());
     }
     match found {
-        Some(_) => keep_supplies(alloc, work, row, product.supplies.as_slice()),
+        Some(_) => keep_supplies(alloc, work, row, product.supplies.as_slice(), with_minimums),
         None => Ok(()),
     }
 }
@@ -193,14 +200,15 @@ fn change_record<S: Alter>(
     product: &Product,
     change: Change,
     found: Option<bool>,
+    with_minimums: bool,
 ) -> Result<(), StoreFault>
     ensures same_reference { work.new.tables.ghost_name ≡ work.old.tables.ghost_name }
-    ensures achieves { Achieves (λ rows _ after. IsChanged change row.now product.now found rows after)
+    ensures achieves { Achieves (λ rows _ after. IsReadAs with_minimums row.now rows → IsChanged change row.now product.now found rows after)
         (state S.Store work.old.tables.now.connection) (state S.Store work.new.tables.now.connection) result }
 {
     match change {
-        Change::Replace => replace(alloc, work, row, product, found),
-        Change::Update => update(alloc, work, row, product, found),
+        Change::Replace => replace(alloc, work, row, product, found, with_minimums),
+        Change::Update => update(alloc, work, row, product, found, with_minimums),
         Change::Delete => delete(work, row, product, found),
         Change::Ignore => Ok(()),
     }
@@ -213,11 +221,12 @@ fn apply_product<S: Alter>(
     series: &SeriesName,
     product: &Product,
     effect: Effect,
+    with_minimums: bool,
 ) -> Result<Effect, StoreFault>
     requires { total effect + 1 < 2 ^ 32 }
     ensures same_reference { work.new.tables.ghost_name ≡ work.old.tables.ghost_name }
     ensures one { IfOk result (λ e. total e ≡ total effect + 1) }
-    ensures achieves { Achieves (λ rows counts after. (m : ByReference) → HoldsCatalogue series.now m rows → IsStorableProduct product.now → IsProductApplied series.now m product.now effect rows counts after)
+    ensures achieves { Achieves (λ rows counts after. (m : ByReference) → HoldsCatalogue series.now m rows → IsCatalogueReadAs with_minimums m → IsStorableProduct product.now → IsProductApplied series.now m product.now effect rows counts after)
         (state S.Store work.old.tables.now.connection) (state S.Store work.new.tables.now.connection) result }
 {
     let row = match product.reference.copy(alloc) {
@@ -232,10 +241,29 @@ fn apply_product<S: Alter>(
         Err(fault) => return Err(fault),
     };
     let change = change_of(product.notification);
-    match change_record(alloc, work, &row, product, change, found) {
+    match change_record(alloc, work, &row, product, change, found, with_minimums) {
         Ok(()) => Ok(counted(effect, change, found.is_some())),
         Err(fault) => Err(fault),
     }
+}
+
+// Whether prices of the series may have minimums while these products are applied: one that is there
+// has, or one of the products. Mostly none does, and then no record's minimums are asked for.
+fn may_have_minimums<S: Alter>(
+    work: &mut Work<'_, S>,
+    series: &SeriesName,
+    products: &[Product],
+) -> Result<bool, StoreFault>
+    ensures same_reference { work.new.tables.ghost_name ≡ work.old.tables.ghost_name }
+    ensures products { IfOk result (λ may. may ≡ false → products_have_minimums products.now ≡ false) }
+    ensures achieves { Achieves (λ rows may after. (after ≡ rows) × (may ≡ false → has_minimums series.now rows ≡ false))
+        (state S.Store work.old.tables.now.connection) (state S.Store work.new.tables.now.connection) result }
+{
+    let among = products_have_minimums(products);
+    if among {
+        return Ok(true);
+    }
+    work.has_minimums(series)
 }
 
 /// Applies the products of a message, one after the other, to the catalogue of the series, and gives
@@ -253,9 +281,13 @@ pub fn apply_message<S: Alter>(
 {
     contents.is_contents();
     let products = contents.products();
+    let with_minimums = match may_have_minimums(work, series, products) {
+        Ok(may) => may,
+        Err(fault) => return Err(fault),
+    };
     let mut effect = Effect::none();
     for product in products {
-        effect = match apply_product(alloc, work, series, product, effect) {
+        effect = match apply_product(alloc, work, series, product, effect, with_minimums) {
             Ok(counts) => counts,
             Err(fault) => return Err(fault),
         };

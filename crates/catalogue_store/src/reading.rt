@@ -1,13 +1,14 @@
 // The rows of one record, read and compared.
 
-ghost use Rattle.std.specs.Prelude.{◌≡◌, IfOk, Some};
+ghost use Rattle.std.specs.Prelude.{◌≡◌, false, IfOk, Some};
 ghost use Rattle.std.specs.List.{AllZip};
 ghost use Rattle.sqlite.specs.Held.{state};
 ghost use Rattle.catalogue_rules.specs.Records.{HasFewDetails};
 ghost use Rattle.catalogue_rules.specs.declared.entry.Entry.{Entry as TheEntry};
 ghost use Rattle.catalogue_rows.specs.Holding.{HoldsEntry};
 ghost use Rattle.catalogue_store.specs.Achieves.{Achieves};
-ghost use Rattle.catalogue_store.specs.ReadRows.{Finds, HasPricesOf, HoldsSupplies};
+ghost use Rattle.catalogue_store.specs.ReadRows.{AreReadAs, Finds, HasPricesOf, HoldsSupplies, IsReadAs};
+ghost use Rattle.desk_rows.specs.RecordChanges.{has_minimums_of};
 
 use catalogue_rows::assemble::entry_of;
 use catalogue_rows::build::{article_rows, detail_rows};
@@ -21,19 +22,36 @@ use onix_terms::items::Items;
 use sqlite::Alter;
 use std::alloc::Global;
 
+// The prices of a SupplyDetail, with their minimums or as those of a record that has none.
+fn read_own_prices<S: Alter>(
+    work: &mut Work<'_, S>,
+    detail: &OfferRow,
+    with_minimums: bool,
+) -> Result<Items<Price>, StoreFault>
+    ensures same_reference { work.new.tables.ghost_name ≡ work.old.tables.ghost_name }
+    ensures achieves { Achieves (λ rows prices after. (after ≡ rows) × ((with_minimums ≡ false → has_minimums_of detail.now.series detail.now.reference rows ≡ false) → HasPricesOf rows detail.now prices))
+        (state S.Store work.old.tables.now.connection) (state S.Store work.new.tables.now.connection) result }
+{
+    if with_minimums {
+        return work.offer_prices(detail);
+    }
+    work.offer_prices_without_minimums(detail)
+}
+
 // The prices of each of these SupplyDetails.
 fn read_prices<S: Alter>(
     alloc: Global,
     work: &mut Work<'_, S>,
     details: &[OfferRow],
+    with_minimums: bool,
 ) -> Result<Vec<Items<Price>>, StoreFault>
     ensures same_reference { work.new.tables.ghost_name ≡ work.old.tables.ghost_name }
-    ensures achieves { Achieves (λ rows prices after. (after ≡ rows) × AllZip (HasPricesOf rows) details.now prices.items)
+    ensures achieves { Achieves (λ rows prices after. (after ≡ rows) × (AreReadAs with_minimums details.now rows → AllZip (HasPricesOf rows) details.now prices.items))
         (state S.Store work.old.tables.now.connection) (state S.Store work.new.tables.now.connection) result }
 {
     let mut prices = Vec::new(alloc);
     for detail in details {
-        let own = match work.offer_prices(detail) {
+        let own = match read_own_prices(work, detail, with_minimums) {
             Ok(own) => own,
             Err(fault) => return Err(fault),
         };
@@ -64,7 +82,7 @@ pub fn read_record<S: Alter>(
         Ok(details) => details,
         Err(fault) => return Err(fault),
     };
-    let prices = match read_prices(alloc, work, details.as_slice()) {
+    let prices = match read_prices(alloc, work, details.as_slice(), true) {
         Ok(prices) => prices,
         Err(fault) => return Err(fault),
     };
@@ -103,16 +121,18 @@ pub fn find_record<S: Alter>(
     }
 }
 
-/// Whether the supplies of a record are these. A fault is one of the store, or want of memory;
+/// Whether the supplies of a record are these. Without `with_minimums` the rows of minimums are not
+/// asked for: none of its prices may have one then. A fault is one of the store, or want of memory;
 /// `Unusable` where a row cannot be read back.
 pub fn has_supplies<S: Alter>(
     alloc: Global,
     work: &mut Work<'_, S>,
     row: &RecordRow,
     supplies: &[ProductSupply],
+    with_minimums: bool,
 ) -> Result<bool, StoreFault>
     ensures same_reference { work.new.tables.ghost_name ≡ work.old.tables.ghost_name }
-    ensures achieves { Achieves (λ rows b after. (after ≡ rows) × HoldsSupplies row.now supplies.now rows b)
+    ensures achieves { Achieves (λ rows b after. (after ≡ rows) × (IsReadAs with_minimums row.now rows → HoldsSupplies row.now supplies.now rows b))
         (state S.Store work.old.tables.now.connection) (state S.Store work.new.tables.now.connection) result }
 {
     let wanted = match detail_rows(alloc, &row.series, &row.reference, supplies) {
@@ -127,7 +147,7 @@ pub fn has_supplies<S: Alter>(
     if !same {
         return Ok(false);
     }
-    match read_prices(alloc, work, details.as_slice()) {
+    match read_prices(alloc, work, details.as_slice(), with_minimums) {
         Ok(prices) => Ok(same_detail_prices(prices.as_slice(), supplies)),
         Err(fault) => Err(fault),
     }

@@ -1,6 +1,6 @@
 -- The identifiers and the offers of a record and the prices of an offer, as queries show them.
-use Rattle.std.proofs.Common.{◌≡◌, ℕ, ◌≤◌, pos, List, [], ◌∷◌, map, filter, find, length, slice_get, Bool, true, false, ◌&&◌, ◌==◌, Equal, Less, Some, None, option_map, unwrap_or, refl, sym, ap, subst, ◌∙◌, inl, inr}
-use Rattle.std.specs.List.{AllByRecursion}
+use Rattle.std.proofs.Common.{◌≡◌, ℕ, ◌≤◌, pos, List, [], ◌∷◌, map, filter, find, length, slice_get, Bool, true, false, ◌&&◌, ◌==◌, Equal, Less, Some, None, option_map, unwrap_or, refl, sym, ap, subst, ◌∙◌, inl, inr, arith}
+use Rattle.std.specs.List.{AllByRecursion, list_any}
 use Rattle.std.specs.List.Sorted.{IsPermutation}
 use Rattle.std.specs.Ordering.{nat_cmp, is_lt, ordering_then}
 use Rattle.std.specs.Str.{bytes_eq}
@@ -22,7 +22,7 @@ use Rattle.sqlite.specs.State.{State, Shown}
 use Rattle.onix_rows.specs.declared.parts.Price.{Price}
 use Rattle.desk_rows.specs.ArticleAnswers.{is_minimum_at_offer, is_minimum_for, is_price_at, minimum_in, price_in, price_part, read_shown, AreArticlesOf, AreMinimumsAt, AreOfferRowsOf, ArePricesAt, ArePricesUnder}
 use Rattle.desk_rows.specs.RecordAnswers.{five_columns, is_minimum_at, minimum_at, AreRising}
-use Rattle.desk_rows.specs.RecordChanges.{is_article_of, is_offer_of}
+use Rattle.desk_rows.specs.RecordChanges.{is_article_of, is_offer_of, is_minimum_of, has_minimums_of}
 use Rattle.desk_rows.specs.RecordReadings.{read_offer, read_price}
 use Rattle.desk_rows.specs.RecordRows.{RecordRow, ArticleRow, OfferRow, PriceRow, MinimumRow, article_columns, offer_columns, price_columns, minimum_columns}
 use Rattle.desk_rows.specs.RecordStatements.{record_articles_text, record_articles_query, record_offers_text, record_offers_query, offer_prices_text, offer_prices_query, offer_minimums_text, offer_minimums_query}
@@ -36,6 +36,7 @@ use Rattle.desk_rows.proofs.RecordLists.{read_back, read_of, same_article, same_
 use Rattle.desk_rows.proofs.RecordStatementTexts.{record_articles_is, record_offers_is, offer_prices_is, offer_minimums_is}
 use Rattle.desk_rows.proofs.Replaces.{map_same}
 use Rattle.desk_rows.proofs.Selects.{selects, rises}
+use Rattle.std.proofs.lemmas.List.Sorted.{IsPermutation-refl}
 
 -- ORDER BY a number
 by_number : (m n : ℕ) → is_lt (ordering_then (value_cmp (Int (pos m)) (Int (pos n))) Equal) ≡ false → is_lt (nat_cmp m n) ≡ false
@@ -179,3 +180,36 @@ prices_joined db series reference place rows minimums prices h are under =
         (subst (λ t. AreMinimumsAt r.series t place rows minimums) (sym (text_of r.reference reference two.0)) (subst (λ t. AreMinimumsAt t reference place rows minimums) (sym (text_of r.series series one.0)) are)) in
         let same : minimum_in rows.minimums r ≡ minimum_at r.reference r.place r.price_place minimums = ap (λ o. unwrap_or (option_map (λ (m : MinimumRow). m.minimum) o) 1) (sym (found_same db rows minimums r h at)) in
         ap (λ m. option_map price_part (read_price m (price_columns r))) same
+
+-- ---- the prices of an offer whose record has no minimums
+
+-- where none passes a test, none passes one that is within it
+pub any_within : {A : Type 0} (p q : A → Bool) (xs : List A) → ((x : A) → p x ≡ true → q x ≡ true) → list_any q xs ≡ false → list_any p xs ≡ false
+any_within p q [] within none = refl
+any_within p q (x ∷ xs) within none = elim (cases_Bool (q x)) [
+  | inl here ↦ absurd (let found : true ≡ false = rw here at none in cc)
+  | inr misses ↦ elim (cases_Bool (p x)) [
+    | inl passes ↦ absurd (let found : true ≡ false = sym (within x passes) ∙ misses in cc)
+    | inr fails ↦ rw fails (any_within p q xs within (rw misses at none))
+  ]
+]
+
+none_pass : {A : Type 0} (p : A → Bool) (xs : List A) → list_any p xs ≡ false → filter p xs ≡ []
+none_pass p [] none = refl
+none_pass p (x ∷ xs) none = elim (cases_Bool (p x)) [
+  | inl here ↦ absurd (let found : true ≡ false = rw here at none in cc)
+  | inr misses ↦ rw misses (none_pass p xs (rw misses at none))
+]
+
+at_offer : (a b c : Bool) → (a && (b && c)) ≡ true → (a && b) ≡ true
+at_offer true true c e = refl
+at_offer true false c e = absurd cc
+at_offer false b c e = absurd cc
+
+pub prices_alone : (db : Database) (series reference : List ℕ) (place : ℕ) (rows : DeskRows) (prices : List Price) → Holds db rows → has_minimums_of series reference rows ≡ false
+    → (AreRising [] → ArePricesUnder [] series reference place rows prices) → ArePricesAt series reference place rows prices
+prices_alone db series reference place rows prices h lacks under =
+    let at : MinimumRow → Bool = is_minimum_at_offer series reference place in
+    let none : filter at rows.minimums ≡ [] =
+    none_pass at rows.minimums (any_within at (is_minimum_of series reference) rows.minimums (λ r. at_offer (bytes_eq r.series series) (bytes_eq r.reference reference) (r.place == place)) lacks) in
+    prices_joined db series reference place rows [] prices h (subst (λ (l : List MinimumRow). IsPermutation l []) (sym none) (IsPermutation-refl [])) (under (λ k d low within. absurd (omega (arith, within))))

@@ -93,6 +93,23 @@ reads_as First Answer old new was now a b first join = record {
   survives = first.survives;
 }
 
+-- a query is told in other words, whatever was answered
+pub reads_also : {A : Type 0} (First Answer : DeskRows → A → Type 0) (old new : State) (was now : Bool) (result : Result A StoreFault) → Works First (λ rows. rows) old new was now result
+    → ((rows : DeskRows) (a : A) → Holds old.now rows → First rows a → Answer rows a) → Works Answer (λ rows. rows) old new was now result
+reads_also {A} First Answer old new was now result first join = record {
+  spent = first.spent;
+  refused = first.refused;
+  inside = first.inside;
+  gives = λ clean rows h. given rows h result (first.gives clean rows h);
+  goes_on = first.goes_on;
+  kept = first.kept;
+  survives = first.survives;
+}
+  where
+    given : (rows : DeskRows) → Holds old.now rows → (r : Result A StoreFault) → IfOk r (λ a. First rows a × Holds new.now rows) → IfOk r (λ a. Answer rows a × Holds new.now rows)
+    given rows held (Ok a) h = (join rows a held h.0, h.1)
+    given rows held (Err e) h = tt
+
 -- after a query the call stops
 pub reads_stopped : {A B : Type 0} (First : DeskRows → A → Type 0) (Answer : DeskRows → B → Type 0) (old new : State) (was now : Bool) (a : A) (e : StoreFault) → Works First (λ rows. rows) old new was now (Ok a)
     → Works Answer (λ rows. rows) old new was true (Err e)

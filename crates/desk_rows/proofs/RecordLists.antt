@@ -1,5 +1,5 @@
 -- The rows of a series, in order, as queries show them.
-use Rattle.std.proofs.Common.{◌≡◌, ℕ, pos, List, [], ◌∷◌, map, false, Equal, Option, Some, None, refl, sym, ap, subst, ◌∙◌, arith}
+use Rattle.std.proofs.Common.{◌≡◌, ℕ, pos, List, [], ◌∷◌, map, false, Equal, Option, Some, None, refl, sym, ap, subst, ◌∙◌, arith, slice_get}
 use Rattle.std.specs.Cmp.Lexicographic.{slice_cmp}
 use Rattle.std.specs.List.Sorted.{IsSorted}
 use Rattle.std.specs.Ordering.{nat_cmp, int_cmp, is_lt, ordering_then}
@@ -16,12 +16,13 @@ use Rattle.desk_rows.specs.RecordReadings.{read_offer}
 use Rattle.desk_rows.specs.declared.rows.OfferRow as typed
 use Rattle.desk_rows.specs.declared.rows.PriceRow as typed_price
 use Rattle.sqlite_trees.proofs.ListLemmas.{map-map}
-use Rattle.desk_rows.specs.RecordStatements.{record_rows_text, article_rows_text, offer_rows_text, price_rows_text, minimum_rows_text, record_rows_query, article_rows_query, offer_rows_query, price_rows_query, minimum_rows_query}
-use Rattle.desk_rows.specs.RecordAnswers.{two_columns, five_columns, place_cmp, is_record_in, is_article_in, article_key, is_offer_in, offer_key, price_cmp, is_price_in, price_key, is_minimum_in, minimum_key, read_priced, AreRising, ArePricesWith, AreMinimums, AreRecordsInOrder, AreArticlesInOrder, AreOffersInOrder}
+use Rattle.desk_rows.specs.RecordStatements.{record_rows_text, article_rows_text, offer_rows_text, price_rows_text, minimum_rows_text, record_rows_query, article_rows_query, offer_rows_query, price_rows_query, minimum_rows_query, has_minimums_text}
+use Rattle.desk_rows.specs.RecordAnswers.{two_columns, five_columns, place_cmp, is_record_in, is_article_in, article_key, is_offer_in, offer_key, price_cmp, is_price_in, price_key, is_minimum_in, minimum_key, read_priced, AreRising, ArePricesWith, AreMinimums, AreRecordsInOrder, AreArticlesInOrder, AreOffersInOrder, has_minimums}
 use Rattle.desk_rows.specs.Rows.{DeskRows, Holds}
 use Rattle.desk_rows.proofs.EqualLemmas.{text_equal, and_true}
-use Rattle.desk_rows.proofs.Selects.{selects, rises}
-use Rattle.desk_rows.proofs.RecordStatementTexts.{record_rows_is, article_rows_is, offer_rows_is, price_rows_is, minimum_rows_is}
+use Rattle.desk_rows.proofs.Selects.{selects, rises, selects_one}
+use Rattle.desk_rows.proofs.RecordStatementTexts.{record_rows_is, article_rows_is, offer_rows_is, price_rows_is, minimum_rows_is, has_minimums_is}
+use Rattle.std.specs.Option.{is_some}
 
 pub int_order : (m n : ℕ) → int_cmp (pos m) (pos n) ≡ nat_cmp m n
 int_order m n = grind (arith, nat_tests)
@@ -141,6 +142,13 @@ minimums_shown old new series rows shown got h run read =
     (λ v r. rw (text_equal r.series series) (and_true (bytes_eq r.series series))) (λ v r. refl) (λ v r. refl) h.schema h.minimums run in
     subst (λ (l : List MinimumRow). AreMinimums series rows l × AreRising l) (sym (read_back minimum_columns five_columns (λ x. refl) same_minimum s.0 got shown s.3 read))
     (s.1, rising out minimum_rows_query (λ a b e. by_three a.reference b.reference a.place b.place a.price_place b.price_place e) s.0 s.2)
+
+-- whether the series has a minimum
+pub minimum_found : (old new : State) (series : List ℕ) (rows : DeskRows) (got : List Row) → Holds old.now rows → Shown has_minimums_text (Text series ∷ []) old new got
+    → has_minimums series rows ≡ is_some (slice_get got 0)
+minimum_found old new series rows got h shown =
+    selects_one minimum_columns has_minimums_text 17 _ _ _ has_minimums_is.0 has_minimums_is.1 has_minimums_is.2 (λ db. refl) (is_minimum_in series) (λ r. Int (pos r.minimum) ∷ []) (Text series ∷ []) old new rows.minimums got
+    (λ v r. rw (text_equal r.series series) (and_true (bytes_eq r.series series))) (λ v r. refl) h.schema h.minimums shown
 
 pub prices_shown : (old new : State) (series : List ℕ) (minimums : List MinimumRow) (rows : DeskRows) (shown : List Row) (got : List typed_price.PriceRow) → Holds old.now rows → Shown price_rows_text (Text series ∷ []) old new shown
     → map (λ r. Some r) got ≡ map (read_priced minimums) shown → ArePricesWith minimums series rows got

@@ -1,9 +1,7 @@
 -- What the queries on the table `record` answer.
-use Rattle.std.proofs.Common.{◌≡◌, ℕ, List, [], ◌∷◌, filter, length, slice_get, Bool, inl, inr, arith, refl, sym, ap, ◌∙◌}
-use Rattle.std.specs.List.{list_any}
+use Rattle.std.proofs.Common.{◌≡◌, ℕ, List, [], ◌∷◌, filter, length, slice_get, refl, sym, ap, ◌∙◌}
 use Rattle.std.specs.Option.{is_some}
 use Rattle.std.specs.Str.{bytes_eq}
-use Rattle.std.proofs.lemmas.Bool.{cases_Bool}
 use Rattle.std.proofs.lemmas.List.{length-map}
 use Rattle.std.proofs.lemmas.List.Sorted.{length_permutation}
 use Rattle.sqlite_value.specs.declared.value.Value.TheVariants.{Text}
@@ -14,22 +12,8 @@ use Rattle.desk_rows.specs.RecordStatements.{has_record_text}
 use Rattle.desk_rows.specs.RecordChanges.{is_record, has_record}
 use Rattle.desk_rows.specs.Rows.{DeskRows, Holds}
 use Rattle.desk_rows.proofs.EqualLemmas.{text_equal, and_true}
-use Rattle.desk_rows.proofs.Selects.{selects}
+use Rattle.desk_rows.proofs.Selects.{any_left, selects, some_of_both}
 use Rattle.desk_rows.proofs.RecordStatementTexts.{has_record_is}
-
--- whether some row passes is whether one is left of those that pass
-any_left : {A : Type 0} (p : A → Bool) (rows : List A) → list_any p rows ≡ is_some (slice_get (filter p rows) 0)
-any_left p [] = refl
-any_left p (x ∷ rows) = elim (cases_Bool (p x)) [
-  | inl here ↦ rw here refl
-  | inr misses ↦ rw misses (any_left p rows)
-]
-
-some_of_both : {A B : Type 0} (xs : List A) (ys : List B) → length xs ≡ length ys → is_some (slice_get xs 0) ≡ is_some (slice_get ys 0)
-some_of_both [] [] same = refl
-some_of_both [] (y ∷ ys) same = absurd (omega (arith, same))
-some_of_both (x ∷ xs) [] same = absurd (omega (arith, same))
-some_of_both (x ∷ xs) (y ∷ ys) same = refl
 
 pub record_found : (old new : State) (series reference : List ℕ) (rows : DeskRows) (got : List Row) → Holds old.now rows → Shown has_record_text (Text series ∷ Text reference ∷ []) old new got
     → has_record series reference rows ≡ is_some (slice_get got 0)

@@ -9,7 +9,7 @@ use Rattle.sqlite.specs.Listing.{understood, reads_listing}
 use Rattle.sqlite.proofs.Callers.{IsPlain, command_of}
 use Rattle.desk_rows.specs.Statements.{program}
 use Rattle.desk_rows.specs.Schema.{desk_schema}
-use Rattle.desk_rows.specs.RecordStatements.{add_record_text, has_record_text, record_rows_text, put_article_text, article_rows_text, record_articles_text, delete_articles_text, put_offer_text, offer_rows_text, delete_offers_text, put_price_text, put_minimum_text, price_rows_text, minimum_rows_text, article_records_text, record_offers_text, offer_prices_text, offer_minimums_text}
+use Rattle.desk_rows.specs.RecordStatements.{add_record_text, has_record_text, record_rows_text, put_article_text, article_rows_text, record_articles_text, delete_articles_text, put_offer_text, offer_rows_text, delete_offers_text, put_price_text, put_minimum_text, price_rows_text, minimum_rows_text, article_records_text, record_offers_text, offer_prices_text, offer_minimums_text, has_minimums_text, has_minimums_query}
 use Rattle.desk_rows.specs.RecordStatements.{has_record_query, record_rows_query, article_rows_query, record_articles_query, delete_articles_query, offer_rows_query, delete_offers_query, price_rows_query, minimum_rows_query, article_records_query, record_offers_query, offer_prices_query, offer_minimums_query}
 
 pub add_record_is : (command_of (understood desk_schema add_record_text) ≡ Insert 4 (Values (lit Null ∷ col 0 0 ∷ col 0 1 ∷ []) 3)) × IsPlain (understood desk_schema add_record_text)
@@ -97,3 +97,8 @@ pub offer_minimums_is : (command_of (understood desk_schema offer_minimums_text)
     × (reads_listing desk_schema offer_minimums_text ≡ false) × IsPlain (understood desk_schema offer_minimums_text)
 unfolding understood everything
 offer_minimums_is = (refl, refl, (refl, refl))
+
+pub has_minimums_is : (command_of (understood desk_schema has_minimums_text) ≡ Select (program has_minimums_query) (codes "minimum" ∷ []))
+    × (reads_listing desk_schema has_minimums_text ≡ false) × IsPlain (understood desk_schema has_minimums_text)
+unfolding understood everything
+has_minimums_is = (refl, refl, (refl, refl))

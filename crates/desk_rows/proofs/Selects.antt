@@ -1,12 +1,14 @@
 -- What a query over one table answers.
-use Rattle.std.proofs.Common.{◌≡◌, ℕ, List, [], ◌∷◌, map, filter, flat_map, drop, Bool, false, cond, IsTrue, refl, ap, subst, ◌∙◌, inl, inr}
-use Rattle.std.specs.List.{list_all, AllByRecursion}
+use Rattle.std.proofs.Common.{◌≡◌, ℕ, List, [], ◌∷◌, map, filter, flat_map, drop, take, slice_get, Bool, false, cond, IsTrue, refl, sym, ap, subst, ◌∙◌, inl, inr}
+use Rattle.std.specs.List.{list_all, list_any, AllByRecursion}
+use Rattle.std.specs.Option.{is_some}
 use Rattle.std.proofs.Common.{◌+◌, ◌<◌, Ordering, get_or, length, arith}
 use Rattle.std.specs.Ordering.{is_lt}
 use Rattle.std.proofs.Math.ListN.{get_or-map}
 use Rattle.std.proofs.lemmas.List.{length-map}
 use Rattle.std.proofs.lemmas.Bool.{cases_Bool}
 use Rattle.std.specs.List.Sorted.{IsPermutation, IsSorted}
+use Rattle.std.proofs.lemmas.List.Sorted.{length_permutation}
 use Rattle.sqlite_value.specs.declared.value.Value.{Value}
 use Rattle.sqlite_value.specs.declared.value.Value.TheVariants.{Null}
 use Rattle.sqlite_value.specs.Order.{Row}
@@ -23,7 +25,7 @@ use Rattle.sqlite.specs.Effect.{Database, Answers}
 use Rattle.sqlite.specs.State.{State, Shown}
 use Rattle.sqlite.proofs.Callers.{IsPlain, command_of, reads_as}
 use Rattle.sqlite_trees.proofs.ListLemmas.{pull_back, map-map}
-use Rattle.desk_rows.specs.Statements.{over, program}
+use Rattle.desk_rows.specs.Statements.{over, one_over, program}
 use Rattle.desk_rows.specs.Schema.{desk_schema}
 use Rattle.desk_rows.specs.Rows.{Stands}
 
@@ -99,6 +101,48 @@ module _ {A : Type 0} (columns : A → Row) (sql : List ℕ) (tree : ℕ) (terms
       → old.now.schema ≡ desk_schema → Stands columns rows (old.now.trees tree) → Shown sql params old new got
       → (ordered : List A) × IsPermutation (filter p rows) ordered × IsSorted (output_cmp (over tree terms project order)) (map (λ x. (sort x, shown x)) ordered) × (got ≡ map shown ordered)
   selects = selects_in columns desk_schema sql tree terms project order names is unlisted plain whole
+
+-- ---- at most one row
+
+-- whether some row passes is whether one is left of those that pass
+pub any_left : {A : Type 0} (p : A → Bool) (rows : List A) → list_any p rows ≡ is_some (slice_get (filter p rows) 0)
+any_left p [] = refl
+any_left p (x ∷ rows) = elim (cases_Bool (p x)) [
+  | inl here ↦ rw here refl
+  | inr misses ↦ rw misses (any_left p rows)
+]
+
+pub some_of_both : {A B : Type 0} (xs : List A) (ys : List B) → length xs ≡ length ys → is_some (slice_get xs 0) ≡ is_some (slice_get ys 0)
+some_of_both [] [] same = refl
+some_of_both [] (y ∷ ys) same = absurd (omega (arith, same))
+some_of_both (x ∷ xs) [] same = absurd (omega (arith, same))
+some_of_both (x ∷ xs) (y ∷ ys) same = refl
+
+first_page : {A : Type 0} (xs : List A) → is_some (slice_get (take 1 (drop 0 xs)) 0) ≡ is_some (slice_get xs 0)
+first_page [] = refl
+first_page (x ∷ xs) = refl
+
+module _ {A : Type 0} (columns : A → Row) (sql : List ℕ) (tree : ℕ) (terms project : List Term) (names : List (List ℕ))
+    (is : command_of (understood desk_schema sql) ≡ Select (program (one_over tree terms project)) names) (unlisted : reads_listing desk_schema sql ≡ false) (plain : IsPlain (understood desk_schema sql))
+    (whole : (db : Trees) → overlay db [] tree ≡ db tree) where
+  -- a row is shown where one passes
+  pub selects_one : (p : A → Bool) (shown : A → Row) (params : Row) (old new : State) (rows : List A) (got : List Row)
+      → ((v : Value) (x : A) → list_all (holds (params ∷ (v ∷ columns x) ∷ [])) terms ≡ p x)
+      → ((v : Value) (x : A) → eval_all project (params ∷ (v ∷ columns x) ∷ []) ≡ shown x)
+      → old.now.schema ≡ desk_schema → Stands columns rows (old.now.trees tree) → Shown sql params old new got
+      → list_any p rows ≡ is_some (slice_get got 0)
+  selects_one p shown params old new rows got tests shows has stands h =
+      let q : Query = one_over tree terms project in
+      let a : IsAnswer q (overlay old.now.trees []) params got = (reads_as sql params old new desk_schema has _ is plain unlisted got h).answer Null in
+      let out : A → Output = λ x. ([], shown x) in
+      let env : Row → Env = λ r. params ∷ r ∷ [] in
+      let test : Row → Bool = λ r. list_all (holds (params ∷ r ∷ [])) terms in
+      let show : Row → Output = λ r. output q (params ∷ r ∷ []) in
+      let staged : a.staged ≡ map env (filter test (old.now.trees tree)) = a.grouped ∙ rw (whole old.now.trees) (matches_one terms params (old.now.trees tree)) in
+      let kept : a.kept ≡ map out (filter p rows) = a.distinct ∙ ap (map (output q)) staged ∙ map-map (output q) env _ ∙ typed columns p out test show tests (λ v x. rw (shows v x) refl) rows (old.now.trees tree) stands.shaped.1 stands.are in
+      let all : List Row = map (λ (o : Output). o.1) a.ordered in
+      let count : length (filter p rows) ≡ length all = sym (ap length kept ∙ length-map (filter p rows) out) ∙ sym (length_permutation _ _ a.same) ∙ sym (length-map a.ordered (λ (o : Output). o.1)) in
+      any_left p rows ∙ some_of_both (filter p rows) all count ∙ sym (first_page all) ∙ ap (λ (l : List Row). is_some (slice_get l 0)) (sym a.shown)
 
 -- rows in the order of their sort keys have what is told by these in order
 pub rises : {A B : Type 0} (out : A → Output) (key : A → B) (cmp : B → B → Ordering) (q : Query) (from : B → A) → ((d : B) → key (from d) ≡ d) → ((a b : A) → is_lt (output_cmp q (out a) (out b)) ≡ false → is_lt (cmp (key a) (key b)) ≡ false)

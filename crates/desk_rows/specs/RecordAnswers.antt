@@ -12,6 +12,7 @@ use Rattle.desk_rows.specs.RecordReadings.{read_offer, read_price, text_in, numb
 use Rattle.desk_rows.specs.declared.rows.OfferRow as typed
 use Rattle.desk_rows.specs.declared.rows.PriceRow as typed_price
 use Rattle.desk_rows.specs.Rows.{DeskRows}
+use Rattle.std.specs.List.{list_any}
 
 -- ---- the columns of a row that a query shows
 
@@ -99,6 +100,10 @@ ArePricesWith minimums series rows got =
 -- the minimums of a series, in some order
 abbrev pub AreMinimums : List ℕ → DeskRows → List MinimumRow → Type 0
 AreMinimums series rows minimums = IsPermutation (filter (is_minimum_in series) rows.minimums) minimums
+
+-- whether a price of the series has one
+abbrev pub has_minimums : List ℕ → DeskRows → Bool
+has_minimums series rows = list_any (is_minimum_in series) rows.minimums
 
 -- the same with the minimums of the series
 abbrev pub ArePricesInOrder : List ℕ → DeskRows → List typed_price.PriceRow → Type 0

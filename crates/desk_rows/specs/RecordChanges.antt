@@ -25,6 +25,10 @@ is_minimum_of series reference row = bytes_eq row.series series && bytes_eq row.
 abbrev pub has_record : List ℕ → List ℕ → DeskRows → Bool
 has_record series reference rows = list_any (is_record series reference) rows.records
 
+-- whether a price of the record holds from more than one copy on
+abbrev pub has_minimums_of : List ℕ → List ℕ → DeskRows → Bool
+has_minimums_of series reference rows = list_any (is_minimum_of series reference) rows.minimums
+
 -- the record is there
 abbrev pub with_record : RecordRow → DeskRows → DeskRows
 with_record row rows = if has_record row.series row.reference rows then rows else record rows { records = rows.records ++ row ∷ [] }

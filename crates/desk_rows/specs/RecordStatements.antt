@@ -5,7 +5,7 @@ use Rattle.sqlite_value.specs.declared.keys.Key.{Key}
 use Rattle.sqlite_value.specs.Keys.{ascending}
 use Rattle.sqlite_sql.specs.Term.{Term, col}
 use Rattle.sqlite_sql.specs.Query.{Query}
-use Rattle.desk_rows.specs.Statements.{over, equals, both}
+use Rattle.desk_rows.specs.Statements.{over, one_over, equals, both}
 
 abbrev pub add_record_text : List ℕ
 add_record_text = codes "INSERT INTO record (series, reference) VALUES (?1, ?2)"
@@ -48,6 +48,9 @@ price_rows_text = codes "SELECT series, reference, place, price_place, price_typ
 
 abbrev pub minimum_rows_text : List ℕ
 minimum_rows_text = codes "SELECT series, reference, place, price_place, minimum FROM price_minimum WHERE series = ?1 ORDER BY reference, place, price_place"
+
+abbrev pub has_minimums_text : List ℕ
+has_minimums_text = codes "SELECT minimum FROM price_minimum WHERE series = ?1 LIMIT 1"
 
 abbrev pub article_records_text : List ℕ
 article_records_text = codes "SELECT series, reference, id_type FROM article WHERE id_value = ?1 ORDER BY series, reference"
@@ -96,6 +99,9 @@ price_rows_query =
 
 abbrev pub minimum_rows_query : Query
 minimum_rows_query = over 17 of_series (col 1 1 ∷ col 1 2 ∷ col 1 3 ∷ col 1 4 ∷ col 1 5 ∷ []) (rising 2 ∷ rising 3 ∷ rising 4 ∷ [])
+
+abbrev pub has_minimums_query : Query
+has_minimums_query = one_over 17 of_series (col 1 5 ∷ [])
 
 abbrev pub article_records_query : Query
 article_records_query = over 11 (equals 5 0 ∷ []) (col 1 1 ∷ col 1 2 ∷ col 1 4 ∷ []) (rising 1 ∷ rising 2 ∷ [])

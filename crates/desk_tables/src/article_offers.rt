@@ -1,9 +1,10 @@
 // The offers of an article, over all series.
 
-ghost use Rattle.std.specs.Prelude.{◌≡◌, ◌++◌, Err, IsTrue, List};
+ghost use Rattle.std.specs.Prelude.{◌≡◌, ◌++◌, false, Err, IsTrue, List};
 ghost use Rattle.sqlite.specs.Held.{state};
 ghost use Rattle.desk_rows.specs.ArticleAnswers.{offer_with, AreMinimumsAt, AreOfferRowsOf, AreOffersOf, AreOffersOfArticle, ArePricesAt, ArePricesUnder, AreRecordsOf};
 ghost use Rattle.desk_rows.specs.RecordAnswers.{AreRising};
+ghost use Rattle.desk_rows.specs.RecordChanges.{has_minimums_of};
 ghost use Rattle.desk_rows.specs.Rows.{unchanged};
 ghost use Rattle.desk_rows.specs.Transactions.{Works};
 
@@ -132,6 +133,20 @@ impl<S: Alter> Work<'_, S> {
             Err(fault) => return Err(fault),
         };
         self.prices_under(offer, minimums.as_slice())
+    }
+
+    /// The same by one statement, for an offer of a record whose prices have no minimums: each holds
+    /// from one copy on.
+    pub fn offer_prices_without_minimums(
+        &mut self,
+        offer: &OfferRow,
+    ) -> Result<Items<Price>, StoreFault>
+        ensures same_reference { self.new.tables.ghost_name ≡ self.old.tables.ghost_name }
+        ensures untouched { IsTrue self.old.spent → (result ≡ Err StoreFault.Unusable) × (self.new.tables.now ≡ self.old.tables.now) }
+        ensures works { Works (λ rows prices. has_minimums_of offer.now.series offer.now.reference rows ≡ false → ArePricesAt offer.now.series offer.now.reference offer.now.place rows prices) unchanged
+            (state S.Store self.old.tables.now.connection) (state S.Store self.new.tables.now.connection) self.old.spent self.new.spent result }
+    {
+        self.prices_under(offer, &[])
     }
 
     // Adds the offers of a record.

@@ -4,12 +4,13 @@ ghost use Rattle.std.specs.Prelude.{◌≡◌, ◌<◌, Err, IsTrue};
 ghost use Rattle.sqlite.specs.Held.{state};
 ghost use Rattle.desk_rows.specs.Transactions.{Works, NoAnswer};
 ghost use Rattle.desk_rows.specs.RecordRows.{price_row, minimum_row};
-ghost use Rattle.desk_rows.specs.RecordAnswers.{AreMinimums, ArePricesWith, ArePricesInOrder, AreRising};
+ghost use Rattle.desk_rows.specs.RecordAnswers.{has_minimums, AreMinimums, ArePricesWith, ArePricesInOrder, AreRising};
 ghost use Rattle.desk_rows.specs.Rows.{unchanged};
 ghost use Rattle.desk_rows.specs.RecordChanges.{with_price, with_minimum, with_price_and_minimum};
 
 use crate::work::Work;
 use desk_rows::prices::{all_minimums, all_prices};
+use desk_rows::records::has_row;
 use desk_rows::rows::{MinimumRow, PriceRow};
 use desk_rows::written::{DayNumber, Thousandths, territory_texts};
 use onix_message::agreement::StoreFault;
@@ -108,6 +109,22 @@ impl<S: Alter> Work<'_, S> {
             return self.put_minimum(row);
         }
         Ok(())
+    }
+
+    /// Whether a price of the series holds from more than one copy on. It asks for one row at most.
+    pub fn has_minimums(&mut self, series: &SeriesName) -> Result<bool, StoreFault>
+        ensures same_reference { self.new.tables.ghost_name ≡ self.old.tables.ghost_name }
+        ensures untouched { IsTrue self.old.spent → (result ≡ Err StoreFault.Unusable) × (self.new.tables.now ≡ self.old.tables.now) }
+        ensures works { Works (λ rows has. has ≡ has_minimums series.now rows) unchanged
+            (state S.Store self.old.tables.now.connection) (state S.Store self.new.tables.now.connection) self.old.spent self.new.spent result }
+    {
+        match self.rows(
+            "SELECT minimum FROM price_minimum WHERE series = ?1 LIMIT 1",
+            params![series.as_str()],
+        ) {
+            Ok(rows) => Ok(has_row(&rows)),
+            Err(fault) => Err(fault),
+        }
     }
 
     // The minimums of a series, in the order of its prices.

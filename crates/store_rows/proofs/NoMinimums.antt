@@ -1,25 +1,19 @@
 -- The tables of requests whose messages are of form 1 have no minimums.
-use Rattle.std.proofs.Common.{◌≡◌, ◌+◌, ◌∷◌, ◌∙◌, [], ℕ, suc, List, true, false, cond, ◌&&◌, Option, Some, None, IfSome, refl, ap, subst, map, filter, length, nat_eq, arith}
+use Rattle.std.proofs.Common.{◌≡◌, ◌+◌, ◌∷◌, ◌∙◌, [], ℕ, suc, List, true, false, cond, ◌&&◌, Option, Some, None, IfSome, refl, ap, subst, map, nat_eq, arith}
 use Rattle.std.specs.Prelude.{nat_lt, bytes_eq}
 use Rattle.std.specs.FinMap as fin
-use Rattle.std.specs.List.{AllByRecursion}
-use Rattle.std.specs.List.Sorted.{IsPermutation}
+use Rattle.std.specs.List.{AllByRecursion, list_any}
 use Rattle.std.specs.Option.{option_or}
-use Rattle.std.proofs.lemmas.List.Sorted.{length_permutation}
 use Rattle.onix_message.proofs.RowParts.{message-meant}
 use Rattle.onix_message.specs.Message.{message_of}
 use Rattle.onix_message.specs.PartRows.{content_rows}
 use Rattle.onix_message.specs.declared.agreement.Agreement.{Agreement}
 use Rattle.onix_rows.specs.declared.parts.Header.{Header}
 use Rattle.onix_rows.specs.declared.parts.Product.{Product}
-use Rattle.catalogue_rules.specs.Records.{ByReference, EachHas}
-use Rattle.catalogue_rules.specs.declared.entry.Entry.{Entry}
-use Rattle.catalogue_rows.specs.Holding.{HoldsCatalogue, HoldsEntry}
-use Rattle.desk_rows.specs.RecordChanges.{is_minimum_of}
-use Rattle.desk_rows.specs.RecordRows.{minimum_row}
+use Rattle.catalogue_rows.specs.MinimumLemmas.{none_at_start, records_without_minimums}
+use Rattle.desk_rows.specs.RecordChanges.{has_minimums_of, is_minimum_of}
 use Rattle.desk_rows.specs.declared.rows.MinimumRow.{MinimumRow}
 use Rattle.desk_rows.specs.Rows.{DeskRows, version_set, with_version}
-use Rattle.desk_rows.specs.declared.rows.PriceRow as typed_price
 use Rattle.series_rules.specs.AgreementLemmas.{named_has_name, same_bytes}
 use Rattle.series_rules.specs.Agreements.{agreements_of, between, named}
 use Rattle.series_rules.specs.Firsts.{Placement, admitted, admitted_at, admitted_message, admitted_number, first_at, put_at}
@@ -31,7 +25,7 @@ use Rattle.series_rules.specs.declared.requests.Standing.TheVariants.{Message, W
 use Rattle.store_rows.specs.FirstForm.{AreOfFormOne, ComeFromFirst, IsOfFormOne}
 use Rattle.store_rows.specs.Stands.{StandsFor, IsAppliedToGap}
 use Rattle.store_rows.proofs.FirstForm.{HasNoMinimum, contents_are}
-use Rattle.store_rows.proofs.FirstEntries.{EntryHasNone, StandingHasNone, none_after_all, none_at_start, none_of_entry}
+use Rattle.store_rows.proofs.FirstEntries.{StandingHasNone, none_after_all, of_products}
 
 -- ---- what stands
 
@@ -49,7 +43,7 @@ at_some_number o (Some n) h own = at_number o n h own
 of_message : (agreements : List Agreement) (m : Option (Header × List Product))
     → ((h : Header) (c : List Product) → m ≡ Some (h, c) → AllByRecursion HasNoMinimum (content_rows c)) → IfSome (admitted_message agreements m) PlacementHasNone
 of_message agreements None own = tt
-of_message agreements (Some m) own = at_some_number (between agreements m.0.sender m.0.addressee) m.0.number (Message m.1) (own m.0 m.1 refl)
+of_message agreements (Some m) own = at_some_number (between agreements m.0.sender m.0.addressee) m.0.number (Message m.1) (of_products m.1 (own m.0 m.1 refl))
 
 of_request : (agreements : List Agreement) (r : Request) → IsOfFormOne r → IfSome (admitted agreements r) PlacementHasNone
 of_request agreements (Deliver records) one =
@@ -82,40 +76,24 @@ begun_have_none f each from (h ∷ hs) begins = (
 
 -- ---- the tables
 
-no_rows : (xs : List MinimumRow) → 0 ≡ length xs → xs ≡ []
-no_rows [] e = refl
-no_rows (x ∷ xs) e = absurd (omega arith)
-
-none_at : (series reference : List ℕ) (o : Option Entry) (rows : DeskRows) → IfSome o EntryHasNone → HoldsEntry series reference o rows → filter (is_minimum_of series reference) rows.minimums ≡ []
-none_at series reference o rows all held =
-    let none : IsPermutation (filter (is_minimum_of series reference) rows.minimums) [] =
-    subst (λ (l : List typed_price.PriceRow). IsPermutation (filter (is_minimum_of series reference) rows.minimums) (map minimum_row l)) (none_of_entry series reference o all) held.minimums in
-    no_rows (filter (is_minimum_of series reference) rows.minimums) (length_permutation _ _ none)
-
-none_in : (series : List ℕ) (m : ByReference) (rows : DeskRows) → EachHas EntryHasNone m → HoldsCatalogue series m rows → (reference : List ℕ) → filter (is_minimum_of series reference) rows.minimums ≡ []
-none_in series m rows each held reference = none_at series reference (fin.get m reference) rows (each reference) (held reference)
-
 -- where no record has a row of minimums, there is none
-none_at_all : (xs : List MinimumRow) → ((series reference : List ℕ) → filter (is_minimum_of series reference) xs ≡ []) → xs ≡ []
+none_at_all : (xs : List MinimumRow) → ((series reference : List ℕ) → list_any (is_minimum_of series reference) xs ≡ false) → xs ≡ []
 none_at_all [] each = refl
 none_at_all (x ∷ xs) each =
     let own : is_minimum_of x.series x.reference x ≡ true = rw (same_bytes x.series, same_bytes x.reference) refl in
-    let rest = filter (is_minimum_of x.series x.reference) xs in
-    let none = subst (λ b. cond b (x ∷ rest) rest ≡ []) own (each x.series x.reference) in
-    cc none
+    absurd (let found : true ≡ false = rw own at (each x.series x.reference) in cc)
 
 module _ (rows : DeskRows) (L : List Request) (stands : StandsFor rows L) (one : AreOfFormOne L) where
-  none_of_series : (a : Agreement) → IsAppliedToGap (first_at L a.name) a rows → (reference : List ℕ) → filter (is_minimum_of a.name reference) rows.minimums ≡ []
+  none_of_series : (a : Agreement) → IsAppliedToGap (first_at L a.name) a rows → (reference : List ℕ) → has_minimums_of a.name reference rows ≡ false
   none_of_series a whole =
-      none_in a.name (after_all fin.empty whole.0) rows
+      λ reference. records_without_minimums a.name reference (after_all fin.empty whole.0) rows whole.2.catalogue
       (none_after_all fin.empty whole.0 (begun_have_none (first_at L a.name) (firsts_have_none L one a.name) a.first whole.0 whole.2.begins) none_at_start)
-      whole.2.catalogue
 
-  none_of_name : (name : List ℕ) (o : Option Agreement) → named (agreements_of L) name ≡ o → (reference : List ℕ) → filter (is_minimum_of name reference) rows.minimums ≡ []
-  none_of_name name None found reference = none_in name fin.empty rows none_at_start (stands.others name found).catalogue reference
+  none_of_name : (name : List ℕ) (o : Option Agreement) → named (agreements_of L) name ≡ o → (reference : List ℕ) → has_minimums_of name reference rows ≡ false
+  none_of_name name None found reference = records_without_minimums name reference fin.empty rows (stands.others name found).catalogue none_at_start
   none_of_name name (Some a) found reference =
       let same = named_has_name (agreements_of L) name a found in
-      subst (λ s. filter (is_minimum_of s reference) rows.minimums ≡ []) same (none_of_series a (stands.series a (ap (named (agreements_of L)) same ∙ found)) reference)
+      subst (λ s. has_minimums_of s reference rows ≡ false) same (none_of_series a (stands.series a (ap (named (agreements_of L)) same ∙ found)) reference)
 
   no_minimums : rows.minimums ≡ []
   no_minimums = none_at_all rows.minimums (λ series reference. none_of_name series (named (agreements_of L) series) refl reference)

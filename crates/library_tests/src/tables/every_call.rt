@@ -44,7 +44,10 @@ offer_rows: R1 1; R1 2;
 record_offers R1: R1 1; R1 2;
 record_offers R2:
 put_price 1 1 1
+has_minimums: false
+offer_prices_without_minimums R1 1: 1;
 put_price 1 2 10
+has_minimums: true
 put_price 2 1 5
 price_rows: 1 1 1; 1 2 10; 2 1 5;
 offer_prices R1 1: 1; 10;

@@ -46,13 +46,18 @@ fn ask_number<S: Alter>(
     }
 }
 
-fn has_record<S: Alter>(
+// The calls that tell whether `north` has something.
+fn has_some<S: Alter>(
     work: &mut Work<'_, S>,
     north: &SeriesName,
     words: Words<'_>,
     wanted: &str,
 ) -> Result<bool, StoreFault> {
-    match work.has_record(north, words[1]) {
+    let has = match words[0] {
+        "has_record" => work.has_record(north, words[1]),
+        _ => work.has_minimums(north),
+    };
+    match has {
         Ok(has) => Ok(has == (wanted == " true")),
         Err(fault) => Err(fault),
     }
@@ -79,7 +84,11 @@ fn offer_prices<S: Alter>(
     wanted: &str,
 ) -> Result<bool, StoreFault> {
     let row = offer(alloc, words[1], words[2])?;
-    match work.offer_prices(&row) {
+    let prices = match words[0] {
+        "offer_prices" => work.offer_prices(&row),
+        _ => work.offer_prices_without_minimums(&row),
+    };
+    match prices {
         Ok(prices) => are_all(Ok(prices.into_vec()), wanted),
         Err(fault) => Err(fault),
     }
@@ -152,9 +161,11 @@ pub fn ask<S: Alter>(
 ) -> Option<Result<bool, StoreFault>> {
     Some(match words[0] {
         "next_held" | "take_held" | "applied_at" => ask_number(work, north, words, wanted),
-        "has_record" => has_record(work, north, words, wanted),
+        "has_record" | "has_minimums" => has_some(work, north, words, wanted),
         "record_articles" | "record_offers" => ask_record(alloc, work, words, wanted),
-        "offer_prices" => offer_prices(alloc, work, words, wanted),
+        "offer_prices" | "offer_prices_without_minimums" => {
+            offer_prices(alloc, work, words, wanted)
+        }
         "offers_by_article" => offers_by_article(work, words, wanted),
         _ => match ask_rows(work, north, words, wanted) {
             Some(answer) => answer,

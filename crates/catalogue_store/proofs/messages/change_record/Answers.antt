@@ -6,6 +6,7 @@ use Rattle.catalogue_rules.specs.declared.effect.Change.TheVariants.{Delete, Rep
 use Rattle.catalogue_store.specs.AchievesLemmas.{achieves_also, achieves_nothing}
 use Rattle.catalogue_store.specs.AppliedProducts.{IsChanged}
 use Rattle.catalogue_store.proofs.HoldingLemmas.{became_itself}
+use Rattle.catalogue_store.specs.ReadRows.{IsReadAs}
 use Rattle.catalogue_store.proofs.messages.change_record.Goals as goal
 
 pub returns-in-Replace-clause-achieves : goal.returns-in-Replace-clause-achieves
@@ -15,8 +16,8 @@ returns-in-Replace-clause-achieves g c =
     let row = c.args.row.now in
     let p = c.args.product.now in
     let found = c.args.found in
-    let Done : DeskRows → Unit {0} → DeskRows → Type 0 = λ rows _ after. IsChanged Replace row p found rows after in
-    achieves_also Done _ old new c.replace.result c.replace.ensures.achieves (λ rows after a h n one. subst (λ (x : Change). IsChanged x row p found rows after) (sym c.in-Replace.is) one)
+    let Done : DeskRows → Unit {0} → DeskRows → Type 0 = λ rows _ after. IsReadAs c.args.with_minimums row rows → IsChanged Replace row p found rows after in
+    achieves_also Done _ old new c.replace.result c.replace.ensures.achieves (λ rows after a h n one. λ reads. subst (λ (x : Change). IsChanged x row p found rows after) (sym c.in-Replace.is) (one reads))
 
 pub returns-in-Update-clause-achieves : goal.returns-in-Update-clause-achieves
 returns-in-Update-clause-achieves g c =
@@ -25,8 +26,8 @@ returns-in-Update-clause-achieves g c =
     let row = c.args.row.now in
     let p = c.args.product.now in
     let found = c.args.found in
-    let Done : DeskRows → Unit {0} → DeskRows → Type 0 = λ rows _ after. IsChanged Update row p found rows after in
-    achieves_also Done _ old new c.update.result c.update.ensures.achieves (λ rows after a h n one. subst (λ (x : Change). IsChanged x row p found rows after) (sym c.in-Update.is) one)
+    let Done : DeskRows → Unit {0} → DeskRows → Type 0 = λ rows _ after. IsReadAs c.args.with_minimums row rows → IsChanged Update row p found rows after in
+    achieves_also Done _ old new c.update.result c.update.ensures.achieves (λ rows after a h n one. λ reads. subst (λ (x : Change). IsChanged x row p found rows after) (sym c.in-Update.is) (one reads))
 
 pub returns-in-Delete-clause-achieves : goal.returns-in-Delete-clause-achieves
 returns-in-Delete-clause-achieves g c =
@@ -36,7 +37,7 @@ returns-in-Delete-clause-achieves g c =
     let p = c.args.product.now in
     let found = c.args.found in
     let Done : DeskRows → Unit {0} → DeskRows → Type 0 = λ rows _ after. IsChanged Delete row p found rows after in
-    achieves_also Done _ old new c.delete.result c.delete.ensures.achieves (λ rows after a h n one. subst (λ (x : Change). IsChanged x row p found rows after) (sym c.in-Delete.is) one)
+    achieves_also Done _ old new c.delete.result c.delete.ensures.achieves (λ rows after a h n one. λ reads. subst (λ (x : Change). IsChanged x row p found rows after) (sym c.in-Delete.is) one)
 
 pub returns-in-Ignore-clause-achieves : goal.returns-in-Ignore-clause-achieves
 returns-in-Ignore-clause-achieves g c =
@@ -44,4 +45,4 @@ returns-in-Ignore-clause-achieves g c =
     let p = c.args.product.now in
     let found = c.args.found in
     achieves_nothing _ (state g.S.Store c.args.work.now.tables.now.connection) tt
-    (λ rows h. subst (λ (x : Change). IsChanged x row p found rows rows) (sym c.in-Ignore.is) (λ o held finds storable. became_itself row.series row.reference o rows held))
+    (λ rows h. λ reads. subst (λ (x : Change). IsChanged x row p found rows rows) (sym c.in-Ignore.is) (λ o held finds storable. became_itself row.series row.reference o rows held))

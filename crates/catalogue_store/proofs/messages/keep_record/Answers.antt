@@ -5,7 +5,7 @@ use Rattle.catalogue_rules.specs.declared.entry.Entry.{Entry}
 use Rattle.catalogue_rows.specs.Holding.{Became}
 use Rattle.catalogue_rows.specs.Storable.{AreStorable}
 use Rattle.catalogue_store.specs.AchievesLemmas.{achieves_as, achieves_then}
-use Rattle.catalogue_store.specs.ReadRows.{HoldsSupplies}
+use Rattle.catalogue_store.specs.ReadRows.{HoldsSupplies, IsReadAs}
 use Rattle.catalogue_store.proofs.HoldingLemmas.{became_itself, record_stays}
 use Rattle.catalogue_store.proofs.messages.keep_record.Goals as goal
 
@@ -17,11 +17,11 @@ returns-then-same-clause-achieves g c =
     let ids = c.args.ids.now in
     let supplies = c.args.supplies.now in
     let now : Entry = record { ids = ids; supplies = supplies } in
-    let Told : DeskRows → Bool → DeskRows → Type 0 = λ rows b after. (after ≡ rows) × HoldsSupplies row supplies rows b in
+    let Told : DeskRows → Bool → DeskRows → Type 0 = λ rows b after. (after ≡ rows) × (IsReadAs c.args.with_minimums row rows → HoldsSupplies row supplies rows b) in
     let has : c.args.has_ids ≡ true = search in
     achieves_as Told _ old new c.in-Ok.same tt c.in-Ok.ensures.achieves
-    (λ rows after h n one. λ e held finds some storable. subst (λ (x : DeskRows). Became row.series row.reference (Some now) rows x) (sym one.0)
-    (became_itself row.series row.reference (Some now) rows (record_stays row e ids supplies rows held some storable (finds.same (ap (λ b. Some b) has)) (one.1 (Some e) held c.if-same.true))))
+    (λ rows after h n one. λ reads e held finds some storable. subst (λ (x : DeskRows). Became row.series row.reference (Some now) rows x) (sym one.0)
+    (became_itself row.series row.reference (Some now) rows (record_stays row e ids supplies rows held some storable (finds.same (ap (λ b. Some b) has)) (one.1 reads (Some e) held c.if-same.true))))
 
 pub returns-clause-achieves : goal.returns-clause-achieves
 returns-clause-achieves g c =
@@ -32,7 +32,7 @@ returns-clause-achieves g c =
     let ids = c.args.ids.now in
     let supplies = c.args.supplies.now in
     let now : Entry = record { ids = ids; supplies = supplies } in
-    let Told : DeskRows → Bool → DeskRows → Type 0 = λ rows b after. (after ≡ rows) × HoldsSupplies row supplies rows b in
+    let Told : DeskRows → Bool → DeskRows → Type 0 = λ rows b after. (after ≡ rows) × (IsReadAs c.args.with_minimums row rows → HoldsSupplies row supplies rows b) in
     let Rewritten : DeskRows → Unit {0} → DeskRows → Type 0 = λ rows _ after. ids ≢ [] → AreStorable supplies → Became row.series row.reference (Some now) rows after in
     achieves_then Told Rewritten _ old mid new c.in-Ok.same c.rewrite_record-2.result c.in-Ok.ensures.achieves c.rewrite_record-2.ensures.achieves
-    (λ rows between after b h m n one two. λ e held finds some storable. subst (λ (x : DeskRows). Became row.series row.reference (Some now) x after) one.0 (two some storable))
+    (λ rows between after b h m n one two. λ reads e held finds some storable. subst (λ (x : DeskRows). Became row.series row.reference (Some now) x after) one.0 (two some storable))

@@ -6,12 +6,13 @@ use Rattle.catalogue_rows.specs.Holding.{Became, HoldsEntry}
 use Rattle.catalogue_rows.specs.Storable.{AreStorable}
 use Rattle.catalogue_store.specs.AchievesLemmas.{achieves_also, achieves_nothing}
 use Rattle.catalogue_store.proofs.ProductLemmas.{updated_empty, updated_known, updated_unknown}
+use Rattle.catalogue_store.specs.ReadRows.{IsReadAs}
 use Rattle.catalogue_store.proofs.messages.update.Goals as goal
 
 pub returns-then-is_empty-clause-achieves : goal.returns-then-is_empty-clause-achieves
 returns-then-is_empty-clause-achieves g c =
     achieves_nothing _ (state g.S.Store c.args.work.now.tables.now.connection) tt
-    (λ rows h. updated_empty c.args.row.now c.args.product.now c.args.found rows (c.is_empty-is_empty.ensures.0 c.if-is_empty.true))
+    (λ rows h. λ reads. updated_empty c.args.row.now c.args.product.now c.args.found rows (c.is_empty-is_empty.ensures.0 c.if-is_empty.true))
 
 pub returns-in-Some-clause-achieves : goal.returns-in-Some-clause-achieves
 returns-in-Some-clause-achieves g c =
@@ -20,11 +21,11 @@ returns-in-Some-clause-achieves g c =
     let row = c.args.row.now in
     let p = c.args.product.now in
     let supplies = c.as_slice.result.now in
-    let Kept : DeskRows → Unit {0} → DeskRows → Type 0 = λ rows _ after. (e : Entry) → HoldsEntry row.series row.reference (Some e) rows → AreStorable supplies → Became row.series row.reference (Some (record e { supplies = supplies })) rows after in
+    let Kept : DeskRows → Unit {0} → DeskRows → Type 0 = λ rows _ after. IsReadAs c.args.with_minimums row rows → (e : Entry) → HoldsEntry row.series row.reference (Some e) rows → AreStorable supplies → Became row.series row.reference (Some (record e { supplies = supplies })) rows after in
     let some : p.supplies ≡ [] → ⊥ = λ none. let t = c.is_empty-is_empty.ensures.1 none in let f = c.if-is_empty.false in absurd cc in
     achieves_also Kept _ old new c.keep_supplies.result c.keep_supplies.ensures.achieves
-    (λ rows after a h n one. updated_known row p supplies c.args.found c.in-Some.field-0 rows after c.as_slice.ensures c.in-Some.is some one)
+    (λ rows after a h n one. λ reads. updated_known row p supplies c.args.found c.in-Some.field-0 rows after c.as_slice.ensures c.in-Some.is some (one reads))
 
 pub returns-in-None-clause-achieves : goal.returns-in-None-clause-achieves
 returns-in-None-clause-achieves g c =
-    achieves_nothing _ (state g.S.Store c.args.work.now.tables.now.connection) tt (λ rows h. updated_unknown c.args.row.now c.args.product.now c.args.found rows c.in-None.is)
+    achieves_nothing _ (state g.S.Store c.args.work.now.tables.now.connection) tt (λ rows h. λ reads. updated_unknown c.args.row.now c.args.product.now c.args.found rows c.in-None.is)

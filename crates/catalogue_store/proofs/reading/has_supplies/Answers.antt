@@ -4,7 +4,7 @@ use Rattle.sqlite.specs.Held.{state}
 use Rattle.desk_rows.specs.ArticleAnswers.{AreOfferRowsOf}
 use Rattle.desk_rows.specs.Rows.{DeskRows, unchanged}
 use Rattle.catalogue_store.specs.AchievesLemmas.{achieves_as, achieves_call, achieves_failed, achieves_then}
-use Rattle.catalogue_store.specs.ReadRows.{HasPricesOf, HoldsSupplies}
+use Rattle.catalogue_store.specs.ReadRows.{HasPricesOf, HoldsSupplies, AreReadAs, IsReadAs}
 use Rattle.catalogue_store.proofs.ReadLemmas.{supplies_held}
 use Rattle.catalogue_store.proofs.reading.has_supplies.Goals as goal
 
@@ -14,20 +14,26 @@ returns-in-Ok-read_prices-clause-achieves g c =
     let mid = state g.S.Store c.record_offers.new.self.tables.now.connection in
     let new = state g.S.Store c.read_prices.new.work.tables.now.connection in
     let row = c.args.row.now in
+    let minimums = c.args.with_minimums in
     let details = c.in-Ok-record_offers.details in
     let prices = c.in-Ok-read_prices.prices in
     let Details : DeskRows → Vec _ _ → Type 0 = λ rows got. AreOfferRowsOf rows row got.items in
     let First : DeskRows → Vec _ _ → DeskRows → Type 0 = λ rows got after. Details rows got × (after ≡ unchanged rows) in
-    let Second : DeskRows → Vec _ _ → DeskRows → Type 0 = λ rows got after. (after ≡ rows) × AllZip (HasPricesOf rows) c.as_slice-3.result.now got.items in
-    let Both : DeskRows → Vec _ _ → DeskRows → Type 0 = λ rows got after. (after ≡ rows) × AreOfferRowsOf rows row details.items × AllZip (HasPricesOf rows) details.items got.items in
+    let Second : DeskRows → Vec _ _ → DeskRows → Type 0 = λ rows got after. (after ≡ rows) × (AreReadAs minimums c.as_slice-3.result.now rows → AllZip (HasPricesOf rows) c.as_slice-3.result.now got.items) in
+    let Both : DeskRows → Vec _ _ → DeskRows → Type 0 = λ rows got after. (after ≡ rows) × AreOfferRowsOf rows row details.items × (AreReadAs minimums details.items rows → AllZip (HasPricesOf rows) details.items got.items) in
     let alike : c.same_details-same.result ≡ true = search rules in
-    achieves_as Both (λ (rows : DeskRows) (b : Bool) (after : DeskRows). (after ≡ rows) × HoldsSupplies row c.args.supplies.now rows b) old new prices c.same_detail_prices.result
+    achieves_as Both (λ (rows : DeskRows) (b : Bool) (after : DeskRows). (after ≡ rows) × (IsReadAs minimums row rows → HoldsSupplies row c.args.supplies.now rows b)) old new prices c.same_detail_prices.result
     (achieves_then First Second Both old mid new details (Ok prices)
     (achieves_call Details unchanged old mid c.args.work.now.spent c.record_offers.new.self.spent (Ok details) c.in-Ok-record_offers.ensures.works) c.in-Ok-read_prices.ensures.achieves
-    (λ rows between after got h m n a p. (p.0 ∙ a.1, a.0, subst (λ l. AllZip (HasPricesOf rows) l got.items) c.as_slice-3.ensures.value (subst (λ (x : DeskRows). AllZip (HasPricesOf x) c.as_slice-3.result.now got.items) a.1 p.1))))
+    (λ rows between after got h m n a p. (
+      p.0 ∙ a.1,
+      a.0,
+      λ reads. subst (λ l. AllZip (HasPricesOf rows) l got.items) c.as_slice-3.ensures.value (subst (λ (x : DeskRows). AllZip (HasPricesOf x) c.as_slice-3.result.now got.items) a.1
+          (p.1 (subst (λ (x : DeskRows). AreReadAs minimums c.as_slice-3.result.now x) (sym a.1) (subst (λ l. AreReadAs minimums l rows) (sym c.as_slice-3.ensures.value) reads)))),
+    )))
     (λ rows after h n a. (
       a.0,
-      supplies_held row c.args.supplies.now rows details.items c.in-Ok.wanted.items prices.items c.same_detail_prices.result a.1 c.in-Ok.ensures
+      supplies_held minimums row c.args.supplies.now rows details.items c.in-Ok.wanted.items prices.items c.same_detail_prices.result a.1 c.in-Ok.ensures
           (sym c.as_slice.ensures.value ∙ c.same_details-same.ensures.0 alike ∙ c.as_slice-2.ensures.value) a.2
           (λ true. sym c.as_slice-in-Ok-read_prices.ensures.value ∙ c.same_detail_prices.ensures.0 true),
     ))
@@ -38,9 +44,10 @@ returns-clause-achieves g c =
     let mid = state g.S.Store c.record_offers.new.self.tables.now.connection in
     let new = state g.S.Store c.read_prices.new.work.tables.now.connection in
     let row = c.args.row.now in
+    let minimums = c.args.with_minimums in
     let details = c.in-Ok-record_offers.details in
     let Details : DeskRows → Vec _ _ → Type 0 = λ rows got. AreOfferRowsOf rows row got.items in
     let First : DeskRows → Vec _ _ → DeskRows → Type 0 = λ rows got after. Details rows got × (after ≡ unchanged rows) in
-    let Second : DeskRows → Vec _ _ → DeskRows → Type 0 = λ rows got after. (after ≡ rows) × AllZip (HasPricesOf rows) c.as_slice-3.result.now got.items in
+    let Second : DeskRows → Vec _ _ → DeskRows → Type 0 = λ rows got after. (after ≡ rows) × (AreReadAs minimums c.as_slice-3.result.now rows → AllZip (HasPricesOf rows) c.as_slice-3.result.now got.items) in
     achieves_failed {C = Bool} First Second _ old mid new details c.in-Err-read_prices.fault
     (achieves_call Details unchanged old mid c.args.work.now.spent c.record_offers.new.self.spent (Ok details) c.in-Ok-record_offers.ensures.works) c.in-Err-read_prices.ensures.achieves

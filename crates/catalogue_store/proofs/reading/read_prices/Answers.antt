@@ -1,13 +1,14 @@
-use Rattle.std.proofs.Common.{◌≡◌, ◌+◌, ◌++◌, [], ◌∷◌, List, Ok, take, refl, rules, subst, sym}
+use Rattle.std.proofs.Common.{◌≡◌, ◌+◌, ◌++◌, [], ◌∷◌, false, List, Ok, take, refl, rules, subst, sym, ◌∙◌}
 use Rattle.std.proofs.lemmas.List.{take_all}
 use Rattle.std.specs.List.{AllZip}
 use Rattle.sqlite.specs.Held.{state}
 use Rattle.onix_message.specs.declared.agreement.StoreFault.TheVariants.{Memory}
 use Rattle.onix_rows.specs.declared.parts.Price.{Price}
-use Rattle.desk_rows.specs.Rows.{DeskRows, unchanged}
-use Rattle.catalogue_store.specs.AchievesLemmas.{achieves_as, achieves_call_failed, achieves_calls, achieves_nothing, achieves_stopped}
-use Rattle.catalogue_store.specs.ReadRows.{HasPricesOf}
-use Rattle.catalogue_store.proofs.ReadLemmas.{prices_read}
+use Rattle.desk_rows.specs.RecordChanges.{has_minimums_of}
+use Rattle.desk_rows.specs.Rows.{DeskRows}
+use Rattle.catalogue_store.specs.AchievesLemmas.{achieves_as, achieves_failed, achieves_nothing, achieves_stopped, achieves_then}
+use Rattle.catalogue_store.specs.ReadRows.{AreReadAs, HasPricesOf}
+use Rattle.catalogue_store.proofs.ReadLemmas.{one_read_as, prices_read}
 use Rattle.catalogue_store.proofs.reading.read_prices.Goals as goal
 
 pub loop-detail-init : goal.loop-detail-init
@@ -15,8 +16,8 @@ loop-detail-init g c = record {
   same_reference = refl;
   so_far =
       let none : c.new-prices.result.items ≡ [] = search rules in
-      achieves_nothing (λ (rows : DeskRows) (_ : Unit {0}) (after : DeskRows). (after ≡ rows) × AllZip (HasPricesOf rows) [] c.new-prices.result.items) (state g.S.Store c.args.work.now.tables.now.connection) tt
-      (λ rows h. (refl, subst (λ (l : List (List Price)). AllZip (HasPricesOf rows) [] l) (sym none) tt));
+      achieves_nothing (λ (rows : DeskRows) (_ : Unit {0}) (after : DeskRows). (after ≡ rows) × (AreReadAs c.args.with_minimums c.args.details.now rows → AllZip (HasPricesOf rows) [] c.new-prices.result.items)) (state g.S.Store c.args.work.now.tables.now.connection) tt
+      (λ rows h. (refl, λ reads. subst (λ (l : List (List Price)). AllZip (HasPricesOf rows) [] l) (sym none) tt));
 }
 
 pub loop-detail-preserved : goal.loop-detail-preserved
@@ -25,49 +26,62 @@ loop-detail-preserved g c = record {
   so_far =
       let old = state g.S.Store c.args.work.now.tables.now.connection in
       let mid = state g.S.Store c.loop-detail.work.tables.now.connection in
-      let new = state g.S.Store c.offer_prices.new.self.tables.now.connection in
+      let new = state g.S.Store c.read_own_prices.new.work.tables.now.connection in
+      let minimums = c.args.with_minimums in
       let details = c.args.details.now in
+      let x = c.detail-item.result in
       let i = c.loop-detail.detail-index in
       let prices = c.loop-detail.prices.items in
       let own = c.in-Ok.own in
       let pushed : c.push.new.self.items ≡ prices ++ own ∷ [] = search rules in
-      let SoFar : DeskRows → Unit {0} → DeskRows → Type 0 = λ rows _ after. (after ≡ rows) × AllZip (HasPricesOf rows) (take i details) prices in
-      let Answer : DeskRows → List Price → Type 0 = λ rows own. HasPricesOf rows c.detail-item.result own in
-      let More : DeskRows → List Price → DeskRows → Type 0 = λ rows own after. (after ≡ rows) × AllZip (HasPricesOf rows) (take (i + 1) details) (prices ++ own ∷ []) in
-      achieves_as More (λ (rows : DeskRows) (_ : Unit {0}) (after : DeskRows). (after ≡ rows) × AllZip (HasPricesOf rows) (take (i + 1) details) c.push.new.self.items) old new own tt
-      (achieves_calls SoFar Answer unchanged More old mid new c.loop-detail.work.spent c.offer_prices.new.self.spent tt (Ok own) c.loop-detail.invariant.so_far c.in-Ok.ensures.works
-      (λ rows between b h m one two. (one.0, prices_read details i c.detail-item.result prices b rows between c.loop-detail-test.true c.detail-item.is one.0 one.1 two)))
-      (λ rows after h n one. (one.0, subst (λ (l : List (List Price)). AllZip (HasPricesOf rows) (take (i + 1) details) l) (sym pushed) one.1));
+      let SoFar : DeskRows → Unit {0} → DeskRows → Type 0 = λ rows _ after. (after ≡ rows) × (AreReadAs minimums details rows → AllZip (HasPricesOf rows) (take i details) prices) in
+      let Own : DeskRows → List Price → DeskRows → Type 0 = λ rows own after. (after ≡ rows) × ((minimums ≡ false → has_minimums_of x.series x.reference rows ≡ false) → HasPricesOf rows x own) in
+      let More : DeskRows → List Price → DeskRows → Type 0 = λ rows own after. (after ≡ rows) × (AreReadAs minimums details rows → AllZip (HasPricesOf rows) (take (i + 1) details) (prices ++ own ∷ [])) in
+      achieves_as More (λ (rows : DeskRows) (_ : Unit {0}) (after : DeskRows). (after ≡ rows) × (AreReadAs minimums details rows → AllZip (HasPricesOf rows) (take (i + 1) details) c.push.new.self.items)) old new own tt
+      (achieves_then SoFar Own More old mid new tt (Ok own) c.loop-detail.invariant.so_far c.in-Ok.ensures.achieves
+      (λ rows between after b h m n one two. (
+        two.0 ∙ one.0,
+        λ reads. prices_read details i x prices b rows between c.loop-detail-test.true c.detail-item.is one.0 (one.1 reads)
+            (two.1 (λ without. subst (λ (d : DeskRows). has_minimums_of x.series x.reference d ≡ false) (sym one.0) (one_read_as minimums details i x rows c.loop-detail-test.true c.detail-item.is reads without))),
+      )))
+      (λ rows after h n one. (one.0, λ reads. subst (λ (l : List (List Price)). AllZip (HasPricesOf rows) (take (i + 1) details) l) (sym pushed) (one.1 reads)));
 }
 
 pub returns-in-Err-clause-achieves : goal.returns-in-Err-clause-achieves
 returns-in-Err-clause-achieves g c =
     let old = state g.S.Store c.args.work.now.tables.now.connection in
     let mid = state g.S.Store c.loop-detail.work.tables.now.connection in
-    let new = state g.S.Store c.offer_prices.new.self.tables.now.connection in
-    let SoFar : DeskRows → Unit {0} → DeskRows → Type 0 = λ rows _ after. (after ≡ rows) × AllZip (HasPricesOf rows) (take c.loop-detail.detail-index c.args.details.now) c.loop-detail.prices.items in
-    let Answer : DeskRows → List Price → Type 0 = λ rows own. HasPricesOf rows c.detail-item.result own in
-    achieves_call_failed SoFar Answer unchanged _ old mid new c.loop-detail.work.spent c.offer_prices.new.self.spent tt c.in-Err.fault c.loop-detail.invariant.so_far c.in-Err.ensures.works
+    let new = state g.S.Store c.read_own_prices.new.work.tables.now.connection in
+    let minimums = c.args.with_minimums in
+    let details = c.args.details.now in
+    let x = c.detail-item.result in
+    let SoFar : DeskRows → Unit {0} → DeskRows → Type 0 = λ rows _ after. (after ≡ rows) × (AreReadAs minimums details rows → AllZip (HasPricesOf rows) (take c.loop-detail.detail-index details) c.loop-detail.prices.items) in
+    let Own : DeskRows → List Price → DeskRows → Type 0 = λ rows own after. (after ≡ rows) × ((minimums ≡ false → has_minimums_of x.series x.reference rows ≡ false) → HasPricesOf rows x own) in
+    achieves_failed SoFar Own _ old mid new tt c.in-Err.fault c.loop-detail.invariant.so_far c.in-Err.ensures.achieves
 
 pub returns-then-is_err-clause-achieves : goal.returns-then-is_err-clause-achieves
 returns-then-is_err-clause-achieves g c =
     let old = state g.S.Store c.args.work.now.tables.now.connection in
     let mid = state g.S.Store c.loop-detail.work.tables.now.connection in
-    let new = state g.S.Store c.offer_prices.new.self.tables.now.connection in
+    let new = state g.S.Store c.read_own_prices.new.work.tables.now.connection in
+    let minimums = c.args.with_minimums in
+    let details = c.args.details.now in
+    let x = c.detail-item.result in
     let own = c.in-Ok.own in
-    let SoFar : DeskRows → Unit {0} → DeskRows → Type 0 = λ rows _ after. (after ≡ rows) × AllZip (HasPricesOf rows) (take c.loop-detail.detail-index c.args.details.now) c.loop-detail.prices.items in
-    let Answer : DeskRows → List Price → Type 0 = λ rows own. HasPricesOf rows c.detail-item.result own in
+    let SoFar : DeskRows → Unit {0} → DeskRows → Type 0 = λ rows _ after. (after ≡ rows) × (AreReadAs minimums details rows → AllZip (HasPricesOf rows) (take c.loop-detail.detail-index details) c.loop-detail.prices.items) in
+    let Own : DeskRows → List Price → DeskRows → Type 0 = λ rows own after. (after ≡ rows) × ((minimums ≡ false → has_minimums_of x.series x.reference rows ≡ false) → HasPricesOf rows x own) in
     let Any : DeskRows → List Price → DeskRows → Type 0 = λ rows own after. Unit {0} in
     achieves_stopped Any _ old new (Ok own) Memory
-    (achieves_calls SoFar Answer unchanged Any old mid new c.loop-detail.work.spent c.offer_prices.new.self.spent tt (Ok own) c.loop-detail.invariant.so_far c.in-Ok.ensures.works (λ rows between b h m one two. tt))
+    (achieves_then SoFar Own Any old mid new tt (Ok own) c.loop-detail.invariant.so_far c.in-Ok.ensures.achieves (λ rows between after b h m n one two. tt))
 
 pub returns-clause-achieves : goal.returns-clause-achieves
 returns-clause-achieves g c =
     let old = state g.S.Store c.args.work.now.tables.now.connection in
     let new = state g.S.Store c.loop-detail.work.tables.now.connection in
+    let minimums = c.args.with_minimums in
     let details = c.args.details.now in
     let i = c.loop-detail.detail-index in
     let prices = c.loop-detail.prices.items in
     let all = take_all i details c.loop-detail-test.false in
-    let SoFar : DeskRows → Unit {0} → DeskRows → Type 0 = λ rows _ after. (after ≡ rows) × AllZip (HasPricesOf rows) (take i details) prices in
-    achieves_as SoFar _ old new tt c.loop-detail.prices c.loop-detail.invariant.so_far (λ rows after h n one. (one.0, subst (λ l. AllZip (HasPricesOf rows) l prices) all one.1))
+    let SoFar : DeskRows → Unit {0} → DeskRows → Type 0 = λ rows _ after. (after ≡ rows) × (AreReadAs minimums details rows → AllZip (HasPricesOf rows) (take i details) prices) in
+    achieves_as SoFar _ old new tt c.loop-detail.prices c.loop-detail.invariant.so_far (λ rows after h n one. (one.0, λ reads. subst (λ l. AllZip (HasPricesOf rows) l prices) all (one.1 reads)))

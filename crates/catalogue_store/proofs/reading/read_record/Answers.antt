@@ -1,11 +1,11 @@
-use Rattle.std.proofs.Common.{◌≡◌, Ok, Vec, subst, ◌∙◌}
+use Rattle.std.proofs.Common.{◌≡◌, Ok, Vec, subst, ◌∙◌, true}
 use Rattle.std.specs.List.{AllZip}
 use Rattle.sqlite.specs.Held.{state}
 use Rattle.desk_rows.specs.ArticleAnswers.{AreArticlesOf, AreOfferRowsOf}
 use Rattle.desk_rows.specs.Rows.{DeskRows, unchanged}
 use Rattle.catalogue_store.specs.AchievesLemmas.{achieves_answers, achieves_call, achieves_call_failed, achieves_calls, achieves_failed, achieves_then}
-use Rattle.catalogue_store.specs.ReadRows.{HasPricesOf}
-use Rattle.catalogue_store.proofs.ReadLemmas.{entry_read}
+use Rattle.catalogue_store.specs.ReadRows.{HasPricesOf, AreReadAs}
+use Rattle.catalogue_store.proofs.ReadLemmas.{entry_read, read_whole}
 use Rattle.catalogue_store.proofs.reading.read_record.Goals as goal
 
 pub returns-in-Err-record_offers-clause-achieves : goal.returns-in-Err-record_offers-clause-achieves
@@ -31,7 +31,7 @@ returns-in-Err-read_prices-clause-achieves g c =
     let Details : DeskRows → Vec _ _ → Type 0 = λ rows got. AreOfferRowsOf rows row got.items in
     let First : DeskRows → Vec _ _ → DeskRows → Type 0 = λ rows got after. Articles rows got × (after ≡ unchanged rows) in
     let Any : DeskRows → Vec _ _ → DeskRows → Type 0 = λ rows got after. Unit {0} in
-    let Prices : DeskRows → Vec _ _ → DeskRows → Type 0 = λ rows prices after. (after ≡ rows) × AllZip (HasPricesOf rows) c.as_slice.result.now prices.items in
+    let Prices : DeskRows → Vec _ _ → DeskRows → Type 0 = λ rows prices after. (after ≡ rows) × (AreReadAs true c.as_slice.result.now rows → AllZip (HasPricesOf rows) c.as_slice.result.now prices.items) in
     achieves_failed Any Prices _ old two new c.in-Ok-record_offers.details c.in-Err-read_prices.fault
     (achieves_calls First Details unchanged Any old one two c.record_articles.new.self.spent c.record_offers.new.self.spent c.in-Ok.articles (Ok c.in-Ok-record_offers.details)
     (achieves_call Articles unchanged old one c.args.work.now.spent c.record_articles.new.self.spent (Ok c.in-Ok.articles) c.in-Ok.ensures.works) c.in-Ok-record_offers.ensures.works (λ rows between b h m a d. tt))
@@ -51,7 +51,7 @@ returns-clause-achieves g c =
     let Details : DeskRows → Vec _ _ → Type 0 = λ rows got. AreOfferRowsOf rows row got.items in
     let First : DeskRows → Vec _ _ → DeskRows → Type 0 = λ rows got after. Articles rows got × (after ≡ unchanged rows) in
     let Second : DeskRows → Vec _ _ → DeskRows → Type 0 = λ rows got after. (after ≡ rows) × AreArticlesOf row.series row.reference rows articles.items × AreOfferRowsOf rows row got.items in
-    let Prices : DeskRows → Vec _ _ → DeskRows → Type 0 = λ rows got after. (after ≡ rows) × AllZip (HasPricesOf rows) c.as_slice.result.now got.items in
+    let Prices : DeskRows → Vec _ _ → DeskRows → Type 0 = λ rows got after. (after ≡ rows) × (AreReadAs true c.as_slice.result.now rows → AllZip (HasPricesOf rows) c.as_slice.result.now got.items) in
     let Third : DeskRows → Vec _ _ → DeskRows → Type 0 = λ rows got after. (after ≡ rows) × AreArticlesOf row.series row.reference rows articles.items × AreOfferRowsOf rows row details.items × AllZip (HasPricesOf rows) details.items got.items in
     achieves_answers Third _ old new prices c.entry_of.result
     (achieves_then Second Prices Third old two new details (Ok prices)
@@ -59,6 +59,6 @@ returns-clause-achieves g c =
     (achieves_call Articles unchanged old one c.args.work.now.spent c.record_articles.new.self.spent (Ok articles) c.in-Ok.ensures.works) c.in-Ok-record_offers.ensures.works
     (λ rows between got h m a d. (a.1, a.0, subst (λ (x : DeskRows). AreOfferRowsOf x row got.items) a.1 d)))
     c.in-Ok-read_prices.ensures.achieves
-    (λ rows between after got h m n a p. (p.0 ∙ a.0, a.1, a.2, subst (λ l. AllZip (HasPricesOf rows) l got.items) c.as_slice.ensures.value (subst (λ (x : DeskRows). AllZip (HasPricesOf x) c.as_slice.result.now got.items) a.0 p.1))))
+    (λ rows between after got h m n a p. (p.0 ∙ a.0, a.1, a.2, subst (λ l. AllZip (HasPricesOf rows) l got.items) c.as_slice.ensures.value (subst (λ (x : DeskRows). AllZip (HasPricesOf x) c.as_slice.result.now got.items) a.0 (p.1 (read_whole c.as_slice.result.now between))))))
     (λ rows after h n a. entry_read row rows after articles.items details.items prices.items c.entry_of.result a.0 (record { articles_are = a.1; details_are = a.2; prices_are = a.3 })
     (λ series reference e storable x y z. c.entry_of.ensures.entry series reference e storable (c.as_slice-2.ensures.value ∙ x) (c.as_slice-3.ensures.value ∙ y) (c.as_slice-4.ensures.value ∙ z)))

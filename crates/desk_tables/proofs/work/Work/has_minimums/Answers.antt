@@ -1,0 +1,21 @@
+use Rattle.std.proofs.Common.{◌≡◌, [], ◌∷◌, Bool, sym, ◌∙◌}
+use Rattle.sqlite_value.specs.declared.value.Value.TheVariants.{Text}
+use Rattle.sqlite_value.specs.Order.{Row}
+use Rattle.sqlite.specs.Held.{state}
+use Rattle.desk_rows.specs.Rows.{DeskRows}
+use Rattle.desk_rows.specs.RecordAnswers.{has_minimums}
+use Rattle.desk_rows.specs.RecordStatements.{has_minimums_text}
+use Rattle.desk_rows.proofs.RecordStatementTexts.{has_minimums_is}
+use Rattle.desk_rows.proofs.RecordLists.{minimum_found}
+use Rattle.desk_rows.proofs.Calls.{reads_ok}
+use Rattle.desk_tables.proofs.work.Work.has_minimums.Goals as goal
+
+pub returns-in-Ok-clause-works : goal.returns-in-Ok-clause-works
+returns-in-Ok-clause-works g c =
+    let old = state g.S.Store c.args.self.now.tables.now.connection in
+    let new = state g.S.Store c.rows.new.self.tables.now.connection in
+    let params : Row = Text c.args.series.now ∷ [] in
+    let ran = c.in-Ok.ensures in
+    reads_ok has_minimums_text has_minimums_is.2 (λ (rows : DeskRows) (has : Bool). has ≡ has_minimums c.args.series.now rows) params old new c.args.self.now.spent c.rows.new.self.spent (λ rows. rows.items) c.in-Ok.rows _
+    (rw (c.params-to_sql.ensures, c.as_str.ensures.text) at ran.reads) ran.spent (λ s. (ran.refused s).0)
+    (λ rows h shown. c.has_row.ensures ∙ sym (minimum_found old new c.args.series.now rows c.in-Ok.rows.items h shown))

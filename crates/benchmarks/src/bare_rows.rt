@@ -155,10 +155,11 @@ impl ConnectionTask for Reading {
         &self,
         _rt: &HostRuntime,
         mut connection: Connection<S>,
-    ) -> anyhow::Result<DeskRows> {
-        let rows = read_rows(&mut connection);
-        drop(connection);
-        Ok(rows?)
+    ) -> (Connection<S>, anyhow::Result<DeskRows>) {
+        match read_rows(&mut connection) {
+            Ok(rows) => (connection, Ok(rows)),
+            Err(error) => (connection, Err(error.into())),
+        }
     }
 }
 
@@ -168,16 +169,16 @@ fn create<S: Alter>(tables: &mut Tables<S>) -> Result<(), StoreFault> {
     work.commit()
 }
 
-// The time in which statements are executed over a connection, once the tables of a desk are made.
-fn time_over<S: Alter>(
+// Executes statements over a connection, once the tables of a desk are made, and gives the processor time
+// that was used before.
+fn put_over<S: Alter>(
     rt: &HostRuntime,
     connection: &mut Connection<S>,
     statements: &[Bound<'_>],
 ) -> anyhow::Result<u64> {
     let start = used(rt)?;
     run_all(connection, statements)?;
-    let end = used(rt)?;
-    Ok(end.saturating_sub(start))
+    Ok(start)
 }
 
 // Putting rows by their statements.
@@ -193,25 +194,21 @@ impl<'a> ConnectionTask for Putting<'a> {
         &self,
         rt: &HostRuntime,
         connection: Connection<S>,
-    ) -> anyhow::Result<u64> {
+    ) -> (Connection<S>, anyhow::Result<u64>) {
         let mut tables = Tables::new(connection);
         match create(&mut tables) {
             Ok(()) => {
                 let mut connection = tables.into_connection();
-                let time = time_over(rt, &mut connection, self.statements);
-                drop(connection);
-                time
+                let start = put_over(rt, &mut connection, self.statements);
+                (connection, start)
             }
-            Err(fault) => {
-                drop(tables);
-                Err(fault)?
-            }
+            Err(fault) => (tables.into_connection(), Err(fault.into())),
         }
     }
 }
 
 /// Prints the time in which `sqlite` alone puts into the file `to` what a desk has put into the file
-/// `from`, in microseconds. The file is made anew.
+/// `from`, and closes it, in microseconds. The file is made anew.
 pub fn report(rt: &HostRuntime, from: &str, to: &str) -> anyhow::Result<()> {
     let rows = run_over_connection(rt, from, PAGES, &Reading)?;
     let statements = statements_of(rt.alloc(), &rows)?;
@@ -219,7 +216,8 @@ pub fn report(rt: &HostRuntime, from: &str, to: &str) -> anyhow::Result<()> {
     let putting = Putting {
         statements: statements.as_slice(),
     };
-    let time = run_over_connection(rt, to, PAGES, &putting)?;
+    let start = run_over_connection(rt, to, PAGES, &putting)?;
+    let time = used(rt)?.saturating_sub(start);
     println!(rt; "{time}")?;
     Ok(())
 }

@@ -11,14 +11,14 @@ pub const PAGES: usize = 2_000;
 /// What is done with a connection.
 pub trait ConnectionTask {
     /// What it gives.
-    type Found;
+    type Found: Drop;
 
-    /// Does it, and lets go of the connection.
+    /// Does it, and hands the connection back.
     fn run<S: Alter + Drop>(
         &self,
         rt: &HostRuntime,
         connection: Connection<S>,
-    ) -> anyhow::Result<Self::Found>;
+    ) -> (Connection<S>, anyhow::Result<Self::Found>);
 }
 
 // Removes a file, if it is there.
@@ -43,7 +43,8 @@ fn options_with(pages: usize) -> Options {
     options
 }
 
-/// Does the task over a connection to the file of this name, with so many pages of it in memory.
+/// Does the task over a connection to the file of this name, with so many pages of it in memory, and
+/// closes the file, which copies its log into it.
 pub fn run_over_connection<T: ConnectionTask>(
     rt: &HostRuntime,
     name: &str,
@@ -52,7 +53,11 @@ pub fn run_over_connection<T: ConnectionTask>(
 ) -> anyhow::Result<T::Found> {
     let files = sqlite_std_file::open(rt, name, Unknown)?;
     match Connection::open_files(rt.alloc(), files, options_with(pages)) {
-        Ok(connection) => task.run(rt, connection),
+        Ok(connection) => {
+            let (connection, found) = task.run(rt, connection);
+            connection.close()?;
+            found
+        }
         Err((error, _)) => Err(error)?,
     }
 }

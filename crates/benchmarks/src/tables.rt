@@ -199,18 +199,16 @@ fn time_of_work<S: Alter>(
 }
 
 // The time by `sqlite` alone.
-fn time_of_sqlite<S: Alter + Drop>(
+fn time_of_sqlite<S: Alter>(
     rt: &HostRuntime,
-    tables: Tables<S>,
+    connection: &mut Connection<S>,
     records: u32,
 ) -> anyhow::Result<u64> {
-    let mut connection = tables.into_connection();
     let start = used(rt)?;
     let mut row = price_row(rt.alloc(), 1)?;
-    insert_prices(rt.alloc(), &mut connection, &mut row, records)?;
+    insert_prices(rt.alloc(), connection, &mut row, records)?;
     drop(row);
     let end = used(rt)?;
-    drop(connection);
     Ok(end.saturating_sub(start))
 }
 
@@ -232,20 +230,24 @@ fn time_of_questions<S: Alter>(
     timed_questions(rt, tables, isbns.as_slice())
 }
 
-// The time that is measured in these tables, which are empty.
+// The time that is measured in these tables, which have the records.
 fn time_over<S: Alter + Drop>(
     rt: &HostRuntime,
     mut tables: Tables<S>,
     measure: Measure,
     records: u32,
-) -> anyhow::Result<u64> {
-    put_catalogue(rt.alloc(), &mut tables, records)?;
-    match measure {
+) -> (Connection<S>, anyhow::Result<u64>) {
+    let time = match measure {
         Measure::Work => time_of_work(rt, &mut tables, records, 1),
-        Measure::Sqlite => time_of_sqlite(rt, tables, records),
+        Measure::Sqlite => {
+            let mut connection = tables.into_connection();
+            let time = time_of_sqlite(rt, &mut connection, records);
+            return (connection, time);
+        }
         Measure::Listing => time_of_listing(rt, &mut tables, records),
         Measure::Questions => time_of_questions(rt, &mut tables, records),
-    }
+    };
+    (tables.into_connection(), time)
 }
 
 // A measure in tables of so many records.
@@ -262,8 +264,12 @@ impl ConnectionTask for Measured {
         &self,
         rt: &HostRuntime,
         connection: Connection<S>,
-    ) -> anyhow::Result<u64> {
-        time_over(rt, Tables::new(connection), self.measure, self.records)
+    ) -> (Connection<S>, anyhow::Result<u64>) {
+        let mut tables = Tables::new(connection);
+        match put_catalogue(rt.alloc(), &mut tables, self.records) {
+            Ok(()) => time_over(rt, tables, self.measure, self.records),
+            Err(error) => (tables.into_connection(), Err(error)),
+        }
     }
 }
 

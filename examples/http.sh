@@ -1,6 +1,6 @@
 #!/bin/sh
-# Runs a desk over HTTP on a new database, asks it by curl, and compares each status and reply with
-# what docs/HTTP.md says.
+# Runs a desk over HTTP on a new database, sends it seven requests by curl, and compares each status and
+# reply with the one written here.
 #     examples/http.sh [PORT]
 # Status 0; 1 where a reply is another one; 2 where the desk or curl cannot be run.
 set -u
@@ -13,7 +13,7 @@ command -v curl >/dev/null || { echo "http.sh: no curl" >&2; exit 2; }
 
 run() { "$root/bin/onixdesk" --db "$room/shop.db" "$@"; }
 run batch <"$root/examples/shop/monday.csv" >/dev/null || exit 2
-run serve --port "$port" --requests 7 >"$room/lines" &
+"$root/bin/onixdesk" --db "$room/shop.db" serve --port "$port" --requests 7 >"$room/lines" &
 desk=$!
 for _ in 1 2 3 4 5 6 7 8 9 10 11 12 13 14 15 16 17 18 19 20; do
     grep -q listening "$room/lines" && break
@@ -43,6 +43,8 @@ expect 400 '{"answer":"refused","reason":"bad-query"}' '/articles/9781234567897/
 printf 'FOO\r\n\r\n' | curl --silent --max-time 60 "telnet://127.0.0.1:$port" >"$room/reply"
 grep -q '^HTTP/1.1 400 ' "$room/reply" && grep -q bad-head "$room/reply" || { echo "a bad head: $(cat "$room/reply")" >&2; wrong=1; }
 
+# Where a reply was another one, a connection may be left that the desk waits for.
+[ $wrong -eq 0 ] || exit 1
 wait "$desk"
 ended=$?
 desk=

@@ -37,9 +37,9 @@ fn gaps<'a>(alloc: Global) -> Result<Command<'a>, AllocError> {
         .action(ArgAction::Set)
         .help("The name of the series");
     Command::new(alloc, "gaps")
-        .about("Write which message numbers of a series lack")
+        .about("Write which message numbers of a series are missing")
         .long_about(
-            "Writes the first and the next number of a series, the greatest that has come, how many are held, and the ranges of numbers that lack. A series that is not agreed, and a name that cannot be one, are answered refused,unknown-series with status 1.",
+            "Writes the first and the next number of a series, the greatest that has come, how many are held, and the ranges of numbers that are missing. A series that is not agreed, and a name that cannot be one, are answered refused,unknown-series with status 1.",
         )
         .arg(name)
 }
@@ -68,7 +68,7 @@ fn serve<'a>(alloc: Global) -> Result<Command<'a>, AllocError> {
     Command::new(alloc, "serve")
         .about("Answer requests over HTTP on a port of this machine")
         .long_about(
-            "Listens at a port of 127.0.0.1, which only programs on this machine reach, writes the line 'listening N', and serves connections one after the other, one request each. For each connection a line is written: the status of the reply, or 'fault' where none was sent whole. A client has 10 seconds to send its request and 10 seconds to take the reply; over that the connection is a fault, and serving goes on. The desk is that of the database file: onixdesk --db FILE serve; without one it begins without agreements and ends with the program. A port that cannot be listened at ends the program with status 3. TLS and access control are left to a proxy before it.",
+            "Listens at a port of 127.0.0.1, which only programs on this machine reach, writes the line 'listening N', and serves connections one after the other, one request each. For each connection a line is written: the status of the reply, or 'fault' where none was sent whole. A client has 10 seconds to send its request and 10 seconds to take the reply; over that the connection is a fault, and serving goes on. The desk is that of the database file, with the shop's rules: onixdesk --db FILE --rules FILE serve; without one it begins without agreements and ends with the program. A port that cannot be listened at ends the program with status 3. TLS and access control are left to a proxy before it.",
         )
         .arg(port(alloc))?
         .arg(requests(alloc))

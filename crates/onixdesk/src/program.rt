@@ -155,8 +155,8 @@ fn run_invocation<R: Read, W: Write, E: Write>(
 
 /// Runs the program on these words, of which the first is its name, and gives its exit status:
 /// 0, or 1 where an answer was a refusal, 2 for a bad command line or rules file, 3 for a fault of
-/// storage, a file, input, output or the port. The command line is judged first, then the rules
-/// file, then what the command itself meets.
+/// storage, a file, input, output or the port, or for want of memory. The command line is judged first,
+/// then the rules file, then what the command itself meets.
 pub fn run<R: Read, W: Write, E: Write>(
     rt: &HostRuntime,
     words: &[&str],

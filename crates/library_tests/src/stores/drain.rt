@@ -108,9 +108,10 @@ fn has_rows(
     files: Files<Memory>,
     rows: &str,
 ) -> (Files<Memory>, Result<bool, StoreFault>) {
-    match files_answer(alloc, files, rows) {
-        (files, Err(_)) => files_answer(alloc, files, rows),
-        answered => answered,
+    let (files, answered) = files_answer(alloc, files, rows);
+    match answered {
+        Ok(has) => (files, Ok(has)),
+        Err(_) => files_answer(alloc, files, rows),
     }
 }
 

@@ -112,9 +112,10 @@ pub fn files_answer<D: Disk + Drop>(
     files: Files<D>,
     transcript: &str,
 ) -> (Files<D>, Result<bool, StoreFault>) {
-    match perform_on(alloc, files, Task::Calls(transcript)) {
-        (files, Ok(answered)) => (files, Ok(answered.is_some())),
-        (files, Err(fault)) => (files, Err(fault)),
+    let (files, answered) = perform_on(alloc, files, Task::Calls(transcript));
+    match answered {
+        Ok(found) => (files, Ok(found.is_some())),
+        Err(fault) => (files, Err(fault)),
     }
 }
 

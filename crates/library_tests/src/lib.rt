@@ -6,6 +6,8 @@
 #[cfg(test)]
 mod cases;
 #[cfg(test)]
+mod desks;
+#[cfg(test)]
 mod disks;
 #[cfg(test)]
 mod rules;

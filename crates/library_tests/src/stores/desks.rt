@@ -1,5 +1,4 @@
-// The desk in tables, over a store in memory and over files on disks in memory, and what it answers to
-// batches.
+// The desk in files on disks in memory, and what desks answer to batches.
 
 use crate::disks::OPTIONS;
 use desk_batch::batch::{BatchFault, run_batch};
@@ -12,60 +11,6 @@ use sqlite::{FileStore, Files};
 use sqlite_disk::Disk;
 use std::alloc::Global;
 use std::process::Abort;
-use std::test::Fail;
-
-// What a desk is asked first, and what it answers.
-const FIRST: (&str, &str) = (
-    "Agree,north,06,4012345000009,06,5012345678900,1
-Message,1,06,4012345000009,06,5012345678900,1,,,,
-EndMessage,1
-Message,1,06,4012345000009,06,5012345678900,2,,,,
-EndMessage,1
-Message,1,06,4012345000009,06,5012345678900,5,,,,
-EndMessage,1
-Message,1,06,4012345000009,06,5012345678900,9,,,,
-EndMessage,1
-",
-    "agreed,north,1
-applied,north,1,replaced=0,updated=0,deleted=0,unknown=0,ignored=0
-applied,north,2,replaced=0,updated=0,deleted=0,unknown=0,ignored=0
-held,north,5,waiting-for=3
-held,north,9,waiting-for=3
-",
-);
-
-// And then.
-const SECOND: (&str, &str) = (
-    "AskGaps,north
-AskGaps,west
-Message,1,06,4012345000009,06,5012345678900,3,1,20250301,02,GBP
-Product,R1,03,15,9781234567897
-ProductSupply,GB IE,,
-SupplyDetail,04,06,4012345000009,North Books,21,
-Price,,12.99,,,,,,
-EndMessage,5
-Waive,north,4
-AskGaps,north
-AskCatalogue,north
-AskPrice,9781234567897,20250301,GB,GBP,02
-",
-    "gaps,north,first=1,next=3,greatest=9,held=2,missing=2
-missing,3,4
-missing,6,8
-refused,unknown-series
-applied,north,3,replaced=1,updated=0,deleted=0,unknown=0,ignored=0
-waived,north,4
-gaps,north,first=1,next=6,greatest=9,held=1,missing=1
-missing,6,8
-catalogue,north,1
-record,R1,15,9781234567897
-ProductSupply,GB IE,,
-SupplyDetail,04,06,4012345000009,North Books,21,
-Price,02,12.990,GBP,,WORLD,,,
-price,9781234567897,1
-offer,north,R1,1,21,12.990
-",
-);
 
 /// What a desk wrote to a batch, and how the batch ended.
 #[derive(Drop)]
@@ -143,13 +88,4 @@ pub fn expect_files<D: Disk + Drop>(
         Err(fault) => stop.panic(fault),
     }
     files
-}
-
-#[test]
-fn desk_over_memory(rt: HostRuntime) -> Result<(), Fail> {
-    let alloc = rt.alloc();
-    let mut desk = DeskStore::open_in_memory(alloc)?;
-    expect_asked(&rt, &ask(alloc, &mut desk, FIRST.0), FIRST.1);
-    expect_asked(&rt, &ask(alloc, &mut desk, SECOND.0), SECOND.1);
-    Ok(())
 }

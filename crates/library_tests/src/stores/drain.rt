@@ -2,12 +2,11 @@
 // delivery of the first: then what lacks is what lacked before it, or after it, and so are the rows of the
 // tables. `bench/refused_memory` refuses requests for memory of these tests one after the other.
 
+use crate::desks::{DeskTask, over_memory, over_tables};
 use crate::disks::new_files;
 use crate::stores::desks::{ask, ask_files, expect_asked, is_answered};
 use crate::stores::little_memory::{expect_again, expect_answers, lacked_memory, lacked_memory_of};
 use crate::tables::disks::files_answer;
-use desk_memory::desk::MemoryDesk;
-use desk_store::desk::DeskStore;
 use onix_message::agreement::StoreFault;
 use price_rules::precedence::Precedence;
 use series_rules::desk::Desk;
@@ -62,24 +61,29 @@ fn expect_first<D: Desk>(alloc: Global, stop: &impl Abort, desk: &mut D) {
     expect_asked(stop, &ask(alloc, desk, FIRST.0), FIRST.1);
 }
 
-fn drains<D: Desk>(alloc: Global, stop: &impl Abort, desk: &mut D) -> Result<(), Fail> {
-    let none = Precedence::none(alloc);
-    let (text, answers) = waiting(alloc)?;
-    expect_answers(alloc, stop, desk, &none, (text.as_str(), answers.as_str()));
-    expect_first(alloc, stop, desk);
-    expect_answers(alloc, stop, desk, &none, GAPS);
-    Ok(())
+// The messages that wait, the first one, and what lacks then.
+#[derive(Clone, Copy)]
+struct Drain;
+
+impl DeskTask for Drain {
+    fn run<D: Desk>(&self, alloc: Global, stop: &impl Abort, desk: &mut D) -> Result<(), Fail> {
+        let none = Precedence::none(alloc);
+        let (text, answers) = waiting(alloc)?;
+        expect_answers(alloc, stop, desk, &none, (text.as_str(), answers.as_str()));
+        expect_first(alloc, stop, desk);
+        expect_answers(alloc, stop, desk, &none, GAPS);
+        Ok(())
+    }
 }
 
 #[test]
 fn desk_in_memory(rt: HostRuntime) -> Result<(), Fail> {
-    drains(rt.alloc(), &rt, &mut MemoryDesk::new(rt.alloc()))
+    over_memory(rt.alloc(), &rt, &Drain)
 }
 
 #[test]
 fn tables_in_memory(rt: HostRuntime) -> Result<(), Fail> {
-    let mut desk = DeskStore::open_in_memory(rt.alloc())?;
-    drains(rt.alloc(), &rt, &mut desk)
+    over_tables(rt.alloc(), &rt, &Drain)
 }
 
 // What the tables answer where the numbers below the next one are applied, and the others wait, but for

@@ -2,15 +2,14 @@
 // all of it, and the same request, made again, has its reply. `bench/refused_memory` refuses each
 // request for memory of these tests in turn. What is replied is taken from the desk's written rules.
 
+use crate::desks::{DeskTask, over_memory, over_tables};
 use crate::stores::desks::expect_asked;
 use crate::stores::little_memory::ask_again;
 use crate::stores::questions::{RULES, rules_again};
 use crate::stores::stops::STEPS;
 use desk_http::exchange::HttpFault;
 use desk_http::serve::serve_one;
-use desk_memory::desk::MemoryDesk;
-use desk_store::desk::DeskStore;
-use price_rules::precedence::{Precedence, PrecedenceFault};
+use price_rules::precedence::Precedence;
 use series_rules::desk::Desk;
 use std::alloc::Global;
 use std::process::Abort;
@@ -29,7 +28,7 @@ const AGREED: &str =
 const APPLIED: &str =
     "{\"answer\":\"gaps\",\"first\":1,\"greatest\":2,\"held\":0,\"missing\":[],\"next\":3,\"series\":\"north\"}";
 
-const EXCHANGES: [Exchange; 5] = [
+static EXCHANGES: [Exchange; 5] = [
     (
         "POST /messages HTTP/1.1\r\nContent-Length: 63\r\n\r\nMessage,1,06,4012345000009,06,5012345678900,2,,,,\nEndMessage,1\n",
         202,
@@ -127,35 +126,34 @@ fn expect_reply<D: Desk>(
     assert!(stop; has_reply(&exchanged, status, body), "{request}");
 }
 
-fn replies_to_all<D: Desk>(
-    alloc: Global,
-    stop: &impl Abort,
-    desk: &mut D,
-) -> Result<(), PrecedenceFault> {
-    let rules = rules_again(alloc, RULES)?;
-    let (agreement, agreed, _) = STEPS[0];
-    let asked = ask_again(alloc, stop, desk, agreement, 0);
-    expect_asked(stop, &asked, agreed);
-    drop(asked);
-    let mut before = AGREED;
-    for exchange in EXCHANGES.as_slice() {
-        let after = exchange.3;
-        expect_reply(alloc, stop, desk, &rules, exchange, before);
-        expect_reply(alloc, stop, desk, &rules, &(GAPS, 200, after, after), after);
-        before = after;
+// The agreement, and then all exchanges, each with GAPS after it.
+#[derive(Clone, Copy)]
+struct Exchanges;
+
+impl DeskTask for Exchanges {
+    fn run<D: Desk>(&self, alloc: Global, stop: &impl Abort, desk: &mut D) -> Result<(), Fail> {
+        let rules = rules_again(alloc, RULES)?;
+        let (agreement, agreed, _) = STEPS[0];
+        let asked = ask_again(alloc, stop, desk, agreement, 0);
+        expect_asked(stop, &asked, agreed);
+        drop(asked);
+        let mut before = AGREED;
+        for exchange in EXCHANGES.as_slice() {
+            let after = exchange.3;
+            expect_reply(alloc, stop, desk, &rules, exchange, before);
+            expect_reply(alloc, stop, desk, &rules, &(GAPS, 200, after, after), after);
+            before = after;
+        }
+        Ok(())
     }
-    Ok(())
 }
 
 #[test]
 fn desk_in_memory(rt: HostRuntime) -> Result<(), Fail> {
-    replies_to_all(rt.alloc(), &rt, &mut MemoryDesk::new(rt.alloc()))?;
-    Ok(())
+    over_memory(rt.alloc(), &rt, &Exchanges)
 }
 
 #[test]
 fn tables_in_memory(rt: HostRuntime) -> Result<(), Fail> {
-    let mut desk = DeskStore::open_in_memory(rt.alloc())?;
-    replies_to_all(rt.alloc(), &rt, &mut desk)?;
-    Ok(())
+    over_tables(rt.alloc(), &rt, &Exchanges)
 }

@@ -2,13 +2,12 @@
 // the same request, made again, is answered as it is to be. `bench/refused_memory` refuses each request
 // for memory of these tests in turn.
 
+use crate::desks::{DeskTask, over_memory, over_tables};
 use crate::disks::new_files;
 use crate::stores::desks::{Asked, ask, ask_by, ask_files, expect_asked};
 use crate::stores::stops::{REPORT, STEPS, Step, begins_near};
 use csv_records::reading::RecordFault;
 use desk_batch::batch::BatchFault;
-use desk_memory::desk::MemoryDesk;
-use desk_store::desk::DeskStore;
 use desk_store::opening::OpenFault;
 use onix_message::agreement::StoreFault;
 use price_rules::precedence::Precedence;
@@ -76,25 +75,30 @@ pub fn expect_answers<D: Desk>(
     expect_asked(stop, &ask_by(alloc, desk, rules, text), answers);
 }
 
-fn answers_all<D: Desk>(alloc: Global, stop: &impl Abort, desk: &mut D) {
-    for (count, (request, answer, report)) in STEPS.as_slice().iter().enumerate() {
-        let asked = ask_again(alloc, stop, desk, request, count);
-        expect_asked(stop, &asked, answer);
-        let asked = ask_again(alloc, stop, desk, REPORT, count.saturating_add(1));
-        expect_asked(stop, &asked, report);
+// The steps of the test of stops, with a report after each.
+#[derive(Clone, Copy)]
+struct Steps;
+
+impl DeskTask for Steps {
+    fn run<D: Desk>(&self, alloc: Global, stop: &impl Abort, desk: &mut D) -> Result<(), Fail> {
+        for (count, (request, answer, report)) in STEPS.as_slice().iter().enumerate() {
+            let asked = ask_again(alloc, stop, desk, request, count);
+            expect_asked(stop, &asked, answer);
+            let asked = ask_again(alloc, stop, desk, REPORT, count.saturating_add(1));
+            expect_asked(stop, &asked, report);
+        }
+        Ok(())
     }
 }
 
 #[test]
-fn desk_in_memory(rt: HostRuntime) {
-    answers_all(rt.alloc(), &rt, &mut MemoryDesk::new(rt.alloc()));
+fn desk_in_memory(rt: HostRuntime) -> Result<(), Fail> {
+    over_memory(rt.alloc(), &rt, &Steps)
 }
 
 #[test]
 fn tables_in_memory(rt: HostRuntime) -> Result<(), Fail> {
-    let mut desk = DeskStore::open_in_memory(rt.alloc())?;
-    answers_all(rt.alloc(), &rt, &mut desk);
-    Ok(())
+    over_tables(rt.alloc(), &rt, &Steps)
 }
 
 /// Whether want of memory came in the way of a batch over files. Their disks lie in memory, so one that

@@ -4,6 +4,7 @@
 
 use crate::disks::{OPTIONS, failing, new_files, stop_machine};
 use crate::stores::desks::{ask_files, expect_files};
+use crate::stores::little_memory::expect_again;
 use crate::stores::statements::with_statements;
 use crate::tables::disks::files_answer;
 use crate::tables::migration::ROWS;
@@ -17,32 +18,23 @@ use std::alloc::Global;
 use std::process::Abort;
 use std::test::Fail;
 
-// Rows of `series`, how many messages with one record each were applied, further rows, what the desk
-// is asked once it is of version 2, and what it answers.
-type Case = (&'static str, u32, &'static str, &'static str, &'static str);
+// What a desk is asked, and what it answers, also where it is asked again.
+type Batch = (&'static str, &'static str);
 
-const CASES: [Case; 2] = [
+// Rows of `series`, how many messages with one record each were applied, further rows, what the desk
+// is asked first once it is of version 2, and what then.
+type Case = (&'static str, u32, &'static str, Batch, Batch);
+
+static CASES: [Case; 2] = [
     (
         "INSERT INTO series VALUES ('north', '06', '4012345000009', '06', '5012345678900', 1, 5)",
         4,
         "",
-        "AskGaps,north
+        (
+            "AskGaps,north
 AskCatalogue,north
-Message,1,06,4012345000009,06,5012345678900,3,1,20250301,02,GBP
-Product,R3,03,15,9781234567897
-ProductSupply,GB IE,,
-SupplyDetail,04,06,4012345000009,North Books,21,
-Price,,3,,,,,,
-EndMessage,5
-Message,1,06,4012345000009,06,5012345678900,5,1,20250301,02,GBP
-Product,R5,03,15,9781234567897
-ProductSupply,GB IE,,
-SupplyDetail,04,06,4012345000009,North Books,21,
-Price,,5,,,,,,
-EndMessage,5
-AskPrice,9781234567897,20250301,GB,GBP,02
 ",
-        "gaps,north,first=1,next=5,greatest=4,held=0,missing=0
+            "gaps,north,first=1,next=5,greatest=4,held=0,missing=0
 catalogue,north,4
 record,R1,15,9781234567897
 ProductSupply,GB IE,,
@@ -60,7 +52,24 @@ record,R4,15,9781234567897
 ProductSupply,GB IE,,
 SupplyDetail,04,06,4012345000009,North Books,21,
 Price,02,4.000,GBP,,WORLD,,,
-applied,north,3,replaced=1,updated=0,deleted=0,unknown=0,ignored=0
+",
+        ),
+        (
+            "Message,1,06,4012345000009,06,5012345678900,3,1,20250301,02,GBP
+Product,R3,03,15,9781234567897
+ProductSupply,GB IE,,
+SupplyDetail,04,06,4012345000009,North Books,21,
+Price,,3,,,,,,
+EndMessage,5
+Message,1,06,4012345000009,06,5012345678900,5,1,20250301,02,GBP
+Product,R5,03,15,9781234567897
+ProductSupply,GB IE,,
+SupplyDetail,04,06,4012345000009,North Books,21,
+Price,,5,,,,,,
+EndMessage,5
+AskPrice,9781234567897,20250301,GB,GBP,02
+",
+            "applied,north,3,replaced=1,updated=0,deleted=0,unknown=0,ignored=0
 applied,north,5,replaced=1,updated=0,deleted=0,unknown=0,ignored=0
 price,9781234567897,5
 offer,north,R1,1,21,1.000
@@ -69,16 +78,23 @@ offer,north,R3,1,21,3.000
 offer,north,R4,1,21,4.000
 offer,north,R5,1,21,5.000
 ",
+        ),
     ),
     (
         "INSERT INTO series VALUES ('north', '06', '4012345000009', '06', '5012345678900', 1, 2)",
         1,
         "INSERT INTO held VALUES ('north', 3, '');
 INSERT INTO held VALUES ('north', 5, 'waived')",
-        "AskGaps,north
-Message,1,06,4012345000009,06,5012345678900,2,,,,
+        (
+            "AskGaps,north\n",
+            "gaps,north,first=1,next=2,greatest=5,held=2,missing=2
+missing,2,2
+missing,4,4
+",
+        ),
+        (
+            "Message,1,06,4012345000009,06,5012345678900,2,,,,
 EndMessage,1
-AskGaps,north
 Message,2,06,4012345000009,06,5012345678900,4,1,20250301,02,GBP
 Product,R1,03,15,9781234567897
 ProductSupply,GB IE,,
@@ -89,17 +105,13 @@ EndMessage,6
 AskPrice,9781234567897,20250301,GB,GBP,02,10
 AskGaps,north
 ",
-        "gaps,north,first=1,next=2,greatest=5,held=2,missing=2
-missing,2,2
-missing,4,4
-applied,north,2,replaced=0,updated=0,deleted=0,unknown=0,ignored=0
-gaps,north,first=1,next=4,greatest=5,held=1,missing=1
-missing,4,4
+            "applied,north,2,replaced=0,updated=0,deleted=0,unknown=0,ignored=0
 applied,north,4,replaced=1,updated=0,deleted=0,unknown=0,ignored=0
 price,9781234567897,1
 offer,north,R1,1,21,9.990
 gaps,north,first=1,next=6,greatest=5,held=0,missing=0
 ",
+        ),
     ),
 ];
 
@@ -154,46 +166,70 @@ fn migrate<D: Disk + Drop>(
     }
 }
 
-// The same; where memory is refused, once more.
-fn migrate_again<D: Disk + Drop>(
+// Whether want of memory came in the way: a disk in memory that cannot grow fails.
+fn lacked_memory(migrated: &Result<MigrateAnswer, OpenFault>) -> bool {
+    matches!(
+        migrated,
+        Err(OpenFault::Store(StoreFault::Memory | StoreFault::Disk))
+    )
+}
+
+// Migrates files and ends the test where this is not the answer; where memory is refused, once more, and
+// then they may be of version 2 by now. It gives the files, or none where a disk has failed to keep what it
+// was given: it may not be used again.
+fn expect_migrated(
     alloc: Global,
-    files: Files<D>,
-) -> (Files<D>, Result<MigrateAnswer, OpenFault>) {
-    match migrate(alloc, files) {
-        (files, Err(OpenFault::Store(StoreFault::Memory))) => migrate(alloc, files),
-        migrated => migrated,
+    stop: &impl Abort,
+    files: Files<Memory>,
+    wanted: MigrateAnswer,
+) -> Option<Files<Memory>> {
+    let (files, first) = migrate(alloc, files);
+    let is_second = lacked_memory(&first);
+    let (files, migrated) = if is_second {
+        migrate(alloc, files)
+    } else {
+        (files, first)
+    };
+    if !files.may_be_used() {
+        drop(files);
+        return None;
     }
+    match migrated {
+        Ok(MigrateAnswer::AlreadyTwo) if is_second => {}
+        Ok(answer) => assert_eq!(stop; answer, wanted),
+        Err(fault) => stop.panic(fault),
+    }
+    Some(files)
 }
 
-// Migrates files that are to be migrated, twice.
-fn migrates(alloc: Global, stop: &impl Abort, files: Files<Memory>) -> Files<Memory> {
-    let (files, first) = migrate_again(alloc, files);
-    assert!(stop; matches!(first, Ok(MigrateAnswer::Migrated)), "migrated");
-    let (files, second) = migrate_again(alloc, files);
-    assert!(stop; matches!(second, Ok(MigrateAnswer::AlreadyTwo)), "schema 2");
-    files
-}
-
-fn goes_on(alloc: Global, stop: &impl Abort, case: &Case) -> Result<(), Fail> {
-    let files = migrates(alloc, stop, first_files(alloc, stop, case)?);
-    let (_, _, _, asked, answers) = *case;
-    drop(expect_files(alloc, stop, files, (asked, answers)));
-    Ok(())
+// Migrates files that are to be migrated, twice, and asks the desk in them.
+fn goes_on(
+    alloc: Global,
+    stop: &impl Abort,
+    files: Files<Memory>,
+    batches: (Batch, Batch),
+) -> Option<Files<Memory>> {
+    let (first, second) = batches;
+    let files = expect_migrated(alloc, stop, files, MigrateAnswer::Migrated)?;
+    let files = expect_migrated(alloc, stop, files, MigrateAnswer::AlreadyTwo)?;
+    let files = expect_again(alloc, stop, files, first.0, first.1)?;
+    expect_again(alloc, stop, files, second.0, second.1)
 }
 
 #[test]
 fn desks_of_version_1_go_on(rt: HostRuntime) -> Result<(), Fail> {
     for case in CASES.as_slice() {
-        goes_on(rt.alloc(), &rt, case)?;
+        let files = first_files(rt.alloc(), &rt, case)?;
+        drop(goes_on(rt.alloc(), &rt, files, (case.3, case.4)));
     }
     Ok(())
 }
 
 #[test]
 fn empty_files(rt: HostRuntime) {
-    let files = migrates(rt.alloc(), &rt, new_files(rt.alloc()));
-    let case = ("AskGaps,north\n", "refused,unknown-series\n");
-    drop(expect_files(rt.alloc(), &rt, files, case));
+    let nothing = ("AskGaps,north\n", "refused,unknown-series\n");
+    let files = new_files(rt.alloc());
+    drop(goes_on(rt.alloc(), &rt, files, (nothing, nothing)));
 }
 
 fn is_other<T>(answered: &Result<T, OpenFault>, version: u32) -> bool {
@@ -252,8 +288,8 @@ fn stops(alloc: Global, stop: &impl Abort, files: Files<Fuse<Memory>>, case: &Ca
     assert!(stop; failed || first.is_ok(), "a fault without a cause");
     let (files, second) = migrate(alloc, files);
     assert!(stop; second.is_ok(), "what is left is migrated");
-    let (_, _, _, asked, answers) = *case;
-    drop(expect_files(alloc, stop, files, (asked, answers)));
+    let files = expect_files(alloc, stop, files, case.3);
+    drop(expect_files(alloc, stop, files, case.4));
     failed
 }
 

@@ -2,9 +2,8 @@
 // refused once: what is answered before is as it is to be, and so is all of it when it is asked again.
 // `bench/refused_memory` refuses each request for memory of these tests in turn.
 
+use crate::desks::{DeskTask, over_memory, over_tables};
 use crate::stores::little_memory::expect_answers;
-use desk_memory::desk::MemoryDesk;
-use desk_store::desk::DeskStore;
 use price_rules::precedence::{Precedence, PrecedenceFault};
 use series_rules::desk::Desk;
 use std::alloc::Global;
@@ -33,7 +32,7 @@ codes = [\"20\", \"21\"]
 max = \"12.98\"
 ";
 
-const CASES: [Case; 4] = [
+static CASES: [Case; 4] = [
     (
         RULES,
         "Agree,north,06,4012345000009,06,5012345678900,1
@@ -119,27 +118,26 @@ pub fn rules_again(alloc: Global, text: &str) -> Result<Precedence, PrecedenceFa
     }
 }
 
-fn answers_all<D: Desk>(
-    alloc: Global,
-    stop: &impl Abort,
-    desk: &mut D,
-) -> Result<(), PrecedenceFault> {
-    for (rules, text, answers) in CASES {
-        let rules = rules_again(alloc, rules)?;
-        expect_answers(alloc, stop, desk, &rules, (text, answers));
+// All cases, one after the other.
+#[derive(Clone, Copy)]
+struct Questions;
+
+impl DeskTask for Questions {
+    fn run<D: Desk>(&self, alloc: Global, stop: &impl Abort, desk: &mut D) -> Result<(), Fail> {
+        for (rules, text, answers) in CASES.as_slice() {
+            let rules = rules_again(alloc, rules)?;
+            expect_answers(alloc, stop, desk, &rules, (*text, *answers));
+        }
+        Ok(())
     }
-    Ok(())
 }
 
 #[test]
 fn desk_in_memory(rt: HostRuntime) -> Result<(), Fail> {
-    answers_all(rt.alloc(), &rt, &mut MemoryDesk::new(rt.alloc()))?;
-    Ok(())
+    over_memory(rt.alloc(), &rt, &Questions)
 }
 
 #[test]
 fn tables_in_memory(rt: HostRuntime) -> Result<(), Fail> {
-    let mut desk = DeskStore::open_in_memory(rt.alloc())?;
-    answers_all(rt.alloc(), &rt, &mut desk)?;
-    Ok(())
+    over_tables(rt.alloc(), &rt, &Questions)
 }

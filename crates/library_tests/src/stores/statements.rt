@@ -2,7 +2,7 @@
 
 use crate::disks::{ConnectionTask, over_connection};
 use sqlite::{Alter, Connection, Files};
-use sqlite_disk::Disk;
+use sqlite_disk::Memory;
 use std::alloc::Global;
 use std::process::Abort;
 
@@ -36,12 +36,12 @@ impl<'a> ConnectionTask for Statements<'a> {
 }
 
 /// Executes statements over files, which are opened for it and closed again.
-pub fn with_statements<D: Disk + Drop>(
+pub fn with_statements(
     alloc: Global,
     stop: &impl Abort,
-    files: Files<D>,
+    files: Files<Memory>,
     statements: &[&str],
-) -> Files<D> {
+) -> Files<Memory> {
     let (files, is_done) = over_connection(alloc, files, &Statements { statements });
     assert!(stop; is_done == Some(true), "statements that are not executed");
     files

@@ -25,7 +25,7 @@ pub type Step = (&'static str, &'static str, &'static str);
 /// one, other contents of a number that waits, waivers of a number that waits and of one that is a gap,
 /// a drain up to the second gap and one that begins with a waiver, a deletion, updates, products that
 /// change nothing, repeats of what was applied, and what is refused of a number that was waived or had.
-pub const STEPS: [Step; 15] = [
+pub static STEPS: [Step; 15] = [
     (
         "Agree,north,06,4012345000009,06,5012345678900,1\n",
         "agreed,north,1\n",
@@ -101,14 +101,8 @@ catalogue,north,0
 ",
     ),
     (
-        "Message,1,06,4012345000009,06,5012345678900,1,1,20250301,02,GBP
-Product,R1,03,15,9781234567897
-ProductSupply,GB IE,,
-SupplyDetail,04,06,4012345000009,North Books,21,
-Price,,1,,,,,,
-EndMessage,5
-",
-        "applied,north,1,replaced=1,updated=0,deleted=0,unknown=0,ignored=0\n",
+        FIRST,
+        FIRST_APPLIED,
         "gaps,north,first=1,next=2,greatest=8,held=4,missing=2
 missing,2,2
 missing,6,7
@@ -126,7 +120,7 @@ Price,02,1.000,GBP,,WORLD,,,
 Product,R1,05,15,9781234567897
 EndMessage,2
 ",
-        "applied,north,2,replaced=0,updated=0,deleted=1,unknown=0,ignored=0\n",
+        DELETED,
         DRAINED,
     ),
     (
@@ -134,7 +128,7 @@ EndMessage,2
 Product,R1,05,15,9781234567897
 EndMessage,2
 ",
-        "applied,north,2,replaced=0,updated=0,deleted=1,unknown=0,ignored=0\n",
+        DELETED,
         DRAINED,
     ),
     (
@@ -191,17 +185,7 @@ EndMessage,5
         "applied,north,9,replaced=0,updated=1,deleted=0,unknown=2,ignored=1\n",
         LAST,
     ),
-    (
-        "Message,1,06,4012345000009,06,5012345678900,1,1,20250301,02,GBP
-Product,R1,03,15,9781234567897
-ProductSupply,GB IE,,
-SupplyDetail,04,06,4012345000009,North Books,21,
-Price,,1,,,,,,
-EndMessage,5
-",
-        "applied,north,1,replaced=1,updated=0,deleted=0,unknown=0,ignored=0\n",
-        LAST,
-    ),
+    (FIRST, FIRST_APPLIED, LAST),
     (
         "Message,1,06,4012345000009,06,5012345678900,7,,,,
 EndMessage,1
@@ -211,6 +195,20 @@ EndMessage,1
     ),
     ("Waive,north,9\n", "refused,had,north,9\n", LAST),
 ];
+
+// The first message, and its answer each time it comes.
+const FIRST: &str = "Message,1,06,4012345000009,06,5012345678900,1,1,20250301,02,GBP
+Product,R1,03,15,9781234567897
+ProductSupply,GB IE,,
+SupplyDetail,04,06,4012345000009,North Books,21,
+Price,,1,,,,,,
+EndMessage,5
+";
+
+const FIRST_APPLIED: &str = "applied,north,1,replaced=1,updated=0,deleted=0,unknown=0,ignored=0\n";
+
+// The answer to the second message, also where it comes again with another date.
+const DELETED: &str = "applied,north,2,replaced=0,updated=0,deleted=1,unknown=0,ignored=0\n";
 
 // What is reported where 8 alone waits, behind 6 and 7.
 const DRAINED: &str = "gaps,north,first=1,next=6,greatest=8,held=1,missing=1

@@ -11,7 +11,7 @@ use std::process::Abort;
 use std::test::Fail;
 
 // A batch in parts, each with what a batch is answered that ends within this part or at its end.
-const PARTS: [(&str, &str); 13] = [
+static PARTS: [(&str, &str); 13] = [
     (
         "Agree,north,06,4012345000009,06,5012345678900,",
         "refused,malformed,1\n",
@@ -154,7 +154,7 @@ fn expect_part(
 #[test]
 fn batches_cut_at_each_byte(rt: HostRuntime) -> Result<(), Fail> {
     let mut begun = Vec::new(rt.alloc());
-    for (part, answers) in PARTS {
+    for (part, answers) in PARTS.as_slice() {
         expect_part(rt.alloc(), &rt, &mut begun, part, answers)?;
     }
     Ok(())
@@ -162,7 +162,7 @@ fn batches_cut_at_each_byte(rt: HostRuntime) -> Result<(), Fail> {
 
 fn whole_batch(alloc: Global) -> Result<Vec<u8>, AllocError> {
     let mut batch = Vec::new(alloc);
-    for (part, _) in PARTS {
+    for (part, _) in PARTS.as_slice() {
         batch.extend_from_slice(part.as_bytes())?;
     }
     Ok(batch)

@@ -20,8 +20,6 @@ use std::io::{Read, Write};
 use std::process::Abort;
 use std::test::Fail;
 
-const RULES: &str = "[[rule]]\nseries = \"*\"\ncodes = [\"21\"]\n";
-
 // A byte for each of the head's, one for each of the body's, and the end.
 const MOST_READS: usize = 4_210_689;
 
@@ -55,16 +53,16 @@ fn expect_slow<D: Desk>(
     alloc: Global,
     stop: &impl Abort,
     desk: &mut D,
+    rules: &Precedence,
     input: &[u8],
     case: &Case,
 ) -> Result<(), Fail> {
-    let precedence = Precedence::read(alloc, RULES)?;
     let mut reader = OneByte {
         rest: input,
         reads: 0,
     };
     let mut written = Vec::new(alloc);
-    let status = serve_one(alloc, desk, &precedence, &mut reader, &mut written)?;
+    let status = serve_one(alloc, desk, rules, &mut reader, &mut written)?;
     expect_reply(alloc, stop, case, status, written.as_slice())?;
     let reads = reader.reads;
     assert!(stop; reads <= MOST_READS, "{reads} reads");
@@ -76,13 +74,13 @@ fn expect_fast<D: Desk>(
     alloc: Global,
     stop: &impl Abort,
     desk: &mut D,
+    rules: &Precedence,
     input: &[u8],
     case: &Case,
 ) -> Result<(), Fail> {
-    let precedence = Precedence::read(alloc, RULES)?;
     let mut reader = input;
     let mut written = Vec::new(alloc);
-    let status = serve_one(alloc, desk, &precedence, &mut reader, &mut written)?;
+    let status = serve_one(alloc, desk, rules, &mut reader, &mut written)?;
     expect_reply(alloc, stop, case, status, written.as_slice())?;
     Ok(())
 }
@@ -92,11 +90,12 @@ fn expect_case<D: Desk>(
     alloc: Global,
     stop: &impl Abort,
     desk: &mut D,
+    rules: &Precedence,
     input: &[u8],
     case: &Case,
 ) -> Result<(), Fail> {
-    expect_slow(alloc, stop, desk, input, case)?;
-    expect_fast(alloc, stop, desk, input, case)
+    expect_slow(alloc, stop, desk, rules, input, case)?;
+    expect_fast(alloc, stop, desk, rules, input, case)
 }
 
 // The input of a long case.
@@ -119,7 +118,8 @@ fn most_reads(rt: HostRuntime) -> Result<(), Fail> {
     let mut desk = agreed_desk(alloc)?;
     let input = long_input(alloc, &MOST_INPUT)?;
     let case = (MOST_INPUT.0, MOST_INPUT.4, MOST_INPUT.5);
-    expect_slow(alloc, &rt, &mut desk, input.as_slice(), &case)
+    let rules = Precedence::none(alloc);
+    expect_slow(alloc, &rt, &mut desk, &rules, input.as_slice(), &case)
 }
 
 // Ends the test unless this is the reply to the answer.
@@ -249,16 +249,20 @@ fn expect_text<D: Desk>(
     Ok(())
 }
 
+// A desk whose store has a fault replies so to a delivery and to a question.
+fn expect_fault(alloc: Global, stop: &impl Abort, number: usize, kind: &str) -> Result<(), Fail> {
+    let body = format!(in alloc; "{{\"answer\":\"fault\",\"reason\":\"{kind}\"}}")?;
+    let text = reply_by(alloc, "503 Service Unavailable", body.as_str())?;
+    drop(body);
+    let mut desk = BrokenDesk { number };
+    expect_text(alloc, stop, &mut desk, DELIVERY.0, text.as_str())?;
+    expect_text(alloc, stop, &mut desk, NO_NUMBERS.0, text.as_str())
+}
+
 #[test]
 fn faults_of_storage(rt: HostRuntime) -> Result<(), Fail> {
-    let alloc = rt.alloc();
-    for number in 0..FAULT_KINDS.len() {
-        let kind = FAULT_KINDS[number];
-        let body = format!(in alloc; "{{\"answer\":\"fault\",\"reason\":\"{kind}\"}}")?;
-        let text = reply_by(alloc, "503 Service Unavailable", body.as_str())?;
-        let mut desk = BrokenDesk { number };
-        expect_text(alloc, &rt, &mut desk, DELIVERY.0, text.as_str())?;
-        expect_text(alloc, &rt, &mut desk, NO_NUMBERS.0, text.as_str())?;
+    for (number, kind) in FAULT_KINDS.as_slice().iter().enumerate() {
+        expect_fault(rt.alloc(), &rt, number, kind)?;
     }
     Ok(())
 }
@@ -280,36 +284,65 @@ fn cut_reply(given: usize) -> Case {
     }
 }
 
-// Wherever a delivery is cut off, or a read of it fails, nothing is delivered, and after a failed
-// read nothing is written. The whole one then has its reply, also where it comes one byte a read.
+// A delivery that is cut off after these bytes, or of which the next read fails, delivers nothing, and
+// after a failed read nothing is written.
+fn expect_cut<D: Desk>(
+    alloc: Global,
+    stop: &impl Abort,
+    desk: &mut D,
+    rules: &Precedence,
+    begin: &[u8],
+) -> Result<(), Fail> {
+    let given = begin.len();
+    expect_case(alloc, stop, desk, rules, begin, &cut_reply(given))?;
+    let mut reader = FailingReader { rest: begin };
+    let mut written = Vec::new(alloc);
+    let ended = serve_one(alloc, desk, rules, &mut reader, &mut written);
+    let is_read = matches!(&ended, Err(HttpFault::Read));
+    assert!(stop; is_read, "{given}");
+    assert!(stop; written.is_empty(), "{given}");
+    Ok(())
+}
+
+// The delivery cut off after each byte; the whole one then has its reply, also where it comes one byte a
+// read.
+fn expect_each_cut<D: Desk>(
+    alloc: Global,
+    stop: &impl Abort,
+    desk: &mut D,
+    rules: &Precedence,
+) -> Result<(), Fail> {
+    let input = DELIVERY.0.as_bytes();
+    for given in 0..input.len() {
+        expect_cut(alloc, stop, desk, rules, &input[..given])?;
+    }
+    expect_case(
+        alloc,
+        stop,
+        desk,
+        rules,
+        NO_NUMBERS.0.as_bytes(),
+        &NO_NUMBERS,
+    )?;
+    expect_case(alloc, stop, desk, rules, input, &DELIVERY)
+}
+
 #[test]
 fn cut_inputs_and_failing_reads(rt: HostRuntime) -> Result<(), Fail> {
-    let alloc = rt.alloc();
-    let precedence = Precedence::none(alloc);
-    let mut desk = agreed_desk(alloc)?;
-    for given in 0..DELIVERY.0.len() {
-        let begin = &DELIVERY.0.as_bytes()[..given];
-        expect_case(alloc, &rt, &mut desk, begin, &cut_reply(given))?;
-        let mut reader = FailingReader { rest: begin };
-        let mut written = Vec::new(alloc);
-        let ended = serve_one(alloc, &mut desk, &precedence, &mut reader, &mut written);
-        let is_read = matches!(&ended, Err(HttpFault::Read));
-        assert!(rt; is_read, "{given}");
-        assert!(rt; written.is_empty(), "{given}");
-    }
-    expect_case(alloc, &rt, &mut desk, NO_NUMBERS.0.as_bytes(), &NO_NUMBERS)?;
-    expect_case(alloc, &rt, &mut desk, DELIVERY.0.as_bytes(), &DELIVERY)
+    let rules = Precedence::none(rt.alloc());
+    let mut desk = agreed_desk(rt.alloc())?;
+    expect_each_cut(rt.alloc(), &rt, &mut desk, &rules)
 }
 
 // A writer that fails, or takes nothing, after so many bytes has the reply's first bytes.
 fn expect_written(
     alloc: Global,
     stop: &impl Abort,
+    rules: &Precedence,
     taken: usize,
     fails: bool,
     whole: &[u8],
 ) -> Result<(), Fail> {
-    let precedence = Precedence::none(alloc);
     let mut desk = agreed_desk(alloc)?;
     let mut reader = DELIVERY.0.as_bytes();
     let mut writer = FailingWriter {
@@ -317,20 +350,29 @@ fn expect_written(
         fails,
         written: Vec::new(alloc),
     };
-    let ended = serve_one(alloc, &mut desk, &precedence, &mut reader, &mut writer);
+    let ended = serve_one(alloc, &mut desk, rules, &mut reader, &mut writer);
     let is_write = matches!(&ended, Err(HttpFault::Write { status: 200 }));
     assert!(stop; is_write, "{taken}");
     assert_eq!(stop; writer.written.as_slice(), whole, "{taken}");
     // The delivery has had its effect.
-    expect_case(alloc, stop, &mut desk, ONE_NUMBER.0.as_bytes(), &ONE_NUMBER)
+    expect_case(
+        alloc,
+        stop,
+        &mut desk,
+        rules,
+        ONE_NUMBER.0.as_bytes(),
+        &ONE_NUMBER,
+    )
 }
 
 #[test]
 fn failing_writes(rt: HostRuntime) -> Result<(), Fail> {
+    let alloc = rt.alloc();
+    let rules = Precedence::none(alloc);
     for taken in 0..APPLIED.len() {
         let whole = &APPLIED.as_bytes()[..taken];
-        expect_written(rt.alloc(), &rt, taken, true, whole)?;
-        expect_written(rt.alloc(), &rt, taken, false, whole)?;
+        expect_written(alloc, &rt, &rules, taken, true, whole)?;
+        expect_written(alloc, &rt, &rules, taken, false, whole)?;
     }
     Ok(())
 }

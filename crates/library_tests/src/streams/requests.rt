@@ -1,10 +1,9 @@
 // Lists of requests that a desk is asked one after the other.
 
+use crate::desks::{DeskTask, over_memory, over_tables};
 use crate::streams::desks::BrokenDesk;
 use csv_records::reading::RecordReader;
 use desk_batch::request_rows::read_requests;
-use desk_memory::desk::MemoryDesk;
-use desk_store::desk::DeskStore;
 use desk_text::answer_text::write_answer;
 use onix_terms::items::Items;
 use price_rules::precedence::Precedence;
@@ -12,6 +11,7 @@ use series_rules::desk::Desk;
 use series_rules::requests::Request;
 use series_rules::run::ask_all;
 use std::alloc::Global;
+use std::process::Abort;
 use std::test::Fail;
 
 // A number that waits, the one before it, and what is left then.
@@ -43,13 +43,9 @@ fn requests(alloc: Global) -> Result<Items<Request>, Fail> {
 }
 
 // The answers of a desk to these requests, one after the other, and the text of each fault on a line.
-fn answers_of<D: Desk>(
-    alloc: Global,
-    desk: &mut D,
-    requests: &Items<Request>,
-) -> Result<String, Fail> {
+fn answers_of<D: Desk>(alloc: Global, desk: &mut D, requests: &[Request]) -> Result<String, Fail> {
     let mut text = String::new(alloc);
-    let outcomes = ask_all(alloc, desk, &Precedence::none(alloc), requests.as_slice())?;
+    let outcomes = ask_all(alloc, desk, &Precedence::none(alloc), requests)?;
     for outcome in outcomes.as_slice() {
         match outcome {
             Ok(answer) => text.push_str(write_answer(alloc, answer)?.as_str())?,
@@ -59,21 +55,27 @@ fn answers_of<D: Desk>(
     Ok(text)
 }
 
+// All requests as one list, with what is to be answered.
+#[derive(Clone, Copy)]
+struct AllAtOnce<'a> {
+    answers: &'a str,
+}
+
+impl<'a> DeskTask for AllAtOnce<'a> {
+    fn run<D: Desk>(&self, alloc: Global, stop: &impl Abort, desk: &mut D) -> Result<(), Fail> {
+        let requests = requests(alloc)?;
+        let text = answers_of(alloc, desk, requests.as_slice())?;
+        assert_eq!(stop; text.as_str(), self.answers);
+        Ok(())
+    }
+}
+
 #[test]
 fn lists_of_requests(rt: HostRuntime) -> Result<(), Fail> {
     let alloc = rt.alloc();
-    let requests = requests(alloc)?;
-    let mut in_memory = MemoryDesk::new(alloc);
-    let mut in_tables = DeskStore::open_in_memory(alloc)?;
-    let mut broken = BrokenDesk { number: 0 };
-    assert_eq!(&rt;
-        answers_of(alloc, &mut in_memory, &requests)?.as_str(),
-        ANSWERS
-    );
-    assert_eq!(&rt;
-        answers_of(alloc, &mut in_tables, &requests)?.as_str(),
-        ANSWERS
-    );
-    assert_eq!(&rt; answers_of(alloc, &mut broken, &requests)?.as_str(), FAULTS);
-    Ok(())
+    let answered = AllAtOnce { answers: ANSWERS };
+    over_memory(alloc, &rt, &answered)?;
+    over_tables(alloc, &rt, &answered)?;
+    let faults = AllAtOnce { answers: FAULTS };
+    faults.run(alloc, &rt, &mut BrokenDesk { number: 0 })
 }

@@ -107,11 +107,11 @@ fn perform_on<D: Disk + Drop>(
 }
 
 /// Whether the tables in files answer a transcript as it says. What it changes is let go of.
-pub fn files_answer<D: Disk + Drop>(
+pub fn files_answer(
     alloc: Global,
-    files: Files<D>,
+    files: Files<Memory>,
     transcript: &str,
-) -> (Files<D>, Result<bool, StoreFault>) {
+) -> (Files<Memory>, Result<bool, StoreFault>) {
     let (files, answered) = perform_on(alloc, files, Task::Calls(transcript));
     match answered {
         Ok(found) => (files, Ok(found.is_some())),

@@ -1,4 +1,4 @@
-.PHONY: test build
+.PHONY: test wrong-bodies build
 
 # The gate: every proof from nothing, the edits that the prover must refuse, the tests of the libraries,
 # and the program as two compilers build it: 'N passed, M failed'. The program that it built starts at
@@ -7,6 +7,10 @@ test:
 	rt ci
 	@bin/onixdesk --adopt
 	@tests/run
+
+# The wrong bodies that the gate leaves out: the prover must refuse each of them too.
+wrong-bodies:
+	tests/wrong-bodies
 
 # The proved program, crates/onixdesk/out/onixdesk.
 build:

@@ -1,6 +1,6 @@
 // The routes of the desk.
 
-ghost use Rattle.std.specs.Prelude.{◌≡◌, ◌<◌, ◌==◌, ℕ, List, Some, IfOk, OnOk};
+ghost use Rattle.std.specs.Prelude.{◌≡◌, ◌<◌, ◌==◌, [], ℕ, List, Some, IfOk, OnOk};
 ghost use Rattle.std.specs.List.{after_first, before_first};
 ghost use Rattle.desk_routes.specs.Keys.{part_at, route_at, segment_behind};
 ghost use Rattle.desk_routes.specs.Place.{HasSegment, IsPathOf, Place, part_of, path_text, route_of};
@@ -27,17 +27,25 @@ fn add(router: &mut Router<Route>, text: &str, route: Route) -> Result<(), Inser
     router.insert(text, route)
 }
 
+// Adds all routes, to a router that is lent, so that no way out lets go of one.
+fn add_all(router: &mut Router<Route>) -> Result<(), InsertError>
+    ensures { router.old ≡ [] → OnOk result (router.new ≡ table) }
+{
+    add(router, "/messages", Route::Messages)?;
+    add(router, "/articles/{isbn}/price", Route::Price)?;
+    add(router, "/articles/{isbn}/choice", Route::Choice)?;
+    add(router, "/articles/{isbn}/calendar", Route::Calendar)?;
+    add(router, "/series/{name}/gaps", Route::Gaps)?;
+    add(router, "/series/{name}/catalogue", Route::Catalogue)?;
+    Ok(())
+}
+
 /// The routes of the desk.
 pub fn routes(alloc: Global) -> Result<Router<Route>, InsertError>
     ensures { IfOk result (λ router. router ≡ table) }
 {
     let mut router = Router::new(alloc);
-    add(&mut router, "/messages", Route::Messages)?;
-    add(&mut router, "/articles/{isbn}/price", Route::Price)?;
-    add(&mut router, "/articles/{isbn}/choice", Route::Choice)?;
-    add(&mut router, "/articles/{isbn}/calendar", Route::Calendar)?;
-    add(&mut router, "/series/{name}/gaps", Route::Gaps)?;
-    add(&mut router, "/series/{name}/catalogue", Route::Catalogue)?;
+    add_all(&mut router)?;
     Ok(router)
 }
 

@@ -3,7 +3,7 @@ ghost use Rattle.std.specs.Prelude.{◌≡◌, ◌+◌, ◌<◌, ◌^◌, Option
 use onix_terms::code::Code2;
 
 /// How many products of a message did what. Each product is counted once.
-#[derive(Clone, Copy, Debug, PartialEq, Eq)]
+#[derive(Clone, Copy, PartialEq, Eq)]
 pub struct Effect {
     /// Products that added a record or replaced it whole.
     pub replaced: u32,
@@ -18,7 +18,7 @@ pub struct Effect {
 }
 
 /// What a product asks for, by its NotificationType of code list 1.
-#[derive(Clone, Copy, Debug)]
+#[derive(Clone, Copy)]
 pub enum Change {
     /// 01, 02 or 03: the whole record.
     Replace,

@@ -6,7 +6,7 @@ use onix_terms::plain::Plain;
 use std::alloc::AllocError;
 
 /// What a catalogue keeps of a record: the identifiers of the product and its supplies.
-#[derive(Debug, Drop)]
+#[derive(Drop)]
 pub struct Entry {
     pub ids: Items<ProductIdentifier>,
     pub supplies: Items<ProductSupply>,

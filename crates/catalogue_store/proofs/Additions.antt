@@ -11,7 +11,7 @@ use Rattle.desk_rows.specs.declared.rows.RecordRow.{RecordRow}
 use Rattle.desk_rows.specs.RecordChanges.{with_new_record, with_article, with_offer, with_price, with_minimum, with_price_and_minimum}
 use Rattle.desk_rows.specs.RecordRows.{offer_row, price_row, minimum_row}
 use Rattle.desk_rows.specs.Rows.{DeskRows}
-use Rattle.catalogue_rows.specs.EntryRows.{article_rows, detail_rows, price_rows_of, has_minimum}
+use Rattle.catalogue_store.specs.EntryRows.{article_rows, detail_rows, price_rows_of, has_minimum}
 use Rattle.catalogue_store.specs.WrittenRows.{with_articles, with_details, with_identified, with_prices, with_supplies}
 
 -- one more of the first

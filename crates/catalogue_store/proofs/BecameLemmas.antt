@@ -7,9 +7,9 @@ use Rattle.catalogue_rules.specs.declared.entry.Entry.{Entry}
 use Rattle.desk_rows.specs.RecordChanges.{is_record, is_article_of, is_offer_of, is_price_of, is_minimum_of, without_offers, without_record}
 use Rattle.desk_rows.specs.RecordRows.{offer_row, price_row, minimum_row}
 use Rattle.desk_rows.specs.Rows.{DeskRows}
-use Rattle.catalogue_rows.specs.EntryRows.{record_row, article_rows, detail_rows, price_rows_of, has_minimum}
-use Rattle.catalogue_rows.specs.Holding.{Became, HoldsEntry, other_records}
-use Rattle.catalogue_rows.specs.Storable.{AreStorable}
+use Rattle.catalogue_store.specs.EntryRows.{record_row, article_rows, detail_rows, price_rows_of, has_minimum}
+use Rattle.catalogue_store.specs.Holding.{Became, HoldsEntry, other_records}
+use Rattle.catalogue_store.specs.Storable.{AreStorable}
 use Rattle.catalogue_store.specs.WrittenRows.{with_identified, with_supplies}
 use Rattle.catalogue_store.proofs.OwnRows.{none_left, own_after, others_after, own_gone, others_gone, keyed, articles_own, offers_own, prices_own, minimums_own}
 

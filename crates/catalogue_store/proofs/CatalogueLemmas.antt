@@ -19,8 +19,8 @@ use Rattle.catalogue_rules.proofs.Lookups.{equal_maps}
 use Rattle.desk_rows.specs.RecordAnswers.{AreRecordsInOrder, is_record_in}
 use Rattle.desk_rows.specs.Rows.{DeskRows}
 use Rattle.desk_rows.specs.declared.rows.RecordRow.{RecordRow}
-use Rattle.catalogue_rows.specs.EntryRows.{record_row}
-use Rattle.catalogue_rows.specs.Holding.{HoldsCatalogue, HoldsEntry}
+use Rattle.catalogue_store.specs.EntryRows.{record_row}
+use Rattle.catalogue_store.specs.Holding.{HoldsCatalogue, HoldsEntry}
 use Rattle.catalogue_store.specs.ReadRecords.{AreReadOf, IsRecordOf, is_named}
 use Rattle.catalogue_store.proofs.HoldingLemmas.{known_is}
 use Rattle.catalogue_store.proofs.OwnRows.{same_text}

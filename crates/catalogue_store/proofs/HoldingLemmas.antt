@@ -20,9 +20,9 @@ use Rattle.desk_rows.specs.RecordRows.{offer_row, price_row, minimum_row}
 use Rattle.desk_rows.specs.Rows.{DeskRows}
 use Rattle.desk_rows.specs.declared.rows.PriceRow as typed_price
 use Rattle.desk_rows.specs.declared.rows.RecordRow.{RecordRow}
-use Rattle.catalogue_rows.specs.EntryRows.{article_rows, has_minimum}
-use Rattle.catalogue_rows.specs.Holding.{Became, HoldsCatalogue, HoldsEntry, other_catalogues}
-use Rattle.catalogue_rows.specs.Storable.{AreStorable}
+use Rattle.catalogue_store.specs.EntryRows.{article_rows, has_minimum}
+use Rattle.catalogue_store.specs.Holding.{Became, HoldsCatalogue, HoldsEntry, other_catalogues}
+use Rattle.catalogue_store.specs.Storable.{AreStorable}
 use Rattle.catalogue_store.specs.ReadRows.{HasSupplyRows}
 use Rattle.catalogue_store.proofs.OwnRows.{none_left, any_none, spared, apart_keys}
 

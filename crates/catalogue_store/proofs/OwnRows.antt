@@ -13,7 +13,7 @@ use Rattle.onix_rows.specs.declared.parts.ProductSupply.{ProductSupply}
 use Rattle.desk_rows.specs.RecordChanges.{is_article_of, is_offer_of, is_price_of, is_minimum_of}
 use Rattle.desk_rows.specs.RecordRows.{offer_row, price_row, minimum_row}
 use Rattle.desk_rows.specs.declared.rows.PriceRow as typed_price
-use Rattle.catalogue_rows.specs.EntryRows.{article_row, article_rows, detail_row, detail_rows, detail_price_row, detail_price_rows, price_rows_of, supplied_details, has_minimum}
+use Rattle.catalogue_store.specs.EntryRows.{article_row, article_rows, detail_row, detail_rows, detail_price_row, detail_price_rows, price_rows_of, supplied_details, has_minimum}
 
 -- ---- lists
 

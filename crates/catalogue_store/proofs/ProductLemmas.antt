@@ -14,9 +14,9 @@ use Rattle.catalogue_rules.specs.declared.entry.Entry.{Entry}
 use Rattle.catalogue_rules.proofs.Effects.{after-push, effect_from-push}
 use Rattle.desk_rows.specs.Rows.{DeskRows}
 use Rattle.desk_rows.specs.declared.rows.RecordRow.{RecordRow}
-use Rattle.catalogue_rows.specs.EntryRows.{record_row}
-use Rattle.catalogue_rows.specs.Holding.{Became, HoldsCatalogue, HoldsEntry, IsApplied}
-use Rattle.catalogue_rows.specs.Storable.{AreStorable, IsStorableProduct}
+use Rattle.catalogue_store.specs.EntryRows.{record_row}
+use Rattle.catalogue_store.specs.Holding.{Became, HoldsCatalogue, HoldsEntry, IsApplied}
+use Rattle.catalogue_store.specs.Storable.{AreStorable, IsStorableProduct}
 use Rattle.catalogue_store.specs.AppliedProducts.{IsChanged, IsProductApplied}
 use Rattle.catalogue_store.specs.ReadRows.{Finds, IsFound}
 use Rattle.catalogue_store.proofs.Additions.{take_push}

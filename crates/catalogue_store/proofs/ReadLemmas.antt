@@ -12,11 +12,11 @@ use Rattle.desk_rows.specs.Rows.{DeskRows}
 use Rattle.desk_rows.specs.declared.rows.ArticleRow.{ArticleRow}
 use Rattle.desk_rows.specs.declared.rows.OfferRow as typed
 use Rattle.desk_rows.specs.declared.rows.RecordRow.{RecordRow}
-use Rattle.catalogue_rows.specs.EntryRows.{SuppliedDetail, article_rows, detail_rows, detail_price_row, detail_price_rows, supplied_details, supplies_of, detail_row}
-use Rattle.catalogue_rows.specs.HeldLemmas.{held_articles, held_details}
-use Rattle.catalogue_rows.specs.HeldPriceLemmas.{held_prices}
-use Rattle.catalogue_rows.specs.Holding.{HoldsEntry}
-use Rattle.catalogue_rows.specs.Storable.{IsStorable}
+use Rattle.catalogue_store.specs.EntryRows.{SuppliedDetail, article_rows, detail_rows, detail_price_row, detail_price_rows, supplied_details, supplies_of, detail_row}
+use Rattle.catalogue_store.specs.HeldLemmas.{held_articles, held_details}
+use Rattle.catalogue_store.specs.HeldPriceLemmas.{held_prices}
+use Rattle.catalogue_store.specs.Holding.{HoldsEntry}
+use Rattle.catalogue_store.specs.Storable.{IsStorable}
 use Rattle.catalogue_store.specs.ReadRows.{Finds, HasPricesOf, HoldsSupplies, AreReadAs, IsReadAs}
 use Rattle.catalogue_store.proofs.Additions.{take_push}
 use Rattle.std.proofs.lemmas.List.Elements.{All-map}

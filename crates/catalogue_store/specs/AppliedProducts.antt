@@ -9,10 +9,10 @@ use Rattle.catalogue_rules.specs.declared.effect.Effect.{Effect}
 use Rattle.catalogue_rules.specs.declared.entry.Entry.{Entry}
 use Rattle.desk_rows.specs.Rows.{DeskRows}
 use Rattle.desk_rows.specs.declared.rows.RecordRow.{RecordRow}
-use Rattle.catalogue_rows.specs.Holding.{Became, HoldsCatalogue, HoldsEntry, other_catalogues}
-use Rattle.catalogue_rows.specs.Storable.{IsStorableProduct}
+use Rattle.catalogue_store.specs.Holding.{Became, HoldsCatalogue, HoldsEntry, other_catalogues}
+use Rattle.catalogue_store.specs.Storable.{IsStorableProduct}
 use Rattle.catalogue_store.specs.ReadRows.{IsFound}
-use Rattle.catalogue_rows.specs.Minimums.{HasNoMinimums}
+use Rattle.catalogue_store.specs.Minimums.{HasNoMinimums}
 
 -- the record, of which that was found, became what the product asks for
 abbrev pub IsChanged : Change → RecordRow → Product → Option Bool → DeskRows → DeskRows → Type 0

@@ -6,7 +6,7 @@ use Rattle.std.specs.Str.{bytes_eq}
 use Rattle.catalogue_rules.specs.Records.{ByReference}
 use Rattle.desk_rows.specs.Rows.{DeskRows}
 use Rattle.desk_rows.specs.declared.rows.RecordRow.{RecordRow}
-use Rattle.catalogue_rows.specs.Holding.{HoldsCatalogue}
+use Rattle.catalogue_store.specs.Holding.{HoldsCatalogue}
 
 -- a record of the series that the catalogue has
 pub record IsRecordOf (series : List ℕ) (m : ByReference) (row : RecordRow) : Type 0 where

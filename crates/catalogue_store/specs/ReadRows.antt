@@ -10,8 +10,8 @@ use Rattle.desk_rows.specs.RecordChanges.{has_minimums_of}
 use Rattle.desk_rows.specs.Rows.{DeskRows}
 use Rattle.desk_rows.specs.declared.rows.OfferRow as typed
 use Rattle.desk_rows.specs.declared.rows.RecordRow.{RecordRow}
-use Rattle.catalogue_rows.specs.EntryRows.{article_rows, detail_rows, price_rows_of, ids_of, supplies_of}
-use Rattle.catalogue_rows.specs.Holding.{HoldsEntry}
+use Rattle.catalogue_store.specs.EntryRows.{article_rows, detail_rows, price_rows_of, ids_of, supplies_of}
+use Rattle.catalogue_store.specs.Holding.{HoldsEntry}
 use Rattle.std.specs.List.{All}
 
 -- the prices are those of the SupplyDetail of that row

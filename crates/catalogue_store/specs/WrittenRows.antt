@@ -9,7 +9,7 @@ use Rattle.desk_rows.specs.declared.rows.RecordRow.{RecordRow}
 use Rattle.desk_rows.specs.RecordChanges.{with_new_record}
 use Rattle.desk_rows.specs.RecordRows.{offer_row, price_row, minimum_row}
 use Rattle.desk_rows.specs.Rows.{DeskRows}
-use Rattle.catalogue_rows.specs.EntryRows.{article_rows, detail_rows, price_rows_of, has_minimum}
+use Rattle.catalogue_store.specs.EntryRows.{article_rows, detail_rows, price_rows_of, has_minimum}
 
 abbrev pub with_articles : List ArticleRow → DeskRows → DeskRows
 with_articles added rows = record rows { articles = rows.articles ++ added }

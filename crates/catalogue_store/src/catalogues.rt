@@ -3,7 +3,7 @@
 ghost use Rattle.std.specs.Prelude.{◌≡◌};
 ghost use Rattle.sqlite.specs.Held.{state};
 ghost use Rattle.catalogue_rules.specs.Records.{ByReference};
-ghost use Rattle.catalogue_rows.specs.Holding.{HoldsCatalogue};
+ghost use Rattle.catalogue_store.specs.Holding.{HoldsCatalogue};
 ghost use Rattle.catalogue_store.specs.Achieves.{Achieves};
 ghost use Rattle.catalogue_store.specs.ReadRecords.{AreReadOf};
 

@@ -5,14 +5,14 @@ ghost use Rattle.std.specs.List.{AllZip};
 ghost use Rattle.sqlite.specs.Held.{state};
 ghost use Rattle.catalogue_rules.specs.Records.{HasFewDetails};
 ghost use Rattle.catalogue_rules.specs.declared.entry.Entry.{Entry as TheEntry};
-ghost use Rattle.catalogue_rows.specs.Holding.{HoldsEntry};
+ghost use Rattle.catalogue_store.specs.Holding.{HoldsEntry};
 ghost use Rattle.catalogue_store.specs.Achieves.{Achieves};
 ghost use Rattle.catalogue_store.specs.ReadRows.{AreReadAs, Finds, HasPricesOf, HoldsSupplies, IsReadAs};
 ghost use Rattle.desk_rows.specs.RecordChanges.{has_minimums_of};
 
-use catalogue_rows::assemble::entry_of;
-use catalogue_rows::build::{article_rows, detail_rows};
-use catalogue_rows::same::{same_articles, same_detail_prices, same_details};
+use crate::assemble::entry_of;
+use crate::build::{article_rows, detail_rows};
+use crate::same::{same_articles, same_detail_prices, same_details};
 use catalogue_rules::entry::Entry;
 use desk_rows::rows::{OfferRow, RecordRow};
 use desk_tables::work::Work;

@@ -3,12 +3,12 @@
 ghost use Rattle.std.specs.Prelude.{◌≡◌, ◌≢◌, [], Some, None};
 ghost use Rattle.sqlite.specs.Held.{state};
 ghost use Rattle.catalogue_rules.specs.declared.entry.Entry.{Entry};
-ghost use Rattle.catalogue_rows.specs.Holding.{Became, HoldsEntry};
-ghost use Rattle.catalogue_rows.specs.Storable.{AreStorable};
+ghost use Rattle.catalogue_store.specs.Holding.{Became, HoldsEntry};
+ghost use Rattle.catalogue_store.specs.Storable.{AreStorable};
 ghost use Rattle.catalogue_store.specs.Achieves.{Achieves};
 ghost use Rattle.catalogue_store.specs.WrittenRows.{with_articles, with_details, with_identified, with_prices, with_supplies};
 
-use catalogue_rows::build::{article_rows, detail_rows, price_rows};
+use crate::build::{article_rows, detail_rows, price_rows};
 use desk_rows::rows::{ArticleRow, OfferRow, PriceRow, RecordRow};
 use desk_tables::work::Work;
 use onix_message::agreement::StoreFault;

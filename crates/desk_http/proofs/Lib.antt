@@ -10,3 +10,8 @@ pub mod PostedLemmas
 pub mod RefusalLemmas
 pub mod SizeLemmas
 pub mod Statuses
+pub mod InsertLemmas
+pub mod PlaceLemmas
+pub mod SegmentLemmas
+pub mod TableLemmas
+pub mod WalkLemmas

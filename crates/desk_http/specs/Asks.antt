@@ -7,10 +7,10 @@ use Rattle.desk_http.specs.declared.fault.InputFault.{InputFault}
 use Rattle.desk_http.specs.declared.fault.InputFault.TheVariants as fault
 use Rattle.desk_http.specs.declared.refusal.Refusal.{Refusal}
 use Rattle.desk_http.specs.declared.refusal.Refusal.TheVariants as refusal
-use Rattle.desk_routes.specs.declared.routes.Route.{Route}
-use Rattle.desk_routes.specs.declared.routes.Route.TheVariants as route
+use Rattle.desk_http.specs.declared.routes.Route.{Route}
+use Rattle.desk_http.specs.declared.routes.Route.TheVariants as route
 use Rattle.desk_http.specs.Head.{HasHead, IsRefused}
-use Rattle.desk_routes.specs.Keys.{part_at}
+use Rattle.desk_http.specs.Keys.{part_at}
 use Rattle.desk_http.specs.Posted.{records_posted}
 use Rattle.desk_http.specs.Questions.{calendar_asked, prices_asked, series_asked}
 use Rattle.desk_http.specs.Routing.{path_of, query_of, route_asked}

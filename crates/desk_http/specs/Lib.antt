@@ -14,3 +14,6 @@ pub mod Reply
 pub mod Routing
 pub mod Steps
 pub mod Writing
+pub mod Keys
+pub mod Place
+pub mod Table

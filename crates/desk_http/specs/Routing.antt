@@ -6,10 +6,10 @@ use Rattle.desk_http.specs.declared.refusal.Refusal.{Refusal}
 use Rattle.desk_http.specs.declared.refusal.Refusal.TheVariants as refusal
 use Rattle.desk_http.specs.declared.refusal.Method.{Method}
 use Rattle.desk_http.specs.declared.refusal.Method.TheVariants as method
-use Rattle.desk_routes.specs.declared.routes.Route.{Route}
-use Rattle.desk_routes.specs.declared.routes.Route.TheVariants as route
+use Rattle.desk_http.specs.declared.routes.Route.{Route}
+use Rattle.desk_http.specs.declared.routes.Route.TheVariants as route
 use Rattle.desk_http.specs.Fields.{field_values}
-use Rattle.desk_routes.specs.Keys.{route_at}
+use Rattle.desk_http.specs.Keys.{route_at}
 use Rattle.desk_http.specs.Steps.{◌>>=◌, or_refuse}
 
 -- the path of a target: what stands before the first question mark

@@ -8,7 +8,7 @@ use std::alloc::{AllocError, AllocFailed};
 use std::io;
 
 /// Why an input has no request that can be asked.
-#[derive(Debug, Drop)]
+#[derive(Drop)]
 pub(crate) enum InputFault {
     /// It is refused.
     Refused(Refusal),

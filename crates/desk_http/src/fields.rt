@@ -14,7 +14,7 @@ use httparse::spans::HeaderSpan;
 use onix_terms::ascii::are_digits;
 
 /// More than one field has the name.
-#[derive(Clone, Copy, Debug)]
+#[derive(Clone, Copy)]
 pub(crate) struct Repeated;
 
 fn is_named(name: &[u8], wanted: &[u8]) -> bool

@@ -3,8 +3,9 @@
 //! answer.
 //!
 //! `specs/Asks.antt` says what the bytes of a connection ask for. Its parts: `Head` (the head among
-//! the bytes, or why there is none), `Routing` over the paths of `desk_routes` (the path and the
-//! method), `Posted` over `Fields` (the body of a POST), `Questions` over `Query` (what a GET asks).
+//! the bytes, or why there is none), `Routing` over `Place`, `Table` and `Keys` (the path and the
+//! method: which paths there are and where each leads, the table of the router of `matchit`, and what
+//! it finds), `Posted` over `Fields` (the body of a POST), `Questions` over `Query` (what a GET asks).
 //! `AnswerReply` and `Refusals` say what is replied, `Reply` has the text of a reply, and `Exchange`
 //! puts both together. `laws` has what these definitions come to.
 //!
@@ -27,6 +28,7 @@ mod reading;
 pub mod refusal;
 pub mod reply;
 mod request;
+pub mod routes;
 mod routing;
 mod scan;
 pub mod serve;

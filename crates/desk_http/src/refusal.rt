@@ -1,7 +1,7 @@
 // Why a request is refused before the desk is asked.
 
 /// The method that a path takes.
-#[derive(Clone, Copy, Debug, PartialEq, Eq)]
+#[derive(Clone, Copy, PartialEq, Eq)]
 pub enum Method {
     /// The path is asked a question.
     Get,
@@ -11,7 +11,7 @@ pub enum Method {
 
 /// Why a request is refused before the desk is asked. Of those that apply to a request the first
 /// one is its refusal.
-#[derive(Clone, Copy, Debug, PartialEq, Eq)]
+#[derive(Clone, Copy, PartialEq, Eq)]
 pub enum Refusal {
     /// No head ends in the first 16,384 bytes, and behind line ends at their start these are one
     /// line without an end, or nothing.

@@ -9,7 +9,7 @@ use onix_terms::text::Text;
 use sqlite::Row;
 
 /// How many products of a message did what.
-#[derive(Clone, Copy, Debug, PartialEq, Eq)]
+#[derive(Clone, Copy, PartialEq, Eq)]
 pub struct EffectRow {
     /// Records added or replaced whole.
     pub replaced: u32,

@@ -7,7 +7,7 @@ use onix_terms::territory::Territory;
 use onix_terms::text::Text;
 
 /// A row of `record`: a record of the catalogue of a series, by its RecordReference.
-#[derive(Debug, Drop)]
+#[derive(Drop)]
 pub struct RecordRow {
     pub series: SeriesName,
     pub reference: Text,
@@ -30,7 +30,7 @@ impl PartialEq for RecordRow {
 }
 
 /// A row of `article`: one identifier of a record.
-#[derive(Debug, Drop)]
+#[derive(Drop)]
 pub struct ArticleRow {
     pub series: SeriesName,
     pub reference: Text,
@@ -41,7 +41,7 @@ pub struct ArticleRow {
 }
 
 /// A row of `offer`: one SupplyDetail of a record, with the market of its ProductSupply.
-#[derive(Debug, Drop)]
+#[derive(Drop)]
 pub struct OfferRow {
     pub series: SeriesName,
     pub reference: Text,
@@ -57,7 +57,7 @@ pub struct OfferRow {
 
 /// A row of `price`, with its minimum, which `price_minimum` has where it is above 1: one Price of
 /// an offer.
-#[derive(Debug, Drop)]
+#[derive(Drop)]
 pub struct PriceRow {
     pub series: SeriesName,
     pub reference: Text,
@@ -69,7 +69,7 @@ pub struct PriceRow {
 }
 
 /// A row of `price_minimum`: from how many copies on a price holds, where that is above 1.
-#[derive(Debug, Drop)]
+#[derive(Drop)]
 pub struct MinimumRow {
     pub series: SeriesName,
     pub reference: Text,

@@ -10,7 +10,7 @@ use onix_message::agreement::{Agreement, StoreFault};
 use sqlite::Row;
 
 /// An agreement, with the number of its series that is applied next.
-#[derive(Debug, Drop, PartialEq, Eq)]
+#[derive(Drop, PartialEq, Eq)]
 pub struct SeriesRow {
     pub agreement: Agreement,
     pub next: u32,

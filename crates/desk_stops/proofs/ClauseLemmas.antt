@@ -22,8 +22,8 @@ use Rattle.price_rules.specs.declared.precedence.Rule.{Rule}
 use Rattle.series_rules.specs.Answers.{answer_to}
 use Rattle.series_rules.specs.declared.answers.Answer.{Answer}
 use Rattle.series_rules.specs.declared.requests.Request.{Request}
-use Rattle.store_rows.specs.ContentLemmas.{keeps_by_content}
-use Rattle.store_rows.specs.Desks.{AreRowsOf, IsAsked, IsQuestioned, KeepsRequests, changes}
+use Rattle.desk_store.specs.ContentLemmas.{keeps_by_content}
+use Rattle.desk_store.specs.Desks.{AreRowsOf, IsAsked, IsQuestioned, KeepsRequests, changes}
 use Rattle.desk_store.specs.Openings.{HoldRowsOf, IsReady, ShowsOnly}
 use Rattle.desk_store.specs.Openings as openings
 use Rattle.desk_stops.specs.Connections.{is_question, storage}

@@ -18,8 +18,8 @@ use Rattle.series_rules.specs.Firsts.{Placement, admitted, first_at}
 use Rattle.series_rules.specs.declared.requests.Request.{Request}
 use Rattle.series_rules.specs.declared.requests.Request.TheVariants.{Agree, Deliver, Waive, AskPrice, AskChoice, AskCalendar, AskGaps, AskCatalogue, Malformed}
 use Rattle.series_rules.specs.declared.requests.Standing.{Standing}
-use Rattle.store_rows.specs.ContentLemmas.{stands_by_content}
-use Rattle.store_rows.specs.Desks.{AreRowsOf, changes, puts_something}
+use Rattle.desk_store.specs.ContentLemmas.{stands_by_content}
+use Rattle.desk_store.specs.Desks.{AreRowsOf, changes, puts_something}
 use Rattle.desk_stops.specs.Connections.{EmptyHoldsNoRows, is_question, storage}
 use Rattle.desk_stops.specs.Runs.{AreLawful}
 

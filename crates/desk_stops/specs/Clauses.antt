@@ -32,7 +32,7 @@ use Rattle.series_rules.specs.declared.answers.GapReport.{GapReport}
 use Rattle.series_rules.specs.declared.answers.WaiveAnswer.{WaiveAnswer}
 use Rattle.series_rules.specs.declared.requests.Request.{Request}
 use Rattle.series_rules.specs.declared.requests.Request.TheVariants.{Agree, Deliver, Waive, AskPrice, AskChoice, AskCalendar, AskGaps, AskCatalogue}
-use Rattle.store_rows.specs.Desks.{AreRowsOf, IsAsked, IsQuestioned, KeepsRequests}
+use Rattle.desk_store.specs.Desks.{AreRowsOf, IsAsked, IsQuestioned, KeepsRequests}
 use Rattle.desk_store.specs.Openings.{AreFilesOf, HoldRowsOf, IsReady}
 use Rattle.desk_store.specs.declared.opening.OpenFault.{OpenFault}
 use Rattle.desk_stops.specs.Connections.{is_question, storage}

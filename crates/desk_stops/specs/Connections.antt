@@ -13,7 +13,7 @@ use Rattle.series_rules.specs.Content.{SameContent}
 use Rattle.series_rules.specs.declared.answers.Answer.{Answer}
 use Rattle.series_rules.specs.declared.requests.Request.{Request}
 use Rattle.series_rules.specs.declared.requests.Request.TheVariants.{Agree, Deliver, Waive}
-use Rattle.store_rows.specs.Desks.{AreRowsOf, KeepsRequests, changes}
+use Rattle.desk_store.specs.Desks.{AreRowsOf, KeepsRequests, changes}
 use Rattle.desk_stops.specs.Runs.{Storage}
 
 -- the request is no agreement, no delivery and no waiver

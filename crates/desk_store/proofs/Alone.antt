@@ -7,8 +7,8 @@ use Rattle.onix_rows.specs.declared.parts.Product.{Product}
 use Rattle.series_rules.specs.Answers.{delivery_answer}
 use Rattle.series_rules.specs.declared.answers.DeliveryAnswer.TheVariants as delivery
 use Rattle.series_rules.specs.declared.requests.Request.TheVariants.{Deliver}
-use Rattle.store_rows.specs.Desks.{IsAsked}
-use Rattle.store_rows.proofs.RequestRows.{stands_left}
+use Rattle.desk_store.specs.Desks.{IsAsked}
+use Rattle.desk_store.proofs.RequestRows.{stands_left}
 use Rattle.desk_store.proofs.Transactions.{asked_alone}
 
 pub delivers_malformed : (records : List (List (List ℕ))) (row : ℕ) (s : State) → message_of records ≡ None → row ≡ bad_row records → IsAsked (Deliver records) (λ L. delivery_answer L records) s s (Ok (delivery.Malformed row))

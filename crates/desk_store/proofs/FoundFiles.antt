@@ -14,7 +14,7 @@ use Rattle.desk_rows.specs.Rows.{DeskRows, Holds, HoldsFirst}
 use Rattle.desk_rows.specs.Schema.{schema_0}
 use Rattle.desk_rows.specs.Transactions.{IsEmptied}
 use Rattle.series_rules.specs.declared.requests.Request.{Request}
-use Rattle.store_rows.specs.Desks.{AreRowsOf, KeepsRequests}
+use Rattle.desk_store.specs.Desks.{AreRowsOf, KeepsRequests}
 use Rattle.desk_store.specs.Migrations.{AreFilesOfEither, IsOfRequests, IsTrueAnswer}
 use Rattle.desk_store.specs.Openings.{AreEmptyFiles, AreFilesOf, AreFilesWith, HasNoMeta, HoldRowsOf, HoldsAny, IsFoundFor, IsReady, LeavesOne, ShowsOnly, TellsFiles, TellsFound}
 use Rattle.desk_store.specs.declared.migrating.MigrateAnswer.{MigrateAnswer}

@@ -11,15 +11,15 @@ use Rattle.sqlite.specs.Effect.{Database}
 use Rattle.sqlite.specs.State.{State, HasCleanDisk}
 use Rattle.sqlite_trees.specs.Tree.{Trees}
 use Rattle.catalogue_rules.specs.declared.entry.Entry.{Entry}
-use Rattle.catalogue_rows.specs.Holding.{HoldsCatalogue, HoldsEntry}
+use Rattle.catalogue_store.specs.Holding.{HoldsCatalogue, HoldsEntry}
 use Rattle.desk_rows.specs.Rows.{DeskRows, Holds, first_rows, version_in}
 use Rattle.desk_rows.specs.Schema.{is_meta, schema_0}
 use Rattle.desk_rows.specs.Transactions.{IsEmptied}
 use Rattle.onix_message.specs.declared.agreement.StoreFault.{StoreFault}
 use Rattle.series_rules.specs.declared.requests.Request.{Request}
-use Rattle.store_rows.specs.Desks.{AreRowsOf, HoldsRequests, KeepsRequests}
+use Rattle.desk_store.specs.Desks.{AreRowsOf, HoldsRequests, KeepsRequests}
 use Rattle.desk_store.specs.Openings.{HasNoMeta, IsCreated, IsFaultFor, IsFoundFor, IsKnown, IsReady, IsVersionRead, LeavesOne, ShowsOnly, StaysShown, TellsFound}
-use Rattle.store_rows.specs.Stands.{StandsFor}
+use Rattle.desk_store.specs.Stands.{StandsFor}
 use Rattle.desk_store.specs.declared.opening.OpenFault.{OpenFault}
 use Rattle.desk_store.specs.declared.opening.OpenFault.TheVariants.{Store, OtherVersion}
 

@@ -4,3 +4,22 @@ mod FoundTables
 mod FoundFiles
 mod MigratedTables
 mod MadeTables
+pub mod Lookups
+pub mod CatalogueRows
+pub mod Folds
+pub mod Steps
+pub mod OneText
+pub mod Cuts
+pub mod RequestRows
+pub mod Applied
+pub mod NumberValues
+pub mod Fronts
+pub mod Again
+pub mod Answered
+pub mod Found
+pub mod Agreed
+pub mod QuestionRows
+pub mod GapRows
+pub mod FirstForm
+pub mod FirstEntries
+pub mod NoMinimums

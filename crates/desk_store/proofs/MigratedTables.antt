@@ -10,7 +10,7 @@ use Rattle.desk_rows.specs.Schema.{is_meta, schema_0}
 use Rattle.desk_rows.specs.Transactions.{IsEmptied}
 use Rattle.onix_message.specs.declared.agreement.StoreFault.{StoreFault}
 use Rattle.series_rules.specs.declared.requests.Request.{Request}
-use Rattle.store_rows.specs.Desks.{AreRowsOf, HoldsRequests}
+use Rattle.desk_store.specs.Desks.{AreRowsOf, HoldsRequests}
 use Rattle.desk_store.specs.Migrations.{HoldsFirstRequests, IsMigrated, IsMigrateFaultFor, IsOfRequests}
 use Rattle.desk_store.specs.Openings.{HasNoMeta, HoldsAny, IsCreated, IsFoundFor, IsKnown, IsReady, IsVersionRead, MakesAll, ShowsOnly, StaysShown}
 use Rattle.desk_store.specs.declared.migrating.MigrateAnswer.TheVariants.{Migrated, AlreadyTwo}

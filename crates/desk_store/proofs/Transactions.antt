@@ -9,8 +9,8 @@ use Rattle.desk_rows.specs.Schema.{desk_schema}
 use Rattle.desk_rows.specs.Transactions.{BeginsWork, EndsWork, HasOtherSchema, IsUndone, LeavesOnly, NoTrees}
 use Rattle.onix_message.specs.declared.agreement.StoreFault.{StoreFault}
 use Rattle.series_rules.specs.declared.requests.Request.{Request}
-use Rattle.store_rows.specs.Desks.{Answers, AreRowsOf, HoldsRequests, IsAsked, IsQuestioned, KeepsRequests, Tells, changes}
-use Rattle.store_rows.specs.Stands.{StandsFor}
+use Rattle.desk_store.specs.Desks.{Answers, AreRowsOf, HoldsRequests, IsAsked, IsQuestioned, KeepsRequests, Tells, changes}
+use Rattle.desk_store.specs.Stands.{StandsFor}
 
 -- ---- begun
 

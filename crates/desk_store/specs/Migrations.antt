@@ -9,9 +9,9 @@ use Rattle.desk_rows.specs.Rows.{DeskRows, HoldsFirst, version_in, with_version}
 use Rattle.desk_rows.specs.Schema.{schema_0}
 use Rattle.desk_rows.specs.Transactions.{IsEmptied}
 use Rattle.series_rules.specs.declared.requests.Request.{Request}
-use Rattle.store_rows.specs.Desks.{AreRowsOf, KeepsRequests}
+use Rattle.desk_store.specs.Desks.{AreRowsOf, KeepsRequests}
 use Rattle.desk_store.specs.Openings.{AreFilesOf, HasNoMeta, HoldsAny, IsFoundFor, ShowsOnly, StaysShown, TellsFound}
-use Rattle.store_rows.specs.Stands.{StandsFor}
+use Rattle.desk_store.specs.Stands.{StandsFor}
 use Rattle.desk_store.specs.declared.migrating.MigrateAnswer.{MigrateAnswer}
 use Rattle.desk_store.specs.declared.migrating.MigrateAnswer.TheVariants.{Migrated, AlreadyTwo}
 use Rattle.desk_store.specs.declared.opening.OpenFault.{OpenFault}

@@ -14,7 +14,7 @@ use Rattle.desk_rows.specs.Schema.{is_meta, schema_0}
 use Rattle.desk_rows.specs.Transactions.{IsEmptied, LeavesOnly}
 use Rattle.onix_message.specs.declared.agreement.StoreFault.{StoreFault}
 use Rattle.series_rules.specs.declared.requests.Request.{Request}
-use Rattle.store_rows.specs.Desks.{AreRowsOf, HoldsRequests, KeepsRequests}
+use Rattle.desk_store.specs.Desks.{AreRowsOf, HoldsRequests, KeepsRequests}
 use Rattle.desk_store.specs.declared.opening.OpenFault.{OpenFault}
 use Rattle.desk_store.specs.declared.opening.OpenFault.TheVariants.{Store, OtherVersion}
 

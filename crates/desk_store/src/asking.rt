@@ -3,7 +3,7 @@
 ghost use Rattle.std.specs.Prelude.{◌≡◌, ℕ, List, Some};
 ghost use Rattle.sqlite.specs.Held.{state};
 ghost use Rattle.onix_message.specs.Message.{message_of};
-ghost use Rattle.store_rows.specs.Desks.{IsAsked};
+ghost use Rattle.desk_store.specs.Desks.{IsAsked};
 ghost use Rattle.series_rules.specs.Answers.{agree_answer, delivery_answer, waive_answer};
 ghost use Rattle.series_rules.specs.declared.requests.Request.{Request};
 

@@ -8,7 +8,7 @@ ghost use Rattle.sqlite.specs.Steps.{over_memory};
 ghost use Rattle.sqlite_trees.specs.Tree.{Trees};
 ghost use Rattle.sqlite_wal.specs.Files.{image_at};
 ghost use Rattle.sqlite_wal.specs.Reads.{AreClean};
-ghost use Rattle.store_rows.specs.Desks.{AreRowsOf, IsAsked, IsQuestioned, KeepsRequests};
+ghost use Rattle.desk_store.specs.Desks.{AreRowsOf, IsAsked, IsQuestioned, KeepsRequests};
 ghost use Rattle.desk_store.specs.Openings.{AreFilesOf, HasNoMeta, HoldRowsOf, IsFaultFor, IsOther, IsReady, LeavesOne, ShowsOnly, TellsFiles, TellsFound, left_in};
 ghost use Rattle.series_rules.specs.Answers.{agree_answer, catalogue_answer, delivery_answer, gaps_answer, waive_answer};
 ghost use Rattle.series_rules.specs.Offers.{offers_after};
@@ -178,8 +178,8 @@ impl<S: Alter> Desk for DeskStore<S> {
     ghost use Rattle.std.specs.Prelude.{⊤};
     ghost use Rattle.sqlite.specs.Held.{state};
     ghost use Rattle.sqlite.specs.State.{HasCleanDisk};
-    ghost use Rattle.store_rows.specs.Desks.{KeepsRequests};
-    ghost use Rattle.store_rows.specs.ContentLemmas.{keeps_by_content};
+    ghost use Rattle.desk_store.specs.Desks.{KeepsRequests};
+    ghost use Rattle.desk_store.specs.ContentLemmas.{keeps_by_content};
 
     ghost is_sound = { λ d. HasCleanDisk (state S.Store d.tables.connection) };
 

@@ -3,8 +3,11 @@
 ghost use Rattle.std.specs.Prelude.{◌≡◌};
 ghost use Rattle.sqlite.specs.Held.{state};
 ghost use Rattle.catalogue_store.specs.Achieves.{Achieves};
-ghost use Rattle.store_rows.specs.Changes.{Applies, AppliesAt, AppliesText, Drains, DrainsOne, PutsNew};
+ghost use Rattle.desk_store.specs.Changes.{Applies, AppliesAt, AppliesText, Drains, DrainsOne, PutsNew};
 
+use crate::effects::row_of;
+use crate::laws::one_standing_text;
+use crate::standings::read_standing;
 use catalogue_rules::effect::Effect;
 use catalogue_store::messages::apply_message;
 use desk_rows::applied::EffectRow;
@@ -15,9 +18,6 @@ use onix_terms::series_name::SeriesName;
 use series_rules::requests::Standing;
 use sqlite::Alter;
 use std::alloc::Global;
-use store_rows::effects::row_of;
-use store_rows::laws::one_standing_text;
-use store_rows::standings::read_standing;
 
 // Applies what stands at a number to the catalogue of the series. A waiver changes nothing.
 fn apply_standing<S: Alter>(

@@ -1,18 +1,29 @@
 //! The desk in a SQLite file.
 //!
-//! It stands on `desk_tables` for the statements, on `catalogue_store` for the catalogues, on
-//! `series_rules` for the answers, and on `store_rows` for what the tables hold for a list of requests
-//! and what a desk in tables promises. `specs/Openings` says what comes of opening files, and
-//! `Migrations` of bringing them to version 2. `drain` applies what stands at a number and what is held
-//! from there on; `numbers` answers what comes at a number of a series; `requests` does a request in a
-//! transaction, and `asking` begins and ends it; `questions` asks.
+//! It stands on `desk_tables` for the statements, on `catalogue_store` for the catalogues and on
+//! `series_rules` for the answers.
+//!
+//! What the tables hold for a list of requests: `specs/Texts` says what they keep of what stands at a
+//! number; `Stands` what it is for the tables to be what a list of requests comes to; `Changes` what
+//! the statements of a request come to; `Desks` what a desk in tables promises, and what a crash may
+//! leave of it; `FirstForm` which tables lists of messages of form 1 come to; `Openings` what comes of
+//! opening files, and `Migrations` of bringing them to version 2. `effects` and `standings` turn what
+//! the tables keep into what stands and what it did, and back; `laws` has what these definitions come
+//! to.
+//!
+//! The calls: `drain` applies what stands at a number and what is held from there on; `numbers`
+//! answers what comes at a number of a series; `requests` does a request in a transaction, and
+//! `asking` begins and ends it; `questions` asks; `opening`, `migrating` and `desk` are the desk.
 #![tactic(auto)]
 
 mod asking;
 pub mod desk;
 mod drain;
+pub mod effects;
+pub mod laws;
 pub mod migrating;
 mod numbers;
 pub mod opening;
 mod questions;
 mod requests;
+pub mod standings;

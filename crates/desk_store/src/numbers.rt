@@ -3,10 +3,13 @@
 ghost use Rattle.std.specs.Prelude.{◌≡◌};
 ghost use Rattle.sqlite.specs.Held.{state};
 ghost use Rattle.catalogue_store.specs.Achieves.{Achieves};
-ghost use Rattle.store_rows.specs.Changes.{AnswersAgain, DeliversAt, Places, PutsAndPlaces, WaivesAt};
-ghost use Rattle.store_rows.specs.Stands.{stored_text};
+ghost use Rattle.desk_store.specs.Changes.{AnswersAgain, DeliversAt, Places, PutsAndPlaces, WaivesAt};
+ghost use Rattle.desk_store.specs.Stands.{stored_text};
 
 use crate::drain::put_new;
+use crate::effects::effect_of;
+use crate::laws::one_standing_text;
+use crate::standings::is_waived;
 use desk_tables::work::Work;
 use onix_message::agreement::StoreFault;
 use onix_message::contents::{Contents, write_contents};
@@ -17,9 +20,6 @@ use series_rules::answers::{DeliveryAnswer, WaiveAnswer};
 use series_rules::requests::Standing;
 use sqlite::Alter;
 use std::alloc::Global;
-use store_rows::effects::effect_of;
-use store_rows::laws::one_standing_text;
-use store_rows::standings::is_waived;
 
 // The text of what stands at a number, or `None`.
 fn stored_at<S: Alter>(

@@ -3,7 +3,7 @@
 ghost use Rattle.std.specs.Prelude.{◌≡◌, IfOk, IsTrue};
 ghost use Rattle.sqlite.specs.Held.{state};
 ghost use Rattle.catalogue_store.specs.Achieves.{Achieves};
-ghost use Rattle.store_rows.specs.Desks.{IsQuestioned, Reports, Tells};
+ghost use Rattle.desk_store.specs.Desks.{IsQuestioned, Reports, Tells};
 ghost use Rattle.series_rules.specs.Answers.{catalogue_answer, gaps_answer};
 ghost use Rattle.series_rules.specs.Gaps.{AreRisingFrom};
 ghost use Rattle.series_rules.specs.Offers.{offers_after};

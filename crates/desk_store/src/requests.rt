@@ -3,7 +3,7 @@
 ghost use Rattle.std.specs.Prelude.{◌≡◌, List, Some, ℕ, if◌then◌else◌};
 ghost use Rattle.sqlite.specs.Held.{state};
 ghost use Rattle.catalogue_store.specs.Achieves.{Achieves};
-ghost use Rattle.store_rows.specs.Desks.{Answers};
+ghost use Rattle.desk_store.specs.Desks.{Answers};
 ghost use Rattle.onix_message.specs.Message.{message_of};
 ghost use Rattle.series_rules.specs.Answers.{agree_answer, delivery_answer, same_agreement, waive_answer};
 ghost use Rattle.series_rules.specs.declared.requests.Request.{Request};

@@ -8,7 +8,7 @@ use thiserror::Error;
 
 /// What a shop and a wholesaler agreed: messages between these parties are one series with a
 /// name, numbered from a first number on.
-#[derive(Clone, Debug, Drop, PartialEq, Eq)]
+#[derive(Clone, Drop, PartialEq, Eq)]
 pub struct Agreement {
     pub name: SeriesName,
     pub sender: Party,

@@ -145,7 +145,7 @@ pub fn read_contents(alloc: Global, text: &str) -> Result<Contents, ContentsFaul
 
 /// The products of a message, with the defaults of its header filled in. Contracts see them as
 /// a list.
-#[derive(Debug, Drop)]
+#[derive(Drop)]
 pub struct Contents {
     products: Items<Product>,
 }

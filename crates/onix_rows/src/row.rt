@@ -6,21 +6,21 @@ use crate::parts::{Header, Price, Product, ProductSupply, SupplyDetail};
 use std::alloc::AllocError;
 
 /// The form of a message, which its first record names.
-#[derive(Clone, Copy, Debug, PartialEq, Eq)]
+#[derive(Clone, Copy, PartialEq, Eq)]
 pub enum Form {
     One,
     Two,
 }
 
 /// What the first record of a message says: its form and its header.
-#[derive(Debug, Drop)]
+#[derive(Drop)]
 pub struct Opening {
     pub form: Form,
     pub header: Header,
 }
 
 /// One record of a message. A product, a supply and a detail stand without what is below them.
-#[derive(Debug, Drop)]
+#[derive(Drop)]
 pub enum Row {
     Message(Header),
     Product(Product),
@@ -31,7 +31,7 @@ pub enum Row {
 }
 
 /// Why a record is no row.
-#[derive(Debug, Drop)]
+#[derive(Drop)]
 pub enum RowFault {
     /// A field is wrong, or there are too few or too many.
     Wrong,

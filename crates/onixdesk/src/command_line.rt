@@ -10,7 +10,7 @@ use std::alloc::{AllocError, Global};
 use std::io::Write;
 
 /// A command over a desk, with its words.
-#[derive(Debug, Drop)]
+#[derive(Drop)]
 pub enum Task<'a> {
     /// `batch`: requests from standard input, answers to standard output.
     Batch,
@@ -23,7 +23,7 @@ pub enum Task<'a> {
 }
 
 /// What is done with which desk.
-#[derive(Debug, Drop)]
+#[derive(Drop)]
 pub enum Action<'a> {
     /// A command over a new desk in memory.
     InMemory(Task<'a>),

@@ -18,7 +18,7 @@ use std::fs::File;
 use std::io::{Error, ErrorKind, Read, Write};
 
 /// Why the message of a file has no answer that is written whole.
-#[derive(Debug, Drop)]
+#[derive(Drop)]
 pub enum DeliveryFault {
     /// The file cannot be opened or read. Nothing was asked of the desk.
     Unreadable,

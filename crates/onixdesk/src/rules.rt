@@ -14,7 +14,7 @@ use std::fs::File;
 use std::io::{Error, ErrorKind, Read, Write};
 
 /// Why a rules file gives no precedence table.
-#[derive(Debug, Drop)]
+#[derive(Drop)]
 pub enum RulesFault {
     /// It cannot be opened or read.
     Unreadable,

@@ -15,7 +15,7 @@ use onix_terms::series_name::SeriesName;
 
 /// A chosen offer: the number of the rule, from 1, the index of the offer, from 0, and the
 /// offer's current price.
-#[derive(Clone, Copy, Debug, PartialEq, Eq)]
+#[derive(Clone, Copy, PartialEq, Eq)]
 pub struct Choice {
     pub rule: u32,
     pub offer_index: usize,

@@ -11,7 +11,7 @@ use onix_terms::text::Text;
 
 /// What one supplier offers of a record: a SupplyDetail with its market, in a series. Its place,
 /// from 1, is its number among all SupplyDetails of the record.
-#[derive(Debug, Drop)]
+#[derive(Drop)]
 pub struct Offer {
     pub series: SeriesName,
     pub reference: Text,
@@ -24,7 +24,7 @@ pub struct Offer {
 
 /// Which prices are asked for: of this type, in this currency, for so many copies that are sold
 /// in this country on this day.
-#[derive(Clone, Copy, Debug)]
+#[derive(Clone, Copy)]
 pub struct PriceQuery {
     pub day: Day,
     pub country: Country,
@@ -35,7 +35,7 @@ pub struct PriceQuery {
 
 /// Which calendar is asked for: of prices of this type, in this currency, for so many copies that
 /// are sold in this country, from one day to another, both included.
-#[derive(Clone, Copy, Debug)]
+#[derive(Clone, Copy)]
 pub struct CalendarQuery {
     pub from: Day,
     pub to: Day,

@@ -14,7 +14,7 @@ use thiserror::Error;
 /// A rule of the shop: it admits the offers of a series, or of all series where it names none,
 /// that have one of these availability codes and whose current price is not above the greatest
 /// amount, if the rule has one.
-#[derive(Debug, Drop)]
+#[derive(Drop)]
 pub struct Rule {
     pub series: Option<SeriesName>,
     pub codes: Items<Code2>,
@@ -59,7 +59,7 @@ impl<T: Drop> From<AllocFailed<T>> for PrecedenceFault {
 
 /// The precedence table of the shop, which contracts see as the list of its rules, of which there
 /// are at most 1,000. An earlier rule goes before a later one.
-#[derive(Debug, Drop)]
+#[derive(Drop)]
 pub struct Precedence {
     rules: Vec<Rule>,
 }

@@ -12,7 +12,7 @@ use onix_terms::text::Text;
 use price_rules::calendar::Span;
 
 /// The answer to an agreement.
-#[derive(Debug, Drop)]
+#[derive(Drop)]
 pub enum AgreeAnswer {
     /// It stands.
     Agreed,
@@ -23,7 +23,7 @@ pub enum AgreeAnswer {
 }
 
 /// The answer to a delivery.
-#[derive(Debug, Drop)]
+#[derive(Drop)]
 pub enum DeliveryAnswer {
     /// The records are no message: they stop being one at this row, counted from 1.
     Malformed {
@@ -64,7 +64,7 @@ pub enum DeliveryAnswer {
 }
 
 /// The answer to a waiver.
-#[derive(Debug, Drop)]
+#[derive(Drop)]
 pub enum WaiveAnswer {
     /// No agreement has the name.
     UnknownSeries,
@@ -77,7 +77,7 @@ pub enum WaiveAnswer {
 }
 
 /// Which numbers of a series have something, and which have nothing.
-#[derive(Debug, Drop)]
+#[derive(Drop)]
 pub struct GapReport {
     pub series: SeriesName,
     /// The agreed first number.
@@ -95,7 +95,7 @@ pub struct GapReport {
 
 /// Which offer an answer speaks of: the place, from 1, of a SupplyDetail among all those of its
 /// record, and its ProductAvailability.
-#[derive(Debug, Drop)]
+#[derive(Drop)]
 pub struct ListedOffer {
     pub series: SeriesName,
     pub reference: Text,
@@ -104,7 +104,7 @@ pub struct ListedOffer {
 }
 
 /// An offer and its current price, if a price holds.
-#[derive(Debug, Drop)]
+#[derive(Drop)]
 pub struct PricedOffer {
     pub offer: ListedOffer,
     pub amount: Option<Amount>,
@@ -112,7 +112,7 @@ pub struct PricedOffer {
 
 /// The offer that the shop chooses, the number of the rule that takes it, from 1, and its current
 /// price.
-#[derive(Debug, Drop)]
+#[derive(Drop)]
 pub struct ChosenOffer {
     pub rule: u32,
     pub offer: ListedOffer,
@@ -120,7 +120,7 @@ pub struct ChosenOffer {
 }
 
 /// An offer and its current prices from one day to another, as spans in order.
-#[derive(Debug, Drop)]
+#[derive(Drop)]
 pub struct OfferCalendar {
     pub offer: ListedOffer,
     pub spans: Items<Span>,

@@ -32,7 +32,7 @@ pub enum Request {
 }
 
 /// What stands at a number of a series.
-#[derive(Debug, Drop)]
+#[derive(Drop)]
 pub enum Standing {
     /// The contents of a message.
     Message(Contents),

@@ -3,12 +3,12 @@ use Rattle.sqlite.specs.Held.{state}
 use Rattle.onix_rows.specs.declared.parts.ProductIdentifier.{ProductIdentifier}
 use Rattle.desk_rows.specs.Rows.{DeskRows}
 use Rattle.desk_rows.specs.declared.rows.RecordRow.{RecordRow}
-use Rattle.catalogue_rows.specs.EntryRows.{record_row}
+use Rattle.catalogue_store.specs.EntryRows.{record_row}
 use Rattle.catalogue_store.specs.AchievesLemmas.{achieves_as, achieves_failed, achieves_then}
 use Rattle.catalogue_store.specs.AppliedProducts.{IsChanged}
 use Rattle.catalogue_store.specs.ReadRows.{Finds, IsReadAs}
 use Rattle.catalogue_store.proofs.ProductLemmas.{product_applied}
-use Rattle.catalogue_rows.specs.MinimumLemmas.{records_without_minimums}
+use Rattle.catalogue_store.specs.MinimumLemmas.{records_without_minimums}
 use Rattle.catalogue_store.proofs.messages.apply_product.Goals as goal
 
 pub returns-in-Ok-change_record-clause-achieves : goal.returns-in-Ok-change_record-clause-achieves

@@ -2,8 +2,8 @@ use Rattle.std.proofs.Common.{◌≡◌, Bool, Some, subst, sym}
 use Rattle.sqlite.specs.Held.{state}
 use Rattle.desk_rows.specs.Rows.{DeskRows}
 use Rattle.catalogue_rules.specs.declared.entry.Entry.{Entry}
-use Rattle.catalogue_rows.specs.Holding.{Became, HoldsEntry}
-use Rattle.catalogue_rows.specs.Storable.{AreStorable}
+use Rattle.catalogue_store.specs.Holding.{Became, HoldsEntry}
+use Rattle.catalogue_store.specs.Storable.{AreStorable}
 use Rattle.catalogue_store.specs.AchievesLemmas.{achieves_as, achieves_then}
 use Rattle.catalogue_store.specs.ReadRows.{HoldsSupplies, IsReadAs}
 use Rattle.catalogue_store.proofs.HoldingLemmas.{became_itself, supplies_stay}

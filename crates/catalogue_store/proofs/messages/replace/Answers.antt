@@ -2,8 +2,8 @@ use Rattle.std.proofs.Common.{◌≢◌, [], Some, None}
 use Rattle.sqlite.specs.Held.{state}
 use Rattle.desk_rows.specs.Rows.{DeskRows}
 use Rattle.catalogue_rules.specs.declared.entry.Entry.{Entry}
-use Rattle.catalogue_rows.specs.Holding.{Became, HoldsEntry}
-use Rattle.catalogue_rows.specs.Storable.{AreStorable}
+use Rattle.catalogue_store.specs.Holding.{Became, HoldsEntry}
+use Rattle.catalogue_store.specs.Storable.{AreStorable}
 use Rattle.catalogue_store.specs.AchievesLemmas.{achieves_also}
 use Rattle.catalogue_store.specs.ReadRows.{IsFound, IsReadAs}
 use Rattle.catalogue_store.proofs.ProductLemmas.{replaced_known, replaced_unknown}

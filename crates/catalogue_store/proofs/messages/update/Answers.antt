@@ -2,8 +2,8 @@ use Rattle.std.proofs.Common.{◌≡◌, Some, []}
 use Rattle.sqlite.specs.Held.{state}
 use Rattle.desk_rows.specs.Rows.{DeskRows}
 use Rattle.catalogue_rules.specs.declared.entry.Entry.{Entry}
-use Rattle.catalogue_rows.specs.Holding.{Became, HoldsEntry}
-use Rattle.catalogue_rows.specs.Storable.{AreStorable}
+use Rattle.catalogue_store.specs.Holding.{Became, HoldsEntry}
+use Rattle.catalogue_store.specs.Storable.{AreStorable}
 use Rattle.catalogue_store.specs.AchievesLemmas.{achieves_also, achieves_nothing}
 use Rattle.catalogue_store.proofs.ProductLemmas.{updated_empty, updated_known, updated_unknown}
 use Rattle.catalogue_store.specs.ReadRows.{IsReadAs}

@@ -3,7 +3,7 @@ use Rattle.sqlite.specs.Held.{state}
 use Rattle.desk_rows.specs.RecordChanges.{without_record}
 use Rattle.desk_rows.specs.Rows.{DeskRows}
 use Rattle.desk_rows.specs.Transactions.{NoAnswer}
-use Rattle.catalogue_rows.specs.Holding.{Became}
+use Rattle.catalogue_store.specs.Holding.{Became}
 use Rattle.catalogue_store.specs.AchievesLemmas.{achieves_also, achieves_call}
 use Rattle.catalogue_store.proofs.BecameLemmas.{record_removed}
 use Rattle.catalogue_store.proofs.records.remove_record.Goals as goal

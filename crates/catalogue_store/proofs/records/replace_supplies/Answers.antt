@@ -3,7 +3,7 @@ use Rattle.sqlite.specs.Held.{state}
 use Rattle.desk_rows.specs.RecordChanges.{without_offers}
 use Rattle.desk_rows.specs.Rows.{DeskRows}
 use Rattle.desk_rows.specs.Transactions.{NoAnswer}
-use Rattle.catalogue_rows.specs.Holding.{Became}
+use Rattle.catalogue_store.specs.Holding.{Became}
 use Rattle.catalogue_store.specs.AchievesLemmas.{achieves_call, achieves_then}
 use Rattle.catalogue_store.specs.WrittenRows.{with_supplies}
 use Rattle.catalogue_store.proofs.BecameLemmas.{supplies_replaced}

@@ -4,7 +4,7 @@ use Rattle.series_rules.specs.Answers.{agree_answer}
 use Rattle.series_rules.specs.declared.requests.Request.{Request}
 use Rattle.series_rules.specs.declared.requests.Request.TheVariants.{Agree}
 use Rattle.series_rules.specs.declared.answers.AgreeAnswer.{AgreeAnswer}
-use Rattle.store_rows.specs.Desks.{Answers, IsAsked}
+use Rattle.desk_store.specs.Desks.{Answers, IsAsked}
 use Rattle.desk_store.proofs.Transactions.{asked_done, asked_failed, asked_refused}
 use Rattle.desk_store.proofs.asking.ask_agree.Goals as goal
 

@@ -6,7 +6,7 @@ use Rattle.series_rules.specs.Answers.{delivery_answer}
 use Rattle.series_rules.specs.declared.answers.DeliveryAnswer.{DeliveryAnswer}
 use Rattle.series_rules.specs.declared.answers.DeliveryAnswer.TheVariants as delivery
 use Rattle.series_rules.specs.declared.requests.Request.TheVariants.{Deliver}
-use Rattle.store_rows.specs.Desks.{IsAsked}
+use Rattle.desk_store.specs.Desks.{IsAsked}
 use Rattle.desk_store.proofs.Alone.{delivers_malformed, delivers_unnumbered}
 use Rattle.desk_store.proofs.asking.ask_deliver.Goals as goal
 

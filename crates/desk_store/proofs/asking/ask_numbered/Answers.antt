@@ -4,7 +4,7 @@ use Rattle.series_rules.specs.Answers.{delivery_answer}
 use Rattle.series_rules.specs.declared.requests.Request.{Request}
 use Rattle.series_rules.specs.declared.requests.Request.TheVariants.{Deliver}
 use Rattle.series_rules.specs.declared.answers.DeliveryAnswer.{DeliveryAnswer}
-use Rattle.store_rows.specs.Desks.{Answers, IsAsked}
+use Rattle.desk_store.specs.Desks.{Answers, IsAsked}
 use Rattle.desk_store.proofs.Transactions.{asked_done, asked_failed, asked_refused}
 use Rattle.desk_store.proofs.asking.ask_numbered.Goals as goal
 

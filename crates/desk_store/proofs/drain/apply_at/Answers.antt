@@ -3,7 +3,7 @@ use Rattle.sqlite.specs.Held.{state}
 use Rattle.catalogue_store.specs.AchievesLemmas.{achieves_call_failed, achieves_calls}
 use Rattle.desk_rows.specs.Rows.{DeskRows, AppliedRow, with_applied, with_next}
 use Rattle.desk_rows.specs.Transactions.{NoAnswer}
-use Rattle.store_rows.specs.Changes.{Applies}
+use Rattle.desk_store.specs.Changes.{Applies}
 use Rattle.desk_store.proofs.drain.apply_at.Goals as goal
 
 pub returns-in-Err-put_applied-clause-achieves : goal.returns-in-Err-put_applied-clause-achieves

@@ -1,7 +1,7 @@
 use Rattle.sqlite.specs.Held.{state}
 use Rattle.catalogue_store.specs.AchievesLemmas.{achieves_also}
 use Rattle.desk_rows.specs.Rows.{DeskRows}
-use Rattle.store_rows.specs.Changes.{AppliesAt}
+use Rattle.desk_store.specs.Changes.{AppliesAt}
 use Rattle.desk_store.proofs.drain.apply_text.Goals as goal
 
 pub returns-in-Ok-clause-achieves : goal.returns-in-Ok-clause-achieves

@@ -3,9 +3,9 @@ use Rattle.sqlite.specs.Held.{state}
 use Rattle.catalogue_store.specs.AchievesLemmas.{achieves_as, achieves_failed, achieves_nothing, achieves_stopped, achieves_then}
 use Rattle.desk_rows.specs.Rows.{DeskRows}
 use Rattle.onix_message.specs.declared.agreement.StoreFault.TheVariants.{Unusable}
-use Rattle.store_rows.specs.Changes.{Drains, DrainsOne, DrainsTo}
-use Rattle.store_rows.proofs.Applied.{drained_all, drained_more, drained_up, step_at}
-use Rattle.store_rows.proofs.NumberValues.{number_is}
+use Rattle.desk_store.specs.Changes.{Drains, DrainsOne, DrainsTo}
+use Rattle.desk_store.proofs.Applied.{drained_all, drained_more, drained_up, step_at}
+use Rattle.desk_store.proofs.NumberValues.{number_is}
 use Rattle.desk_store.proofs.drain.drain.Goals as goal
 
 pub loop-value-init : goal.loop-value-init

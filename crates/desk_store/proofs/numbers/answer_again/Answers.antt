@@ -2,8 +2,8 @@ use Rattle.std.proofs.Common.{◌≡◌, codes, sym, ◌∙◌, true, false}
 use Rattle.std.specs.Prelude.{bytes_eq}
 use Rattle.sqlite.specs.Held.{state}
 use Rattle.catalogue_store.specs.AchievesLemmas.{achieves_also, achieves_nothing}
-use Rattle.store_rows.specs.Changes.{Places}
-use Rattle.store_rows.proofs.Answered.{repeats_other, repeats_same, repeats_waived}
+use Rattle.desk_store.specs.Changes.{Places}
+use Rattle.desk_store.proofs.Answered.{repeats_other, repeats_same, repeats_waived}
 use Rattle.desk_store.proofs.numbers.answer_again.Goals as goal
 
 pub returns-then-is_waived-clause-achieves : goal.returns-then-is_waived-clause-achieves

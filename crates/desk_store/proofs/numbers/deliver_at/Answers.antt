@@ -5,9 +5,9 @@ use Rattle.desk_rows.specs.Rows.{DeskRows}
 use Rattle.onix_rows.specs.declared.parts.Product.{Product}
 use Rattle.series_rules.specs.declared.answers.DeliveryAnswer.{DeliveryAnswer}
 use Rattle.series_rules.specs.declared.requests.Standing.TheVariants.{Message}
-use Rattle.store_rows.specs.Changes.{AnswersAgain, PutsAndPlaces}
-use Rattle.store_rows.specs.Stands.{stored_text}
-use Rattle.store_rows.proofs.Answered.{delivers_again, delivers_new}
+use Rattle.desk_store.specs.Changes.{AnswersAgain, PutsAndPlaces}
+use Rattle.desk_store.specs.Stands.{stored_text}
+use Rattle.desk_store.proofs.Answered.{delivers_again, delivers_new}
 use Rattle.desk_store.proofs.numbers.deliver_at.Goals as goal
 
 pub returns-in-Some-clause-achieves : goal.returns-in-Some-clause-achieves

@@ -3,7 +3,7 @@ use Rattle.sqlite.specs.Held.{state}
 use Rattle.catalogue_store.specs.AchievesLemmas.{achieves_as, achieves_call, achieves_nothing}
 use Rattle.desk_rows.specs.Rows.{DeskRows, applied_at}
 use Rattle.desk_rows.specs.declared.applied.EffectRow.{EffectRow}
-use Rattle.store_rows.proofs.Answered.{answer_applied, answer_held}
+use Rattle.desk_store.proofs.Answered.{answer_applied, answer_held}
 use Rattle.desk_store.proofs.numbers.place.Goals as goal
 
 pub returns-then-value-next-clause-achieves : goal.returns-then-value-next-clause-achieves

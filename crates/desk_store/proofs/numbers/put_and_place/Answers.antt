@@ -3,8 +3,8 @@ use Rattle.sqlite.specs.Held.{state}
 use Rattle.catalogue_store.specs.AchievesLemmas.{achieves_as, achieves_then}
 use Rattle.desk_rows.specs.Rows.{DeskRows}
 use Rattle.series_rules.specs.declared.answers.DeliveryAnswer.{DeliveryAnswer}
-use Rattle.store_rows.specs.Changes.{Places, PutsNew}
-use Rattle.store_rows.proofs.Answered.{put_then_placed}
+use Rattle.desk_store.specs.Changes.{Places, PutsNew}
+use Rattle.desk_store.proofs.Answered.{put_then_placed}
 use Rattle.desk_store.proofs.numbers.put_and_place.Goals as goal
 
 pub returns-in-Ok-clause-achieves : goal.returns-in-Ok-clause-achieves

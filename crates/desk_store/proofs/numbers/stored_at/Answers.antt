@@ -3,7 +3,7 @@ use Rattle.sqlite.specs.Held.{state}
 use Rattle.catalogue_store.specs.AchievesLemmas.{achieves_as, achieves_call, achieves_then}
 use Rattle.desk_rows.specs.Rows.{DeskRows, applied_at, held_at}
 use Rattle.desk_rows.specs.declared.applied.EffectRow.{EffectRow}
-use Rattle.store_rows.proofs.Answered.{stored_applied, stored_held}
+use Rattle.desk_store.proofs.Answered.{stored_applied, stored_held}
 use Rattle.desk_store.proofs.numbers.stored_at.Goals as goal
 
 pub returns-in-Some-clause-achieves : goal.returns-in-Some-clause-achieves

@@ -5,9 +5,9 @@ use Rattle.catalogue_store.specs.AchievesLemmas.{achieves_as, achieves_failed, a
 use Rattle.desk_rows.specs.Rows.{DeskRows}
 use Rattle.series_rules.specs.declared.answers.WaiveAnswer.TheVariants as waiver
 use Rattle.series_rules.specs.declared.requests.Standing.TheVariants.{Waived}
-use Rattle.store_rows.specs.Changes.{PutsNew, WaivesAt}
-use Rattle.store_rows.specs.Stands.{stored_text}
-use Rattle.store_rows.proofs.Answered.{waives_again, waives_late, waives_new}
+use Rattle.desk_store.specs.Changes.{PutsNew, WaivesAt}
+use Rattle.desk_store.specs.Stands.{stored_text}
+use Rattle.desk_store.proofs.Answered.{waives_again, waives_late, waives_new}
 use Rattle.desk_store.proofs.numbers.waive_at.Goals as goal
 
 pub returns-then-is_waived-clause-achieves : goal.returns-then-is_waived-clause-achieves

@@ -1,13 +1,13 @@
 use Rattle.std.proofs.Common.{◌≡◌, Option, Some, None, Ok, sym, ◌∙◌}
 use Rattle.sqlite.specs.Held.{state}
 use Rattle.catalogue_rules.specs.Records.{ByReference}
-use Rattle.catalogue_rows.specs.Holding.{HoldsCatalogue}
+use Rattle.catalogue_store.specs.Holding.{HoldsCatalogue}
 use Rattle.catalogue_store.specs.AchievesLemmas.{achieves_as, achieves_call, achieves_failed, achieves_then}
 use Rattle.desk_rows.specs.Rows.{DeskRows, series_at}
 use Rattle.desk_rows.specs.declared.series.SeriesRow.{SeriesRow}
 use Rattle.series_rules.specs.Answers.{catalogue_answer}
-use Rattle.store_rows.specs.Desks.{Tells}
-use Rattle.store_rows.proofs.QuestionRows.{no_catalogue, one_catalogue}
+use Rattle.desk_store.specs.Desks.{Tells}
+use Rattle.desk_store.proofs.QuestionRows.{no_catalogue, one_catalogue}
 use Rattle.desk_store.proofs.questions.catalogue_in.Goals as goal
 
 pub returns-in_default-clause-achieves : goal.returns-in_default-clause-achieves

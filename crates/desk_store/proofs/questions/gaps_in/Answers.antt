@@ -4,8 +4,8 @@ use Rattle.catalogue_store.specs.AchievesLemmas.{achieves_as, achieves_call, ach
 use Rattle.desk_rows.specs.Rows.{AreHeldNumbers, DeskRows, series_at}
 use Rattle.desk_rows.specs.declared.series.SeriesRow.{SeriesRow}
 use Rattle.series_rules.specs.Gaps.{AreRisingFrom}
-use Rattle.store_rows.specs.Desks.{Reports}
-use Rattle.store_rows.proofs.GapRows.{no_gaps, some_gaps}
+use Rattle.desk_store.specs.Desks.{Reports}
+use Rattle.desk_store.proofs.GapRows.{no_gaps, some_gaps}
 use Rattle.desk_store.proofs.questions.gaps_in.Goals as goal
 
 -- the row of the series was looked for

@@ -8,8 +8,8 @@ use Rattle.desk_rows.specs.declared.series.SeriesRow.{SeriesRow}
 use Rattle.series_rules.specs.Answers.{agree_answer}
 use Rattle.series_rules.specs.declared.answers.AgreeAnswer.TheVariants.{Agreed, SeriesTaken}
 use Rattle.series_rules.specs.declared.requests.Request.TheVariants.{Agree}
-use Rattle.store_rows.specs.Desks.{Answers}
-use Rattle.store_rows.proofs.Agreed.{agrees_named, agrees_new, agrees_taken_at}
+use Rattle.desk_store.specs.Desks.{Answers}
+use Rattle.desk_store.proofs.Agreed.{agrees_named, agrees_new, agrees_taken_at}
 use Rattle.desk_store.proofs.requests.agree_in.Goals as goal
 
 pub returns-in-Some-clause-achieves : goal.returns-in-Some-clause-achieves

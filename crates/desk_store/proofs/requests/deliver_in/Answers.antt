@@ -7,8 +7,8 @@ use Rattle.onix_rows.specs.declared.parts.Header.{Header}
 use Rattle.onix_rows.specs.declared.parts.Product.{Product}
 use Rattle.series_rules.specs.declared.answers.DeliveryAnswer.{DeliveryAnswer}
 use Rattle.series_rules.specs.declared.answers.DeliveryAnswer.TheVariants as delivery
-use Rattle.store_rows.specs.Changes.{DeliversAt}
-use Rattle.store_rows.proofs.Found.{delivers_before, delivers_found, delivers_unknown}
+use Rattle.desk_store.specs.Changes.{DeliversAt}
+use Rattle.desk_store.proofs.Found.{delivers_before, delivers_found, delivers_unknown}
 use Rattle.desk_store.proofs.requests.deliver_in.Goals as goal
 
 pub returns-in_default-clause-achieves : goal.returns-in_default-clause-achieves

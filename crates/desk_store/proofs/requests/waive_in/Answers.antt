@@ -5,8 +5,8 @@ use Rattle.desk_rows.specs.Rows.{DeskRows, series_at}
 use Rattle.desk_rows.specs.declared.series.SeriesRow.{SeriesRow}
 use Rattle.series_rules.specs.declared.answers.WaiveAnswer.{WaiveAnswer}
 use Rattle.series_rules.specs.declared.answers.WaiveAnswer.TheVariants as waiver
-use Rattle.store_rows.specs.Changes.{WaivesAt}
-use Rattle.store_rows.proofs.Found.{waives_before, waives_named, waives_unknown}
+use Rattle.desk_store.specs.Changes.{WaivesAt}
+use Rattle.desk_store.proofs.Found.{waives_before, waives_named, waives_unknown}
 use Rattle.desk_store.proofs.requests.waive_in.Goals as goal
 
 pub returns-in_default-clause-achieves : goal.returns-in_default-clause-achieves

@@ -1,3 +1,0 @@
-mod Built
-mod SamePrices
-mod Assembled

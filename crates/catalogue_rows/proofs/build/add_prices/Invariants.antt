@@ -1,7 +1,0 @@
-use Rattle.std.proofs.Common.{◌≡◌, ◌++◌, drop, map}
-use Rattle.std.specs.List.{enumerate_from}
-use Rattle.catalogue_rows.specs.EntryRows.{detail_price_row}
-use Rattle.catalogue_rows.proofs.build.add_prices.Given as goal
-
-abbrev pub invariant-loop-price : goal.invariant-loop-price
-invariant-loop-price l = l.rows.items ++ map (detail_price_row l.series l.reference l.place) (enumerate_from l.price_place (drop l.price-index l.prices)) ≡ l.fn.rows.items ++ map (detail_price_row l.series l.reference l.place) (enumerate_from 1 l.prices)

@@ -1,6 +1,0 @@
-use Rattle.std.proofs.Common.{◌≡◌, ◌↔◌, drop}
-use Rattle.catalogue_rows.proofs.SamePrices.{all_prices}
-use Rattle.catalogue_rows.proofs.same.same_detail_prices.Given as goal
-
-abbrev pub invariant-loop-supply : goal.invariant-loop-supply
-invariant-loop-supply l = (l.read ≡ all_prices l.supplies) ↔ (l.rest ≡ all_prices (drop l.supply-index l.supplies))

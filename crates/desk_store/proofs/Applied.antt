@@ -1,0 +1,69 @@
+-- What the statements that apply a number come to.
+use Rattle.std.proofs.Common.{◌≡◌, ◌+◌, ◌≤◌, ℕ, Bool, true, false, List, ◌∷◌, Some, None, refl, sym, ap, ◌∙◌, subst}
+use Rattle.catalogue_rules.specs.Records.{ByReference}
+use Rattle.catalogue_rules.specs.declared.effect.Effect.{Effect}
+use Rattle.catalogue_store.specs.Holding.{HoldsCatalogue, IsApplied}
+use Rattle.desk_rows.specs.Rows.{DeskRows, held_at, series_at, with_held, without_held}
+use Rattle.desk_rows.specs.declared.applied.EffectRow.{EffectRow}
+use Rattle.onix_rows.specs.declared.parts.Product.{Product}
+use Rattle.series_rules.specs.Firsts.{first_at}
+use Rattle.series_rules.specs.declared.requests.Standing.{Standing}
+use Rattle.series_rules.specs.declared.requests.Standing.TheVariants.{Message}
+use Rattle.desk_store.specs.Changes.{Applies, AppliesAt, AppliesText, Drains, DrainsOne, DrainsTo, PutsNew}
+use Rattle.desk_store.specs.Stands.{CutAt, StandsFor}
+use Rattle.desk_store.specs.Texts.{TextsTellApart, effect_row, standing_text}
+use Rattle.desk_store.proofs.Cuts.{step_moved, step_stopped}
+use Rattle.desk_store.proofs.RequestRows.{applied_cut, cut_stands, held_stands}
+
+pub message_applied : (s : List ℕ) (h : Standing) (c : List Product) (effect : Effect) (e : EffectRow) (rows now : DeskRows) → h ≡ Message c → e ≡ effect_row effect → ((m : ByReference) → HoldsCatalogue s m rows → IsApplied s m c rows effect now) → Applies s h rows e now
+message_applied s h c effect e rows now is same done =
+    subst (λ (x : Standing). Applies s x rows e now) (sym is) (λ m held. let d = done m held in record { catalogue = d.catalogue; counts = same ∙ ap effect_row d.counts; others = d.others })
+
+-- what is taken out of the held ones is applied
+pub moved_one : TextsTellApart → (s : List ℕ) (n : ℕ) (t : List ℕ) (rows between now : DeskRows) → Some t ≡ held_at s n rows → between ≡ without_held s n rows → AppliesText s n t between now → DrainsOne s n rows true now
+moved_one one s n t rows between now took left applied = λ f a base cut same.
+    let ready : AppliesText s n t (without_held s n rows) now = subst (λ (d : DeskRows). AppliesText s n t d now) left applied in
+    subst (λ (d : DeskRows). ((true ≡ true) → CutAt f a base (n + 1) d) × ((true ≡ false) → CutAt f a base n d × (f n ≡ None))) (sym ready.3.3)
+    (step_moved one f a base n rows ready.3.0 s t ready.0 ready.3.1 cut same took ready.1 ready.2 ready.3.2)
+
+-- nothing is held
+pub moved_none : (s : List ℕ) (n : ℕ) (rows now : DeskRows) → None ≡ held_at s n rows → now ≡ without_held s n rows → DrainsOne s n rows false now
+moved_none s n rows now none left = λ f a base cut same.
+    subst (λ (d : DeskRows). ((false ≡ true) → CutAt f a base (n + 1) d) × ((false ≡ false) → CutAt f a base n d × (f n ≡ None))) (sym left)
+    (step_stopped f a base n rows s cut same none)
+
+-- a step at the same number, with the same answer
+pub step_at : (s : List ℕ) (n k : ℕ) (rows : DeskRows) (moved is : Bool) (now : DeskRows) → n ≡ k → moved ≡ is → DrainsOne s n rows moved now → DrainsOne s k rows is now
+step_at s n k rows moved is now at same one = subst (λ j. DrainsOne s j rows is now) at (subst (λ b. DrainsOne s n rows b now) same one)
+
+-- one more, after all up to a number
+pub drained_more : (s : List ℕ) (from k : ℕ) (rows between now : DeskRows) → DrainsTo s from k rows between → DrainsOne s k between true now → DrainsTo s from (k + 1) rows now
+drained_more s from k rows between now before one = λ f a base cut same. (one f a base (before f a base cut same) same).0 refl
+
+-- no more, after all up to a number
+pub drained_up : (s : List ℕ) (from k : ℕ) (rows between now : DeskRows) → DrainsTo s from k rows between → DrainsOne s k between false now → Drains s from rows k now
+drained_up s from k rows between now before one = λ f a base cut same. (one f a base (before f a base cut same) same).1 refl
+
+-- up to the greatest number that there is
+pub drained_all : (s : List ℕ) (from k : ℕ) (rows now : DeskRows) → 1000000000 ≤ k → DrainsTo s from k rows now → Drains s from rows k now
+drained_all s from k rows now le before = λ f a base cut same. let end = before f a base cut same in (end, end.stands.can_be_kept.small k le)
+
+-- put above the next number
+pub put_above : (s : List ℕ) (next n : ℕ) (h : Standing) (t : List ℕ) (rows now : DeskRows) → ¬ (n ≡ next) → now ≡ with_held (record { series = s; number = n; contents = t }) rows → PutsNew s next n h t rows next now
+put_above s next n h t rows now other put = λ L r a stands new same text row.
+    let after : now ≡ with_held (record { series = a.name; number = n; contents = standing_text h }) rows =
+    put ∙ ap (λ x. with_held (record { series = x; number = n; contents = t }) rows) same ∙ ap (λ x. with_held (record { series = a.name; number = n; contents = x }) rows) (sym text) in (
+      subst (λ (d : DeskRows). StandsFor d (r ∷ L)) (sym after) (held_stands rows L r a n next h stands new row other),
+      ap (series_at a.name) after ∙ row,
+    )
+
+-- applied at the next number, and then drained
+pub put_next : (s : List ℕ) (n to : ℕ) (h : Standing) (t : List ℕ) (rows between now : DeskRows) → AppliesAt s n h t rows between → Drains s (n + 1) between to now → PutsNew s n n h t rows to now
+put_next s n to h t rows between now applied drained = λ L r a stands new same text row.
+    let own : AppliesAt a.name n h (standing_text h) rows between = subst (λ x. AppliesAt a.name n h x rows between) (sym text) (subst (λ x. AppliesAt x n h t rows between) same applied) in
+    let cut = subst (CutAt (first_at (r ∷ L) a.name) a rows (n + 1)) (sym own.3) (applied_cut rows own.0 L r a n h own.1 stands new row own.2) in
+    let end = drained (first_at (r ∷ L) a.name) a rows cut same in
+    (cut_stands rows now L r a n to h stands new.0 end.0 end.1, end.0.stands.row ∙ ap (λ k. Some (record { agreement = a; next = k })) (sym end.0.ends))
+
+pub put_next_at : (s : List ℕ) (n next k to : ℕ) (h : Standing) (t : List ℕ) (rows between now : DeskRows) → n ≡ next → k ≡ n → AppliesAt s n h t rows between → Drains s (k + 1) between to now → PutsNew s next n h t rows to now
+put_next_at s n next k to h t rows between now is at applied drained = subst (λ j. PutsNew s j n h t rows to now) is (put_next s n to h t rows between now applied (subst (λ j. Drains s (j + 1) between to now) at drained))

@@ -1,0 +1,90 @@
+-- The tables in the words of the definitions: what they keep is the front of each series.
+use Rattle.std.proofs.Common.{◌≡◌, ◌+◌, ◌-◌, ◌<◌, ◌≤◌, ℕ, true, false, List, Option, Some, None, length, refl, sym, ap, ◌∙◌, arith, subst, ◌⊎◌, inl, inr}
+use Rattle.std.specs.Prelude.{slice_get, option_map, nat_lt}
+use Rattle.std.proofs.lemmas.Bool.{cases_lt}
+use Rattle.std.proofs.lemmas.Bool.Decides.{nat_tests}
+use Rattle.catalogue_rules.specs.declared.effect.Effect.{Effect}
+use Rattle.desk_rows.specs.Rows.{DeskRows, series_at, applied_at}
+use Rattle.desk_rows.specs.declared.applied.EffectRow.{EffectRow}
+use Rattle.onix_message.specs.declared.agreement.Agreement.{Agreement}
+use Rattle.series_rules.specs.Agreements.{agreements_of, named}
+use Rattle.series_rules.specs.Answers.{placed_answer}
+use Rattle.series_rules.specs.Firsts.{first_at}
+use Rattle.series_rules.specs.FrontLemmas.{front_is, front_unique}
+use Rattle.series_rules.specs.Series.{front_of, kept_of, next_of}
+use Rattle.series_rules.specs.declared.answers.DeliveryAnswer.TheVariants.{Applied, Held}
+use Rattle.series_rules.specs.declared.requests.Request.{Request}
+use Rattle.series_rules.specs.declared.requests.Standing.{Standing}
+use Rattle.desk_store.specs.Stands.{SeriesStands, IsAppliedToGap, StandsFor, applied_of, stored_text}
+use Rattle.desk_store.specs.Texts.{effect_row, standing_text}
+use Rattle.desk_store.proofs.Folds.{get_beyond, get_some}
+use Rattle.desk_store.proofs.RequestRows.{same_next}
+
+whole_front : (rows : DeskRows) (L : List Request) (a : Agreement) → (w : IsAppliedToGap (first_at L a.name) a rows) → w.0 ≡ front_of L a
+whole_front rows L a w = front_unique (first_at L a.name) a.first w.0 (front_of L a) (record { each = w.2.begins; ends = w.1 }) (front_is L a.name a.first)
+
+pub stands_front : (rows : DeskRows) (L : List Request) (a : Agreement) → StandsFor rows L → named (agreements_of L) a.name ≡ Some a → SeriesStands (first_at L a.name) a (front_of L a) rows
+stands_front rows L a stands found = let w = stands.series a found in subst (λ hs. SeriesStands (first_at L a.name) a hs rows) (whole_front rows L a w) w.2
+
+pub next_is : (rows : DeskRows) (L : List Request) (a : Agreement) (k : ℕ) → StandsFor rows L → named (agreements_of L) a.name ≡ Some a → series_at a.name rows ≡ Some (record { agreement = a; next = k }) → k ≡ next_of L a
+next_is rows L a k stands found row = sym (same_next a k (next_of L a) _ row (stands_front rows L a stands found).row)
+
+effect_in : EffectRow → Effect
+effect_in e = record { replaced = e.replaced; updated = e.updated; deleted = e.deleted; unknown = e.unknown; ignored = e.ignored }
+
+-- the counts of a row are those of the one effect that it keeps
+pub one_effect : (x y : Effect) → effect_row x ≡ effect_row y → x ≡ y
+unfolding effect_in
+one_effect x y e = ap effect_in e
+
+counts_there : (hs : List Standing) (j : ℕ) (t : List ℕ) (e : EffectRow) → applied_of hs j ≡ Some (t, e) → e ≡ effect_row (kept_of hs j)
+counts_there hs j t e is = go (slice_get hs j) is
+  where
+    counts_in : Option (List ℕ × EffectRow) → EffectRow
+    counts_in None = effect_row (kept_of hs j)
+    counts_in (Some p) = p.1
+
+    go : (o : Option Standing) → option_map {U = List ℕ × EffectRow} (λ h. (standing_text h, effect_row (kept_of hs j))) o ≡ Some (t, e) → e ≡ effect_row (kept_of hs j)
+    go None i = absurd cc
+    go (Some h) i = sym (ap counts_in i)
+
+-- a number below the next is answered as applied, with what its row keeps
+pub placed_applied : (rows : DeskRows) (L : List Request) (a : Agreement) (n k : ℕ) (p : List ℕ × EffectRow) (x : Effect) → StandsFor rows L → named (agreements_of L) a.name ≡ Some a → series_at a.name rows ≡ Some (record { agreement = a; next = k }) → a.first ≤ n → n < k → Some p ≡ applied_at a.name n rows → p.1 ≡ effect_row x
+    → Applied a.name n x ≡ placed_answer (front_of L a) a.name a.first n
+placed_applied rows L a n k p x stands found row above below is keeps =
+    let s = stands_front rows L a stands found in
+    let k_is : k ≡ a.first + length (front_of L a) = next_is rows L a k stands found row in
+    let lt : nat_lt n (a.first + length (front_of L a)) ≡ true = grind (arith, nat_tests) in
+    let at : a.first + (n - a.first) ≡ n = omega arith in
+    let counts = counts_there (front_of L a) (n - a.first) p.0 p.1 (sym (s.applied (n - a.first)) ∙ ap (λ i. applied_at a.name i rows) at ∙ sym is) in
+    rw lt (ap (Applied a.name n) (one_effect x (kept_of (front_of L a) (n - a.first)) (sym keeps ∙ counts)))
+
+-- any other is held until the next comes
+pub placed_held : (rows : DeskRows) (L : List Request) (a : Agreement) (n k : ℕ) → StandsFor rows L → named (agreements_of L) a.name ≡ Some a → series_at a.name rows ≡ Some (record { agreement = a; next = k }) → k ≤ n → Held a.name n k ≡ placed_answer (front_of L a) a.name a.first n
+placed_held rows L a n k stands found row above =
+    let k_is : k ≡ a.first + length (front_of L a) = next_is rows L a k stands found row in
+    let lt : nat_lt n (a.first + length (front_of L a)) ≡ false = grind (arith, nat_tests) in
+    rw lt (ap (Held a.name n) k_is)
+
+-- what the tables have at a number is the text of what stands there
+pub stored_is : (rows : DeskRows) (L : List Request) (a : Agreement) (n : ℕ) → StandsFor rows L → named (agreements_of L) a.name ≡ Some a → a.first ≤ n → stored_text a.name n rows ≡ option_map standing_text (first_at L a.name n)
+stored_is rows L a n stands found above = go (cases_lt (n - a.first) (length (front_of L a)))
+  where
+    s : SeriesStands (first_at L a.name) a (front_of L a) rows
+    s = stands_front rows L a stands found
+
+    at : a.first + (n - a.first) ≡ n
+    at = omega arith
+
+    applied : applied_at a.name n rows ≡ applied_of (front_of L a) (n - a.first)
+    applied = ap (λ i. applied_at a.name i rows) (sym at) ∙ s.applied (n - a.first)
+
+    go : (n - a.first < length (front_of L a)) ⊎ (length (front_of L a) ≤ n - a.first) → stored_text a.name n rows ≡ option_map standing_text (first_at L a.name n)
+    go (inl lt) =
+        let some = get_some (front_of L a) (n - a.first) lt in
+        let there : first_at L a.name n ≡ Some some.0 = ap (first_at L a.name) (sym at) ∙ s.begins (n - a.first) lt ∙ some.1 in
+        rw (applied, some.1, there) refl
+    go (inr le) =
+        let none = get_beyond (front_of L a) (n - a.first) le in
+        let low = above in
+        rw (applied, none, s.held n (omega (arith, at))) refl

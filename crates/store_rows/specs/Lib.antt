@@ -1,6 +1,0 @@
-pub mod Texts
-pub mod Stands
-pub mod Changes
-pub mod Desks
-pub mod ContentLemmas
-pub mod FirstForm

@@ -18,8 +18,16 @@ pub enum Task<'a> {
     Deliver(Vec<&'a str>),
     /// `gaps NAME`: which numbers a series lacks.
     Gaps(&'a str),
-    /// `serve --port N --requests K`: the desk over HTTP, for so many connections.
-    Serve { port: u16, requests: u32 },
+    /// `serve --port N [--requests K]`: the desk over HTTP, for so many connections. Without
+    /// `--requests` these are more than any program lives to see.
+    Serve { port: u16, requests: u64 },
+}
+
+/// The database file of `--db`, and whether it has to be there, by `--existing`.
+#[derive(Clone, Copy)]
+pub struct Database<'a> {
+    pub name: &'a str,
+    pub is_existing: bool,
 }
 
 /// What is done with which desk.
@@ -28,9 +36,9 @@ pub enum Action<'a> {
     /// A command over a new desk in memory.
     InMemory(Task<'a>),
     /// A command over the desk in this database file.
-    InFile { db: &'a str, task: Task<'a> },
+    InFile { db: Database<'a>, task: Task<'a> },
     /// `migrate`: the desk in this database file is brought to version 2.
-    Migrate { db: &'a str },
+    Migrate { db: Database<'a> },
 }
 
 /// What the program is asked to do, under the precedence table of a file or under no rules.
@@ -81,7 +89,7 @@ fn deliver<'a>(alloc: Global, matches: &ArgMatches<'a>) -> Result<Option<Task<'a
 fn serve<'a>(matches: &ArgMatches<'a>) -> Option<Task<'a>> {
     Some(Task::Serve {
         port: matches.get_one::<u16>("port")?,
-        requests: matches.get_one::<u32>("requests")?,
+        requests: matches.get_one::<u64>("requests").unwrap_or(u64::MAX),
     })
 }
 
@@ -100,8 +108,15 @@ fn task_of<'a>(
     }
 }
 
+// The database file, where one is named.
+fn database<'a>(matches: &ArgMatches<'a>) -> Option<Database<'a>> {
+    let name = matches.get_str("db")?;
+    let is_existing = matches.get_flag("existing");
+    Some(Database { name, is_existing })
+}
+
 // What a command over a desk asks for.
-fn over_desk<'a>(rules: Option<&'a str>, db: Option<&'a str>, task: Task<'a>) -> Reading<'a> {
+fn over_desk<'a>(rules: Option<&'a str>, db: Option<Database<'a>>, task: Task<'a>) -> Reading<'a> {
     let action = match db {
         Some(db) => Action::InFile { db, task },
         None => Action::InMemory(task),
@@ -110,7 +125,7 @@ fn over_desk<'a>(rules: Option<&'a str>, db: Option<&'a str>, task: Task<'a>) ->
 }
 
 // What `migrate` asks for.
-fn migration<'a>(rules: Option<&'a str>, db: Option<&'a str>) -> Reading<'a> {
+fn migration<'a>(rules: Option<&'a str>, db: Option<Database<'a>>) -> Reading<'a> {
     match db {
         Some(db) => Reading::Run(Invocation {
             rules,
@@ -126,7 +141,7 @@ fn asked_for<'a>(alloc: Global, matches: &ArgMatches<'a>) -> Reading<'a> {
         return Reading::Wrong(String::new(alloc));
     };
     let rules = matches.get_str("rules");
-    let db = matches.get_str("db");
+    let db = database(matches);
     if name == "migrate" {
         return migration(rules, db);
     }

@@ -21,11 +21,11 @@ fn deliver<'a>(alloc: Global) -> Result<Command<'a>, AllocError> {
         .required(true)
         .num_args(1..)
         .action(ArgAction::Append)
-        .help("A message as CSV records, up to 4,194,304 bytes of UTF-8");
+        .help("A message as CSV records, up to 4,194,304 bytes of UTF-8; - is standard input");
     Command::new(alloc, "deliver")
         .about("Deliver the message of each file, write the answer to each")
         .long_about(
-            "Delivers the message that each file holds, from its record Message to its record EndMessage, in the order of the files, and writes the answer to each to standard output. A file that cannot be read, or a fault, ends the command with status 3; the answers before it stand. The agreements are those of the database file: onixdesk --db FILE deliver FILE. Without one there are none, and a whole message with a number is answered refused,unknown-series.",
+            "Delivers the message that each file holds, from its record Message to its record EndMessage, in the order of the files, and writes the answer to each to standard output; the file - is standard input. A file that cannot be read, or a fault, ends the command with status 3; the answers before it stand. The agreements are those of the database file: onixdesk --db FILE deliver FILE. Without one there are none, and a whole message with a number is answered refused,unknown-series.",
         )
         .arg(files)
 }
@@ -58,10 +58,11 @@ fn requests<'a>(alloc: Global) -> Arg<'a> {
     Arg::new(alloc, "requests")
         .long("requests")
         .value_name("K")
-        .required(true)
         .value_parser(ValueParser::unsigned(1, 1_000_000))
         .action(ArgAction::Set)
-        .help("How many connections are served, 1 to 1000000; then the program ends")
+        .help(
+            "How many connections are served, 1 to 1000000; then the program ends. Without it serving goes on until the program is stopped",
+        )
 }
 
 fn serve<'a>(alloc: Global) -> Result<Command<'a>, AllocError> {
@@ -91,6 +92,17 @@ fn db<'a>(alloc: Global) -> Arg<'a> {
         .help(
             "Keep the desk in this SQLite file, which is made where it is missing; it stands before the command, and without it the desk is in memory and ends with the program. One program at a time may use the file",
         )
+}
+
+// The option `--existing`, which stands beside `--db`.
+fn existing<'a>(alloc: Global) -> Result<Arg<'a>, AllocError> {
+    Arg::new(alloc, "existing")
+        .long("existing")
+        .action(ArgAction::SetTrue)
+        .help(
+            "Take the file of --db only where it is there: a missing one is a fault, and none is made",
+        )
+        .requires_arg("db")
 }
 
 // The option `--rules FILE`, which stands before the command.
@@ -126,9 +138,17 @@ fn with_command<'a>(
     program.subcommand(command?)
 }
 
+// The program with one more option, refused as a command is.
+fn with_arg<'a>(
+    program: Command<'a>,
+    option: Result<Arg<'a>, AllocError>,
+) -> Result<Command<'a>, AllocError> {
+    program.arg(option?)
+}
+
 /// The program with all its commands. Without memory there is none.
 pub fn program<'a>(alloc: Global) -> Result<Command<'a>, AllocError> {
-    let program = named(alloc).arg(db(alloc))?.arg(rules(alloc))?;
+    let program = with_arg(named(alloc).arg(db(alloc))?, existing(alloc))?.arg(rules(alloc))?;
     let program = with_command(program, Ok(batch(alloc)))?;
     let program = with_command(program, deliver(alloc))?;
     let program = with_command(program, gaps(alloc))?;

@@ -105,6 +105,26 @@ fn deliver_file<D: Desk, W: Write>(
     }
 }
 
+// Delivers the message that is named: `-` is standard input, each other name a file's.
+fn deliver_named<D: Desk, R: Read, W: Write>(
+    rt: &HostRuntime,
+    desk: &mut D,
+    precedence: &Precedence,
+    name: &str,
+    input: &mut R,
+    writer: &mut W,
+) -> Result<bool, DeliveryFault>
+    ensures premise { D.is_sound desk.new → D.is_sound desk.old }
+    ensures run { (text : List ℕ) × ((L : List Request) → D.stands_for desk.old L → D.is_sound desk.new →
+        DeliveryFits precedence.now L text (Appends (W.contents writer.old) (W.contents writer.new)) (D.stands_for desk.new) result) }
+{
+    if name == "-" {
+        deliver_one(rt.alloc(), desk, precedence, input, writer)
+    } else {
+        deliver_file(rt, desk, precedence, name, writer)
+    }
+}
+
 // Reports why the message of the file of this name has no answer, and gives the status.
 fn report_delivery<E: Write>(fault: DeliveryFault, name: &str, errors: &mut E) -> u8
     ensures { result ≡ 3 }
@@ -126,14 +146,15 @@ fn refusal_status(has_refusal: bool) -> u8
     if has_refusal { 1 } else { 0 }
 }
 
-/// Delivers the message of each file in turn, and writes each answer before the next file is
-/// opened. Gives 0, or 1 where an answer was a refusal, or 3 after a fault, which is reported and
+/// Delivers the message of each file in turn, where `-` is standard input, and writes each answer
+/// before the next file is opened. Gives 0, or 1 where an answer was a refusal, or 3 after a fault, which is reported and
 /// ends the command.
-pub fn run<D: Desk, W: Write, E: Write>(
+pub fn run<D: Desk, R: Read, W: Write, E: Write>(
     rt: &HostRuntime,
     desk: &mut D,
     precedence: &Precedence,
     names: &[&str],
+    input: &mut R,
     output: &mut W,
     errors: &mut E,
 ) -> u8
@@ -145,7 +166,7 @@ pub fn run<D: Desk, W: Write, E: Write>(
 {
     let mut has_refusal = false;
     for name in names {
-        match deliver_file(rt, desk, precedence, name, output) {
+        match deliver_named(rt, desk, precedence, name, input, output) {
             Ok(is_refused) => has_refusal |= is_refused,
             Err(fault) => return report_delivery(fault, name, errors),
         }

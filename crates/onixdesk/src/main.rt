@@ -1,5 +1,6 @@
 //! The program `onixdesk`: the intake of a bookshop's buying desk on the command line. `command_line`
-//! reads its words by the `commands` of clap, `rules` reads the precedence table, and `fault` has the
+//! reads its words by the `commands` of clap, `rules` reads the precedence table, `database` looks at the
+//! database file, and `fault` has the
 //! texts of what can go wrong. The commands are `batch`, `deliver`, `gaps` and `serve`, each over any
 //! desk; `program` gives them one in a database file, or in memory. `migrate` brings a database file of
 //! an earlier version to the one that is kept now. What each request is answered is proved in
@@ -10,6 +11,7 @@ mod batch;
 mod command_line;
 mod commands;
 mod connection;
+mod database;
 mod deliver;
 mod fault;
 mod gaps;

@@ -5,7 +5,8 @@ ghost use Rattle.std.specs.Io.KnownBytes.{Appends};
 ghost use Rattle.onixdesk.specs.TaskEnds.{TaskEnds};
 ghost use Rattle.desk_memory.specs.declared.desk.MemoryDesk.{MemoryDesk};
 
-use crate::command_line::{self, Action, Invocation, Reading, Task};
+use crate::command_line::{self, Action, Database, Invocation, Reading, Task};
+use crate::database::look_at;
 use crate::fault::{Fault, report};
 use crate::rules::{open_table, report_rules};
 use crate::{batch, deliver, gaps, migrate, serve};
@@ -37,7 +38,15 @@ fn run_task<D: Desk, R: Read, W: Write, E: Write>(
     match task {
         Task::Batch => batch::run(rt.alloc(), desk, precedence, input, output, errors),
         Task::Deliver(names) => {
-            deliver::run(rt, desk, precedence, names.as_slice(), output, errors)
+            deliver::run(
+                rt,
+                desk,
+                precedence,
+                names.as_slice(),
+                input,
+                output,
+                errors,
+            )
         }
         Task::Gaps(name) => gaps::run(rt.alloc(), desk, precedence, name, output, errors),
         Task::Serve { port, requests } => {
@@ -106,10 +115,10 @@ fn run_and_close<D: Disk + Drop, R: Read, W: Write, E: Write>(
     }
 }
 
-// Runs a command over the desk in the database file of that name, which `start` stands for.
+// Runs a command over the desk in a database file, which `start` stands for.
 fn run_in_file<S: Start, R: Read, W: Write, E: Write>(
     rt: &HostRuntime,
-    name: &str,
+    db: &Database<'_>,
     start: S,
     precedence: &Precedence,
     task: &Task<'_>,
@@ -119,9 +128,27 @@ fn run_in_file<S: Start, R: Read, W: Write, E: Write>(
 ) -> u8
     ensures { result ≤ 3 }
 {
-    match DeskStore::open(rt, name, start) {
+    if let Err(fault) = look_at(rt, db, errors) {
+        return report(&fault, errors);
+    }
+    match DeskStore::open(rt, db.name, start) {
         Ok(desk) => run_and_close(rt, desk, precedence, task, input, output, errors),
         Err((fault, _)) => report(&Fault::from(fault), errors),
+    }
+}
+
+// Brings the desk in a database file to the present version.
+fn migrate_file<W: Write, E: Write>(
+    rt: &HostRuntime,
+    db: &Database<'_>,
+    output: &mut W,
+    errors: &mut E,
+) -> u8
+    ensures { result ≤ 3 }
+{
+    match look_at(rt, db, errors) {
+        Ok(()) => migrate::run(rt, db.name, Unknown, output, errors),
+        Err(fault) => report(&fault, errors),
     }
 }
 
@@ -147,7 +174,7 @@ fn run_invocation<R: Read, W: Write, E: Write>(
         Action::InFile { db, task } => {
             run_in_file(rt, db, Unknown, &precedence, task, input, output, errors)
         }
-        Action::Migrate { db } => migrate::run(rt, db, Unknown, output, errors),
+        Action::Migrate { db } => migrate_file(rt, db, output, errors),
     };
     drop(precedence);
     status

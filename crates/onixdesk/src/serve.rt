@@ -110,7 +110,7 @@ pub fn serve_port<D: Desk, O: Write, E: Write>(
     desk: &mut D,
     precedence: &Precedence,
     port: &Port,
-    requests: u32,
+    requests: u64,
     output: &mut O,
     errors: &mut E,
 ) -> u8
@@ -154,7 +154,7 @@ pub fn run<D: Desk, O: Write, E: Write>(
     desk: &mut D,
     precedence: &Precedence,
     number: u16,
-    requests: u32,
+    requests: u64,
     output: &mut O,
     errors: &mut E,
 ) -> u8

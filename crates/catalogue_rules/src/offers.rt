@@ -36,6 +36,24 @@ fn has_article(entry: &Entry, isbn: &Isbn13) -> bool
     false
 }
 
+// A copy of a market and one of a SupplyDetail.
+fn copies(
+    market: &Territory,
+    detail: &SupplyDetail,
+) -> Result<(Territory, SupplyDetail), AllocError>
+    ensures market { IfOk result (λ both. both.0 ≡ market.now) }
+    ensures detail { IfOk result (λ both. both.1 ≡ detail.now) }
+{
+    let market = market.duplicate()?;
+    match detail.duplicate() {
+        Ok(detail) => Ok((market, detail)),
+        Err(fault) => {
+            drop(market);
+            Err(fault)
+        }
+    }
+}
+
 // The offer that a SupplyDetail makes at a place, by copies of its parts.
 fn offer(
     alloc: Global,
@@ -47,15 +65,23 @@ fn offer(
 ) -> Result<Offer, AllocError>
     ensures { IfOk result (λ o. o ≡ offer_of series.now reference.now (place, (market.now, detail.now))) }
 {
-    Ok(Offer {
-        series: *series,
-        reference: Text::from_str(alloc, reference)?,
-        place,
-        supplier: detail.supplier.duplicate()?,
-        availability: detail.availability,
-        market: market.duplicate()?,
-        prices: detail.prices.duplicate()?,
-    })
+    let (market, detail) = copies(market, detail)?;
+    match Text::from_str(alloc, reference) {
+        Ok(reference) => Ok(Offer {
+            series: *series,
+            reference,
+            place,
+            supplier: detail.supplier,
+            availability: detail.availability,
+            market,
+            prices: detail.prices,
+        }),
+        Err(fault) => {
+            drop(market);
+            drop(detail);
+            Err(fault)
+        }
+    }
 }
 
 // Adds the offers of a supply, where so many SupplyDetails of the record come before it. Gives how

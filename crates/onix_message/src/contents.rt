@@ -1,10 +1,10 @@
 // The one text of contents.
 
-ghost use Rattle.std.specs.Prelude.{◌≡◌, ◌∷◌, [], IfOk, IsErrOf, List};
+ghost use Rattle.std.specs.Prelude.{◌≡◌, [], IfOk, IsErrOf, List, OnOk};
 ghost use Rattle.std.specs.Str.{bytes_eq};
 ghost use Rattle.std.specs.String.{string_bytes};
 ghost use Rattle.csv_records.specs.RecordTexts.{records_of};
-ghost use Rattle.onix_message.specs.ContentsText.{IsContents, contents_text, framed, plain_opening};
+ghost use Rattle.onix_message.specs.ContentsText.{IsContents, contents_text, framed};
 ghost use Rattle.onix_message.specs.Grammar.{IsMessage};
 ghost use Rattle.onix_rows.specs.Product.{content_records};
 ghost use Rattle.onix_rows.specs.declared.parts.Header.{Header};
@@ -75,26 +75,28 @@ pub fn write_contents(alloc: Global, contents: &Contents) -> Result<String, Allo
     write_records(alloc, &records.as_records())
 }
 
-fn opening_record(alloc: Global) -> Result<RecordBuffer, AllocError>
-    ensures { IfOk result (λ records. records ≡ plain_opening ∷ []) }
+// Puts the records of a text between a Message record without defaults and the right end, into a
+// buffer that is lent, so that no way out lets go of it.
+#[tactic(auto, unfolding(crate::specs::ContentsText::framed))]
+fn frame(alloc: Global, whole: &mut RecordBuffer, text: &str) -> Result<(), AllocError>
+    ensures { whole.old ≡ [] → OnOk result (whole.new ≡ framed (records_of text.now)) }
 {
-    let mut records = RecordBuffer::new(alloc);
-    records.push_fields(&["Message", "2", "01", "x", "", "", "", "", "", "", ""])?;
-    Ok(records)
+    whole.push_fields(&["Message", "2", "01", "x", "", "", "", "", "", "", ""])?;
+    let mut reader = RecordReader::of_text(alloc, text);
+    append_records(alloc, whole, &mut reader)?;
+    let mut buffer = Buffer::new();
+    let count = whole.len();
+    whole.push_fields(&["EndMessage", buffer.format(count)])?;
+    Ok(())
 }
 
 // The records of a text between a Message record without defaults and the right end.
-#[tactic(auto, unfolding(crate::specs::ContentsText::framed))]
 fn framed_records(alloc: Global, text: &str) -> Result<RecordBuffer, AllocError>
     ensures { IfOk result (λ whole. whole ≡ framed (records_of text.now)) }
 {
-    let mut records = opening_record(alloc)?;
-    let mut reader = RecordReader::of_text(alloc, text);
-    append_records(alloc, &mut records, &mut reader)?;
-    let mut buffer = Buffer::new();
-    let count = records.len();
-    records.push_fields(&["EndMessage", buffer.format(count)])?;
-    Ok(records)
+    let mut whole = RecordBuffer::new(alloc);
+    frame(alloc, &mut whole, text)?;
+    Ok(whole)
 }
 
 // Whether contents have this text.

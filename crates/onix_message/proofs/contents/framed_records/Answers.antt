@@ -1,7 +1,0 @@
-use Rattle.std.proofs.Common.{refl}
-use Rattle.onix_message.specs.ContentsText.{framed}
-use Rattle.onix_message.proofs.contents.framed_records.Goals as goal
-
-pub returns : goal.returns
-unfolding framed
-returns c = rw (c.in_ok-push_fields.ensures.ok, c.format.ensures.text, c.len-count.ensures, c.in_ok-append_records.ensures.ok.0, c.of_text-reader.ensures, c.in_ok-records.ensures) refl

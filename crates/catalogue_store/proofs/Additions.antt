@@ -4,13 +4,13 @@ use Rattle.std.proofs.lemmas.List.{append-nil, append_assoc, map-append, take_mo
 use Rattle.std.proofs.lemmas.List.Elements.{filter-append}
 use Rattle.onix_rows.specs.declared.parts.ProductIdentifier.{ProductIdentifier}
 use Rattle.onix_rows.specs.declared.parts.ProductSupply.{ProductSupply}
-use Rattle.desk_rows.specs.declared.rows.ArticleRow.{ArticleRow}
-use Rattle.desk_rows.specs.declared.rows.OfferRow as typed
-use Rattle.desk_rows.specs.declared.rows.PriceRow as typed_price
-use Rattle.desk_rows.specs.declared.rows.RecordRow.{RecordRow}
-use Rattle.desk_rows.specs.RecordChanges.{with_new_record, with_article, with_offer, with_price, with_minimum, with_price_and_minimum}
-use Rattle.desk_rows.specs.RecordRows.{offer_row, price_row, minimum_row}
-use Rattle.desk_rows.specs.Rows.{DeskRows}
+use Rattle.desk_tables.specs.declared.rows.row_types.ArticleRow.{ArticleRow}
+use Rattle.desk_tables.specs.declared.rows.row_types.OfferRow as typed
+use Rattle.desk_tables.specs.declared.rows.row_types.PriceRow as typed_price
+use Rattle.desk_tables.specs.declared.rows.row_types.RecordRow.{RecordRow}
+use Rattle.desk_tables.specs.RecordChanges.{with_new_record, with_article, with_offer, with_price, with_minimum, with_price_and_minimum}
+use Rattle.desk_tables.specs.RecordRows.{offer_row, price_row, minimum_row}
+use Rattle.desk_tables.specs.Rows.{DeskRows}
 use Rattle.catalogue_store.specs.EntryRows.{article_rows, detail_rows, price_rows_of, has_minimum}
 use Rattle.catalogue_store.specs.WrittenRows.{with_articles, with_details, with_identified, with_prices, with_supplies}
 

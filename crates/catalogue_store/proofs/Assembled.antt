@@ -14,7 +14,7 @@ use Rattle.onix_rows.specs.declared.parts.ProductIdentifier.{ProductIdentifier}
 use Rattle.onix_rows.specs.declared.parts.ProductSupply.{ProductSupply}
 use Rattle.onix_rows.specs.declared.parts.SupplyDetail.{SupplyDetail}
 use Rattle.onix_terms.specs.declared.territory.Territory.{Territory}
-use Rattle.desk_rows.specs.declared.rows.OfferRow as typed
+use Rattle.desk_tables.specs.declared.rows.row_types.OfferRow as typed
 use Rattle.catalogue_store.specs.Assembly.{detail_of, grouped, identifier_of, joined, supply_of}
 use Rattle.catalogue_store.specs.EntryRows.{SuppliedDetail, article_row, article_rows, detail_row, detail_rows, numbered_details, supplied_details}
 use Rattle.catalogue_store.specs.Storable.{AreStorable, IsStorableSupply}

@@ -4,9 +4,9 @@ use Rattle.sqlite_trees.proofs.ListLemmas.{IsPermutation-same}
 use Rattle.onix_rows.specs.declared.parts.ProductIdentifier.{ProductIdentifier}
 use Rattle.onix_rows.specs.declared.parts.ProductSupply.{ProductSupply}
 use Rattle.catalogue_rules.specs.declared.entry.Entry.{Entry}
-use Rattle.desk_rows.specs.RecordChanges.{is_record, is_article_of, is_offer_of, is_price_of, is_minimum_of, without_offers, without_record}
-use Rattle.desk_rows.specs.RecordRows.{offer_row, price_row, minimum_row}
-use Rattle.desk_rows.specs.Rows.{DeskRows}
+use Rattle.desk_tables.specs.RecordChanges.{is_record, is_article_of, is_offer_of, is_price_of, is_minimum_of, without_offers, without_record}
+use Rattle.desk_tables.specs.RecordRows.{offer_row, price_row, minimum_row}
+use Rattle.desk_tables.specs.Rows.{DeskRows}
 use Rattle.catalogue_store.specs.EntryRows.{record_row, article_rows, detail_rows, price_rows_of, has_minimum}
 use Rattle.catalogue_store.specs.Holding.{Became, HoldsEntry, other_records}
 use Rattle.catalogue_store.specs.Storable.{AreStorable}

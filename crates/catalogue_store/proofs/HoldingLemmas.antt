@@ -14,12 +14,12 @@ use Rattle.catalogue_rules.specs.Records.{ByReference}
 use Rattle.catalogue_rules.specs.declared.entry.Entry.{Entry}
 use Rattle.catalogue_rules.proofs.Lookups.{changed_here, changed_there, same_or_not}
 use Rattle.catalogue_rules.proofs.Plans.{changes_at-with_entry}
-use Rattle.desk_rows.specs.RecordAnswers.{is_record_in, is_article_in, is_offer_in, is_price_in, is_minimum_in}
-use Rattle.desk_rows.specs.RecordChanges.{is_record, is_article_of, is_offer_of, is_price_of, is_minimum_of, has_record}
-use Rattle.desk_rows.specs.RecordRows.{offer_row, price_row, minimum_row}
-use Rattle.desk_rows.specs.Rows.{DeskRows}
-use Rattle.desk_rows.specs.declared.rows.PriceRow as typed_price
-use Rattle.desk_rows.specs.declared.rows.RecordRow.{RecordRow}
+use Rattle.desk_tables.specs.RecordAnswers.{is_record_in, is_article_in, is_offer_in, is_price_in, is_minimum_in}
+use Rattle.desk_tables.specs.RecordChanges.{is_record, is_article_of, is_offer_of, is_price_of, is_minimum_of, has_record}
+use Rattle.desk_tables.specs.RecordRows.{offer_row, price_row, minimum_row}
+use Rattle.desk_tables.specs.Rows.{DeskRows}
+use Rattle.desk_tables.specs.declared.rows.row_types.PriceRow as typed_price
+use Rattle.desk_tables.specs.declared.rows.row_types.RecordRow.{RecordRow}
 use Rattle.catalogue_store.specs.EntryRows.{article_rows, has_minimum}
 use Rattle.catalogue_store.specs.Holding.{Became, HoldsCatalogue, HoldsEntry, other_catalogues}
 use Rattle.catalogue_store.specs.Storable.{AreStorable}

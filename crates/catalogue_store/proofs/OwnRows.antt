@@ -10,9 +10,9 @@ use Rattle.std.proofs.lemmas.Slice.Eq.{bytes_eq-Decides}
 use Rattle.sqlite_trees.proofs.ListLemmas.{all_of, all_weaker, all-filter, all-flat_map, all-map, filter-filter, filter_all, filter_none}
 use Rattle.onix_rows.specs.declared.parts.ProductIdentifier.{ProductIdentifier}
 use Rattle.onix_rows.specs.declared.parts.ProductSupply.{ProductSupply}
-use Rattle.desk_rows.specs.RecordChanges.{is_article_of, is_offer_of, is_price_of, is_minimum_of}
-use Rattle.desk_rows.specs.RecordRows.{offer_row, price_row, minimum_row}
-use Rattle.desk_rows.specs.declared.rows.PriceRow as typed_price
+use Rattle.desk_tables.specs.RecordChanges.{is_article_of, is_offer_of, is_price_of, is_minimum_of}
+use Rattle.desk_tables.specs.RecordRows.{offer_row, price_row, minimum_row}
+use Rattle.desk_tables.specs.declared.rows.row_types.PriceRow as typed_price
 use Rattle.catalogue_store.specs.EntryRows.{article_row, article_rows, detail_row, detail_rows, detail_price_row, detail_price_rows, price_rows_of, supplied_details, has_minimum}
 
 -- ---- lists

@@ -7,11 +7,11 @@ use Rattle.onix_rows.specs.declared.parts.Price.{Price}
 use Rattle.onix_rows.specs.declared.parts.ProductIdentifier.{ProductIdentifier}
 use Rattle.onix_rows.specs.declared.parts.ProductSupply.{ProductSupply}
 use Rattle.catalogue_rules.specs.declared.entry.Entry.{Entry}
-use Rattle.desk_rows.specs.ArticleAnswers.{AreArticlesOf, AreOfferRowsOf}
-use Rattle.desk_rows.specs.Rows.{DeskRows}
-use Rattle.desk_rows.specs.declared.rows.ArticleRow.{ArticleRow}
-use Rattle.desk_rows.specs.declared.rows.OfferRow as typed
-use Rattle.desk_rows.specs.declared.rows.RecordRow.{RecordRow}
+use Rattle.desk_tables.specs.ArticleAnswers.{AreArticlesOf, AreOfferRowsOf}
+use Rattle.desk_tables.specs.Rows.{DeskRows}
+use Rattle.desk_tables.specs.declared.rows.row_types.ArticleRow.{ArticleRow}
+use Rattle.desk_tables.specs.declared.rows.row_types.OfferRow as typed
+use Rattle.desk_tables.specs.declared.rows.row_types.RecordRow.{RecordRow}
 use Rattle.catalogue_store.specs.EntryRows.{SuppliedDetail, article_rows, detail_rows, detail_price_row, detail_price_rows, supplied_details, supplies_of, detail_row}
 use Rattle.catalogue_store.specs.HeldLemmas.{held_articles, held_details}
 use Rattle.catalogue_store.specs.HeldPriceLemmas.{held_prices}
@@ -20,7 +20,7 @@ use Rattle.catalogue_store.specs.Storable.{IsStorable}
 use Rattle.catalogue_store.specs.ReadRows.{Finds, HasPricesOf, HoldsSupplies, AreReadAs, IsReadAs}
 use Rattle.catalogue_store.proofs.Additions.{take_push}
 use Rattle.std.proofs.lemmas.List.Elements.{All-map}
-use Rattle.desk_rows.specs.RecordChanges.{has_minimums_of}
+use Rattle.desk_tables.specs.RecordChanges.{has_minimums_of}
 
 zip_push : {A B : Type 0} (R : A → B → Type 0) (xs : List A) (ys : List B) (x : A) (y : B) → AllZip R xs ys → R x y → AllZip R (xs ++ x ∷ []) (ys ++ y ∷ [])
 zip_push R [] [] x y all here = (here, tt)

@@ -2,9 +2,9 @@
 use Rattle.std.specs.Prelude.{◌≡◌, Result, IfOk, OnOk, IsTrue}
 use Rattle.sqlite.specs.State.{State, HasCleanDisk, Survives, KeepsCommit}
 use Rattle.onix_message.specs.declared.agreement.StoreFault.{StoreFault}
-use Rattle.desk_rows.specs.Rows.{DeskRows, Holds}
-use Rattle.desk_rows.specs.Schema.{desk_schema}
-use Rattle.desk_rows.specs.Transactions.{HasOtherSchema}
+use Rattle.desk_tables.specs.Rows.{DeskRows, Holds}
+use Rattle.desk_tables.specs.Schema.{desk_schema}
+use Rattle.desk_tables.specs.Transactions.{HasOtherSchema}
 
 -- With `Ok`, `Post` is said of the rows before, the answer and the rows after; and nothing is committed.
 pub record Achieves {A : Type 0} (Post : DeskRows → A → DeskRows → Type 0) (old new : State) (result : Result A StoreFault) : Type 0 where

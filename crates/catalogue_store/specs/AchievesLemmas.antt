@@ -3,10 +3,10 @@ use Rattle.std.proofs.Common.{◌≡◌, Bool, Ok, Err, Result, IfOk, OnOk, IsTr
 use Rattle.sqlite.specs.State.{State, HasCleanDisk, KeepsCommit}
 use Rattle.sqlite.proofs.StateLemmas.{survives_then}
 use Rattle.onix_message.specs.declared.agreement.StoreFault.{StoreFault}
-use Rattle.desk_rows.specs.Rows.{DeskRows, Holds}
-use Rattle.desk_rows.specs.Schema.{desk_schema}
-use Rattle.desk_rows.specs.Transactions.{Works, HasOtherSchema}
-use Rattle.desk_rows.proofs.Control.{kept_itself, survives_itself}
+use Rattle.desk_tables.specs.Rows.{DeskRows, Holds}
+use Rattle.desk_tables.specs.Schema.{desk_schema}
+use Rattle.desk_tables.specs.Transactions.{Works, HasOtherSchema}
+use Rattle.desk_tables.proofs.Control.{kept_itself, survives_itself}
 use Rattle.catalogue_store.specs.Achieves.{Achieves}
 
 -- ---- one call

@@ -7,8 +7,8 @@ use Rattle.catalogue_rules.specs.Records.{ByReference, EachHas}
 use Rattle.catalogue_rules.specs.declared.effect.Change.{Change}
 use Rattle.catalogue_rules.specs.declared.effect.Effect.{Effect}
 use Rattle.catalogue_rules.specs.declared.entry.Entry.{Entry}
-use Rattle.desk_rows.specs.Rows.{DeskRows}
-use Rattle.desk_rows.specs.declared.rows.RecordRow.{RecordRow}
+use Rattle.desk_tables.specs.Rows.{DeskRows}
+use Rattle.desk_tables.specs.declared.rows.row_types.RecordRow.{RecordRow}
 use Rattle.catalogue_store.specs.Holding.{Became, HoldsCatalogue, HoldsEntry, other_catalogues}
 use Rattle.catalogue_store.specs.Storable.{IsStorableProduct}
 use Rattle.catalogue_store.specs.ReadRows.{IsFound}

@@ -14,10 +14,10 @@ use Rattle.onix_terms.specs.declared.territory.Territory.{Territory}
 use Rattle.price_rules.specs.declared.offer.Offer.{Offer}
 use Rattle.catalogue_rules.specs.Offers.{entry_details, entry_offers, has_article, is_article, offer_of, record_offers, supply_details}
 use Rattle.catalogue_rules.specs.declared.entry.Entry.{Entry}
-use Rattle.desk_rows.specs.ArticleAnswers.{AreOffersInTurn, AreOffersOf, ArePricesAt, IsOfferOf, is_article_type, names_article}
-use Rattle.desk_rows.specs.RecordChanges.{is_article_of}
-use Rattle.desk_rows.specs.Rows.{DeskRows}
-use Rattle.desk_rows.specs.declared.rows.OfferRow as typed
+use Rattle.desk_tables.specs.ArticleAnswers.{AreOffersInTurn, AreOffersOf, ArePricesAt, IsOfferOf, is_article_type, names_article}
+use Rattle.desk_tables.specs.RecordChanges.{is_article_of}
+use Rattle.desk_tables.specs.Rows.{DeskRows}
+use Rattle.desk_tables.specs.declared.rows.row_types.OfferRow as typed
 use Rattle.catalogue_store.specs.EntryRows.{SuppliedDetail, article_row, detail_row, detail_rows, ids_of, numbered_details, record_row, supplied_details}
 use Rattle.catalogue_store.specs.HeldLemmas.{held_details}
 use Rattle.catalogue_store.specs.HeldPriceLemmas.{held_prices}

@@ -4,8 +4,8 @@ use Rattle.onix_rows.specs.declared.parts.Price.{Price}
 use Rattle.onix_rows.specs.declared.parts.ProductIdentifier.{ProductIdentifier}
 use Rattle.onix_rows.specs.declared.parts.ProductSupply.{ProductSupply}
 use Rattle.onix_rows.specs.declared.parts.SupplyDetail.{SupplyDetail}
-use Rattle.desk_rows.specs.declared.rows.ArticleRow.{ArticleRow}
-use Rattle.desk_rows.specs.declared.rows.OfferRow as typed
+use Rattle.desk_tables.specs.declared.rows.row_types.ArticleRow.{ArticleRow}
+use Rattle.desk_tables.specs.declared.rows.row_types.OfferRow as typed
 
 abbrev pub identifier_of : ArticleRow → ProductIdentifier
 identifier_of row = record { id_type = row.id_type; id_value = row.id_value }

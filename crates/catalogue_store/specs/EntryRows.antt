@@ -7,10 +7,10 @@ use Rattle.onix_rows.specs.declared.parts.SupplyDetail.{SupplyDetail}
 use Rattle.onix_rows.specs.declared.parts.Price.{Price}
 use Rattle.onix_terms.specs.declared.territory.Territory.{Territory}
 use Rattle.catalogue_rules.specs.declared.entry.Entry.{Entry}
-use Rattle.desk_rows.specs.declared.rows.OfferRow as typed
-use Rattle.desk_rows.specs.declared.rows.PriceRow as typed_price
-use Rattle.desk_rows.specs.declared.rows.RecordRow.{RecordRow}
-use Rattle.desk_rows.specs.declared.rows.ArticleRow.{ArticleRow}
+use Rattle.desk_tables.specs.declared.rows.row_types.OfferRow as typed
+use Rattle.desk_tables.specs.declared.rows.row_types.PriceRow as typed_price
+use Rattle.desk_tables.specs.declared.rows.row_types.RecordRow.{RecordRow}
+use Rattle.desk_tables.specs.declared.rows.row_types.ArticleRow.{ArticleRow}
 
 abbrev pub record_row : List ℕ → List ℕ → RecordRow
 record_row series reference = record { series = series; reference = reference }

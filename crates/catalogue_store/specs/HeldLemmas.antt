@@ -10,12 +10,12 @@ use Rattle.std.proofs.lemmas.List.Sorted.{IsPermutation-sym, IsPermutation-trans
 use Rattle.sqlite_trees.proofs.ListLemmas.{all-append, all-map, all_weaker, map-map}
 use Rattle.onix_rows.specs.declared.parts.ProductSupply.{ProductSupply}
 use Rattle.catalogue_rules.specs.declared.entry.Entry.{Entry}
-use Rattle.desk_rows.specs.ArticleAnswers.{AreArticlesOf, AreOfferRowsOf}
-use Rattle.desk_rows.specs.RecordReadings.{read_offer}
-use Rattle.desk_rows.specs.RecordRows.{OfferRow, offer_columns, offer_row}
-use Rattle.desk_rows.specs.Rows.{DeskRows}
-use Rattle.desk_rows.specs.declared.rows.ArticleRow.{ArticleRow}
-use Rattle.desk_rows.specs.declared.rows.OfferRow as typed
+use Rattle.desk_tables.specs.ArticleAnswers.{AreArticlesOf, AreOfferRowsOf}
+use Rattle.desk_tables.specs.RecordReadings.{read_offer}
+use Rattle.desk_tables.specs.RecordRows.{OfferRow, offer_columns, offer_row}
+use Rattle.desk_tables.specs.Rows.{DeskRows}
+use Rattle.desk_tables.specs.declared.rows.row_types.ArticleRow.{ArticleRow}
+use Rattle.desk_tables.specs.declared.rows.row_types.OfferRow as typed
 use Rattle.catalogue_store.specs.EntryRows.{SuppliedDetail, article_row, article_rows, detail_row, detail_rows, ids_of, numbered_details, record_row, supplied_details, supplies_of}
 use Rattle.catalogue_store.specs.Holding.{HoldsEntry}
 use Rattle.catalogue_store.specs.PlaceLemmas.{places-rise}

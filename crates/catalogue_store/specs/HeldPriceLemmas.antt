@@ -12,14 +12,14 @@ use Rattle.std.proofs.lemmas.List.Sorted.{IsPermutation-sym, IsPermutation-trans
 use Rattle.sqlite_trees.proofs.ListLemmas.{IsPermutation-filter, all-map, all_of, filter-map, map-map}
 use Rattle.onix_rows.specs.declared.parts.Price.{Price}
 use Rattle.catalogue_rules.specs.declared.entry.Entry.{Entry}
-use Rattle.desk_rows.specs.ArticleAnswers.{ArePricesAt, is_minimum_for, is_price_at, price_in, price_part}
-use Rattle.desk_rows.specs.RecordChanges.{is_minimum_of, is_price_of}
-use Rattle.desk_rows.specs.RecordReadings.{read_price}
-use Rattle.desk_rows.specs.RecordRows.{PriceRow, minimum_row, price_columns, price_row}
-use Rattle.desk_rows.specs.Rows.{DeskRows}
-use Rattle.desk_rows.specs.declared.rows.MinimumRow.{MinimumRow}
-use Rattle.desk_rows.specs.declared.rows.OfferRow as typed
-use Rattle.desk_rows.specs.declared.rows.PriceRow as typed_price
+use Rattle.desk_tables.specs.ArticleAnswers.{ArePricesAt, is_minimum_for, is_price_at, price_in, price_part}
+use Rattle.desk_tables.specs.RecordChanges.{is_minimum_of, is_price_of}
+use Rattle.desk_tables.specs.RecordReadings.{read_price}
+use Rattle.desk_tables.specs.RecordRows.{PriceRow, minimum_row, price_columns, price_row}
+use Rattle.desk_tables.specs.Rows.{DeskRows}
+use Rattle.desk_tables.specs.declared.rows.row_types.MinimumRow.{MinimumRow}
+use Rattle.desk_tables.specs.declared.rows.row_types.OfferRow as typed
+use Rattle.desk_tables.specs.declared.rows.row_types.PriceRow as typed_price
 use Rattle.catalogue_store.specs.EntryRows.{SuppliedDetail, detail_price_row, detail_price_rows, detail_row, detail_rows, has_minimum, supplied_details, supplies_of}
 use Rattle.catalogue_store.specs.HeldLemmas.{IsStorableSupplied, all-storable, same-list}
 use Rattle.catalogue_store.specs.Holding.{HoldsEntry}

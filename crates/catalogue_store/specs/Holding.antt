@@ -10,10 +10,10 @@ use Rattle.catalogue_rules.specs.Effects.{after, effect_of}
 use Rattle.catalogue_rules.specs.Records.{ByReference}
 use Rattle.catalogue_rules.specs.declared.effect.Effect.{Effect}
 use Rattle.catalogue_rules.specs.declared.entry.Entry.{Entry}
-use Rattle.desk_rows.specs.RecordChanges.{is_record, is_article_of, is_offer_of, is_price_of, is_minimum_of, without_record}
-use Rattle.desk_rows.specs.RecordAnswers.{is_record_in, is_article_in, is_offer_in, is_price_in, is_minimum_in}
-use Rattle.desk_rows.specs.RecordRows.{offer_row, price_row, minimum_row}
-use Rattle.desk_rows.specs.Rows.{DeskRows}
+use Rattle.desk_tables.specs.RecordChanges.{is_record, is_article_of, is_offer_of, is_price_of, is_minimum_of, without_record}
+use Rattle.desk_tables.specs.RecordAnswers.{is_record_in, is_article_in, is_offer_in, is_price_in, is_minimum_in}
+use Rattle.desk_tables.specs.RecordRows.{offer_row, price_row, minimum_row}
+use Rattle.desk_tables.specs.Rows.{DeskRows}
 use Rattle.catalogue_store.specs.EntryRows.{record_rows_of, article_rows, detail_rows, price_rows_of, has_minimum, ids_of, supplies_of}
 use Rattle.catalogue_store.specs.Storable.{IsStorable}
 

@@ -22,12 +22,12 @@ use Rattle.catalogue_rules.specs.Records.{ByReference, EachHas}
 use Rattle.catalogue_rules.specs.declared.effect.Change.{Change}
 use Rattle.catalogue_rules.specs.declared.effect.Change.TheVariants.{Replace, Update, Delete, Ignore}
 use Rattle.catalogue_rules.specs.declared.entry.Entry.{Entry}
-use Rattle.desk_rows.proofs.ArticleLists.{any_within}
-use Rattle.desk_rows.specs.RecordAnswers.{has_minimums, is_minimum_in}
-use Rattle.desk_rows.specs.RecordChanges.{has_minimums_of, is_minimum_of}
-use Rattle.desk_rows.specs.RecordRows.{minimum_row}
-use Rattle.desk_rows.specs.Rows.{DeskRows}
-use Rattle.desk_rows.specs.declared.rows.MinimumRow.{MinimumRow}
+use Rattle.desk_tables.proofs.ArticleLists.{any_within}
+use Rattle.desk_tables.specs.RecordAnswers.{has_minimums, is_minimum_in}
+use Rattle.desk_tables.specs.RecordChanges.{has_minimums_of, is_minimum_of}
+use Rattle.desk_tables.specs.RecordRows.{minimum_row}
+use Rattle.desk_tables.specs.Rows.{DeskRows}
+use Rattle.desk_tables.specs.declared.rows.row_types.MinimumRow.{MinimumRow}
 use Rattle.catalogue_store.specs.EntryRows.{SuppliedDetail, detail_price_row, detail_price_rows, has_minimum, numbered_details, price_rows_of, supplied_details, supplies_of}
 use Rattle.catalogue_store.specs.Holding.{HoldsCatalogue, HoldsEntry}
 use Rattle.catalogue_store.specs.Minimums.{HasNoMinimums, details_have_minimums, prices_have_minimums, products_have_minimums, supplies_have_minimums}

@@ -5,11 +5,11 @@ use Rattle.onix_rows.specs.declared.parts.Price.{Price}
 use Rattle.onix_rows.specs.declared.parts.ProductIdentifier.{ProductIdentifier}
 use Rattle.onix_rows.specs.declared.parts.ProductSupply.{ProductSupply}
 use Rattle.catalogue_rules.specs.declared.entry.Entry.{Entry}
-use Rattle.desk_rows.specs.ArticleAnswers.{ArePricesAt}
-use Rattle.desk_rows.specs.RecordChanges.{has_minimums_of}
-use Rattle.desk_rows.specs.Rows.{DeskRows}
-use Rattle.desk_rows.specs.declared.rows.OfferRow as typed
-use Rattle.desk_rows.specs.declared.rows.RecordRow.{RecordRow}
+use Rattle.desk_tables.specs.ArticleAnswers.{ArePricesAt}
+use Rattle.desk_tables.specs.RecordChanges.{has_minimums_of}
+use Rattle.desk_tables.specs.Rows.{DeskRows}
+use Rattle.desk_tables.specs.declared.rows.row_types.OfferRow as typed
+use Rattle.desk_tables.specs.declared.rows.row_types.RecordRow.{RecordRow}
 use Rattle.catalogue_store.specs.EntryRows.{article_rows, detail_rows, price_rows_of, ids_of, supplies_of}
 use Rattle.catalogue_store.specs.Holding.{HoldsEntry}
 use Rattle.std.specs.List.{All}

@@ -8,7 +8,7 @@ use Rattle.onix_rows.specs.declared.parts.Product.{Product}
 use Rattle.onix_rows.specs.declared.parts.ProductSupply.{ProductSupply}
 use Rattle.onix_rows.specs.declared.parts.SupplyDetail.{SupplyDetail}
 use Rattle.catalogue_rules.specs.declared.entry.Entry.{Entry}
-use Rattle.desk_rows.specs.Rows.{IsAddressee}
+use Rattle.desk_tables.specs.Rows.{IsAddressee}
 
 -- some fields write the territory
 abbrev pub IsWritten : Territory → Type 0

@@ -37,7 +37,7 @@ use Rattle.onix_rows.specs.declared.row.Form.TheVariants as form
 use Rattle.onix_rows.specs.declared.row.Opening.{Opening}
 use Rattle.onix_rows.specs.declared.row.Row.{Row}
 use Rattle.onix_rows.specs.declared.row.Row.TheVariants as row
-use Rattle.desk_rows.specs.Rows.{IsAddressee}
+use Rattle.desk_tables.specs.Rows.{IsAddressee}
 use Rattle.catalogue_store.specs.Storable.{IsStorableDetail, IsStorablePrice, IsStorableProduct, IsStorableSupply, IsWritten}
 
 -- ---- what one record writes

@@ -9,7 +9,7 @@ ghost use Rattle.catalogue_store.specs.EntryRows.{article_rows, detail_rows, sup
 ghost use Rattle.catalogue_store.specs.Storable.{IsStorable};
 
 use catalogue_rules::entry::Entry;
-use desk_rows::rows::{ArticleRow, OfferRow};
+use desk_tables::rows::row_types::{ArticleRow, OfferRow};
 use onix_message::agreement::StoreFault;
 use onix_rows::parts::{Price, ProductIdentifier, ProductSupply, SupplyDetail};
 use onix_terms::items::Items;

@@ -4,7 +4,7 @@ ghost use Rattle.std.specs.Prelude.{◌≡◌, ◌+◌, ◌++◌, ℕ, IfOk, OnO
 ghost use Rattle.std.specs.List.{enumerate_from, flat_map};
 ghost use Rattle.catalogue_store.specs.EntryRows.{SuppliedDetail, article_row, article_rows, detail_price_row, detail_price_rows, detail_row, detail_rows, numbered_details, price_rows_of};
 
-use desk_rows::rows::{ArticleRow, OfferRow, PriceRow};
+use desk_tables::rows::row_types::{ArticleRow, OfferRow, PriceRow};
 use onix_message::agreement::StoreFault;
 use onix_rows::parts::{Price, ProductIdentifier, ProductSupply, SupplyDetail};
 use onix_terms::plain::Plain;

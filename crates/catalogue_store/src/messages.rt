@@ -14,13 +14,13 @@ ghost use Rattle.catalogue_store.specs.Achieves.{Achieves};
 ghost use Rattle.catalogue_store.specs.Minimums.{products_have_minimums};
 ghost use Rattle.catalogue_store.specs.AppliedProducts.{IsCatalogueReadAs, IsChanged, IsProductApplied};
 ghost use Rattle.catalogue_store.specs.ReadRows.{IsFound, IsReadAs};
-ghost use Rattle.desk_rows.specs.RecordAnswers.{has_minimums};
+ghost use Rattle.desk_tables.specs.RecordAnswers.{has_minimums};
 
 use crate::minimums::products_have_minimums;
 use crate::reading::{find_record, has_supplies};
 use crate::records::{remove_record, replace_supplies, write_record};
 use catalogue_rules::effect::{Change, Effect};
-use desk_rows::rows::RecordRow;
+use desk_tables::rows::row_types::RecordRow;
 use desk_tables::work::Work;
 use onix_message::agreement::StoreFault;
 use onix_message::contents::Contents;

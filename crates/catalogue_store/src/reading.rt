@@ -8,13 +8,13 @@ ghost use Rattle.catalogue_rules.specs.declared.entry.Entry.{Entry as TheEntry};
 ghost use Rattle.catalogue_store.specs.Holding.{HoldsEntry};
 ghost use Rattle.catalogue_store.specs.Achieves.{Achieves};
 ghost use Rattle.catalogue_store.specs.ReadRows.{AreReadAs, Finds, HasPricesOf, HoldsSupplies, IsReadAs};
-ghost use Rattle.desk_rows.specs.RecordChanges.{has_minimums_of};
+ghost use Rattle.desk_tables.specs.RecordChanges.{has_minimums_of};
 
 use crate::assemble::entry_of;
 use crate::build::{article_rows, detail_rows};
 use crate::same::{same_articles, same_detail_prices, same_details};
 use catalogue_rules::entry::Entry;
-use desk_rows::rows::{OfferRow, RecordRow};
+use desk_tables::rows::row_types::{OfferRow, RecordRow};
 use desk_tables::work::Work;
 use onix_message::agreement::StoreFault;
 use onix_rows::parts::{Price, ProductIdentifier, ProductSupply};

@@ -9,7 +9,7 @@ ghost use Rattle.catalogue_store.specs.Achieves.{Achieves};
 ghost use Rattle.catalogue_store.specs.WrittenRows.{with_articles, with_details, with_identified, with_prices, with_supplies};
 
 use crate::build::{article_rows, detail_rows, price_rows};
-use desk_rows::rows::{ArticleRow, OfferRow, PriceRow, RecordRow};
+use desk_tables::rows::row_types::{ArticleRow, OfferRow, PriceRow, RecordRow};
 use desk_tables::work::Work;
 use onix_message::agreement::StoreFault;
 use onix_rows::parts::{ProductIdentifier, ProductSupply};

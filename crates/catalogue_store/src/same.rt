@@ -3,7 +3,7 @@
 ghost use Rattle.std.specs.Prelude.{◌≡◌, ◌↔◌, IsTrue, map};
 ghost use Rattle.catalogue_store.specs.EntryRows.{supplied_details};
 
-use desk_rows::rows::{ArticleRow, OfferRow};
+use desk_tables::rows::row_types::{ArticleRow, OfferRow};
 use onix_rows::parts::{Price, ProductSupply, SupplyDetail};
 use onix_terms::items::Items;
 use onix_terms::plain::Plain;

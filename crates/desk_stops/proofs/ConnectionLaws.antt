@@ -5,8 +5,8 @@ use Rattle.sqlite_schema.specs.declared.schema.Schema.{Schema}
 use Rattle.sqlite_schema.specs.declared.schema.Table.{Table}
 use Rattle.sqlite_trees.specs.Tree.{Trees}
 use Rattle.sqlite_trees.specs.declared.store.Store.{Ghosts}
-use Rattle.desk_rows.proofs.OneSchema.{one_schema}
-use Rattle.desk_rows.specs.Schema.{desk_schema, schema_0}
+use Rattle.desk_tables.proofs.OneSchema.{one_schema}
+use Rattle.desk_tables.specs.Schema.{desk_schema, schema_0}
 use Rattle.onix_message.specs.declared.agreement.Agreement.{Agreement}
 use Rattle.price_rules.specs.declared.precedence.Rule.{Rule}
 use Rattle.series_rules.proofs.LawProofs.{by_content_alone}

@@ -5,8 +5,8 @@ use Rattle.sqlite.specs.Held.{Held, state}
 use Rattle.sqlite.specs.State.{HasCleanDisk}
 use Rattle.sqlite_trees.specs.Tree.{Trees}
 use Rattle.sqlite_trees.specs.declared.store.Store.{Ghosts}
-use Rattle.desk_rows.specs.Schema.{schema_0}
-use Rattle.desk_rows.specs.Transactions.{HasNoRows}
+use Rattle.desk_tables.specs.Schema.{schema_0}
+use Rattle.desk_tables.specs.Transactions.{HasNoRows}
 use Rattle.price_rules.specs.declared.precedence.Rule.{Rule}
 use Rattle.series_rules.specs.Answers.{answer_to}
 use Rattle.series_rules.specs.Content.{SameContent}

@@ -4,7 +4,7 @@ use Rattle.std.specs.Prelude.{option_map, bytes_eq}
 use Rattle.std.specs.Cmp.Lexicographic.{pointwise_decides}
 use Rattle.std.proofs.lemmas.Bool.{cases_eq}
 use Rattle.std.proofs.lemmas.Slice.Eq.{bytes_eq-Decides}
-use Rattle.desk_rows.specs.Rows.{DeskRows}
+use Rattle.desk_tables.specs.Rows.{DeskRows}
 use Rattle.onix_message.specs.ContentsText.{contents_text}
 use Rattle.onix_message.specs.SameContents.{same_contents, same_product-Decides}
 use Rattle.onix_message.specs.declared.agreement.Agreement.{Agreement}

@@ -3,8 +3,8 @@ use Rattle.std.proofs.Common.{◌≡◌, ◌+◌, ◌++◌, ◌||◌, ℕ, Bool,
 use Rattle.std.specs.Prelude.{bytes_eq, find, is_some, nat_lt, option_map}
 use Rattle.std.specs.Option.{option_or}
 use Rattle.std.proofs.lemmas.List.Folds.{find-append}
-use Rattle.desk_rows.specs.Rows.{DeskRows, has_parties, is_named, series_at, series_between, with_series}
-use Rattle.desk_rows.specs.declared.series.SeriesRow.{SeriesRow}
+use Rattle.desk_tables.specs.Rows.{DeskRows, has_parties, is_named, series_at, series_between, with_series}
+use Rattle.desk_tables.specs.declared.rows.series.SeriesRow.{SeriesRow}
 use Rattle.onix_message.specs.declared.agreement.Agreement.{Agreement}
 use Rattle.onix_terms.specs.declared.party.Party.{Party}
 use Rattle.series_rules.specs.AgreementLemmas.{agreements_are_distinct}

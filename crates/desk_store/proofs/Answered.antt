@@ -3,8 +3,8 @@ use Rattle.std.proofs.Common.{◌≡◌, ◌<◌, ◌≤◌, ℕ, true, false, L
 use Rattle.std.specs.Prelude.{bytes_eq, option_map}
 use Rattle.std.specs.Option.{option_or}
 use Rattle.catalogue_rules.specs.declared.effect.Effect.{Effect}
-use Rattle.desk_rows.specs.Rows.{DeskRows, applied_at, held_at, series_at}
-use Rattle.desk_rows.specs.declared.applied.EffectRow.{EffectRow}
+use Rattle.desk_tables.specs.Rows.{DeskRows, applied_at, held_at, series_at}
+use Rattle.desk_tables.specs.declared.rows.applied.EffectRow.{EffectRow}
 use Rattle.onix_message.specs.ContentsText.{contents_text}
 use Rattle.onix_message.specs.declared.agreement.Agreement.{Agreement}
 use Rattle.onix_rows.specs.declared.parts.Product.{Product}

@@ -4,7 +4,7 @@ use Rattle.std.specs.Prelude.{slice_get, option_map}
 use Rattle.std.specs.FinMap as fin
 use Rattle.std.proofs.Math.Seq.{take-append_seam}
 use Rattle.std.proofs.lemmas.Bool.{cases_lt}
-use Rattle.desk_rows.specs.declared.applied.EffectRow.{EffectRow}
+use Rattle.desk_tables.specs.declared.rows.applied.EffectRow.{EffectRow}
 use Rattle.series_rules.specs.FrontLemmas.{kept_front, slice_get_front}
 use Rattle.series_rules.specs.Series.{after_all, effect_of_standing, kept_of}
 use Rattle.series_rules.specs.declared.requests.Standing.{Standing}

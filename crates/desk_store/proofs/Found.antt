@@ -2,8 +2,8 @@
 use Rattle.std.proofs.Common.{◌≡◌, ◌<◌, ◌≤◌, ℕ, true, false, cond, List, ◌∷◌, Option, Some, None, refl, sym, ap, ◌∙◌, arith, subst}
 use Rattle.std.specs.Prelude.{nat_lt, option_map}
 use Rattle.std.proofs.lemmas.Bool.Decides.{nat_tests}
-use Rattle.desk_rows.specs.Rows.{DeskRows, series_at, series_between}
-use Rattle.desk_rows.specs.declared.series.SeriesRow.{SeriesRow}
+use Rattle.desk_tables.specs.Rows.{DeskRows, series_at, series_between}
+use Rattle.desk_tables.specs.declared.rows.series.SeriesRow.{SeriesRow}
 use Rattle.onix_message.specs.ContentsText.{IsContents}
 use Rattle.onix_message.specs.Message.{message_of, bad_row}
 use Rattle.onix_message.specs.declared.agreement.Agreement.{Agreement}

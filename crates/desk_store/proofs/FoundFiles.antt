@@ -10,9 +10,9 @@ use Rattle.sqlite_trees.proofs.Doubt.{no_doubt}
 use Rattle.sqlite_trees.specs.Tree.{Trees}
 use Rattle.sqlite_trees.specs.View.{doubt}
 use Rattle.sqlite_wal.specs.Recovery.{Image}
-use Rattle.desk_rows.specs.Rows.{DeskRows, Holds, HoldsFirst}
-use Rattle.desk_rows.specs.Schema.{schema_0}
-use Rattle.desk_rows.specs.Transactions.{IsEmptied}
+use Rattle.desk_tables.specs.Rows.{DeskRows, Holds, HoldsFirst}
+use Rattle.desk_tables.specs.Schema.{schema_0}
+use Rattle.desk_tables.specs.Transactions.{IsEmptied}
 use Rattle.series_rules.specs.declared.requests.Request.{Request}
 use Rattle.desk_store.specs.Desks.{AreRowsOf, KeepsRequests}
 use Rattle.desk_store.specs.Migrations.{AreFilesOfEither, IsOfRequests, IsTrueAnswer}

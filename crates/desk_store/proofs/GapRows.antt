@@ -7,8 +7,8 @@ use Rattle.std.proofs.lemmas.Bool.{cases_lt}
 use Rattle.std.proofs.lemmas.Bool.Decides.{nat_tests}
 use Rattle.std.proofs.lemmas.List.Sorted.{All-permutation, Contains-permutation}
 use Rattle.std.proofs.lemmas.Map.Views.{All-from_any, Contains-from_any}
-use Rattle.desk_rows.specs.Rows.{AreHeldNumbers, DeskRows, HeldRow, is_held, is_held_in, series_at}
-use Rattle.desk_rows.specs.declared.series.SeriesRow.{SeriesRow}
+use Rattle.desk_tables.specs.Rows.{AreHeldNumbers, DeskRows, HeldRow, is_held, is_held_in, series_at}
+use Rattle.desk_tables.specs.declared.rows.series.SeriesRow.{SeriesRow}
 use Rattle.onix_message.specs.declared.agreement.Agreement.{Agreement}
 use Rattle.series_rules.specs.AgreementLemmas.{named_has_name}
 use Rattle.series_rules.specs.Agreements.{agreements_of, named}

@@ -5,9 +5,9 @@ use Rattle.std.specs.List.{list_any}
 use Rattle.sqlite.specs.Effect.{Database}
 use Rattle.sqlite.specs.State.{State, HasCleanDisk}
 use Rattle.sqlite_trees.specs.Tree.{Trees}
-use Rattle.desk_rows.specs.Rows.{DeskRows, Holds, HoldsFirst, first_rows, with_version}
-use Rattle.desk_rows.specs.Schema.{is_meta, schema_0}
-use Rattle.desk_rows.specs.Transactions.{IsEmptied}
+use Rattle.desk_tables.specs.Rows.{DeskRows, Holds, HoldsFirst, first_rows, with_version}
+use Rattle.desk_tables.specs.Schema.{is_meta, schema_0}
+use Rattle.desk_tables.specs.Transactions.{IsEmptied}
 use Rattle.onix_message.specs.declared.agreement.StoreFault.{StoreFault}
 use Rattle.series_rules.specs.declared.requests.Request.{Request}
 use Rattle.desk_store.specs.Desks.{AreRowsOf, HoldsRequests}

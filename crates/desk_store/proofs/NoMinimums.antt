@@ -11,9 +11,9 @@ use Rattle.onix_message.specs.declared.agreement.Agreement.{Agreement}
 use Rattle.onix_rows.specs.declared.parts.Header.{Header}
 use Rattle.onix_rows.specs.declared.parts.Product.{Product}
 use Rattle.catalogue_store.specs.MinimumLemmas.{none_at_start, records_without_minimums}
-use Rattle.desk_rows.specs.RecordChanges.{has_minimums_of, is_minimum_of}
-use Rattle.desk_rows.specs.declared.rows.MinimumRow.{MinimumRow}
-use Rattle.desk_rows.specs.Rows.{DeskRows, version_set, with_version}
+use Rattle.desk_tables.specs.RecordChanges.{has_minimums_of, is_minimum_of}
+use Rattle.desk_tables.specs.declared.rows.row_types.MinimumRow.{MinimumRow}
+use Rattle.desk_tables.specs.Rows.{DeskRows, version_set, with_version}
 use Rattle.series_rules.specs.AgreementLemmas.{named_has_name, same_bytes}
 use Rattle.series_rules.specs.Agreements.{agreements_of, between, named}
 use Rattle.series_rules.specs.Firsts.{Placement, admitted, admitted_at, admitted_message, admitted_number, first_at, put_at}

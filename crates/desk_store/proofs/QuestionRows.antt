@@ -5,9 +5,9 @@ use Rattle.std.specs.FinMap as fin
 use Rattle.catalogue_rules.specs.Records.{ByReference}
 use Rattle.catalogue_store.specs.Holding.{HoldsCatalogue}
 use Rattle.catalogue_store.specs.OfferLemmas.{held_article_offers_by_value}
-use Rattle.desk_rows.specs.ArticleAnswers.{AreOffersOfArticle}
-use Rattle.desk_rows.specs.Rows.{DeskRows, series_at}
-use Rattle.desk_rows.specs.declared.series.SeriesRow.{SeriesRow}
+use Rattle.desk_tables.specs.ArticleAnswers.{AreOffersOfArticle}
+use Rattle.desk_tables.specs.Rows.{DeskRows, series_at}
+use Rattle.desk_tables.specs.declared.rows.series.SeriesRow.{SeriesRow}
 use Rattle.onix_message.specs.declared.agreement.Agreement.{Agreement}
 use Rattle.price_rules.specs.declared.offer.Offer.{Offer}
 use Rattle.series_rules.specs.AgreementLemmas.{named_has_name}

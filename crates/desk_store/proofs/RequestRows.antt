@@ -6,9 +6,9 @@ use Rattle.std.proofs.lemmas.Bool.{cases_eq, cases_lt}
 use Rattle.std.proofs.lemmas.Slice.Eq.{bytes_eq-Decides}
 use Rattle.catalogue_rules.specs.Records.{ByReference}
 use Rattle.catalogue_store.specs.Holding.{HoldsCatalogue}
-use Rattle.desk_rows.specs.Rows.{DeskRows, series_at, held_at, with_held}
-use Rattle.desk_rows.specs.declared.applied.EffectRow.{EffectRow}
-use Rattle.desk_rows.specs.declared.series.SeriesRow.{SeriesRow}
+use Rattle.desk_tables.specs.Rows.{DeskRows, series_at, held_at, with_held}
+use Rattle.desk_tables.specs.declared.rows.applied.EffectRow.{EffectRow}
+use Rattle.desk_tables.specs.declared.rows.series.SeriesRow.{SeriesRow}
 use Rattle.onix_message.specs.declared.agreement.Agreement.{Agreement}
 use Rattle.series_rules.specs.Agreements.{agreements_of, named, between}
 use Rattle.series_rules.specs.FirstLemmas.{first_left, first_other, first_there}

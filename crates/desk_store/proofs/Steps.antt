@@ -4,8 +4,8 @@ use Rattle.std.specs.Prelude.{slice_get, option_map, find}
 use Rattle.std.specs.FinMap as fin
 use Rattle.std.proofs.lemmas.Bool.{cases_eq}
 use Rattle.catalogue_store.specs.Holding.{HoldsCatalogue, other_catalogues}
-use Rattle.desk_rows.specs.Rows.{DeskRows, HeldRow, applied_part, series_at, held_at, applied_at, is_named, is_held, is_applied, with_applied, with_next}
-use Rattle.desk_rows.specs.declared.applied.EffectRow.{EffectRow}
+use Rattle.desk_tables.specs.Rows.{DeskRows, HeldRow, applied_part, series_at, held_at, applied_at, is_named, is_held, is_applied, with_applied, with_next}
+use Rattle.desk_tables.specs.declared.rows.applied.EffectRow.{EffectRow}
 use Rattle.onix_message.specs.declared.agreement.Agreement.{Agreement}
 use Rattle.series_rules.specs.FrontLemmas.{after_all_append, slice_get_front}
 use Rattle.series_rules.specs.Series.{after_all}

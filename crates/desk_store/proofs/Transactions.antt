@@ -4,9 +4,9 @@ use Rattle.sqlite.specs.Effect.{Database}
 use Rattle.sqlite.specs.State.{State, HasCleanDisk, KeepsCommit, Survives}
 use Rattle.sqlite_trees.specs.Tree.{Trees}
 use Rattle.catalogue_store.specs.Achieves.{Achieves}
-use Rattle.desk_rows.specs.Rows.{DeskRows, Holds}
-use Rattle.desk_rows.specs.Schema.{desk_schema}
-use Rattle.desk_rows.specs.Transactions.{BeginsWork, EndsWork, HasOtherSchema, IsUndone, LeavesOnly, NoTrees}
+use Rattle.desk_tables.specs.Rows.{DeskRows, Holds}
+use Rattle.desk_tables.specs.Schema.{desk_schema}
+use Rattle.desk_tables.specs.Transactions.{BeginsWork, EndsWork, HasOtherSchema, IsUndone, LeavesOnly, NoTrees}
 use Rattle.onix_message.specs.declared.agreement.StoreFault.{StoreFault}
 use Rattle.series_rules.specs.declared.requests.Request.{Request}
 use Rattle.desk_store.specs.Desks.{Answers, AreRowsOf, HoldsRequests, IsAsked, IsQuestioned, KeepsRequests, Tells, changes}

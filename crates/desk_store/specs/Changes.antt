@@ -2,8 +2,8 @@
 use Rattle.std.specs.Prelude.{◌≡◌, ◌≤◌, ◌+◌, ℕ, Bool, true, false, List, ◌∷◌, Option, Some, None}
 use Rattle.catalogue_rules.specs.Records.{ByReference}
 use Rattle.catalogue_store.specs.Holding.{HoldsCatalogue}
-use Rattle.desk_rows.specs.Rows.{DeskRows, series_at, with_applied, with_next}
-use Rattle.desk_rows.specs.declared.applied.EffectRow.{EffectRow}
+use Rattle.desk_tables.specs.Rows.{DeskRows, series_at, with_applied, with_next}
+use Rattle.desk_tables.specs.declared.rows.applied.EffectRow.{EffectRow}
 use Rattle.onix_message.specs.declared.agreement.Agreement.{Agreement}
 use Rattle.onix_message.specs.ContentsText.{contents_text}
 use Rattle.onix_rows.specs.declared.parts.Product.{Product}

@@ -1,7 +1,7 @@
 -- Requests whose messages are of form 1, and what their tables come from.
 use Rattle.std.specs.Prelude.{◌≡◌, List, [], Some, ⊤}
 use Rattle.std.specs.List.{AllByRecursion}
-use Rattle.desk_rows.specs.Rows.{DeskRows, version_in, with_version}
+use Rattle.desk_tables.specs.Rows.{DeskRows, version_in, with_version}
 use Rattle.onix_message.specs.Grammar.{IsMessage}
 use Rattle.onix_rows.specs.declared.parts.Header.{Header}
 use Rattle.onix_rows.specs.declared.parts.Product.{Product}

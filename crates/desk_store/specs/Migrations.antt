@@ -5,9 +5,9 @@ use Rattle.sqlite.specs.Files.{HoldsDatabase}
 use Rattle.sqlite.specs.State.{State, HasCleanDisk}
 use Rattle.sqlite_trees.specs.Tree.{Trees}
 use Rattle.sqlite_wal.specs.Recovery.{Image}
-use Rattle.desk_rows.specs.Rows.{DeskRows, HoldsFirst, version_in, with_version}
-use Rattle.desk_rows.specs.Schema.{schema_0}
-use Rattle.desk_rows.specs.Transactions.{IsEmptied}
+use Rattle.desk_tables.specs.Rows.{DeskRows, HoldsFirst, version_in, with_version}
+use Rattle.desk_tables.specs.Schema.{schema_0}
+use Rattle.desk_tables.specs.Transactions.{IsEmptied}
 use Rattle.series_rules.specs.declared.requests.Request.{Request}
 use Rattle.desk_store.specs.Desks.{AreRowsOf, KeepsRequests}
 use Rattle.desk_store.specs.Openings.{AreFilesOf, HasNoMeta, HoldsAny, IsFoundFor, ShowsOnly, StaysShown, TellsFound}

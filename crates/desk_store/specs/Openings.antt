@@ -9,9 +9,9 @@ use Rattle.sqlite.specs.declared.file.Leftover.TheVariants as leftover
 use Rattle.sqlite_disk.specs.declared.Disk as disk
 use Rattle.sqlite_trees.specs.Tree.{Trees}
 use Rattle.sqlite_wal.specs.Recovery.{Image}
-use Rattle.desk_rows.specs.Rows.{DeskRows, Holds, HoldsFirst, first_rows, version_in}
-use Rattle.desk_rows.specs.Schema.{is_meta, schema_0}
-use Rattle.desk_rows.specs.Transactions.{IsEmptied, LeavesOnly}
+use Rattle.desk_tables.specs.Rows.{DeskRows, Holds, HoldsFirst, first_rows, version_in}
+use Rattle.desk_tables.specs.Schema.{is_meta, schema_0}
+use Rattle.desk_tables.specs.Transactions.{IsEmptied, LeavesOnly}
 use Rattle.onix_message.specs.declared.agreement.StoreFault.{StoreFault}
 use Rattle.series_rules.specs.declared.requests.Request.{Request}
 use Rattle.desk_store.specs.Desks.{AreRowsOf, HoldsRequests, KeepsRequests}

@@ -4,9 +4,9 @@ use Rattle.std.specs.Option.{option_or}
 use Rattle.std.specs.FinMap as fin
 use Rattle.catalogue_rules.specs.Records.{ByReference}
 use Rattle.catalogue_store.specs.Holding.{HoldsCatalogue, other_catalogues}
-use Rattle.desk_rows.specs.Rows.{DeskRows, applied_at, held_at, series_at, series_between}
-use Rattle.desk_rows.specs.declared.applied.EffectRow.{EffectRow}
-use Rattle.desk_rows.specs.declared.series.SeriesRow.{SeriesRow}
+use Rattle.desk_tables.specs.Rows.{DeskRows, applied_at, held_at, series_at, series_between}
+use Rattle.desk_tables.specs.declared.rows.applied.EffectRow.{EffectRow}
+use Rattle.desk_tables.specs.declared.rows.series.SeriesRow.{SeriesRow}
 use Rattle.onix_message.specs.declared.agreement.Agreement.{Agreement}
 use Rattle.onix_terms.specs.declared.party.Party.{Party}
 use Rattle.series_rules.specs.Agreements.{agreements_of, between, named}

@@ -10,7 +10,7 @@ use crate::laws::one_standing_text;
 use crate::standings::read_standing;
 use catalogue_rules::effect::Effect;
 use catalogue_store::messages::apply_message;
-use desk_rows::applied::EffectRow;
+use desk_tables::rows::applied::EffectRow;
 use desk_tables::work::Work;
 use onix_message::agreement::StoreFault;
 use onix_terms::number::Number;

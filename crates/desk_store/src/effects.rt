@@ -4,7 +4,7 @@ ghost use Rattle.std.specs.Prelude.{◌≡◌};
 ghost use Rattle.desk_store.specs.Texts.{effect_row};
 
 use catalogue_rules::effect::Effect;
-use desk_rows::applied::EffectRow;
+use desk_tables::rows::applied::EffectRow;
 
 /// The row that keeps an effect.
 pub fn row_of(effect: &Effect) -> EffectRow

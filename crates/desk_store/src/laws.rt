@@ -1,7 +1,7 @@
 // What the texts of the tables obey and what requests come to, as laws without code.
 
 ghost use Rattle.std.specs.Prelude.{List};
-ghost use Rattle.desk_rows.specs.Rows.{DeskRows};
+ghost use Rattle.desk_tables.specs.Rows.{DeskRows};
 ghost use Rattle.series_rules.specs.declared.requests.Request.{Request};
 ghost use Rattle.desk_store.specs.FirstForm.{AreOfFormOne, ComeFromFirst};
 ghost use Rattle.desk_store.specs.Stands.{StandsFor};

@@ -10,7 +10,7 @@ ghost use Rattle.series_rules.specs.Offers.{offers_after};
 
 use catalogue_rules::catalogue::Catalogue;
 use catalogue_store::catalogues::read_catalogue;
-use desk_rows::series::SeriesRow;
+use desk_tables::rows::series::SeriesRow;
 use desk_tables::tables::Tables;
 use desk_tables::work::Work;
 use onix_message::agreement::StoreFault;

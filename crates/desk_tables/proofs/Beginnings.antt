@@ -7,7 +7,7 @@ use Rattle.sqlite_trees.specs.declared.error.StoreError.TheVariants.{OutOfMemory
 use Rattle.sqlite.specs.declared.error.Error.{Error}
 use Rattle.sqlite.specs.State.{State, Executes, ExecutesIn, Fails, IsNotRun, IsUnchanged, Shows, shows_rows, store_error}
 use Rattle.onix_message.specs.declared.agreement.StoreFault.TheVariants.{Unusable}
-use Rattle.desk_rows.specs.Transactions.{fault_of}
+use Rattle.desk_tables.specs.Transactions.{fault_of}
 
 -- a fault of the store is told as one
 of_store : (cause : StoreError) → fault_of (store_error cause) ≡ Unusable → ⊥

@@ -10,9 +10,9 @@ use Rattle.sqlite.specs.State.{State, CommitsBy, Executes, ExecutesIn}
 use Rattle.sqlite.proofs.StateLemmas.{survives_weaker}
 use Rattle.onix_message.specs.declared.agreement.StoreFault.{StoreFault}
 use Rattle.onix_message.specs.declared.agreement.StoreFault.TheVariants.{Unusable}
-use Rattle.desk_rows.specs.Schema.{desk_schema, price_minimum_definition}
-use Rattle.desk_rows.specs.Rows.{DeskRows}
-use Rattle.desk_rows.specs.Transactions.{Makes, RunsIn, Works}
+use Rattle.desk_tables.specs.Schema.{desk_schema, price_minimum_definition}
+use Rattle.desk_tables.specs.Rows.{DeskRows}
+use Rattle.desk_tables.specs.Transactions.{Makes, RunsIn, Works}
 
 -- the database has the tables of version 2
 abbrev pub IsSecond : Database → Type 0

@@ -1,1 +1,14 @@
+pub mod Schema
+pub mod Statements
+pub mod RecordRows
+pub mod RecordStatements
+pub mod Rows
+pub mod RecordChanges
+pub mod Transactions
+pub mod Shown
+pub mod RecordReadings
+pub mod RecordAnswers
+pub mod ArticleAnswers
+pub mod AddedRows
+pub mod Refusals
 pub mod Inside

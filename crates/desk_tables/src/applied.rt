@@ -2,11 +2,11 @@
 
 ghost use Rattle.std.specs.Prelude.{◌≡◌, Err, IsTrue};
 ghost use Rattle.sqlite.specs.Held.{state};
-ghost use Rattle.desk_rows.specs.Transactions.{Works, NoAnswer};
-ghost use Rattle.desk_rows.specs.Rows.{with_applied, applied_at, unchanged};
+ghost use Rattle.desk_tables.specs.Transactions.{Works, NoAnswer};
+ghost use Rattle.desk_tables.specs.Rows.{with_applied, applied_at, unchanged};
 
+use crate::rows::applied::{EffectRow, first_applied};
 use crate::work::Work;
-use desk_rows::applied::{EffectRow, first_applied};
 use onix_message::agreement::StoreFault;
 use onix_terms::number::Number;
 use onix_terms::series_name::SeriesName;

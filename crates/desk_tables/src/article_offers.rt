@@ -2,17 +2,17 @@
 
 ghost use Rattle.std.specs.Prelude.{◌≡◌, ◌++◌, false, Err, IsTrue, List};
 ghost use Rattle.sqlite.specs.Held.{state};
-ghost use Rattle.desk_rows.specs.ArticleAnswers.{offer_with, AreMinimumsAt, AreOfferRowsOf, AreOffersOf, AreOffersOfArticle, ArePricesAt, ArePricesUnder, AreRecordsOf};
-ghost use Rattle.desk_rows.specs.RecordAnswers.{AreRising};
-ghost use Rattle.desk_rows.specs.RecordChanges.{has_minimums_of};
-ghost use Rattle.desk_rows.specs.Rows.{unchanged};
-ghost use Rattle.desk_rows.specs.Transactions.{Works};
+ghost use Rattle.desk_tables.specs.ArticleAnswers.{offer_with, AreMinimumsAt, AreOfferRowsOf, AreOffersOf, AreOffersOfArticle, ArePricesAt, ArePricesUnder, AreRecordsOf};
+ghost use Rattle.desk_tables.specs.RecordAnswers.{AreRising};
+ghost use Rattle.desk_tables.specs.RecordChanges.{has_minimums_of};
+ghost use Rattle.desk_tables.specs.Rows.{unchanged};
+ghost use Rattle.desk_tables.specs.Transactions.{Works};
 
+use crate::rows::article_offers::{each_once, offer_with, prices_in};
+use crate::rows::offers::all_offers;
+use crate::rows::prices::all_minimums;
+use crate::rows::row_types::{MinimumRow, OfferRow, RecordRow};
 use crate::work::Work;
-use desk_rows::article_offers::{each_once, offer_with, prices_in};
-use desk_rows::offers::all_offers;
-use desk_rows::prices::all_minimums;
-use desk_rows::rows::{MinimumRow, OfferRow, RecordRow};
 use onix_message::agreement::StoreFault;
 use onix_rows::parts::Price;
 use onix_terms::isbn13::Isbn13;

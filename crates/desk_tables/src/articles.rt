@@ -2,15 +2,15 @@
 
 ghost use Rattle.std.specs.Prelude.{◌≡◌, Err, IsTrue};
 ghost use Rattle.sqlite.specs.Held.{state};
-ghost use Rattle.desk_rows.specs.Transactions.{Works, NoAnswer};
-ghost use Rattle.desk_rows.specs.Rows.{unchanged};
-ghost use Rattle.desk_rows.specs.RecordAnswers.{AreArticlesInOrder};
-ghost use Rattle.desk_rows.specs.ArticleAnswers.{AreArticlesOf};
-ghost use Rattle.desk_rows.specs.RecordChanges.{with_article, without_articles};
+ghost use Rattle.desk_tables.specs.Transactions.{Works, NoAnswer};
+ghost use Rattle.desk_tables.specs.Rows.{unchanged};
+ghost use Rattle.desk_tables.specs.RecordAnswers.{AreArticlesInOrder};
+ghost use Rattle.desk_tables.specs.ArticleAnswers.{AreArticlesOf};
+ghost use Rattle.desk_tables.specs.RecordChanges.{with_article, without_articles};
 
+use crate::rows::articles::all_articles;
+use crate::rows::row_types::{ArticleRow, RecordRow};
 use crate::work::Work;
-use desk_rows::articles::all_articles;
-use desk_rows::rows::{ArticleRow, RecordRow};
 use onix_message::agreement::StoreFault;
 use onix_terms::series_name::SeriesName;
 use sqlite::{Alter, params};

@@ -4,12 +4,12 @@ ghost use Rattle.std.specs.Prelude.{◌≡◌, true, false, Err, None, Some, IsT
 ghost use Rattle.std.specs.List.{list_any};
 ghost use Rattle.sqlite.specs.Held.{state};
 ghost use Rattle.sqlite.specs.State.{HasCleanDisk};
-ghost use Rattle.desk_rows.specs.Schema.{is_meta, is_desk_table, desk_schema, first_schema, schema_0, schema_3, schema_6};
-ghost use Rattle.desk_rows.specs.Rows.{DeskRows, Holds, HoldsFirst, first_rows, no_rows, version_in, unchanged};
-ghost use Rattle.desk_rows.specs.Transactions.{HasNoRows, IsEmptied, Makes, Works};
+ghost use Rattle.desk_tables.specs.Schema.{is_meta, is_desk_table, desk_schema, first_schema, schema_0, schema_3, schema_6};
+ghost use Rattle.desk_tables.specs.Rows.{DeskRows, Holds, HoldsFirst, first_rows, no_rows, version_in, unchanged};
+ghost use Rattle.desk_tables.specs.Transactions.{HasNoRows, IsEmptied, Makes, Works};
 
+use crate::rows::schemas::{has_desk_table, has_meta, version_of};
 use crate::work::Work;
-use desk_rows::schemas::{has_desk_table, has_meta, version_of};
 use onix_message::agreement::StoreFault;
 use sqlite::Alter;
 

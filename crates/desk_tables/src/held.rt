@@ -2,11 +2,11 @@
 
 ghost use Rattle.std.specs.Prelude.{◌≡◌, Err, IsTrue};
 ghost use Rattle.sqlite.specs.Held.{state};
-ghost use Rattle.desk_rows.specs.Transactions.{Works, NoAnswer};
-ghost use Rattle.desk_rows.specs.Rows.{with_held, without_held, held_at, unchanged, AreHeldNumbers};
+ghost use Rattle.desk_tables.specs.Transactions.{Works, NoAnswer};
+ghost use Rattle.desk_tables.specs.Rows.{with_held, without_held, held_at, unchanged, AreHeldNumbers};
 
+use crate::rows::columns::{first_text, numbers};
 use crate::work::Work;
-use desk_rows::columns::{first_text, numbers};
 use onix_message::agreement::StoreFault;
 use onix_terms::number::Number;
 use onix_terms::series_name::SeriesName;

@@ -4,9 +4,9 @@ ghost use Rattle.std.specs.Prelude.{◌≡◌, false, Err, IsTrue, OnOk, Some};
 ghost use Rattle.std.specs.List.{list_any};
 ghost use Rattle.sqlite.specs.Held.{state};
 ghost use Rattle.sqlite.specs.State.{HasCleanDisk};
-ghost use Rattle.desk_rows.specs.Schema.{is_meta, desk_schema};
-ghost use Rattle.desk_rows.specs.Rows.{DeskRows, Holds, HoldsFirst, version_in, with_version};
-ghost use Rattle.desk_rows.specs.Transactions.{Makes, NoAnswer, Works};
+ghost use Rattle.desk_tables.specs.Schema.{is_meta, desk_schema};
+ghost use Rattle.desk_tables.specs.Rows.{DeskRows, Holds, HoldsFirst, version_in, with_version};
+ghost use Rattle.desk_tables.specs.Transactions.{Makes, NoAnswer, Works};
 
 use crate::work::Work;
 use onix_message::agreement::StoreFault;

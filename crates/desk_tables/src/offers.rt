@@ -2,16 +2,16 @@
 
 ghost use Rattle.std.specs.Prelude.{◌≡◌, Err, IsTrue};
 ghost use Rattle.sqlite.specs.Held.{state};
-ghost use Rattle.desk_rows.specs.Transactions.{Works, NoAnswer};
-ghost use Rattle.desk_rows.specs.RecordRows.{offer_row};
-ghost use Rattle.desk_rows.specs.Rows.{party_type, party_value, unchanged};
-ghost use Rattle.desk_rows.specs.RecordAnswers.{AreOffersInOrder};
-ghost use Rattle.desk_rows.specs.RecordChanges.{with_offer, without_offers};
+ghost use Rattle.desk_tables.specs.Transactions.{Works, NoAnswer};
+ghost use Rattle.desk_tables.specs.RecordRows.{offer_row};
+ghost use Rattle.desk_tables.specs.Rows.{party_type, party_value, unchanged};
+ghost use Rattle.desk_tables.specs.RecordAnswers.{AreOffersInOrder};
+ghost use Rattle.desk_tables.specs.RecordChanges.{with_offer, without_offers};
 
+use crate::rows::offers::all_offers;
+use crate::rows::row_types::OfferRow;
+use crate::rows::written::{code_or_empty, party_type, party_value, territory_texts};
 use crate::work::Work;
-use desk_rows::offers::all_offers;
-use desk_rows::rows::OfferRow;
-use desk_rows::written::{code_or_empty, party_type, party_value, territory_texts};
 use onix_message::agreement::StoreFault;
 use onix_terms::series_name::SeriesName;
 use sqlite::{Alter, params};

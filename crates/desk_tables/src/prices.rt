@@ -2,17 +2,17 @@
 
 ghost use Rattle.std.specs.Prelude.{◌≡◌, ◌<◌, Err, IsTrue};
 ghost use Rattle.sqlite.specs.Held.{state};
-ghost use Rattle.desk_rows.specs.Transactions.{Works, NoAnswer};
-ghost use Rattle.desk_rows.specs.RecordRows.{price_row, minimum_row};
-ghost use Rattle.desk_rows.specs.RecordAnswers.{has_minimums, AreMinimums, ArePricesWith, ArePricesInOrder, AreRising};
-ghost use Rattle.desk_rows.specs.Rows.{unchanged};
-ghost use Rattle.desk_rows.specs.RecordChanges.{with_price, with_minimum, with_price_and_minimum};
+ghost use Rattle.desk_tables.specs.Transactions.{Works, NoAnswer};
+ghost use Rattle.desk_tables.specs.RecordRows.{price_row, minimum_row};
+ghost use Rattle.desk_tables.specs.RecordAnswers.{has_minimums, AreMinimums, ArePricesWith, ArePricesInOrder, AreRising};
+ghost use Rattle.desk_tables.specs.Rows.{unchanged};
+ghost use Rattle.desk_tables.specs.RecordChanges.{with_price, with_minimum, with_price_and_minimum};
 
+use crate::rows::prices::{all_minimums, all_prices};
+use crate::rows::records::has_row;
+use crate::rows::row_types::{MinimumRow, PriceRow};
+use crate::rows::written::{DayNumber, Thousandths, territory_texts};
 use crate::work::Work;
-use desk_rows::prices::{all_minimums, all_prices};
-use desk_rows::records::has_row;
-use desk_rows::rows::{MinimumRow, PriceRow};
-use desk_rows::written::{DayNumber, Thousandths, territory_texts};
 use onix_message::agreement::StoreFault;
 use onix_terms::series_name::SeriesName;
 use sqlite::{Alter, params};

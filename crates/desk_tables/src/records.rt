@@ -2,14 +2,14 @@
 
 ghost use Rattle.std.specs.Prelude.{◌≡◌, Err, IsTrue};
 ghost use Rattle.sqlite.specs.Held.{state};
-ghost use Rattle.desk_rows.specs.Transactions.{Works, NoAnswer};
-ghost use Rattle.desk_rows.specs.Rows.{unchanged};
-ghost use Rattle.desk_rows.specs.RecordAnswers.{AreRecordsInOrder};
-ghost use Rattle.desk_rows.specs.RecordChanges.{has_record, with_new_record, with_record, without_record};
+ghost use Rattle.desk_tables.specs.Transactions.{Works, NoAnswer};
+ghost use Rattle.desk_tables.specs.Rows.{unchanged};
+ghost use Rattle.desk_tables.specs.RecordAnswers.{AreRecordsInOrder};
+ghost use Rattle.desk_tables.specs.RecordChanges.{has_record, with_new_record, with_record, without_record};
 
+use crate::rows::records::{all_records, has_row};
+use crate::rows::row_types::RecordRow;
 use crate::work::Work;
-use desk_rows::records::{all_records, has_row};
-use desk_rows::rows::RecordRow;
 use onix_message::agreement::StoreFault;
 use onix_terms::series_name::SeriesName;
 use sqlite::{Alter, params};

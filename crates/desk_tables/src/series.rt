@@ -2,12 +2,12 @@
 
 ghost use Rattle.std.specs.Prelude.{◌≡◌, Err, IsTrue};
 ghost use Rattle.sqlite.specs.Held.{state};
-ghost use Rattle.desk_rows.specs.Transactions.{Works, NoAnswer};
-ghost use Rattle.desk_rows.specs.Rows.{party_type, party_value, with_series, with_next, series_at, series_between, unchanged, AreSeriesInOrder};
+ghost use Rattle.desk_tables.specs.Transactions.{Works, NoAnswer};
+ghost use Rattle.desk_tables.specs.Rows.{party_type, party_value, with_series, with_next, series_at, series_between, unchanged, AreSeriesInOrder};
 
+use crate::rows::series::{SeriesRow, all_series, first_series};
+use crate::rows::written::{party_type, party_value};
 use crate::work::Work;
-use desk_rows::series::{SeriesRow, all_series, first_series};
-use desk_rows::written::{party_type, party_value};
 use onix_message::agreement::{Agreement, StoreFault};
 use onix_terms::party::Party;
 use onix_terms::series_name::SeriesName;

@@ -5,12 +5,12 @@ ghost use Rattle.std.specs.Borrow.{sem, RestsIfErr};
 ghost use Rattle.sqlite.specs.State.{HasCleanDisk, Survives};
 ghost use Rattle.sqlite.specs.Held.{state};
 ghost use Rattle.desk_tables.specs.contracts.tables.Tables.{the_row};
-ghost use Rattle.desk_rows.specs.Refusals.{FailsOutside};
-ghost use Rattle.desk_rows.specs.Transactions.{BeginsWork, EndsWork, IsUndone, LeavesOnly, NoTrees};
+ghost use Rattle.desk_tables.specs.Refusals.{FailsOutside};
+ghost use Rattle.desk_tables.specs.Transactions.{BeginsWork, EndsWork, IsUndone, LeavesOnly, NoTrees};
 ghost use Rattle.desk_tables.specs.Inside.{FailsInside};
 
+use crate::rows::fault::fault_of;
 use crate::work::Work;
-use desk_rows::fault::fault_of;
 use onix_message::agreement::StoreFault;
 use sqlite::{Alter, Connection};
 

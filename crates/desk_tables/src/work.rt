@@ -4,10 +4,10 @@ ghost use Rattle.std.specs.Prelude.{◌≡◌, OnOk, Err, IsTrue, is_err};
 ghost use Rattle.sqlite.specs.Values.{bound};
 ghost use Rattle.sqlite.specs.State.{HasCleanDisk, Survives};
 ghost use Rattle.sqlite.specs.Held.{state};
-ghost use Rattle.desk_rows.specs.Transactions.{EndsWork, RunsIn, ReadsIn, IsUndone, LeavesOnly, NoTrees};
+ghost use Rattle.desk_tables.specs.Transactions.{EndsWork, RunsIn, ReadsIn, IsUndone, LeavesOnly, NoTrees};
 
+use crate::rows::fault::fault_of;
 use crate::tables::Tables;
-use desk_rows::fault::fault_of;
 use onix_message::agreement::StoreFault;
 use sqlite::types::ValueRef;
 use sqlite::{Alter, Row};

@@ -1,9 +1,9 @@
 // What a query gives, beside what the words of a transcript name. What is compared takes no memory.
 
 use crate::tables::words::{Words, is_whole, words_of};
-use desk_rows::applied::EffectRow;
-use desk_rows::rows::{ArticleRow, OfferRow, PriceRow, RecordRow};
-use desk_rows::series::SeriesRow;
+use desk_tables::rows::applied::EffectRow;
+use desk_tables::rows::row_types::{ArticleRow, OfferRow, PriceRow, RecordRow};
+use desk_tables::rows::series::SeriesRow;
 use onix_message::agreement::{Agreement, StoreFault};
 use onix_rows::parts::{Price, Supplier};
 use onix_terms::number::Number;

@@ -9,7 +9,7 @@ use crate::tables::stores::{Before, over_memory};
 use crate::tables::transcripts::is_right;
 use crate::tables::version_1::TABLES;
 use crate::tables::words::{name, number};
-use desk_rows::series::SeriesRow;
+use desk_tables::rows::series::SeriesRow;
 use desk_tables::tables::Tables;
 use desk_tables::work::Work;
 use onix_message::agreement::StoreFault;

@@ -2,8 +2,8 @@
 // market GB and IE, the supplier North Books, the price 12.99 GBP of the world.
 
 use crate::tables::words::{code, name, number, term, whole};
-use desk_rows::applied::EffectRow;
-use desk_rows::rows::{ArticleRow, OfferRow, PriceRow, RecordRow};
+use desk_tables::rows::applied::EffectRow;
+use desk_tables::rows::row_types::{ArticleRow, OfferRow, PriceRow, RecordRow};
 use onix_message::agreement::{Agreement, StoreFault};
 use onix_rows::parts::{Price, Supplier};
 use onix_terms::amount::Amount;

@@ -1,8 +1,8 @@
 use Rattle.std.proofs.Common.{◌≡◌, Ok, Vec, subst, ◌∙◌}
 use Rattle.sqlite.specs.Held.{state}
 use Rattle.catalogue_rules.specs.Records.{ByReference}
-use Rattle.desk_rows.specs.RecordAnswers.{AreRecordsInOrder}
-use Rattle.desk_rows.specs.Rows.{DeskRows, unchanged}
+use Rattle.desk_tables.specs.RecordAnswers.{AreRecordsInOrder}
+use Rattle.desk_tables.specs.Rows.{DeskRows, unchanged}
 use Rattle.catalogue_store.specs.AchievesLemmas.{achieves_call, achieves_then}
 use Rattle.catalogue_store.specs.ReadRecords.{AreReadOf}
 use Rattle.catalogue_store.proofs.CatalogueLemmas.{catalogue_read}

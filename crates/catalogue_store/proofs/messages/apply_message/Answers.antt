@@ -6,7 +6,7 @@ use Rattle.onix_rows.specs.declared.parts.Product.{Product}
 use Rattle.catalogue_rules.specs.Plans.{total}
 use Rattle.catalogue_rules.specs.Records.{ByReference}
 use Rattle.catalogue_rules.specs.declared.effect.Effect.{Effect}
-use Rattle.desk_rows.specs.Rows.{DeskRows}
+use Rattle.desk_tables.specs.Rows.{DeskRows}
 use Rattle.catalogue_store.specs.Holding.{HoldsCatalogue, IsApplied}
 use Rattle.catalogue_store.specs.Storable.{IsStorableProduct}
 use Rattle.catalogue_store.specs.StorableLemmas.{contents-storable}
@@ -14,7 +14,7 @@ use Rattle.catalogue_store.specs.AchievesLemmas.{achieves_as, achieves_failed, a
 use Rattle.catalogue_store.specs.AppliedProducts.{IsProductApplied, IsCatalogueReadAs}
 use Rattle.catalogue_store.proofs.ProductLemmas.{more_applied, none_applied}
 use Rattle.catalogue_rules.specs.Effects.{after as after_all}
-use Rattle.desk_rows.specs.RecordAnswers.{has_minimums}
+use Rattle.desk_tables.specs.RecordAnswers.{has_minimums}
 use Rattle.catalogue_store.specs.MinimumLemmas.{held_without_minimums, none_after_first}
 use Rattle.catalogue_store.proofs.messages.apply_message.Goals as goal
 

@@ -1,8 +1,8 @@
 use Rattle.std.proofs.Common.{◌≡◌, Bool, List, Option, Ok, ap, subst, sym, ◌∙◌}
 use Rattle.sqlite.specs.Held.{state}
 use Rattle.onix_rows.specs.declared.parts.ProductIdentifier.{ProductIdentifier}
-use Rattle.desk_rows.specs.Rows.{DeskRows}
-use Rattle.desk_rows.specs.declared.rows.RecordRow.{RecordRow}
+use Rattle.desk_tables.specs.Rows.{DeskRows}
+use Rattle.desk_tables.specs.declared.rows.row_types.RecordRow.{RecordRow}
 use Rattle.catalogue_store.specs.EntryRows.{record_row}
 use Rattle.catalogue_store.specs.AchievesLemmas.{achieves_as, achieves_failed, achieves_then}
 use Rattle.catalogue_store.specs.AppliedProducts.{IsChanged}

@@ -1,6 +1,6 @@
 use Rattle.std.proofs.Common.{subst, sym}
 use Rattle.sqlite.specs.Held.{state}
-use Rattle.desk_rows.specs.Rows.{DeskRows}
+use Rattle.desk_tables.specs.Rows.{DeskRows}
 use Rattle.catalogue_rules.specs.declared.effect.Change.{Change}
 use Rattle.catalogue_rules.specs.declared.effect.Change.TheVariants.{Delete, Replace, Update}
 use Rattle.catalogue_store.specs.AchievesLemmas.{achieves_also, achieves_nothing}

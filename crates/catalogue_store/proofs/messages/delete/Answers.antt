@@ -1,6 +1,6 @@
 use Rattle.std.proofs.Common.{None}
 use Rattle.sqlite.specs.Held.{state}
-use Rattle.desk_rows.specs.Rows.{DeskRows}
+use Rattle.desk_tables.specs.Rows.{DeskRows}
 use Rattle.catalogue_store.specs.Holding.{Became}
 use Rattle.catalogue_store.specs.AchievesLemmas.{achieves_also, achieves_nothing}
 use Rattle.catalogue_store.proofs.ProductLemmas.{deleted_unknown}

@@ -1,6 +1,6 @@
 use Rattle.std.proofs.Common.{◌≢◌, [], Some, None}
 use Rattle.sqlite.specs.Held.{state}
-use Rattle.desk_rows.specs.Rows.{DeskRows}
+use Rattle.desk_tables.specs.Rows.{DeskRows}
 use Rattle.catalogue_rules.specs.declared.entry.Entry.{Entry}
 use Rattle.catalogue_store.specs.Holding.{Became, HoldsEntry}
 use Rattle.catalogue_store.specs.Storable.{AreStorable}

@@ -1,8 +1,8 @@
 use Rattle.std.proofs.Common.{◌≡◌, ◌==◌, ℕ, Bool, true, false, List, [], ◌∷◌, length, Option, Some, None, Ok, Vec, arith, refl, sym, ◌∙◌}
 use Rattle.std.proofs.lemmas.Bool.Decides.{nat_tests}
 use Rattle.sqlite.specs.Held.{state}
-use Rattle.desk_rows.specs.ArticleAnswers.{AreArticlesOf}
-use Rattle.desk_rows.specs.Rows.{DeskRows, unchanged}
+use Rattle.desk_tables.specs.ArticleAnswers.{AreArticlesOf}
+use Rattle.desk_tables.specs.Rows.{DeskRows, unchanged}
 use Rattle.catalogue_store.specs.AchievesLemmas.{achieves_as, achieves_call}
 use Rattle.catalogue_store.specs.ReadRows.{Finds}
 use Rattle.catalogue_store.proofs.ReadLemmas.{record_has, record_lacks}

@@ -1,8 +1,8 @@
 use Rattle.std.proofs.Common.{◌≡◌, Bool, true, Ok, Vec, rules, sym, subst, ◌∙◌}
 use Rattle.std.specs.List.{AllZip}
 use Rattle.sqlite.specs.Held.{state}
-use Rattle.desk_rows.specs.ArticleAnswers.{AreOfferRowsOf}
-use Rattle.desk_rows.specs.Rows.{DeskRows, unchanged}
+use Rattle.desk_tables.specs.ArticleAnswers.{AreOfferRowsOf}
+use Rattle.desk_tables.specs.Rows.{DeskRows, unchanged}
 use Rattle.catalogue_store.specs.AchievesLemmas.{achieves_as, achieves_call, achieves_failed, achieves_then}
 use Rattle.catalogue_store.specs.ReadRows.{HasPricesOf, HoldsSupplies, AreReadAs, IsReadAs}
 use Rattle.catalogue_store.proofs.ReadLemmas.{supplies_held}

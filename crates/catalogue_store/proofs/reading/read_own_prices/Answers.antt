@@ -1,8 +1,8 @@
 use Rattle.std.proofs.Common.{◌≡◌, false, List}
 use Rattle.sqlite.specs.Held.{state}
 use Rattle.onix_rows.specs.declared.parts.Price.{Price}
-use Rattle.desk_rows.specs.RecordChanges.{has_minimums_of}
-use Rattle.desk_rows.specs.Rows.{DeskRows, unchanged}
+use Rattle.desk_tables.specs.RecordChanges.{has_minimums_of}
+use Rattle.desk_tables.specs.Rows.{DeskRows, unchanged}
 use Rattle.catalogue_store.specs.AchievesLemmas.{achieves_also, achieves_call}
 use Rattle.catalogue_store.specs.ReadRows.{HasPricesOf}
 use Rattle.catalogue_store.proofs.reading.read_own_prices.Goals as goal

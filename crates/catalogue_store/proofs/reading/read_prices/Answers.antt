@@ -4,8 +4,8 @@ use Rattle.std.specs.List.{AllZip}
 use Rattle.sqlite.specs.Held.{state}
 use Rattle.onix_message.specs.declared.agreement.StoreFault.TheVariants.{Memory}
 use Rattle.onix_rows.specs.declared.parts.Price.{Price}
-use Rattle.desk_rows.specs.RecordChanges.{has_minimums_of}
-use Rattle.desk_rows.specs.Rows.{DeskRows}
+use Rattle.desk_tables.specs.RecordChanges.{has_minimums_of}
+use Rattle.desk_tables.specs.Rows.{DeskRows}
 use Rattle.catalogue_store.specs.AchievesLemmas.{achieves_as, achieves_failed, achieves_nothing, achieves_stopped, achieves_then}
 use Rattle.catalogue_store.specs.ReadRows.{AreReadAs, HasPricesOf}
 use Rattle.catalogue_store.proofs.ReadLemmas.{one_read_as, prices_read}

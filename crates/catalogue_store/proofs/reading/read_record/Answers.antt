@@ -1,8 +1,8 @@
 use Rattle.std.proofs.Common.{◌≡◌, Ok, Vec, subst, ◌∙◌, true}
 use Rattle.std.specs.List.{AllZip}
 use Rattle.sqlite.specs.Held.{state}
-use Rattle.desk_rows.specs.ArticleAnswers.{AreArticlesOf, AreOfferRowsOf}
-use Rattle.desk_rows.specs.Rows.{DeskRows, unchanged}
+use Rattle.desk_tables.specs.ArticleAnswers.{AreArticlesOf, AreOfferRowsOf}
+use Rattle.desk_tables.specs.Rows.{DeskRows, unchanged}
 use Rattle.catalogue_store.specs.AchievesLemmas.{achieves_answers, achieves_call, achieves_call_failed, achieves_calls, achieves_failed, achieves_then}
 use Rattle.catalogue_store.specs.ReadRows.{HasPricesOf, AreReadAs}
 use Rattle.catalogue_store.proofs.ReadLemmas.{entry_read, read_whole}

@@ -1,9 +1,9 @@
 use Rattle.std.proofs.Common.{◌≡◌, ◌+◌, Ok, take, rules}
 use Rattle.sqlite.specs.Held.{state}
-use Rattle.desk_rows.specs.RecordChanges.{with_offer}
-use Rattle.desk_rows.specs.RecordRows.{offer_row}
-use Rattle.desk_rows.specs.Rows.{DeskRows}
-use Rattle.desk_rows.specs.Transactions.{NoAnswer}
+use Rattle.desk_tables.specs.RecordChanges.{with_offer}
+use Rattle.desk_tables.specs.RecordRows.{offer_row}
+use Rattle.desk_tables.specs.Rows.{DeskRows}
+use Rattle.desk_tables.specs.Transactions.{NoAnswer}
 use Rattle.catalogue_store.specs.AchievesLemmas.{achieves_call_failed, achieves_calls}
 use Rattle.catalogue_store.specs.WrittenRows.{with_details}
 use Rattle.catalogue_store.proofs.Additions.{details_more}

@@ -1,6 +1,6 @@
 use Rattle.std.proofs.Common.{◌≡◌, ◌∙◌}
 use Rattle.sqlite.specs.Held.{state}
-use Rattle.desk_rows.specs.Rows.{DeskRows}
+use Rattle.desk_tables.specs.Rows.{DeskRows}
 use Rattle.catalogue_store.specs.AchievesLemmas.{achieves_then}
 use Rattle.catalogue_store.specs.WrittenRows.{with_details, with_prices}
 use Rattle.catalogue_store.proofs.Additions.{supplies_put}

@@ -1,8 +1,8 @@
 use Rattle.std.proofs.Common.{◌≡◌, None, subst, sym}
 use Rattle.sqlite.specs.Held.{state}
-use Rattle.desk_rows.specs.RecordChanges.{without_record}
-use Rattle.desk_rows.specs.Rows.{DeskRows}
-use Rattle.desk_rows.specs.Transactions.{NoAnswer}
+use Rattle.desk_tables.specs.RecordChanges.{without_record}
+use Rattle.desk_tables.specs.Rows.{DeskRows}
+use Rattle.desk_tables.specs.Transactions.{NoAnswer}
 use Rattle.catalogue_store.specs.Holding.{Became}
 use Rattle.catalogue_store.specs.AchievesLemmas.{achieves_also, achieves_call}
 use Rattle.catalogue_store.proofs.BecameLemmas.{record_removed}

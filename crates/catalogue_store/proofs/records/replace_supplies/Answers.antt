@@ -1,8 +1,8 @@
 use Rattle.std.proofs.Common.{◌≡◌, Ok, Some, ap, subst, sym, ◌∙◌}
 use Rattle.sqlite.specs.Held.{state}
-use Rattle.desk_rows.specs.RecordChanges.{without_offers}
-use Rattle.desk_rows.specs.Rows.{DeskRows}
-use Rattle.desk_rows.specs.Transactions.{NoAnswer}
+use Rattle.desk_tables.specs.RecordChanges.{without_offers}
+use Rattle.desk_tables.specs.Rows.{DeskRows}
+use Rattle.desk_tables.specs.Transactions.{NoAnswer}
 use Rattle.catalogue_store.specs.Holding.{Became}
 use Rattle.catalogue_store.specs.AchievesLemmas.{achieves_call, achieves_then}
 use Rattle.catalogue_store.specs.WrittenRows.{with_supplies}

@@ -1,8 +1,8 @@
 use Rattle.std.proofs.Common.{◌≡◌, ◌+◌, Ok, refl, ap, ◌∙◌}
 use Rattle.sqlite.specs.Held.{state}
 use Rattle.catalogue_store.specs.AchievesLemmas.{achieves_call_failed, achieves_calls}
-use Rattle.desk_rows.specs.Rows.{DeskRows, AppliedRow, with_applied, with_next}
-use Rattle.desk_rows.specs.Transactions.{NoAnswer}
+use Rattle.desk_tables.specs.Rows.{DeskRows, AppliedRow, with_applied, with_next}
+use Rattle.desk_tables.specs.Transactions.{NoAnswer}
 use Rattle.desk_store.specs.Changes.{Applies}
 use Rattle.desk_store.proofs.drain.apply_at.Goals as goal
 

@@ -4,7 +4,7 @@ use Rattle.catalogue_rules.specs.Records.{ByReference}
 use Rattle.catalogue_rules.specs.declared.effect.Effect.{Effect}
 use Rattle.catalogue_store.specs.Holding.{HoldsCatalogue, IsApplied}
 use Rattle.catalogue_store.specs.AchievesLemmas.{achieves_as}
-use Rattle.desk_rows.specs.Rows.{DeskRows}
+use Rattle.desk_tables.specs.Rows.{DeskRows}
 use Rattle.onix_rows.specs.declared.parts.Product.{Product}
 use Rattle.desk_store.proofs.Applied.{message_applied}
 use Rattle.desk_store.proofs.drain.apply_standing.Goals as goal

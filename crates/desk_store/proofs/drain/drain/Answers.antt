@@ -1,7 +1,7 @@
 use Rattle.std.proofs.Common.{◌≡◌, ◌+◌, Bool, Ok, true, false, arith, subst, rules, sym, ◌∙◌}
 use Rattle.sqlite.specs.Held.{state}
 use Rattle.catalogue_store.specs.AchievesLemmas.{achieves_as, achieves_failed, achieves_nothing, achieves_stopped, achieves_then}
-use Rattle.desk_rows.specs.Rows.{DeskRows}
+use Rattle.desk_tables.specs.Rows.{DeskRows}
 use Rattle.onix_message.specs.declared.agreement.StoreFault.TheVariants.{Unusable}
 use Rattle.desk_store.specs.Changes.{Drains, DrainsOne, DrainsTo}
 use Rattle.desk_store.proofs.Applied.{drained_all, drained_more, drained_up, step_at}

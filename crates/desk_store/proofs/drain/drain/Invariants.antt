@@ -1,7 +1,7 @@
 use Rattle.std.proofs.Common.{◌≡◌, Ok}
 use Rattle.sqlite.specs.Held.{state}
 use Rattle.catalogue_store.specs.Achieves.{Achieves}
-use Rattle.desk_rows.specs.Rows.{DeskRows}
+use Rattle.desk_tables.specs.Rows.{DeskRows}
 use Rattle.desk_store.specs.Changes.{DrainsTo}
 use Rattle.desk_store.proofs.drain.drain.Given as goal
 

@@ -1,7 +1,7 @@
 use Rattle.std.proofs.Common.{◌≡◌, ℕ, List, Option, Ok, sym, ◌∙◌, true, false, subst}
 use Rattle.sqlite.specs.Held.{state}
 use Rattle.catalogue_store.specs.AchievesLemmas.{achieves_as, achieves_call, achieves_failed, achieves_then}
-use Rattle.desk_rows.specs.Rows.{DeskRows, held_at, without_held}
+use Rattle.desk_tables.specs.Rows.{DeskRows, held_at, without_held}
 use Rattle.desk_store.specs.Changes.{AppliesText, DrainsOne}
 use Rattle.desk_store.proofs.Applied.{moved_one, moved_none}
 use Rattle.desk_store.proofs.drain.drain_step.Goals as goal

@@ -1,6 +1,6 @@
 use Rattle.std.proofs.Common.{◌≡◌, Ok, Err, refl, rules, subst}
 use Rattle.sqlite.specs.Held.{state}
-use Rattle.desk_rows.specs.Rows.{Holds, HoldsFirst, with_version}
+use Rattle.desk_tables.specs.Rows.{Holds, HoldsFirst, with_version}
 use Rattle.desk_store.specs.Openings.{MakesAll}
 use Rattle.desk_store.proofs.MadeTables.{made_ended, made_failed}
 use Rattle.desk_store.proofs.migrating.migrate_first.Goals as goal

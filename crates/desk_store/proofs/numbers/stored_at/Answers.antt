@@ -1,8 +1,8 @@
 use Rattle.std.proofs.Common.{◌≡◌, ℕ, List, Option, Some, Ok, ap, sym, ◌∙◌}
 use Rattle.sqlite.specs.Held.{state}
 use Rattle.catalogue_store.specs.AchievesLemmas.{achieves_as, achieves_call, achieves_then}
-use Rattle.desk_rows.specs.Rows.{DeskRows, applied_at, held_at}
-use Rattle.desk_rows.specs.declared.applied.EffectRow.{EffectRow}
+use Rattle.desk_tables.specs.Rows.{DeskRows, applied_at, held_at}
+use Rattle.desk_tables.specs.declared.rows.applied.EffectRow.{EffectRow}
 use Rattle.desk_store.proofs.Answered.{stored_applied, stored_held}
 use Rattle.desk_store.proofs.numbers.stored_at.Goals as goal
 

@@ -2,7 +2,7 @@ use Rattle.std.proofs.Common.{◌≡◌, ℕ, List, Option, Some, Ok, codes, sym
 use Rattle.std.specs.Prelude.{bytes_eq}
 use Rattle.sqlite.specs.Held.{state}
 use Rattle.catalogue_store.specs.AchievesLemmas.{achieves_as, achieves_failed, achieves_then}
-use Rattle.desk_rows.specs.Rows.{DeskRows}
+use Rattle.desk_tables.specs.Rows.{DeskRows}
 use Rattle.series_rules.specs.declared.answers.WaiveAnswer.TheVariants as waiver
 use Rattle.series_rules.specs.declared.requests.Standing.TheVariants.{Waived}
 use Rattle.desk_store.specs.Changes.{PutsNew, WaivesAt}

@@ -1,8 +1,8 @@
 use Rattle.std.proofs.Common.{sym, ◌∙◌}
 use Rattle.sqlite.specs.Held.{state}
-use Rattle.desk_rows.specs.Transactions.{begin_text}
-use Rattle.desk_rows.proofs.Control.{begins_ok, begins_err, fails_as}
-use Rattle.desk_rows.proofs.Outside.{stays_outside}
+use Rattle.desk_tables.specs.Transactions.{begin_text}
+use Rattle.desk_tables.proofs.Control.{begins_ok, begins_err, fails_as}
+use Rattle.desk_tables.proofs.Outside.{stays_outside}
 use Rattle.desk_tables.proofs.Beginnings.{stays_inside}
 use Rattle.desk_tables.proofs.tables.Tables.begin.Goals as goal
 

@@ -4,11 +4,11 @@ use Rattle.sqlite.specs.Held.{state}
 use Rattle.onix_message.specs.declared.agreement.StoreFault.TheVariants.{Memory}
 use Rattle.onix_rows.specs.declared.parts.Price.{Price}
 use Rattle.price_rules.specs.declared.offer.Offer.{Offer}
-use Rattle.desk_rows.specs.ArticleAnswers.{offer_with, AreOfferRowsOf, ArePricesAt}
-use Rattle.desk_rows.specs.Rows.{DeskRows}
-use Rattle.desk_rows.specs.declared.rows.OfferRow.{OfferRow}
-use Rattle.desk_rows.proofs.ArticleLoops.{OffersSoFar, offers_none, offers_more}
-use Rattle.desk_rows.proofs.RecordCalls.{reads_as, reads_failed, reads_stopped, reads_then}
+use Rattle.desk_tables.specs.ArticleAnswers.{offer_with, AreOfferRowsOf, ArePricesAt}
+use Rattle.desk_tables.specs.Rows.{DeskRows}
+use Rattle.desk_tables.specs.declared.rows.row_types.OfferRow.{OfferRow}
+use Rattle.desk_tables.proofs.ArticleLoops.{OffersSoFar, offers_none, offers_more}
+use Rattle.desk_tables.proofs.RecordCalls.{reads_as, reads_failed, reads_stopped, reads_then}
 use Rattle.desk_tables.proofs.work.Work.add_offers.Goals as goal
 
 pub loop-offer-init : goal.loop-offer-init

@@ -2,12 +2,12 @@ use Rattle.std.proofs.Common.{[], ◌∷◌, ◌≡◌, find, pos, true, refl, O
 use Rattle.sqlite_value.specs.declared.value.Value.TheVariants.{Int, Text}
 use Rattle.sqlite_value.specs.Order.{Row}
 use Rattle.sqlite.specs.Held.{state}
-use Rattle.desk_rows.specs.Rows.{DeskRows, is_applied, applied_at}
-use Rattle.desk_rows.specs.Statements.{applied_at_text}
-use Rattle.desk_rows.proofs.StatementTexts.{applied_at_is}
-use Rattle.desk_rows.proofs.SeriesQueries.{applied_shown}
-use Rattle.desk_rows.proofs.SeriesReadings.{first_applied_is}
-use Rattle.desk_rows.proofs.Calls.{reads_ok, reads_late}
+use Rattle.desk_tables.specs.Rows.{DeskRows, is_applied, applied_at}
+use Rattle.desk_tables.specs.Statements.{applied_at_text}
+use Rattle.desk_tables.proofs.StatementTexts.{applied_at_is}
+use Rattle.desk_tables.proofs.SeriesQueries.{applied_shown}
+use Rattle.desk_tables.proofs.SeriesReadings.{first_applied_is}
+use Rattle.desk_tables.proofs.Calls.{reads_ok, reads_late}
 use Rattle.desk_tables.proofs.work.Work.applied_at.Goals as goal
 
 pub returns-in-Ok-first_applied-clause-works : goal.returns-in-Ok-first_applied-clause-works

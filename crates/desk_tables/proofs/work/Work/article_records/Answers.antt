@@ -2,12 +2,12 @@ use Rattle.std.proofs.Common.{[], ◌∷◌, true, refl, Vec}
 use Rattle.sqlite_value.specs.declared.value.Value.TheVariants.{Text}
 use Rattle.sqlite_value.specs.Order.{Row}
 use Rattle.sqlite.specs.Held.{state}
-use Rattle.desk_rows.specs.ArticleAnswers.{AreRecordsOf}
-use Rattle.desk_rows.specs.RecordStatements.{article_records_text}
-use Rattle.desk_rows.specs.Rows.{DeskRows}
-use Rattle.desk_rows.proofs.ArticleRecords.{records_found}
-use Rattle.desk_rows.proofs.RecordStatementTexts.{article_records_is}
-use Rattle.desk_rows.proofs.Calls.{reads_ok, reads_late}
+use Rattle.desk_tables.specs.ArticleAnswers.{AreRecordsOf}
+use Rattle.desk_tables.specs.RecordStatements.{article_records_text}
+use Rattle.desk_tables.specs.Rows.{DeskRows}
+use Rattle.desk_tables.proofs.ArticleRecords.{records_found}
+use Rattle.desk_tables.proofs.RecordStatementTexts.{article_records_is}
+use Rattle.desk_tables.proofs.Calls.{reads_ok, reads_late}
 use Rattle.desk_tables.proofs.work.Work.article_records.Goals as goal
 
 pub returns-in-Ok-each_once-clause-works : goal.returns-in-Ok-each_once-clause-works

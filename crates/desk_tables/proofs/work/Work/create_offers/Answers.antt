@@ -1,9 +1,9 @@
 use Rattle.std.proofs.Common.{Ok, Err}
 use Rattle.sqlite.specs.Held.{state}
-use Rattle.desk_rows.specs.Schema.{schema_6, schema_7, first_schema}
-use Rattle.desk_rows.specs.Transactions.{HasNoRows}
-use Rattle.desk_rows.proofs.Makings.{makes_then, makes_no_more, makes_done}
-use Rattle.desk_rows.proofs.TableSteps.{step_offer, step_price}
+use Rattle.desk_tables.specs.Schema.{schema_6, schema_7, first_schema}
+use Rattle.desk_tables.specs.Transactions.{HasNoRows}
+use Rattle.desk_tables.proofs.Makings.{makes_then, makes_no_more, makes_done}
+use Rattle.desk_tables.proofs.TableSteps.{step_offer, step_price}
 use Rattle.desk_tables.proofs.work.Work.create_offers.Goals as goal
 
 pub returns-in-Ok-run-clause-makes : goal.returns-in-Ok-run-clause-makes

@@ -1,9 +1,9 @@
 use Rattle.std.proofs.Common.{Ok, Err}
 use Rattle.sqlite.specs.Held.{state}
-use Rattle.desk_rows.specs.Schema.{schema_3, schema_4, schema_5, schema_6}
-use Rattle.desk_rows.specs.Transactions.{HasNoRows}
-use Rattle.desk_rows.proofs.Makings.{makes_then, makes_no_more, makes_done}
-use Rattle.desk_rows.proofs.TableSteps.{step_applied, step_record, step_article}
+use Rattle.desk_tables.specs.Schema.{schema_3, schema_4, schema_5, schema_6}
+use Rattle.desk_tables.specs.Transactions.{HasNoRows}
+use Rattle.desk_tables.proofs.Makings.{makes_then, makes_no_more, makes_done}
+use Rattle.desk_tables.proofs.TableSteps.{step_applied, step_record, step_article}
 use Rattle.desk_tables.proofs.work.Work.create_records.Goals as goal
 
 pub returns-in-Err-clause-makes : goal.returns-in-Err-clause-makes

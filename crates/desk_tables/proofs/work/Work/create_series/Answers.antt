@@ -1,9 +1,9 @@
 use Rattle.std.proofs.Common.{Ok, Err}
 use Rattle.sqlite.specs.Held.{state}
-use Rattle.desk_rows.specs.Schema.{schema_0, schema_1, schema_2, schema_3}
-use Rattle.desk_rows.specs.Transactions.{IsEmptied, HasNoRows}
-use Rattle.desk_rows.proofs.Makings.{makes_then, makes_no_more, makes_done}
-use Rattle.desk_rows.proofs.TableSteps.{step_meta, step_series, step_held}
+use Rattle.desk_tables.specs.Schema.{schema_0, schema_1, schema_2, schema_3}
+use Rattle.desk_tables.specs.Transactions.{IsEmptied, HasNoRows}
+use Rattle.desk_tables.proofs.Makings.{makes_then, makes_no_more, makes_done}
+use Rattle.desk_tables.proofs.TableSteps.{step_meta, step_series, step_held}
 use Rattle.desk_tables.proofs.work.Work.create_series.Goals as goal
 
 pub returns-in-Err-clause-makes : goal.returns-in-Err-clause-makes

@@ -1,10 +1,10 @@
 use Rattle.std.proofs.Common.{Ok, Err}
 use Rattle.sqlite.specs.Held.{state}
-use Rattle.desk_rows.specs.Schema.{schema_0, schema_3, schema_6, first_schema}
-use Rattle.desk_rows.specs.Rows.{Holds, HoldsFirst, no_rows}
-use Rattle.desk_rows.specs.Transactions.{IsEmptied, HasNoRows}
-use Rattle.desk_rows.proofs.Creates.{first_made}
-use Rattle.desk_rows.proofs.Makings.{makes_then, makes_no_more, makes_from}
+use Rattle.desk_tables.specs.Schema.{schema_0, schema_3, schema_6, first_schema}
+use Rattle.desk_tables.specs.Rows.{Holds, HoldsFirst, no_rows}
+use Rattle.desk_tables.specs.Transactions.{IsEmptied, HasNoRows}
+use Rattle.desk_tables.proofs.Creates.{first_made}
+use Rattle.desk_tables.proofs.Makings.{makes_then, makes_no_more, makes_from}
 use Rattle.desk_tables.proofs.work.Work.create_tables.Goals as goal
 
 pub returns-in-Err-clause-makes : goal.returns-in-Err-clause-makes

@@ -2,12 +2,12 @@ use Rattle.std.proofs.Common.{[], ◌∷◌, refl}
 use Rattle.sqlite_value.specs.declared.value.Value.TheVariants.{Text}
 use Rattle.sqlite_value.specs.Order.{Row}
 use Rattle.sqlite.specs.Held.{state}
-use Rattle.desk_rows.specs.RecordChanges.{without_articles}
-use Rattle.desk_rows.specs.RecordStatements.{delete_articles_text}
-use Rattle.desk_rows.specs.Transactions.{NoAnswer}
-use Rattle.desk_rows.proofs.RecordStatementTexts.{delete_articles_is}
-use Rattle.desk_rows.proofs.RecordDeletes.{deletes_articles}
-use Rattle.desk_rows.proofs.Calls.{works_ok, works_err}
+use Rattle.desk_tables.specs.RecordChanges.{without_articles}
+use Rattle.desk_tables.specs.RecordStatements.{delete_articles_text}
+use Rattle.desk_tables.specs.Transactions.{NoAnswer}
+use Rattle.desk_tables.proofs.RecordStatementTexts.{delete_articles_is}
+use Rattle.desk_tables.proofs.RecordDeletes.{deletes_articles}
+use Rattle.desk_tables.proofs.Calls.{works_ok, works_err}
 use Rattle.desk_tables.proofs.work.Work.delete_articles.Goals as goal
 
 pub returns-in-Ok-clause-works : goal.returns-in-Ok-clause-works

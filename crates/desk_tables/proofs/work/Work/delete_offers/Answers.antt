@@ -2,12 +2,12 @@ use Rattle.std.proofs.Common.{[], ◌∷◌, refl}
 use Rattle.sqlite_value.specs.declared.value.Value.TheVariants.{Text}
 use Rattle.sqlite_value.specs.Order.{Row}
 use Rattle.sqlite.specs.Held.{state}
-use Rattle.desk_rows.specs.RecordChanges.{without_offers}
-use Rattle.desk_rows.specs.RecordStatements.{delete_offers_text}
-use Rattle.desk_rows.specs.Transactions.{NoAnswer}
-use Rattle.desk_rows.proofs.RecordStatementTexts.{delete_offers_is}
-use Rattle.desk_rows.proofs.RecordCascades.{deletes_offers}
-use Rattle.desk_rows.proofs.Calls.{works_ok, works_err}
+use Rattle.desk_tables.specs.RecordChanges.{without_offers}
+use Rattle.desk_tables.specs.RecordStatements.{delete_offers_text}
+use Rattle.desk_tables.specs.Transactions.{NoAnswer}
+use Rattle.desk_tables.proofs.RecordStatementTexts.{delete_offers_is}
+use Rattle.desk_tables.proofs.RecordCascades.{deletes_offers}
+use Rattle.desk_tables.proofs.Calls.{works_ok, works_err}
 use Rattle.desk_tables.proofs.work.Work.delete_offers.Goals as goal
 
 pub returns-in-Ok-clause-works : goal.returns-in-Ok-clause-works

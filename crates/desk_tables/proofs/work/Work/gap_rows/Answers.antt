@@ -2,11 +2,11 @@ use Rattle.std.proofs.Common.{[], ◌∷◌, true, refl, Vec}
 use Rattle.sqlite_value.specs.declared.value.Value.TheVariants.{Text}
 use Rattle.sqlite_value.specs.Order.{Row}
 use Rattle.sqlite.specs.Held.{state}
-use Rattle.desk_rows.specs.Rows.{DeskRows, AreHeldNumbers}
-use Rattle.desk_rows.specs.Statements.{gap_rows_text}
-use Rattle.desk_rows.proofs.StatementTexts.{gap_rows_is}
-use Rattle.desk_rows.proofs.HeldQueries.{gaps_shown}
-use Rattle.desk_rows.proofs.Calls.{reads_ok, reads_late}
+use Rattle.desk_tables.specs.Rows.{DeskRows, AreHeldNumbers}
+use Rattle.desk_tables.specs.Statements.{gap_rows_text}
+use Rattle.desk_tables.proofs.StatementTexts.{gap_rows_is}
+use Rattle.desk_tables.proofs.HeldQueries.{gaps_shown}
+use Rattle.desk_tables.proofs.Calls.{reads_ok, reads_late}
 use Rattle.desk_tables.proofs.work.Work.gap_rows.Goals as goal
 
 pub returns-in-Ok-numbers-clause-works : goal.returns-in-Ok-numbers-clause-works

@@ -2,12 +2,12 @@ use Rattle.std.proofs.Common.{◌≡◌, [], ◌∷◌, Bool, sym, ◌∙◌}
 use Rattle.sqlite_value.specs.declared.value.Value.TheVariants.{Text}
 use Rattle.sqlite_value.specs.Order.{Row}
 use Rattle.sqlite.specs.Held.{state}
-use Rattle.desk_rows.specs.Rows.{DeskRows}
-use Rattle.desk_rows.specs.RecordAnswers.{has_minimums}
-use Rattle.desk_rows.specs.RecordStatements.{has_minimums_text}
-use Rattle.desk_rows.proofs.RecordStatementTexts.{has_minimums_is}
-use Rattle.desk_rows.proofs.RecordLists.{minimum_found}
-use Rattle.desk_rows.proofs.Calls.{reads_ok}
+use Rattle.desk_tables.specs.Rows.{DeskRows}
+use Rattle.desk_tables.specs.RecordAnswers.{has_minimums}
+use Rattle.desk_tables.specs.RecordStatements.{has_minimums_text}
+use Rattle.desk_tables.proofs.RecordStatementTexts.{has_minimums_is}
+use Rattle.desk_tables.proofs.RecordLists.{minimum_found}
+use Rattle.desk_tables.proofs.Calls.{reads_ok}
 use Rattle.desk_tables.proofs.work.Work.has_minimums.Goals as goal
 
 pub returns-in-Ok-clause-works : goal.returns-in-Ok-clause-works

@@ -2,12 +2,12 @@ use Rattle.std.proofs.Common.{◌≡◌, [], ◌∷◌, Bool, sym, ◌∙◌}
 use Rattle.sqlite_value.specs.declared.value.Value.TheVariants.{Text}
 use Rattle.sqlite_value.specs.Order.{Row}
 use Rattle.sqlite.specs.Held.{state}
-use Rattle.desk_rows.specs.Rows.{DeskRows}
-use Rattle.desk_rows.specs.RecordChanges.{has_record}
-use Rattle.desk_rows.specs.RecordStatements.{has_record_text}
-use Rattle.desk_rows.proofs.RecordStatementTexts.{has_record_is}
-use Rattle.desk_rows.proofs.RecordQueries.{record_found}
-use Rattle.desk_rows.proofs.Calls.{reads_ok}
+use Rattle.desk_tables.specs.Rows.{DeskRows}
+use Rattle.desk_tables.specs.RecordChanges.{has_record}
+use Rattle.desk_tables.specs.RecordStatements.{has_record_text}
+use Rattle.desk_tables.proofs.RecordStatementTexts.{has_record_is}
+use Rattle.desk_tables.proofs.RecordQueries.{record_found}
+use Rattle.desk_tables.proofs.Calls.{reads_ok}
 use Rattle.desk_tables.proofs.work.Work.has_record.Goals as goal
 
 pub returns-in-Ok-clause-works : goal.returns-in-Ok-clause-works

@@ -1,8 +1,8 @@
 use Rattle.std.proofs.Common.{◌≡◌, ℕ, Ok, Option, Err}
 use Rattle.sqlite.specs.Held.{state}
 use Rattle.onix_message.specs.declared.agreement.StoreFault.TheVariants.{Unusable}
-use Rattle.desk_rows.specs.Rows.{DeskRows, Holds, HoldsFirst, no_rows, unchanged, version_in, with_version}
-use Rattle.desk_rows.proofs.Makings.{makes_then, makes_no_more, makes_stopped, works_made}
+use Rattle.desk_tables.specs.Rows.{DeskRows, Holds, HoldsFirst, no_rows, unchanged, version_in, with_version}
+use Rattle.desk_tables.proofs.Makings.{makes_then, makes_no_more, makes_stopped, works_made}
 use Rattle.desk_tables.proofs.SecondVersion.{NoDatabase, IsSecond, makes_never, works_second}
 use Rattle.desk_tables.proofs.work.Work.migrate.Goals as goal
 

@@ -2,12 +2,12 @@ use Rattle.std.proofs.Common.{[], ◌∷◌, ◌≡◌, find, pos, true, refl, O
 use Rattle.sqlite_value.specs.declared.value.Value.TheVariants.{Int, Text}
 use Rattle.sqlite_value.specs.Order.{Row}
 use Rattle.sqlite.specs.Held.{state}
-use Rattle.desk_rows.specs.Rows.{HeldRow, DeskRows, is_held, held_at}
-use Rattle.desk_rows.specs.Statements.{next_held_text}
-use Rattle.desk_rows.proofs.StatementTexts.{next_held_is}
-use Rattle.desk_rows.proofs.Readings.{first_text_is}
-use Rattle.desk_rows.proofs.HeldQueries.{text_shown}
-use Rattle.desk_rows.proofs.Calls.{reads_ok, reads_late}
+use Rattle.desk_tables.specs.Rows.{HeldRow, DeskRows, is_held, held_at}
+use Rattle.desk_tables.specs.Statements.{next_held_text}
+use Rattle.desk_tables.proofs.StatementTexts.{next_held_is}
+use Rattle.desk_tables.proofs.Readings.{first_text_is}
+use Rattle.desk_tables.proofs.HeldQueries.{text_shown}
+use Rattle.desk_tables.proofs.Calls.{reads_ok, reads_late}
 use Rattle.desk_tables.proofs.work.Work.next_held.Goals as goal
 
 pub returns-in-Ok-first_text-clause-works : goal.returns-in-Ok-first_text-clause-works

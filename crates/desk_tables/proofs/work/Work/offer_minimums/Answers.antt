@@ -2,13 +2,13 @@ use Rattle.std.proofs.Common.{[], ◌∷◌, pos, true, refl, Vec}
 use Rattle.sqlite_value.specs.declared.value.Value.TheVariants.{Int, Text}
 use Rattle.sqlite_value.specs.Order.{Row}
 use Rattle.sqlite.specs.Held.{state}
-use Rattle.desk_rows.specs.ArticleAnswers.{AreMinimumsAt}
-use Rattle.desk_rows.specs.RecordAnswers.{AreRising}
-use Rattle.desk_rows.specs.RecordStatements.{offer_minimums_text}
-use Rattle.desk_rows.specs.Rows.{DeskRows}
-use Rattle.desk_rows.proofs.ArticleLists.{offer_minimums_shown}
-use Rattle.desk_rows.proofs.RecordStatementTexts.{offer_minimums_is}
-use Rattle.desk_rows.proofs.Calls.{reads_ok, reads_late}
+use Rattle.desk_tables.specs.ArticleAnswers.{AreMinimumsAt}
+use Rattle.desk_tables.specs.RecordAnswers.{AreRising}
+use Rattle.desk_tables.specs.RecordStatements.{offer_minimums_text}
+use Rattle.desk_tables.specs.Rows.{DeskRows}
+use Rattle.desk_tables.proofs.ArticleLists.{offer_minimums_shown}
+use Rattle.desk_tables.proofs.RecordStatementTexts.{offer_minimums_is}
+use Rattle.desk_tables.proofs.Calls.{reads_ok, reads_late}
 use Rattle.desk_tables.proofs.work.Work.offer_minimums.Goals as goal
 
 pub returns-in-Ok-all_minimums-clause-works : goal.returns-in-Ok-all_minimums-clause-works

@@ -1,12 +1,12 @@
 use Rattle.std.proofs.Common.{List, Vec, subst}
 use Rattle.sqlite.specs.Held.{state}
 use Rattle.onix_rows.specs.declared.parts.Price.{Price}
-use Rattle.desk_rows.specs.ArticleAnswers.{AreMinimumsAt, ArePricesAt, ArePricesUnder}
-use Rattle.desk_rows.specs.RecordAnswers.{AreRising}
-use Rattle.desk_rows.specs.declared.rows.MinimumRow.{MinimumRow}
-use Rattle.desk_rows.specs.Rows.{DeskRows}
-use Rattle.desk_rows.proofs.ArticleLists.{prices_joined}
-use Rattle.desk_rows.proofs.RecordCalls.{reads_then}
+use Rattle.desk_tables.specs.ArticleAnswers.{AreMinimumsAt, ArePricesAt, ArePricesUnder}
+use Rattle.desk_tables.specs.RecordAnswers.{AreRising}
+use Rattle.desk_tables.specs.declared.rows.row_types.MinimumRow.{MinimumRow}
+use Rattle.desk_tables.specs.Rows.{DeskRows}
+use Rattle.desk_tables.proofs.ArticleLists.{prices_joined}
+use Rattle.desk_tables.proofs.RecordCalls.{reads_then}
 use Rattle.desk_tables.proofs.work.Work.offer_prices.Goals as goal
 
 pub returns-clause-works : goal.returns-clause-works

@@ -1,12 +1,12 @@
 use Rattle.std.proofs.Common.{◌≡◌, [], false, List}
 use Rattle.sqlite.specs.Held.{state}
 use Rattle.onix_rows.specs.declared.parts.Price.{Price}
-use Rattle.desk_rows.specs.ArticleAnswers.{ArePricesAt, ArePricesUnder}
-use Rattle.desk_rows.specs.RecordAnswers.{AreRising}
-use Rattle.desk_rows.specs.RecordChanges.{has_minimums_of}
-use Rattle.desk_rows.specs.Rows.{DeskRows}
-use Rattle.desk_rows.proofs.ArticleLists.{prices_alone}
-use Rattle.desk_rows.proofs.RecordCalls.{reads_also}
+use Rattle.desk_tables.specs.ArticleAnswers.{ArePricesAt, ArePricesUnder}
+use Rattle.desk_tables.specs.RecordAnswers.{AreRising}
+use Rattle.desk_tables.specs.RecordChanges.{has_minimums_of}
+use Rattle.desk_tables.specs.Rows.{DeskRows}
+use Rattle.desk_tables.proofs.ArticleLists.{prices_alone}
+use Rattle.desk_tables.proofs.RecordCalls.{reads_also}
 use Rattle.desk_tables.proofs.work.Work.offer_prices_without_minimums.Goals as goal
 
 pub returns-clause-works : goal.returns-clause-works

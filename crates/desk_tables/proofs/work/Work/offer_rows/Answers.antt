@@ -2,12 +2,12 @@ use Rattle.std.proofs.Common.{[], ◌∷◌, true, refl, Vec}
 use Rattle.sqlite_value.specs.declared.value.Value.TheVariants.{Text}
 use Rattle.sqlite_value.specs.Order.{Row}
 use Rattle.sqlite.specs.Held.{state}
-use Rattle.desk_rows.specs.Rows.{DeskRows}
-use Rattle.desk_rows.specs.RecordAnswers.{AreOffersInOrder}
-use Rattle.desk_rows.specs.RecordStatements.{offer_rows_text}
-use Rattle.desk_rows.proofs.RecordStatementTexts.{offer_rows_is}
-use Rattle.desk_rows.proofs.RecordLists.{offers_shown}
-use Rattle.desk_rows.proofs.Calls.{reads_ok, reads_late}
+use Rattle.desk_tables.specs.Rows.{DeskRows}
+use Rattle.desk_tables.specs.RecordAnswers.{AreOffersInOrder}
+use Rattle.desk_tables.specs.RecordStatements.{offer_rows_text}
+use Rattle.desk_tables.proofs.RecordStatementTexts.{offer_rows_is}
+use Rattle.desk_tables.proofs.RecordLists.{offers_shown}
+use Rattle.desk_tables.proofs.Calls.{reads_ok, reads_late}
 use Rattle.desk_tables.proofs.work.Work.offer_rows.Goals as goal
 
 pub returns-in-Ok-all_offers-clause-works : goal.returns-in-Ok-all_offers-clause-works

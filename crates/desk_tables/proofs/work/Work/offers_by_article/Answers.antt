@@ -1,11 +1,11 @@
 use Rattle.std.proofs.Common.{◌≡◌, ◌++◌, ◌+◌, List, Ok, rules}
 use Rattle.sqlite.specs.Held.{state}
 use Rattle.price_rules.specs.declared.offer.Offer.{Offer}
-use Rattle.desk_rows.specs.ArticleAnswers.{AreOffersOf}
-use Rattle.desk_rows.specs.declared.rows.RecordRow.{RecordRow}
-use Rattle.desk_rows.specs.Rows.{DeskRows}
-use Rattle.desk_rows.proofs.ArticleLoops.{RecordsSoFar, records_more}
-use Rattle.desk_rows.proofs.RecordCalls.{reads_failed, reads_then}
+use Rattle.desk_tables.specs.ArticleAnswers.{AreOffersOf}
+use Rattle.desk_tables.specs.declared.rows.row_types.RecordRow.{RecordRow}
+use Rattle.desk_tables.specs.Rows.{DeskRows}
+use Rattle.desk_tables.proofs.ArticleLoops.{RecordsSoFar, records_more}
+use Rattle.desk_tables.proofs.RecordCalls.{reads_failed, reads_then}
 use Rattle.desk_tables.proofs.work.Work.offers_by_article.Goals as goal
 
 pub returns-in-Err-add_offers-clause-works : goal.returns-in-Err-add_offers-clause-works

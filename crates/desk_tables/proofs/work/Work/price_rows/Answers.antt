@@ -1,9 +1,9 @@
 use Rattle.std.proofs.Common.{List, Vec, subst}
 use Rattle.sqlite.specs.Held.{state}
-use Rattle.desk_rows.specs.declared.rows.MinimumRow.{MinimumRow}
-use Rattle.desk_rows.specs.RecordAnswers.{AreMinimums, AreRising, ArePricesWith, ArePricesInOrder}
-use Rattle.desk_rows.specs.Rows.{DeskRows}
-use Rattle.desk_rows.proofs.RecordCalls.{reads_then}
+use Rattle.desk_tables.specs.declared.rows.row_types.MinimumRow.{MinimumRow}
+use Rattle.desk_tables.specs.RecordAnswers.{AreMinimums, AreRising, ArePricesWith, ArePricesInOrder}
+use Rattle.desk_tables.specs.Rows.{DeskRows}
+use Rattle.desk_tables.proofs.RecordCalls.{reads_then}
 use Rattle.desk_tables.proofs.work.Work.price_rows.Goals as goal
 
 pub returns-clause-works : goal.returns-clause-works

@@ -3,13 +3,13 @@ use Rattle.sqlite_value.specs.declared.value.Value.TheVariants.{Int, Text}
 use Rattle.sqlite_value.specs.Order.{Row}
 use Rattle.sqlite.specs.Held.{state}
 use Rattle.onix_rows.specs.declared.parts.Price.{Price}
-use Rattle.desk_rows.specs.ArticleAnswers.{ArePricesUnder}
-use Rattle.desk_rows.specs.RecordAnswers.{AreRising}
-use Rattle.desk_rows.specs.RecordStatements.{offer_prices_text}
-use Rattle.desk_rows.specs.Rows.{DeskRows}
-use Rattle.desk_rows.proofs.ArticleLists.{offer_prices_shown}
-use Rattle.desk_rows.proofs.RecordStatementTexts.{offer_prices_is}
-use Rattle.desk_rows.proofs.Calls.{reads_ok, reads_late}
+use Rattle.desk_tables.specs.ArticleAnswers.{ArePricesUnder}
+use Rattle.desk_tables.specs.RecordAnswers.{AreRising}
+use Rattle.desk_tables.specs.RecordStatements.{offer_prices_text}
+use Rattle.desk_tables.specs.Rows.{DeskRows}
+use Rattle.desk_tables.proofs.ArticleLists.{offer_prices_shown}
+use Rattle.desk_tables.proofs.RecordStatementTexts.{offer_prices_is}
+use Rattle.desk_tables.proofs.Calls.{reads_ok, reads_late}
 use Rattle.desk_tables.proofs.work.Work.prices_under.Goals as goal
 
 pub returns-in-Ok-prices_in-clause-works : goal.returns-in-Ok-prices_in-clause-works

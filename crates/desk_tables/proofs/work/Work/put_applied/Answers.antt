@@ -1,11 +1,11 @@
 use Rattle.std.proofs.Common.{refl}
 use Rattle.sqlite.specs.Held.{state}
-use Rattle.desk_rows.specs.Rows.{AppliedRow, with_applied}
-use Rattle.desk_rows.specs.Statements.{put_applied_text}
-use Rattle.desk_rows.specs.Transactions.{NoAnswer}
-use Rattle.desk_rows.proofs.SeriesLemmas.{put_applied_params, puts_applied}
-use Rattle.desk_rows.proofs.StatementTexts.{put_applied_is}
-use Rattle.desk_rows.proofs.Calls.{works_ok, works_err}
+use Rattle.desk_tables.specs.Rows.{AppliedRow, with_applied}
+use Rattle.desk_tables.specs.Statements.{put_applied_text}
+use Rattle.desk_tables.specs.Transactions.{NoAnswer}
+use Rattle.desk_tables.proofs.SeriesLemmas.{put_applied_params, puts_applied}
+use Rattle.desk_tables.proofs.StatementTexts.{put_applied_is}
+use Rattle.desk_tables.proofs.Calls.{works_ok, works_err}
 use Rattle.desk_tables.proofs.work.Work.put_applied.Goals as goal
 
 pub returns-in-Ok-clause-works : goal.returns-in-Ok-clause-works

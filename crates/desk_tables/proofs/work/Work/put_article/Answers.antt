@@ -1,12 +1,12 @@
 use Rattle.std.proofs.Common.{refl}
 use Rattle.sqlite.specs.Held.{state}
-use Rattle.desk_rows.specs.RecordRows.{article_columns}
-use Rattle.desk_rows.specs.RecordChanges.{with_article}
-use Rattle.desk_rows.specs.RecordStatements.{put_article_text}
-use Rattle.desk_rows.specs.Transactions.{NoAnswer}
-use Rattle.desk_rows.proofs.RecordStatementTexts.{put_article_is}
-use Rattle.desk_rows.proofs.ArticleInserts.{puts_article}
-use Rattle.desk_rows.proofs.Calls.{works_ok, works_err}
+use Rattle.desk_tables.specs.RecordRows.{article_columns}
+use Rattle.desk_tables.specs.RecordChanges.{with_article}
+use Rattle.desk_tables.specs.RecordStatements.{put_article_text}
+use Rattle.desk_tables.specs.Transactions.{NoAnswer}
+use Rattle.desk_tables.proofs.RecordStatementTexts.{put_article_is}
+use Rattle.desk_tables.proofs.ArticleInserts.{puts_article}
+use Rattle.desk_tables.proofs.Calls.{works_ok, works_err}
 use Rattle.desk_tables.proofs.work.Work.put_article.Goals as goal
 
 pub returns-in-Ok-clause-works : goal.returns-in-Ok-clause-works

@@ -1,11 +1,11 @@
 use Rattle.std.proofs.Common.{refl}
 use Rattle.sqlite.specs.Held.{state}
-use Rattle.desk_rows.specs.Rows.{HeldRow, with_held}
-use Rattle.desk_rows.specs.Statements.{put_held_text}
-use Rattle.desk_rows.specs.Transactions.{NoAnswer}
-use Rattle.desk_rows.proofs.StatementTexts.{put_held_is}
-use Rattle.desk_rows.proofs.HeldLemmas.{put_held_params, puts_held}
-use Rattle.desk_rows.proofs.Calls.{works_ok, works_err}
+use Rattle.desk_tables.specs.Rows.{HeldRow, with_held}
+use Rattle.desk_tables.specs.Statements.{put_held_text}
+use Rattle.desk_tables.specs.Transactions.{NoAnswer}
+use Rattle.desk_tables.proofs.StatementTexts.{put_held_is}
+use Rattle.desk_tables.proofs.HeldLemmas.{put_held_params, puts_held}
+use Rattle.desk_tables.proofs.Calls.{works_ok, works_err}
 use Rattle.desk_tables.proofs.work.Work.put_held.Goals as goal
 
 pub returns-in-Ok-clause-works : goal.returns-in-Ok-clause-works

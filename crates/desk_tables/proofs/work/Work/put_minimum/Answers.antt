@@ -4,14 +4,14 @@ use Rattle.sqlite_value.specs.Order.{Row}
 use Rattle.sqlite.specs.Held.{state}
 use Rattle.sqlite.specs.Values.{bound_value}
 use Rattle.std.proofs.Common.{pos}
-use Rattle.desk_rows.specs.RecordRows.{minimum_row, minimum_columns}
-use Rattle.desk_rows.specs.declared.rows.MinimumRow.{MinimumRow}
-use Rattle.desk_rows.specs.RecordChanges.{with_minimum}
-use Rattle.desk_rows.specs.RecordStatements.{put_minimum_text}
-use Rattle.desk_rows.proofs.PriceInserts.{puts_minimum, minimum_params}
-use Rattle.desk_rows.specs.Transactions.{NoAnswer, RunsIn}
-use Rattle.desk_rows.proofs.RecordStatementTexts.{put_minimum_is}
-use Rattle.desk_rows.proofs.Calls.{works_ok, works_err}
+use Rattle.desk_tables.specs.RecordRows.{minimum_row, minimum_columns}
+use Rattle.desk_tables.specs.declared.rows.row_types.MinimumRow.{MinimumRow}
+use Rattle.desk_tables.specs.RecordChanges.{with_minimum}
+use Rattle.desk_tables.specs.RecordStatements.{put_minimum_text}
+use Rattle.desk_tables.proofs.PriceInserts.{puts_minimum, minimum_params}
+use Rattle.desk_tables.specs.Transactions.{NoAnswer, RunsIn}
+use Rattle.desk_tables.proofs.RecordStatementTexts.{put_minimum_is}
+use Rattle.desk_tables.proofs.Calls.{works_ok, works_err}
 use Rattle.desk_tables.proofs.work.Work.put_minimum.Goals as goal
 
 pub returns-in-Ok-clause-works : goal.returns-in-Ok-clause-works

@@ -3,13 +3,13 @@ use Rattle.sqlite_value.specs.declared.value.Value.TheVariants.{Text}
 use Rattle.sqlite_value.specs.Order.{Row}
 use Rattle.sqlite.specs.Held.{state}
 use Rattle.sqlite.specs.Values.{bound_value}
-use Rattle.desk_rows.specs.RecordRows.{OfferRow, offer_row, offer_columns}
-use Rattle.desk_rows.specs.RecordChanges.{with_offer}
-use Rattle.desk_rows.specs.RecordStatements.{put_offer_text}
-use Rattle.desk_rows.specs.Transactions.{NoAnswer, RunsIn}
-use Rattle.desk_rows.proofs.RecordStatementTexts.{put_offer_is}
-use Rattle.desk_rows.proofs.OfferInserts.{puts_offer, offer_params}
-use Rattle.desk_rows.proofs.Calls.{works_ok, works_err}
+use Rattle.desk_tables.specs.RecordRows.{OfferRow, offer_row, offer_columns}
+use Rattle.desk_tables.specs.RecordChanges.{with_offer}
+use Rattle.desk_tables.specs.RecordStatements.{put_offer_text}
+use Rattle.desk_tables.specs.Transactions.{NoAnswer, RunsIn}
+use Rattle.desk_tables.proofs.RecordStatementTexts.{put_offer_is}
+use Rattle.desk_tables.proofs.OfferInserts.{puts_offer, offer_params}
+use Rattle.desk_tables.proofs.Calls.{works_ok, works_err}
 use Rattle.desk_tables.proofs.work.Work.put_offer_texts.Goals as goal
 
 pub returns-in-Ok-clause-works : goal.returns-in-Ok-clause-works

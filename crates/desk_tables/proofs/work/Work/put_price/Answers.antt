@@ -1,10 +1,10 @@
 use Rattle.std.proofs.Common.{◌≡◌, true, nat_lt, Ok, subst, ◌∙◌, rules}
 use Rattle.sqlite.specs.Held.{state}
-use Rattle.desk_rows.specs.Rows.{DeskRows}
-use Rattle.desk_rows.specs.RecordRows.{PriceRow, price_row, minimum_row}
-use Rattle.desk_rows.specs.RecordChanges.{with_price, with_minimum}
-use Rattle.desk_rows.specs.Transactions.{Works, NoAnswer}
-use Rattle.desk_rows.proofs.RecordCalls.{works_both, price_with}
+use Rattle.desk_tables.specs.Rows.{DeskRows}
+use Rattle.desk_tables.specs.RecordRows.{PriceRow, price_row, minimum_row}
+use Rattle.desk_tables.specs.RecordChanges.{with_price, with_minimum}
+use Rattle.desk_tables.specs.Transactions.{Works, NoAnswer}
+use Rattle.desk_tables.proofs.RecordCalls.{works_both, price_with}
 use Rattle.desk_tables.proofs.work.Work.put_price.Goals as goal
 
 pub returns-then-value-gt1-clause-works : goal.returns-then-value-gt1-clause-works

@@ -3,13 +3,13 @@ use Rattle.sqlite_value.specs.declared.value.Value.TheVariants.{Text}
 use Rattle.sqlite_value.specs.Order.{Row}
 use Rattle.sqlite.specs.Held.{state}
 use Rattle.sqlite.specs.Values.{bound_value}
-use Rattle.desk_rows.specs.RecordRows.{PriceRow, price_row, price_columns}
-use Rattle.desk_rows.specs.RecordChanges.{with_price}
-use Rattle.desk_rows.specs.RecordStatements.{put_price_text}
-use Rattle.desk_rows.proofs.PriceInserts.{puts_price, price_params, bound_day}
-use Rattle.desk_rows.specs.Transactions.{NoAnswer, RunsIn}
-use Rattle.desk_rows.proofs.RecordStatementTexts.{put_price_is}
-use Rattle.desk_rows.proofs.Calls.{works_ok, works_err}
+use Rattle.desk_tables.specs.RecordRows.{PriceRow, price_row, price_columns}
+use Rattle.desk_tables.specs.RecordChanges.{with_price}
+use Rattle.desk_tables.specs.RecordStatements.{put_price_text}
+use Rattle.desk_tables.proofs.PriceInserts.{puts_price, price_params, bound_day}
+use Rattle.desk_tables.specs.Transactions.{NoAnswer, RunsIn}
+use Rattle.desk_tables.proofs.RecordStatementTexts.{put_price_is}
+use Rattle.desk_tables.proofs.Calls.{works_ok, works_err}
 use Rattle.desk_tables.proofs.work.Work.put_price_texts.Goals as goal
 
 pub returns-in-Ok-clause-works : goal.returns-in-Ok-clause-works

@@ -1,13 +1,13 @@
 use Rattle.std.proofs.Common.{refl}
 use Rattle.sqlite.specs.Held.{state}
-use Rattle.desk_rows.specs.RecordRows.{record_columns}
-use Rattle.desk_rows.specs.declared.rows.RecordRow.{RecordRow}
-use Rattle.desk_rows.specs.RecordChanges.{with_record}
-use Rattle.desk_rows.specs.Statements.{put_record_text}
-use Rattle.desk_rows.specs.Transactions.{NoAnswer}
-use Rattle.desk_rows.proofs.StatementTexts.{put_record_is}
-use Rattle.desk_rows.proofs.RecordInserts.{puts_record}
-use Rattle.desk_rows.proofs.Calls.{works_ok, works_err}
+use Rattle.desk_tables.specs.RecordRows.{record_columns}
+use Rattle.desk_tables.specs.declared.rows.row_types.RecordRow.{RecordRow}
+use Rattle.desk_tables.specs.RecordChanges.{with_record}
+use Rattle.desk_tables.specs.Statements.{put_record_text}
+use Rattle.desk_tables.specs.Transactions.{NoAnswer}
+use Rattle.desk_tables.proofs.StatementTexts.{put_record_is}
+use Rattle.desk_tables.proofs.RecordInserts.{puts_record}
+use Rattle.desk_tables.proofs.Calls.{works_ok, works_err}
 use Rattle.desk_tables.proofs.work.Work.put_record.Goals as goal
 
 pub returns-in-Ok-clause-works : goal.returns-in-Ok-clause-works

@@ -1,12 +1,12 @@
 use Rattle.std.proofs.Common.{refl}
 use Rattle.sqlite.specs.Held.{state}
 use Rattle.onix_message.specs.declared.agreement.Agreement.{Agreement}
-use Rattle.desk_rows.specs.Rows.{with_series}
-use Rattle.desk_rows.specs.Statements.{put_series_text}
-use Rattle.desk_rows.specs.Transactions.{NoAnswer}
-use Rattle.desk_rows.proofs.SeriesLemmas.{put_series_params, puts_series}
-use Rattle.desk_rows.proofs.StatementTexts.{put_series_is}
-use Rattle.desk_rows.proofs.Calls.{works_ok, works_err}
+use Rattle.desk_tables.specs.Rows.{with_series}
+use Rattle.desk_tables.specs.Statements.{put_series_text}
+use Rattle.desk_tables.specs.Transactions.{NoAnswer}
+use Rattle.desk_tables.proofs.SeriesLemmas.{put_series_params, puts_series}
+use Rattle.desk_tables.proofs.StatementTexts.{put_series_is}
+use Rattle.desk_tables.proofs.Calls.{works_ok, works_err}
 use Rattle.desk_tables.proofs.work.Work.put_series.Goals as goal
 
 pub returns-in-Ok-clause-works : goal.returns-in-Ok-clause-works

@@ -2,12 +2,12 @@ use Rattle.std.proofs.Common.{[], ◌∷◌, true, refl, Vec}
 use Rattle.sqlite_value.specs.declared.value.Value.TheVariants.{Text}
 use Rattle.sqlite_value.specs.Order.{Row}
 use Rattle.sqlite.specs.Held.{state}
-use Rattle.desk_rows.specs.ArticleAnswers.{AreOfferRowsOf}
-use Rattle.desk_rows.specs.RecordStatements.{record_offers_text}
-use Rattle.desk_rows.specs.Rows.{DeskRows}
-use Rattle.desk_rows.proofs.ArticleLists.{record_offers_shown}
-use Rattle.desk_rows.proofs.RecordStatementTexts.{record_offers_is}
-use Rattle.desk_rows.proofs.Calls.{reads_ok, reads_late}
+use Rattle.desk_tables.specs.ArticleAnswers.{AreOfferRowsOf}
+use Rattle.desk_tables.specs.RecordStatements.{record_offers_text}
+use Rattle.desk_tables.specs.Rows.{DeskRows}
+use Rattle.desk_tables.proofs.ArticleLists.{record_offers_shown}
+use Rattle.desk_tables.proofs.RecordStatementTexts.{record_offers_is}
+use Rattle.desk_tables.proofs.Calls.{reads_ok, reads_late}
 use Rattle.desk_tables.proofs.work.Work.record_offers.Goals as goal
 
 pub returns-in-Ok-all_offers-clause-works : goal.returns-in-Ok-all_offers-clause-works

@@ -2,12 +2,12 @@ use Rattle.std.proofs.Common.{[], ◌∷◌, true, refl, Vec}
 use Rattle.sqlite_value.specs.declared.value.Value.TheVariants.{Text}
 use Rattle.sqlite_value.specs.Order.{Row}
 use Rattle.sqlite.specs.Held.{state}
-use Rattle.desk_rows.specs.Rows.{DeskRows}
-use Rattle.desk_rows.specs.RecordAnswers.{AreRecordsInOrder}
-use Rattle.desk_rows.specs.RecordStatements.{record_rows_text}
-use Rattle.desk_rows.proofs.RecordStatementTexts.{record_rows_is}
-use Rattle.desk_rows.proofs.RecordLists.{records_shown}
-use Rattle.desk_rows.proofs.Calls.{reads_ok, reads_late}
+use Rattle.desk_tables.specs.Rows.{DeskRows}
+use Rattle.desk_tables.specs.RecordAnswers.{AreRecordsInOrder}
+use Rattle.desk_tables.specs.RecordStatements.{record_rows_text}
+use Rattle.desk_tables.proofs.RecordStatementTexts.{record_rows_is}
+use Rattle.desk_tables.proofs.RecordLists.{records_shown}
+use Rattle.desk_tables.proofs.Calls.{reads_ok, reads_late}
 use Rattle.desk_tables.proofs.work.Work.record_rows.Goals as goal
 
 pub returns-in-Ok-all_records-clause-works : goal.returns-in-Ok-all_records-clause-works

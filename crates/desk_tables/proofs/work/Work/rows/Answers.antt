@@ -2,8 +2,8 @@ use Rattle.std.proofs.Common.{IsTrue, rules}
 use Rattle.sqlite.specs.Held.{state}
 use Rattle.sqlite.specs.Values.{bound}
 use Rattle.sqlite.proofs.StateLemmas.{survives_weaker}
-use Rattle.desk_rows.specs.Transactions.{NoTrees}
-use Rattle.desk_rows.proofs.Control.{commit_kept, kept_itself, survives_itself, query_fails_as, nothing_shown}
+use Rattle.desk_tables.specs.Transactions.{NoTrees}
+use Rattle.desk_tables.proofs.Control.{commit_kept, kept_itself, survives_itself, query_fails_as, nothing_shown}
 use Rattle.desk_tables.proofs.work.Work.rows.Goals as goal
 
 pub returns-then-self-clause-reads : goal.returns-then-self-clause-reads

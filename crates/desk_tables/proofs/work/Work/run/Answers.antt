@@ -1,6 +1,6 @@
 use Rattle.std.proofs.Common.{IsTrue, rules}
 use Rattle.sqlite.specs.Held.{state}
-use Rattle.desk_rows.proofs.Control.{commit_kept, kept_itself, survives_itself, fails_as}
+use Rattle.desk_tables.proofs.Control.{commit_kept, kept_itself, survives_itself, fails_as}
 use Rattle.sqlite.specs.Values.{bound}
 use Rattle.sqlite.proofs.StateLemmas.{survives_weaker}
 use Rattle.desk_tables.proofs.work.Work.run.Goals as goal

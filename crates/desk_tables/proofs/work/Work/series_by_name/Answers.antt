@@ -2,12 +2,12 @@ use Rattle.std.proofs.Common.{[], ◌∷◌, ◌≡◌, true, refl, Option}
 use Rattle.sqlite_value.specs.declared.value.Value.TheVariants.{Text}
 use Rattle.sqlite_value.specs.Order.{Row}
 use Rattle.sqlite.specs.Held.{state}
-use Rattle.desk_rows.specs.Rows.{DeskRows, is_named, series_at}
-use Rattle.desk_rows.specs.Statements.{series_by_name_text}
-use Rattle.desk_rows.proofs.StatementTexts.{series_by_name_is}
-use Rattle.desk_rows.proofs.SeriesQueries.{named_shown}
-use Rattle.desk_rows.proofs.SeriesReadings.{first_series_is}
-use Rattle.desk_rows.proofs.Calls.{reads_ok, reads_late}
+use Rattle.desk_tables.specs.Rows.{DeskRows, is_named, series_at}
+use Rattle.desk_tables.specs.Statements.{series_by_name_text}
+use Rattle.desk_tables.proofs.StatementTexts.{series_by_name_is}
+use Rattle.desk_tables.proofs.SeriesQueries.{named_shown}
+use Rattle.desk_tables.proofs.SeriesReadings.{first_series_is}
+use Rattle.desk_tables.proofs.Calls.{reads_ok, reads_late}
 use Rattle.desk_tables.proofs.work.Work.series_by_name.Goals as goal
 
 pub returns-in-Ok-first_series-clause-works : goal.returns-in-Ok-first_series-clause-works

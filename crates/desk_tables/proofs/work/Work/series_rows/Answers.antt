@@ -1,12 +1,12 @@
 use Rattle.std.proofs.Common.{[], true, refl, Vec}
 use Rattle.sqlite_value.specs.Order.{Row}
 use Rattle.sqlite.specs.Held.{state}
-use Rattle.desk_rows.specs.Rows.{DeskRows, AreSeriesInOrder}
-use Rattle.desk_rows.specs.Statements.{series_rows_text}
-use Rattle.desk_rows.proofs.StatementTexts.{series_rows_is}
-use Rattle.desk_rows.proofs.SeriesQueries.{series_shown}
-use Rattle.desk_rows.proofs.SeriesReadings.{series_are}
-use Rattle.desk_rows.proofs.Calls.{reads_ok, reads_late}
+use Rattle.desk_tables.specs.Rows.{DeskRows, AreSeriesInOrder}
+use Rattle.desk_tables.specs.Statements.{series_rows_text}
+use Rattle.desk_tables.proofs.StatementTexts.{series_rows_is}
+use Rattle.desk_tables.proofs.SeriesQueries.{series_shown}
+use Rattle.desk_tables.proofs.SeriesReadings.{series_are}
+use Rattle.desk_tables.proofs.Calls.{reads_ok, reads_late}
 use Rattle.desk_tables.proofs.work.Work.series_rows.Goals as goal
 
 pub returns-in-Ok-all_series-clause-works : goal.returns-in-Ok-all_series-clause-works

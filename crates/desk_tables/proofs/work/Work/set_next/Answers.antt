@@ -2,12 +2,12 @@ use Rattle.std.proofs.Common.{[], ◌∷◌, pos, refl}
 use Rattle.sqlite_value.specs.declared.value.Value.TheVariants.{Int, Text}
 use Rattle.sqlite_value.specs.Order.{Row}
 use Rattle.sqlite.specs.Held.{state}
-use Rattle.desk_rows.specs.Rows.{with_next}
-use Rattle.desk_rows.specs.Statements.{set_next_text}
-use Rattle.desk_rows.specs.Transactions.{NoAnswer}
-use Rattle.desk_rows.proofs.SeriesUpdates.{sets_next}
-use Rattle.desk_rows.proofs.StatementTexts.{set_next_is}
-use Rattle.desk_rows.proofs.Calls.{works_ok, works_err}
+use Rattle.desk_tables.specs.Rows.{with_next}
+use Rattle.desk_tables.specs.Statements.{set_next_text}
+use Rattle.desk_tables.specs.Transactions.{NoAnswer}
+use Rattle.desk_tables.proofs.SeriesUpdates.{sets_next}
+use Rattle.desk_tables.proofs.StatementTexts.{set_next_is}
+use Rattle.desk_tables.proofs.Calls.{works_ok, works_err}
 use Rattle.desk_tables.proofs.work.Work.set_next.Goals as goal
 
 pub returns-in-Ok-clause-works : goal.returns-in-Ok-clause-works

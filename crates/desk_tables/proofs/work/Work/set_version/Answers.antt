@@ -1,11 +1,11 @@
 use Rattle.std.proofs.Common.{[], refl}
 use Rattle.sqlite.specs.Held.{state}
-use Rattle.desk_rows.specs.Rows.{with_version}
-use Rattle.desk_rows.specs.Statements.{set_version_text}
-use Rattle.desk_rows.specs.Transactions.{NoAnswer}
-use Rattle.desk_rows.proofs.MetaUpdates.{sets_version}
-use Rattle.desk_rows.proofs.StatementTexts.{set_version_is}
-use Rattle.desk_rows.proofs.Calls.{works_ok, works_err}
+use Rattle.desk_tables.specs.Rows.{with_version}
+use Rattle.desk_tables.specs.Statements.{set_version_text}
+use Rattle.desk_tables.specs.Transactions.{NoAnswer}
+use Rattle.desk_tables.proofs.MetaUpdates.{sets_version}
+use Rattle.desk_tables.proofs.StatementTexts.{set_version_is}
+use Rattle.desk_tables.proofs.Calls.{works_ok, works_err}
 use Rattle.desk_tables.proofs.work.Work.set_version.Goals as goal
 
 pub returns-in-Ok-clause-works : goal.returns-in-Ok-clause-works

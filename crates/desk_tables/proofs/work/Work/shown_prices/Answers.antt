@@ -2,12 +2,12 @@ use Rattle.std.proofs.Common.{[], ◌∷◌, true, refl, Vec}
 use Rattle.sqlite_value.specs.declared.value.Value.TheVariants.{Text}
 use Rattle.sqlite_value.specs.Order.{Row}
 use Rattle.sqlite.specs.Held.{state}
-use Rattle.desk_rows.specs.Rows.{DeskRows}
-use Rattle.desk_rows.specs.RecordAnswers.{AreRising, ArePricesWith}
-use Rattle.desk_rows.specs.RecordStatements.{price_rows_text}
-use Rattle.desk_rows.proofs.RecordStatementTexts.{price_rows_is}
-use Rattle.desk_rows.proofs.RecordLists.{prices_shown}
-use Rattle.desk_rows.proofs.Calls.{reads_ok, reads_late}
+use Rattle.desk_tables.specs.Rows.{DeskRows}
+use Rattle.desk_tables.specs.RecordAnswers.{AreRising, ArePricesWith}
+use Rattle.desk_tables.specs.RecordStatements.{price_rows_text}
+use Rattle.desk_tables.proofs.RecordStatementTexts.{price_rows_is}
+use Rattle.desk_tables.proofs.RecordLists.{prices_shown}
+use Rattle.desk_tables.proofs.Calls.{reads_ok, reads_late}
 use Rattle.desk_tables.proofs.work.Work.shown_prices.Goals as goal
 
 pub returns-in-Ok-all_prices-clause-works : goal.returns-in-Ok-all_prices-clause-works

@@ -2,12 +2,12 @@ use Rattle.std.proofs.Common.{[], ◌∷◌, ◌≡◌, find, pos, true, refl, O
 use Rattle.sqlite_value.specs.declared.value.Value.TheVariants.{Int, Text}
 use Rattle.sqlite_value.specs.Order.{Row}
 use Rattle.sqlite.specs.Held.{state}
-use Rattle.desk_rows.specs.Rows.{HeldRow, DeskRows, is_held, held_at, without_held}
-use Rattle.desk_rows.specs.Statements.{take_held_text}
-use Rattle.desk_rows.proofs.StatementTexts.{take_held_is}
-use Rattle.desk_rows.proofs.Readings.{first_text_is}
-use Rattle.desk_rows.proofs.HeldDeletes.{takes_held}
-use Rattle.desk_rows.proofs.Calls.{takes_ok, takes_late}
+use Rattle.desk_tables.specs.Rows.{HeldRow, DeskRows, is_held, held_at, without_held}
+use Rattle.desk_tables.specs.Statements.{take_held_text}
+use Rattle.desk_tables.proofs.StatementTexts.{take_held_is}
+use Rattle.desk_tables.proofs.Readings.{first_text_is}
+use Rattle.desk_tables.proofs.HeldDeletes.{takes_held}
+use Rattle.desk_tables.proofs.Calls.{takes_ok, takes_late}
 use Rattle.desk_tables.proofs.work.Work.take_held.Goals as goal
 
 pub returns-in-Ok-first_text-clause-works : goal.returns-in-Ok-first_text-clause-works

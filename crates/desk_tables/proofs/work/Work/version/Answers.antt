@@ -1,12 +1,12 @@
 use Rattle.std.proofs.Common.{ℕ, [], ◌≡◌, IsTrue, true, false, find, refl, rules, Option, Some, None}
 use Rattle.sqlite.specs.Held.{state}
-use Rattle.desk_rows.specs.Schema.{first_schema}
-use Rattle.desk_rows.specs.Rows.{DeskRows, HoldsFirst, is_version, unchanged, version_in}
-use Rattle.desk_rows.specs.Statements.{version_text}
-use Rattle.desk_rows.proofs.StatementTexts.{version_is, version_first_is}
-use Rattle.desk_rows.proofs.MetaLemmas.{version_shown, first_version_shown, version_read, not_the_desk}
-use Rattle.desk_rows.proofs.Calls.{reads_ok, reads_late, works_refused, works_elsewhere}
-use Rattle.desk_rows.proofs.Makings.{reads_made, reads_made_late}
+use Rattle.desk_tables.specs.Schema.{first_schema}
+use Rattle.desk_tables.specs.Rows.{DeskRows, HoldsFirst, is_version, unchanged, version_in}
+use Rattle.desk_tables.specs.Statements.{version_text}
+use Rattle.desk_tables.proofs.StatementTexts.{version_is, version_first_is}
+use Rattle.desk_tables.proofs.MetaLemmas.{version_shown, first_version_shown, version_read, not_the_desk}
+use Rattle.desk_tables.proofs.Calls.{reads_ok, reads_late, works_refused, works_elsewhere}
+use Rattle.desk_tables.proofs.Makings.{reads_made, reads_made_late}
 use Rattle.desk_tables.proofs.work.Work.version.Goals as goal
 
 pub returns-then-self-clause-works : goal.returns-then-self-clause-works

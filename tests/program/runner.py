@@ -16,6 +16,7 @@ from program import (
     examples,
     exchanges,
     inputs,
+    launcher,
     migrations,
     rules_files,
 )
@@ -35,6 +36,7 @@ MODULES = [
     damage,
     migrations,
     examples,
+    launcher,
 ]
 
 # How much of a value a line shows.

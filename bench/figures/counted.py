@@ -11,8 +11,10 @@ UNIT = "thousand instructions"
 
 
 def beyond(run: Run, start: Run) -> int:
-    """The thousands of instructions of a run beyond those of another one, which only starts and ends."""
-    return max(1, (instructions_of(run) - instructions_of(start)) // 1_000)
+    """The thousands of instructions of a run beyond those of another one, which only starts and ends, and
+    comes first."""
+    started = instructions_of(start)
+    return max(1, (instructions_of(run) - started) // 1_000)
 
 
 def reading(desk: Desk) -> Iterator[Figure]:

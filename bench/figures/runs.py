@@ -83,5 +83,7 @@ def least_of_each(*measures: Callable[[], int]) -> list[int]:
 
 
 def beyond(run: Run, start: Run) -> int:
-    """The time of a run beyond that of another one, which only starts and ends."""
-    return max(1, time_of(run) - least(lambda: time_of(start)))
+    """The time of a run beyond that of another one, which only starts and ends, and comes first: the
+    first over a new file makes its tables."""
+    started = least(lambda: time_of(start))
+    return max(1, time_of(run) - started)

@@ -17,6 +17,7 @@ from program import (
     exchanges,
     inputs,
     launcher,
+    measured,
     migrations,
     rules_files,
 )
@@ -37,6 +38,7 @@ MODULES = [
     migrations,
     examples,
     launcher,
+    measured,
 ]
 
 # How much of a value a line shows.

@@ -16,6 +16,8 @@ from program import (
     examples,
     exchanges,
     inputs,
+    launcher,
+    measured,
     migrations,
     rules_files,
 )
@@ -35,6 +37,8 @@ MODULES = [
     damage,
     migrations,
     examples,
+    launcher,
+    measured,
 ]
 
 # How much of a value a line shows.

@@ -1,0 +1,48 @@
+"""The program as it is measured: its batches over a database file or over a desk in memory."""
+
+from collections.abc import Iterable
+from pathlib import Path
+
+from figures.runs import NOTHING, Run, beyond, usage_of
+
+# Of a batch that has a refusal among its answers.
+REFUSED = 1
+
+
+class Desk:
+    """The program, and a folder for the files that it and the other programs read and write."""
+
+    def __init__(self, program: Path, folder: Path):
+        self.program = program
+        self.folder = folder
+        self.file = folder / "desk.db"
+
+    def text(self, name: str, pieces: Iterable[str]) -> Path:
+        """A file of that name with a text."""
+        path = self.folder / name
+        with open(path, "w", encoding="ascii") as file:
+            file.writelines(pieces)
+        return path
+
+    def batch(self, given: Path, is_in_file=False, statuses=(0,)) -> Run:
+        """The run that answers a batch over the file, or over a desk in memory."""
+        words = [self.program, *(["--db", self.file] if is_in_file else []), "batch"]
+        return Run(words, given, statuses)
+
+    def empty(self, is_in_file=False) -> Run:
+        """The run of no request: its start and end, with the opening and closing of the file."""
+        return self.batch(NOTHING, is_in_file)
+
+    def time(self, pieces: Iterable[str], is_in_file=False) -> int:
+        """The time of a batch in microseconds, without that of an empty one over the same file."""
+        given = self.text("batch", pieces)
+        return beyond(self.batch(given, is_in_file), self.empty(is_in_file))
+
+    def answer(self, pieces: Iterable[str]):
+        """Answers a batch over the file."""
+        usage_of(self.batch(self.text("batch", pieces), True))
+
+    def new_file(self):
+        """Removes the file, so that it is made anew."""
+        for path in (self.file, self.file.with_name(self.file.name + "-wal")):
+            path.unlink(missing_ok=True)

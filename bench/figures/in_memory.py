@@ -1,0 +1,92 @@
+"""Figures of batches over a desk in memory."""
+
+import subprocess
+from collections.abc import Iterator
+from pathlib import Path
+
+from figures import texts, tools
+from figures.desk import REFUSED, Desk
+from figures.figure import Figure
+from figures.runs import Run, beyond, kilobytes_of, least_of_each
+
+# How often the answer to a catalogue question is written.
+ANSWERS = 40
+
+
+def unknown_messages(desk: Desk) -> tuple[Run, Path]:
+    """The run that reads 500 messages of a series that nobody agreed, and refuses each once it has read all of
+    it; and the file that has them."""
+    given = desk.text("messages", texts.greatest_messages())
+    return desk.batch(given, statuses=(REFUSED,)), given
+
+
+def reading(desk: Desk) -> Iterator[Figure]:
+    """Reading messages, to the crate csv alone reading the same bytes into one reused record."""
+    run, given = unknown_messages(desk)
+    records = tools.records(desk.folder)
+    empty = desk.text("empty", [])
+    one, other = least_of_each(
+        lambda: beyond(run, desk.empty()),
+        lambda: beyond(Run([records, given]), Run([records, empty])),
+    )
+    yield Figure("messages read, to csv alone reading their records", one, other)
+
+
+def memory_of_reading(desk: Desk) -> Iterator[Figure]:
+    """The greatest memory of a run that reads messages, to their text."""
+    run, given = unknown_messages(desk)
+    bytes_taken = kilobytes_of(run) * 1_024
+    yield Figure("memory at the peak of reading, to the text", bytes_taken, given.stat().st_size, "bytes")
+
+
+def memory_of_batch(desk: Desk) -> Iterator[Figure]:
+    """The greatest memory of a batch that keeps what it reads, to its text."""
+    given = desk.text("batch", [texts.AGREEMENT, *texts.greatest_messages()])
+    bytes_taken = kilobytes_of(desk.batch(given)) * 1_024
+    yield Figure("memory at the peak of a batch, to the text", bytes_taken, given.stat().st_size, "bytes")
+
+
+def catalogue(questions: list[str]) -> list[str]:
+    """A batch that makes a catalogue of 5,000 records and asks these questions about it."""
+    return [texts.AGREEMENT, *texts.offers(range(1, 6), 1_000), *questions]
+
+
+def catalogue_answer(desk: Desk) -> Path:
+    """A file with the answer to a catalogue question."""
+    run = desk.batch(desk.text("batch", catalogue([texts.CATALOGUE_QUESTION])))
+    with open(run.given, "rb") as given:
+        done = subprocess.run(run.words, stdin=given, stdout=subprocess.PIPE, check=True)
+    answer = done.stdout[done.stdout.index(b"catalogue,") :]
+    return desk.text("answer", [answer.decode("ascii")])
+
+
+def writing(desk: Desk) -> Iterator[Figure]:
+    """Catalogue questions, whose answers are copied and written, to the crate csv writing the same records
+    that are ready."""
+    records, answer = tools.records(desk.folder), catalogue_answer(desk)
+    plain = desk.batch(desk.text("catalogue", catalogue([])))
+    asked = desk.batch(desk.text("batch", catalogue([texts.CATALOGUE_QUESTION] * ANSWERS)))
+    one, other = least_of_each(
+        lambda: beyond(asked, plain),
+        lambda: beyond(Run([records, answer, str(ANSWERS)]), Run([records, answer, "0"])),
+    )
+    yield Figure("catalogues answered, to csv alone writing their records", one, other)
+
+
+def questions(desk: Desk) -> Iterator[Figure]:
+    """100 price questions about a catalogue of 5,000 records, to one catalogue question."""
+    plain = desk.batch(desk.text("catalogue", catalogue([])))
+    prices = desk.batch(desk.text("prices", catalogue([texts.PRICE_QUESTION] * 100 * ANSWERS)))
+    catalogues = desk.batch(desk.text("catalogues", catalogue([texts.CATALOGUE_QUESTION] * ANSWERS)))
+    one, other = least_of_each(lambda: beyond(prices, plain), lambda: beyond(catalogues, plain))
+    yield Figure("100 price questions, to one catalogue question", one // ANSWERS, other // ANSWERS)
+
+
+def growth(desk: Desk) -> Iterator[Figure]:
+    """Small messages, to half as many, in number order and reversed."""
+    for is_reversed, order in ((False, "in order"), (True, "reversed")):
+        whole, half = least_of_each(
+            lambda: desk.time(texts.small_messages(4_000, is_reversed)),
+            lambda: desk.time(texts.small_messages(2_000, is_reversed)),
+        )
+        yield Figure(f"4,000 messages {order}, to 2,000", whole, half)

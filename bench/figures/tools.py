@@ -1,0 +1,48 @@
+"""The other programs: what they need, and how they are built into a folder."""
+
+import shutil
+import subprocess
+from pathlib import Path
+
+from figures.runs import BenchmarkFault
+
+SOURCES = Path(__file__).resolve().parent.parent / "tools"
+
+# Where Debian's packages put the sources of crates.
+CRATES = "/usr/share/cargo/registry"
+
+
+def need(command: str, package: str):
+    """BenchmarkFault where there is no such command, with the package of Debian that has it."""
+    if not shutil.which(command):
+        raise BenchmarkFault(f"there is no {command}, which Debian's package {package} has")
+
+
+def build(words: list, folder: Path, package: str):
+    done = subprocess.run(words, cwd=folder, stdout=subprocess.DEVNULL, stderr=subprocess.PIPE)
+    if done.returncode:
+        text = done.stderr.decode(errors="replace")
+        raise BenchmarkFault(f"{words[0]} failed, which needs Debian's package {package}: {text}")
+
+
+def records(folder: Path) -> Path:
+    """The program that reads and writes records by the crate `csv`, built by cargo without a network."""
+    need("cargo", "cargo")
+    made = folder / "records"
+    if not made.exists():
+        shutil.copytree(SOURCES / "records", made)
+        source = ["--config", 'source.crates-io.replace-with="debian"']
+        source += ["--config", f'source.debian.directory="{CRATES}"']
+        build(["cargo", "build", "--release", "--offline", *source], made, "librust-csv-dev")
+    return made / "target/release/records"
+
+
+def bare_rows(folder: Path) -> Path:
+    """The program that puts the rows of a desk's file into a new one by SQLite alone."""
+    need("cc", "gcc")
+    made = folder / "bare_rows"
+    if not made.exists():
+        source = SOURCES / "bare_rows.c"
+        words = ["cc", "-std=c11", "-O2", "-o", str(made), str(source), "-lsqlite3"]
+        build(words, folder, "libsqlite3-dev")
+    return made

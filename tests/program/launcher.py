@@ -1,0 +1,108 @@
+"""What `bin/onixdesk` says while it builds the program, with a toolchain that stands in for `rt`."""
+
+import os
+import re
+import subprocess
+from pathlib import Path
+
+from program.room import SECONDS, Group, Outcome, Ran
+
+LAUNCHER = Path(__file__).resolve().parent.parent.parent / "bin/onixdesk"
+
+# The program stands on three of the four crates.
+CRATES = "low: csv\nhigh: low toml\nbeside: low\nonixdesk: high low clap\n"
+
+# A toolchain that reads the sources for three seconds, proves each crate for as long, and makes a program
+# that prints its words. It is called in the folder of the program's crate.
+TOOLCHAIN = """\
+#!/bin/sh
+echo "rt $*" >>../../calls
+sleep 3
+for crate in low high onixdesk; do
+    echo "rt: chose --jobs 2 for $crate"
+    sleep 3
+done
+printf '#!/bin/sh\\necho "ran $*"\\n' >out/onixdesk
+chmod +x out/onixdesk
+"""
+
+QUICK = TOOLCHAIN.replace("sleep 3", ":")
+
+FAILING = """\
+#!/bin/sh
+echo "rt: chose --jobs 1 for low"
+echo "a goal is left"
+exit 1
+"""
+
+# How far the build is, the minutes so far, and the crate that it is at.
+PROGRESS = re.compile(r"onixdesk: (\d+) of at most (\d+) crates are done, (\d+) min so far(?:, now (\w+))?")
+
+
+def make_repository(room, toolchain: str):
+    """Makes a repository of four crates in the room, with the launcher and that toolchain."""
+    for folder in ("bin", "tools", "crates/onixdesk/src"):
+        room.path(folder).mkdir(parents=True)
+    for name, text in (("bin/onixdesk", LAUNCHER.read_text()), ("tools/rt", toolchain)):
+        room.path(name).write_text(text)
+        room.path(name).chmod(0o755)
+    room.path("crates.txt").write_text(CRATES)
+    room.path("crates/onixdesk/src/main.rt").write_text("fn main() {}\n")
+
+
+def launch(room, *words: str) -> Ran:
+    """Starts the launcher, which is to say each second how far it is."""
+    path = f"{room.path('tools')}{os.pathsep}{os.environ['PATH']}"
+    done = subprocess.run(
+        [room.path("bin/onixdesk"), *words],
+        env={**os.environ, "PATH": path, "ONIXDESK_TOLD_EVERY": "1"},
+        stdin=subprocess.DEVNULL,
+        capture_output=True,
+        timeout=SECONDS,
+    )
+    return Ran(done.returncode, done.stdout, done.stderr)
+
+
+def progress(errors: bytes) -> list[tuple]:
+    """How many crates were done of how many, the minutes and the crate, in each line that says so."""
+    found = map(PROGRESS.fullmatch, errors.decode().splitlines())
+    return [(int(it[1]), int(it[2]), int(it[3]), it[4]) for it in found if it]
+
+
+def a_first_build(room):
+    make_repository(room, TOOLCHAIN)
+    came = launch(room, "gaps", "north")
+    yield Outcome("launcher: the program", (came.status, came.output), (0, b"ran gaps north\n"))
+    lines = progress(came.errors)
+    wanted = [(0, 3, 0, None), (0, 3, 0, "low"), (1, 3, 0, "high"), (2, 3, 0, "onixdesk")]
+    yield Outcome("launcher: how far it is", list(dict.fromkeys(lines)), wanted)
+    for line in wanted:
+        yield Outcome(f"launcher: it goes on to say {line}", lines.count(line) > 1, True)
+
+
+def a_second_start(room):
+    """The program is built once, and again where a source has changed."""
+    make_repository(room, QUICK)
+    launch(room, "help")
+    quiet = Ran(0, b"ran help\n")
+    yield Outcome("launcher: started again", launch(room, "help"), quiet)
+    room.path("crates/onixdesk/src/main.rt").write_text("fn main() { }\n")
+    launch(room, "help")
+    calls = room.path("calls").read_text()
+    yield Outcome("launcher: its builds", calls, "rt run -- --help\n" * 2)
+
+
+def a_build_that_fails(room):
+    make_repository(room, FAILING)
+    came = launch(room, "help")
+    *_, goal, last = came.errors.decode().splitlines()
+    log = room.path("crates/onixdesk/out/onixdesk.log")
+    wanted = 3, b"", "a goal is left", f"onixdesk: the build failed; all of its output is in {log}"
+    yield Outcome("launcher: a build that fails", (came.status, came.output, goal, last), wanted)
+
+
+GROUPS = [
+    Group("a first build", a_first_build),
+    Group("a second start", a_second_start),
+    Group("a build that fails", a_build_that_fails),
+]

@@ -52,6 +52,8 @@ class Clauses:
                 on = False
             if on and not line.strip().startswith("//"):
                 kept.append(LABEL.sub("", line))
+            if line.endswith(" {"):
+                on = False
         return "\n".join(kept)
 
 

@@ -101,10 +101,10 @@ ArePricesWith minimums series rows got =
 abbrev pub AreMinimums : List ℕ → DeskRows → List MinimumRow → Type 0
 AreMinimums series rows minimums = IsPermutation (filter (is_minimum_in series) rows.minimums) minimums
 
--- whether a price of the series has one
+-- whether a price of the series has a minimum
 abbrev pub has_minimums : List ℕ → DeskRows → Bool
 has_minimums series rows = list_any (is_minimum_in series) rows.minimums
 
--- the same with the minimums of the series
+-- all prices of a series, in the order of reference, place of the offer and place of the price, as they are read, each with its minimum, or 1 where it has none
 abbrev pub ArePricesInOrder : List ℕ → DeskRows → List typed_price.PriceRow → Type 0
 ArePricesInOrder series rows got = (minimums : List MinimumRow) × AreMinimums series rows minimums × ArePricesWith minimums series rows got

@@ -29,11 +29,11 @@ has_record series reference rows = list_any (is_record series reference) rows.re
 abbrev pub has_minimums_of : List ℕ → List ℕ → DeskRows → Bool
 has_minimums_of series reference rows = list_any (is_minimum_of series reference) rows.minimums
 
--- the record is there
+-- the record is added, unless it is there
 abbrev pub with_record : RecordRow → DeskRows → DeskRows
 with_record row rows = if has_record row.series row.reference rows then rows else record rows { records = rows.records ++ row ∷ [] }
 
--- one more record
+-- the record is added
 abbrev pub with_new_record : RecordRow → DeskRows → DeskRows
 with_new_record row rows = record rows { records = rows.records ++ row ∷ [] }
 
@@ -56,7 +56,7 @@ with_price_and_minimum row rows = if nat_lt 1 row.price.minimum then with_minimu
 abbrev pub without_articles : List ℕ → List ℕ → DeskRows → DeskRows
 without_articles series reference rows = record rows { articles = filter (λ r. not (is_article_of series reference r)) rows.articles }
 
--- no offer of the record, and no price of them
+-- the offers of the record are taken away, with their prices and minimums
 abbrev pub without_offers : List ℕ → List ℕ → DeskRows → DeskRows
 without_offers series reference rows = record rows {
   offers = filter (λ r. not (is_offer_of series reference r)) rows.offers;
@@ -64,7 +64,7 @@ without_offers series reference rows = record rows {
   minimums = filter (λ r. not (is_minimum_of series reference r)) rows.minimums;
 }
 
--- not the record, nor anything below it
+-- the record is taken away, and all that is below it
 abbrev pub without_record : List ℕ → List ℕ → DeskRows → DeskRows
 without_record series reference rows =
     record (without_offers series reference (without_articles series reference rows)) { records = filter (λ r. not (is_record series reference r)) rows.records }

@@ -49,12 +49,12 @@ with_entry m reference (Some e) = map.insert m reference e
 abbrev pub after_product : ByReference → Product → ByReference
 after_product m p = with_entry m p.reference (entry_after (change_of p.notification) p (map.get m p.reference))
 
--- the catalogue after the products of a message, in order
+-- the catalogue after the products of a message, in order: notifications 01, 02 and 03 bring the whole record, 04 replaces its supplies, where the product has some, and leaves its identifiers, 05 deletes it, any other changes nothing; a record that is not there is neither updated nor deleted
 abbrev pub after : ByReference → List Product → ByReference
 after m [] = m
 after m (p ∷ rest) = after (after_product m p) rest
 
--- no product
+-- the counts of no product
 abbrev pub no_effect : Effect
 no_effect = record { replaced = 0; updated = 0; deleted = 0; unknown = 0; ignored = 0 }
 
@@ -63,6 +63,6 @@ abbrev pub effect_from : Effect → ByReference → List Product → Effect
 effect_from n m [] = n
 effect_from n m (p ∷ rest) = effect_from (counted (change_of p.notification) (map.get m p.reference) n) (after_product m p) rest
 
--- the counts of a message
+-- the counts of a message: each product is counted once, as replaced, updated, deleted, unknown or ignored
 abbrev pub effect_of : ByReference → List Product → Effect
 effect_of m products = effect_from no_effect m products

@@ -20,7 +20,7 @@ keyed_by bytes entries = map (λ e. (bytes e.0, e.1)) entries
 abbrev pub map_by : {K X : Type 0} → (K → List ℕ) → List (K × X) → FinMap (slice_cmp nat_cmp) X
 map_by bytes entries = from_entries (keyed_by bytes entries)
 
--- the same of entries with texts as keys
+-- the entries of an iterator by the bytes of their references
 abbrev pub by_bytes : {X : Type 0} → List (String Global × X) → List (List ℕ × X)
 by_bytes entries = keyed_by string_bytes entries
 

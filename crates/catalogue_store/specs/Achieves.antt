@@ -6,7 +6,7 @@ use Rattle.desk_tables.specs.Rows.{DeskRows, Holds}
 use Rattle.desk_tables.specs.Schema.{desk_schema}
 use Rattle.desk_tables.specs.Transactions.{HasOtherSchema}
 
--- With `Ok`, `Post` is said of the rows before, the answer and the rows after; and nothing is committed.
+-- what calls of one transaction come to, on a clean disk: with `Ok`, `Post` is said of the rows before, the answer and the rows after; nothing is committed, and a crash leaves what it could leave before
 pub record Achieves {A : Type 0} (Post : DeskRows → A → DeskRows → Type 0) (old new : State) (result : Result A StoreFault) : Type 0 where
   pub gives : HasCleanDisk new → (rows : DeskRows) → Holds old.now rows → IfOk result (λ a. (after : DeskRows) × Holds new.now after × Post rows a after)
   pub goes_on : HasCleanDisk new → old.now.schema ≡ desk_schema → OnOk result (new.now.schema ≡ desk_schema)

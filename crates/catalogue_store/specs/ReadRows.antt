@@ -39,6 +39,6 @@ HoldsSupplies row supplies rows b = (o : Option Entry) → HoldsEntry row.series
 abbrev pub AreReadAs : Bool → List typed.OfferRow → DeskRows → Type 0
 AreReadAs with_minimums details rows = with_minimums ≡ false → All (λ (d : typed.OfferRow). has_minimums_of d.series d.reference rows ≡ false) details
 
--- the same of one record
+-- where no minimums are asked for, the record has none
 abbrev pub IsReadAs : Bool → RecordRow → DeskRows → Type 0
 IsReadAs with_minimums row rows = with_minimums ≡ false → has_minimums_of row.series row.reference rows ≡ false

@@ -30,12 +30,12 @@ pub record IsStorableSupply (s : ProductSupply) : Type 0 where
   pub details : s.details ≢ []
   pub each : All IsStorableDetail s.details
 
--- at most 20,000 SupplyDetails
+-- supplies that rows can keep: each market and each territory of a price is one that a message writes, each supply has a SupplyDetail, a supplier's identifier has a type, a minimum is at least 1, and there are at most 20,000 SupplyDetails
 pub record AreStorable (supplies : List ProductSupply) : Type 0 where
   pub each : All IsStorableSupply supplies
   pub few : detail_count supplies ≤ 20000
 
--- it has an identifier, so that rows of identifiers tell that the record is there
+-- an entry that rows can keep: it has an identifier, which tells that the record is there, and supplies that they can keep
 abbrev pub IsStorable : Entry → Type 0
 IsStorable e = (e.ids ≢ []) × AreStorable e.supplies
 

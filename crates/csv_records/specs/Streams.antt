@@ -8,7 +8,7 @@ abbrev pub IsTold : Option (List ℕ) → List ℕ → Type 0
 IsTold None text = ⊤
 IsTold (Some known) text = known ≡ text
 
--- a fault of reading a text that may have so many bytes
+-- a fault of reading a text that may have so many bytes: too large only where it has more; of a failed read and of want of memory nothing is said
 abbrev pub InputFits : ℕ → List ℕ → InputFault → Type 0
 InputFits most text fault.Read = ⊤
 InputFits most text fault.TooLarge = most < length text

@@ -45,7 +45,7 @@ RunFits rules L rs written stands (Err (fault.Memory done)) =
 RunFits rules L rs written stands (Err (fault.Records f)) = ⊥
 RunFits rules L rs written stands (Err fault.Read) = ⊥
 
--- how a batch of that text after L can end
+-- how a batch of that text after L can end: all answers written, with how many are refusals; a storage fault behind so many answers; a failed write, where the answers to all but the last request that took effect are written, and a first part of that one; want of memory for an answer; or nothing asked and nothing written. Written: these bytes were written. Stands: the desk stands for that list
 abbrev pub BatchFits : List Rule → List Request → List ℕ → (List ℕ → Type 0) → (List Request → Type 0) → Result ℕ BatchFault → Type 0
 BatchFits rules L text written stands (Err (fault.Records f)) = RecordsFit text f × written [] × stands L
 BatchFits rules L text written stands (Err fault.Read) = written [] × stands L

@@ -118,7 +118,7 @@ alone None more = request.Malformed 1
 alone (Some r) [] = r
 alone (Some r) (next ∷ more) = request.Malformed 2
 
--- the request that a piece is: a delivery, or one record
+-- the request that a piece is: a delivery, or one record; else malformed at row 1, or at row 2 where another record follows. A question about prices is for one copy where it names no quantity
 abbrev pub request_of : List (List (List ℕ)) → Request
 request_of [] = request.Malformed 1
 request_of (row ∷ more) = if begins_message row then request.Deliver (row ∷ more) else alone (row_request row) more

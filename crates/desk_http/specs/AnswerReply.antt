@@ -38,7 +38,7 @@ waiver_status (waiver.BeforeFirst first) = 422
 waiver_status waiver.HasMessage = 409
 waiver_status waiver.Waived = 200
 
--- the status of an answer
+-- the status of an answer: 200; 202 held; 400 a bad range; 404 the unknown series of a question or a waiver; 409 what clashes with what stands; 422 what cannot be taken as it is
 abbrev pub status_of : Answer → ℕ
 status_of (answer.Agreement name first a) = agree_status a
 status_of (answer.Delivery a) = delivery_status a

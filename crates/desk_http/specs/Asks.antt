@@ -44,7 +44,7 @@ request_at h rest route.Catalogue = question_at route.Catalogue h.target
 unfoldable pub asks_of : RequestHead → List ℕ → Result Request Refusal
 asks_of h rest = route_asked h >>= request_at h rest
 
--- what an input asks for, by its bytes alone
+-- what an input asks for, by its bytes alone: the refusal of one without a head, or what its head and body ask for, the first step that refuses deciding
 pub data Asks : List ℕ → Result Request Refusal → Type 0 where
   without_head : {input : List ℕ} {why : Refusal} → IsRefused input why → Asks input (Err why)
   with_head : {input rest : List ℕ} {h : RequestHead} → HasHead input h rest → Asks input (asks_of h rest)

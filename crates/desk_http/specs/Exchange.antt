@@ -17,7 +17,7 @@ pub data Exchanges (rules : List Rule) (may_give : StoreFault → Type 0) (L : L
   answers : {r : Request} → Exchanges rules may_give L (Ok r) (reply_of_answer (answer_to rules L r)) (r ∷ L)
   faults : {r : Request} {f : StoreFault} → may_give f → Exchanges rules may_give L (Ok r) (reply_of_fault f) L
 
--- an input was replied to. Stands: the desk stands for that list. Written: this text was written
+-- an input was replied to: to what it asks for, as the desk makes it (`Exchanges`). Stands: the desk stands for that list. Written: this text was written
 pub record Served (rules : List Rule) (may_give : StoreFault → Type 0) (L : List Request) (input : List ℕ)
     (stands : List Request → Type 0) (written : List ℕ → Type 0) (status : ℕ) : Type 0 where
   pub wanted : Result Request Refusal

@@ -40,7 +40,7 @@ AskFits rules may_give L wanted stands (Err fault.Read) = ⊥
 AskFits rules may_give L wanted stands (Err (fault.Write status)) = ⊥
 AskFits rules may_give L wanted stands (Err (fault.Memory taken)) = IsUnreplied L wanted stands taken
 
--- what each fault says
+-- what is said after a failed read
 abbrev pub OnRead : {T : Type 0} → Result T HttpFault → Type 0 → Type 0
 OnRead (Ok x) P = ⊤
 OnRead (Err fault.Read) P = P

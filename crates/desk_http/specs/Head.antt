@@ -51,7 +51,7 @@ refusal_of input =
     then BadHead
     else refusal_of_full (skip_line_ends (take head_limit input))
 
--- the input has no head, and this is why
+-- the input has no head, and this is why: with fewer than 16,384 bytes, a bad one; else by the first 16,384, without an end of line a target too long, with no empty line a head too large, else a bad one
 pub record IsRefused (input : List ℕ) (why : Refusal) : Type 0 where
   pub none : HasNoHead input
   pub why_is : refusal_of input ≡ why

@@ -129,7 +129,7 @@ gaps g = object
     (member (codes "series") (string g.series)
     no_members)))))))
 
--- an answer
+-- the JSON of an answer: an amount is a text with three decimals, a day a text YYYYMMDD, what is absent null
 abbrev pub answer_json : Answer → Data
 answer_json (answer.Agreement name first a) = agreement name first a
 answer_json (answer.Delivery a) = delivered a

@@ -45,7 +45,7 @@ place_in_order kept name = position_or_len (λ s. is_lt (slice_cmp nat_cmp name 
 abbrev pub AreInOrder : List Series → Type 0
 AreInOrder kept = T (is_sorted (slice_cmp nat_cmp) (with_names (kept_agreements kept)))
 
--- the series that are kept are what those requests come to
+-- the series that are kept are what those requests come to: the same agreement under each name, and the same at each number
 pub record StandsFor (kept : List Series) (L : List Request) : Type 0 where
   pub agreed : (name : List ℕ) → named (kept_agreements kept) name ≡ named (agreements_of L) name
   pub distinct : AreDistinct (kept_agreements kept)

@@ -49,7 +49,7 @@ module _ {Store : Type 0} (g : Ghosts Store) (rules : List Rule) where
   IsEvent r answer_of (Ok x) old new = Answers (storage g rules) r (answer_of x) old new
   IsEvent r answer_of (Err fault) old new = Faults (storage g rules) r old new
 
-  -- what `agree`, `deliver` and `waive` promise
+  -- what `agree`, `deliver` and `waive` promise makes each answer and each fault an event
   pub record RequestsAreEvents : Type 0 where
     pub agree : (a : Agreement) (result : Result AgreeAnswer StoreFault) (old new : Held Store)
         → IsAsked (Agree a) (λ L. agree_answer L a) (state g old) (state g new) result → IsEvent (Agree a) (answer.Agreement a.name a.first) result old new
@@ -62,7 +62,7 @@ module _ {Store : Type 0} (g : Ghosts Store) (rules : List Rule) where
   abbrev pub IsQuestionEvent : {X : Type 0} → Request → (X → Answer) → Result X StoreFault → Held Store → Held Store → Type 0
   IsQuestionEvent r answer_of result old new = IsEvent r answer_of result old new × Faults (storage g rules) r old new
 
-  -- what `offers_of`, `gaps` and `catalogue` promise
+  -- what `offers_of`, `gaps` and `catalogue` promise makes each answer and each fault an event
   pub record QuestionsAreEvents : Type 0 where
     pub price : (isbn : List ℕ) (q : PriceQuery) (result : Result (List Offer) StoreFault) (old new : Held Store)
         → IsQuestioned (λ L. offers_after L isbn) (state g old) (state g new) result → IsQuestionEvent (AskPrice isbn q) (λ offers. answer.Price isbn (prices_of q offers)) result old new
@@ -75,12 +75,12 @@ module _ {Store : Type 0} (g : Ghosts Store) (rules : List Rule) where
     pub catalogue : (series : List ℕ) (result : Result (Option ByReference) StoreFault) (old new : Held Store)
         → IsQuestioned (λ L. catalogue_answer L series) (state g old) (state g new) result → IsQuestionEvent (AskCatalogue series) (catalogue_or_unknown series) result old new
 
-  -- the desk was not asked: because the answer is the same after every list, or because of a fault before that
+  -- a request for which the desk was not asked is an event: because the answer is the same after every list, or because of a fault before that
   pub record UnaskedAreEvents : Type 0 where
     pub answered : (r : Request) (a : Answer) (desk : Held Store) → is_question r ≡ true → ((L : List Request) → a ≡ answer_to rules L r) → Answers (storage g rules) r a desk desk
     pub faulted : (r : Request) (desk : Held Store) → Faults (storage g rules) r desk desk
 
-  -- what the opening of a desk promises, over a connection that was just opened, whose trees are what was found
+  -- what the opening of a desk promises makes it an event, over a connection that was just opened, whose trees are what was found
   pub record OpeningsAreEvents : Type 0 where
     pub ok : (opened new : Held Store) → IsJustOpened (state g opened) → IsReady (state g opened) (state g new) (Ok tt) → Opens (storage g rules) (state g opened).now.trees new
     -- so do the clauses on what two files hold, where these are files of the same requests as what was found
@@ -93,7 +93,7 @@ module _ {Store : Type 0} (g : Ghosts Store) (rules : List Rule) where
         → (left : Trees) → (state g last).may_leave left → KeepsFound (storage g rules) (state g opened).now.trees left
 
 module _ {D : Type 0} (g : disk.Ghosts D) (rules : List Rule) where
-  -- what the closing of files promises
+  -- what the closing of files promises makes it an event
   pub record ClosingsAreEvents : Type 0 where
     -- where the next opening is of these files
     pub ok : (old opened : Held (FileStore D g)) (files : Files D) → (HasCleanDisk (file_state opened) → IsOpened opened) → (HasCleanDisk (file_state opened) → Finds files opened)
@@ -102,7 +102,7 @@ module _ {D : Type 0} (g : disk.Ghosts D) (rules : List Rule) where
     -- a closing that failed, or that a stop came into, is a stop: it leaves what a stop before it may leave
     pub stop : (old : Held (FileStore D g)) (last : FileStore D g) → IsClosed old last → (left : Trees) → recovers last left → Steps (storage over_files rules) (Open old) Stop (Closed left)
 
--- What a stop leaves of the files: a desk that is opened on it finds one of the databases that the stop may leave. `IsConnected` is what a connection keeps true
+-- what a stop leaves of the files makes it an event: a connection that is opened on it finds one of the databases that the stop may leave
 abbrev pub StopsAreEvents : {D E : Type 0} → disk.Ghosts D → disk.Ghosts E → List Rule → Type 0
 StopsAreEvents {D = D} {E = E} g next rules =
     (old : Held (FileStore D g)) (opened : Held (FileStore E next)) (image : Image)

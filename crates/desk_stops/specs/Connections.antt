@@ -27,7 +27,7 @@ is_question _ = true
 abbrev pub HaveNoTable : Trees → Type 0
 HaveNoTable trees = (db : Database) × (db.trees ≡ trees) × HasNoRows schema_0 db
 
--- such a database holds the rows of no list of requests, so that it can be told from one that does
+-- a database with no table holds the rows of no list of requests, so that it can be told from one that does
 abbrev pub EmptyHoldsNoRows : Type 0
 EmptyHoldsNoRows = (trees : Trees) (L : List Request) → HaveNoTable trees → AreRowsOf trees L → ⊥
 

@@ -30,7 +30,7 @@ module _ {R A D Desk : Type 0} (k : Storage R A D Desk) where
   Explains L0 (Stop ∷ h) M = WithDoubt (Explains L0 h) h M
   Explains L0 (_ ∷ h) M = Explains L0 h M
 
-  -- a desk that was just opened, after any run, stands for an effective list, and a stop leaves the rows of that list and nothing else
+  -- a desk that was just opened, after any run, stands for an effective list, and a stop leaves the rows of that list and nothing else. An effective list (`IsEffective`) has the first list and then the answered requests, in order, and at each stop perhaps one more: no question, faulted or stopped inside since the last opening, with no answered request since then that changed the desk
   abbrev pub WhatIsOpenedIsEffective : Type 0
   WhatIsOpenedIsEffective =
       (L0 : List R) (found : D) (h : List (Event R A)) (desk : Desk) → IsFoundFor k found L0 → Runs k found (Opening ∷ h) (Open desk)
@@ -80,7 +80,7 @@ AnsweredAreWhole {R = R} {A = A} k = (L0 : List R) (h : List (Event R A)) (M : L
 abbrev pub answered_after_a_fault : {R A : Type 0} → R → R → A → List (Event R A)
 answered_after_a_fault r q a = Stop ∷ Answered q a ∷ Faulted r ∷ Opening ∷ []
 
--- after these events r stands behind q or is out where q changed nothing, and it is out where q changed something
+-- of two requests after an opening, the first faulted and no question, the second answered: after a stop the second stands, alone where it changed something, and else perhaps with the first behind it
 pub record DoubtEndsWithAChange {R A D Desk : Type 0} (k : Storage R A D Desk) : Type 0 where
   pub stays : (L : List R) (r q : R) (a : A) → k.is_question r ≡ false → k.changes L q ≡ false
       → (M : List R) → IsEffective k L (answered_after_a_fault r q a) M ↔ ((M ≡ q ∷ L) ⊎ (M ≡ r ∷ q ∷ L))

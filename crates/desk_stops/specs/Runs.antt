@@ -33,13 +33,13 @@ module _ {R A D Desk : Type 0} (k : Storage R A D Desk) where
   abbrev pub LeavesOnly : Desk → List R → Type 0
   LeavesOnly desk L = (d : D) → k.MayLeave desk d → k.HoldsRows d L
 
-  -- the desk answered the request
+  -- the desk answered the request: the answer is that after each list for which it stood, it stands for the list with the request, and a stop may leave at most that more; where it changed the desk, that alone
   pub record Answers (r : R) (a : A) (old new : Desk) : Type 0 where
     pub ok : k.IsSound new → (L : List R) → k.StandsFor old L → (a ≡ k.answer_to L r) × k.StandsFor new (r ∷ L)
     pub crash : k.IsSound new → AddsAtMost r old new
     pub alone : k.IsSound new → (L : List R) → k.StandsFor old L → k.changes L r ≡ true → LeavesOnly new (r ∷ L)
 
-  -- the desk answered the request with a storage fault
+  -- the desk answered the request with a storage fault: it stands for the same lists, and a stop may leave at most the request more
   pub record Faults (r : R) (old new : Desk) : Type 0 where
     pub err : k.IsSound new → (L : List R) → k.StandsFor old L → k.StandsFor new L
     pub crash : k.IsSound new → AddsAtMost r old new
@@ -48,7 +48,7 @@ module _ {R A D Desk : Type 0} (k : Storage R A D Desk) where
   abbrev pub IsFoundFor : D → List R → Type 0
   IsFoundFor d L = k.HoldsRows d L ⊎ (k.IsEmpty d × (L ≡ []))
 
-  -- a desk was opened on that database
+  -- a desk was opened on that database: it stands for the requests of what was found, and a stop leaves their rows
   pub record Opens (found : D) (new : Desk) : Type 0 where
     pub stands : k.IsSound new → (L : List R) → IsFoundFor found L → k.StandsFor new L
     pub alone : k.IsSound new → (L : List R) → IsFoundFor found L → LeavesOnly new L

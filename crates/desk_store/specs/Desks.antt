@@ -19,7 +19,7 @@ use Rattle.desk_store.specs.Stands.{StandsFor}
 abbrev pub HoldsRequests : Database → List Request → Type 0
 HoldsRequests db L = (rows : DeskRows) × Holds db rows × StandsFor rows L
 
--- the trees are those of such a database
+-- the trees are those of a database that holds what those requests come to
 abbrev pub AreRowsOf : Trees → List Request → Type 0
 AreRowsOf trees L = (db : Database) × (db.trees ≡ trees) × HoldsRequests db L
 
@@ -32,12 +32,12 @@ abbrev pub puts_something : List Request → Option Placement → Bool
 puts_something L None = false
 puts_something L (Some p) = is_none (first_at L p.series p.number)
 
--- the request changes what the desk keeps after L
+-- the request changes what the desk keeps after L: an agreement that does not clash, or something put where nothing stands
 abbrev pub changes : List Request → Request → Bool
 changes L (Agree a) = not (clashes (agreements_of L) a)
 changes L r = puts_something L (admitted (agreements_of L) r)
 
--- The request r was asked, with that answer after each list: nothing but it was done, and all of it or nothing.
+-- The request r was asked, with that answer after each list: nothing but it was done, and all of it or nothing. A crash leaves what it could leave before or the list with the request; once it is answered and changed something, that alone.
 pub record IsAsked {A : Type 0} (r : Request) (answer : List Request → A) (old new : State) (result : Result A StoreFault) : Type 0 where
   pub premise : HasCleanDisk new → HasCleanDisk old
   pub ok : HasCleanDisk new → (L : List Request) → KeepsRequests old L → IfOk result (λ a. (a ≡ answer L) × KeepsRequests new (r ∷ L))
@@ -51,7 +51,7 @@ pub record IsAsked {A : Type 0} (r : Request) (answer : List Request → A) (old
 abbrev pub Answers : {A : Type 0} → Request → (List Request → A) → DeskRows → A → DeskRows → Type 0
 Answers r answer rows a now = (L : List Request) → StandsFor rows L → StandsFor now (r ∷ L) × (a ≡ answer L)
 
--- A question was asked, with that answer after each list: it changes nothing.
+-- A question was asked, with that answer after each list: it changes nothing, nor what a crash may leave.
 pub record IsQuestioned {A : Type 0} (answer : List Request → A) (old new : State) (result : Result A StoreFault) : Type 0 where
   pub premise : HasCleanDisk new → HasCleanDisk old
   pub ok : HasCleanDisk new → (L : List Request) → KeepsRequests old L → IfOk result (λ a. a ≡ answer L)

@@ -14,7 +14,7 @@ abbrev pub IsOfFormOne : Request → Type 0
 IsOfFormOne (Deliver records) = (h : Header) (c : List Product) (m : IsMessage records h c) → m.form ≡ One
 IsOfFormOne _ = ⊤
 
--- so is each message that they deliver
+-- each message that the requests deliver is of form 1
 abbrev pub AreOfFormOne : List Request → Type 0
 AreOfFormOne L = AllByRecursion IsOfFormOne L
 

@@ -30,7 +30,7 @@ abbrev pub IsAnswerFor : DeskRows → MigrateAnswer → Type 0
 IsAnswerFor rows Migrated = version_in rows ≡ Some 1
 IsAnswerFor rows AlreadyTwo = version_in rows ≡ Some 2
 
--- The answer is true of what was found: a desk's tables with certain rows, or nothing.
+-- the answer is true of what was found: that tables are of version 2 already only where they are, that they were migrated only where they were of version 1 or there were none
 pub record IsTrueAnswer (Has : DeskRows → Type 0) (IsEmpty : Type 0) (answer : MigrateAnswer) : Type 0 where
   pub version : (rows : DeskRows) → Has rows → IsAnswerFor rows answer
   pub made : IsEmpty → answer ≡ Migrated

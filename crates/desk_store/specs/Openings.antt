@@ -86,7 +86,7 @@ StaysShown old new db = ShowsOnly db new × ((d : Trees) → new.may_leave d →
 abbrev pub LeavesOne : (Trees → Type 0) → Database → Type 0
 LeavesOne left db = (d : Trees) → left d → d ≡ db.trees
 
--- A connection that was just opened was made ready for a desk: what was found stands for the same requests.
+-- a connection that was just opened was made ready for a desk: what was found stands for the same requests, and tables are made where there were none; a fault changes nothing and is true of what was found
 pub record IsReady (old new : State) (result : Result ⊤ OpenFault) : Type 0 where
   pub premise : HasCleanDisk new → HasCleanDisk old
   pub ok : HasCleanDisk new → (db : Database) → ShowsOnly db old → (L : List Request) → IsFoundFor db L → OnOk result (KeepsRequests new L)
@@ -121,6 +121,6 @@ left_in {g} (leftover.Files files) d = ⊤
 left_in {g} (leftover.Unopened files) d = ⊤
 left_in {g} (leftover.Store it) d = (over_files {g = g}).recovers it d
 
--- a fault of opening two files is true of what they held. Left: what a crash may then leave of them
+-- a fault of opening two files is true of what they held, and tables of another version are left as they were. Left: what a crash may then leave of them
 abbrev pub TellsFiles : (DeskRows → OpenFault → Type 0) → Image → (Trees → Type 0) → OpenFault → Type 0
 TellsFiles IsTrueOf image left fault = TellsFound IsTrueOf (λ db. ∥ HoldsDatabase image db.trees ∥₁) (LeavesOne left) (AreEmptyFiles image) fault

@@ -54,7 +54,7 @@ abbrev pub series_of : Option Agreement → DeskRows → Option SeriesRow
 series_of None rows = None
 series_of (Some a) rows = series_at a.name rows
 
--- The tables are what those requests come to. With the keys of the tables this says which rows there are, whatever their order.
+-- the tables are what those requests come to: the agreements, and of each series what stands up to its first gap applied, with texts and counts, all else held, and the catalogue of what is applied. With the keys of the tables this says which rows there are, whatever their order
 pub record StandsFor (rows : DeskRows) (L : List Request) : Type 0 where
   pub version : rows.meta ≡ record { item = codes "version"; amount = 2 } ∷ []
   pub by_name : (name : List ℕ) → agreement_at name rows ≡ named (agreements_of L) name

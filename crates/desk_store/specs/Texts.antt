@@ -6,12 +6,12 @@ use Rattle.onix_message.specs.ContentsText.{IsContents, contents_text}
 use Rattle.series_rules.specs.declared.requests.Standing.{Standing}
 use Rattle.series_rules.specs.declared.requests.Standing.TheVariants.{Message, Waived}
 
--- its text: that of the contents of a message, or a word that is the text of no contents
+-- the text of what stands at a number: that of the contents of a message, or for a waiver a word that is the text of no contents
 abbrev pub standing_text : Standing → List ℕ
 standing_text (Message c) = contents_text c
 standing_text Waived = codes "waived"
 
--- it can be read back from its text
+-- what stands can be read back from its text
 abbrev pub IsReadable : Standing → Type 0
 IsReadable (Message c) = IsContents c
 IsReadable Waived = ⊤
@@ -25,6 +25,6 @@ pub record CanBeKept (f : ℕ → Option Standing) : Type 0 where
   pub readable : (n : ℕ) → IfSome (f n) IsReadable
   pub small : (n : ℕ) → 1000000000 ≤ n → f n ≡ None
 
--- what can be read back is told by its text
+-- what stands, where it can be read back, is told by its text
 abbrev pub TextsTellApart : Type 0
 TextsTellApart = (g h : Standing) → IsReadable g → IsReadable h → standing_text g ≡ standing_text h → g ≡ h

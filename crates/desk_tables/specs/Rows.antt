@@ -78,7 +78,7 @@ abbrev pub IsAddressee : Option Party → Type 0
 IsAddressee None = ⊤
 IsAddressee (Some party) = party.id_type ≢ []
 
--- the database is the desk's, with these rows
+-- the database is the desk's, with these rows: it has the schema, obeys it, so that each key stands once and each row that another refers to is there, and each table has its list
 pub record Holds (db : Database) (rows : DeskRows) : Type 0 where
   pub schema : db.schema ≡ desk_schema
   -- each rule of the schema holds: each key stands once, and each row that one refers to is there
@@ -122,7 +122,7 @@ unchanged rows = rows
 abbrev pub no_rows : DeskRows
 no_rows = record { meta = []; series = []; held = []; applied = []; records = []; articles = []; offers = []; prices = []; minimums = [] }
 
--- the one row of `meta` is the version of the schema
+-- the rows of new tables: the version of the schema, and no other row
 abbrev pub first_rows : DeskRows
 first_rows = record no_rows { meta = record { item = codes "version"; amount = 2 } ∷ [] }
 

@@ -158,11 +158,11 @@ article_index = record { name = codes "article_by_value"; tree = 0; table = 11; 
 abbrev pub article_index_definition : List ℕ
 article_index_definition = codes "CREATE INDEX article_by_value ON article (id_value, id_type)"
 
--- version 1, without the minimums of prices and that index
+-- version 1: as version 2, without the minimums of prices and the index on articles
 abbrev pub first_schema : Schema
 first_schema = schema_8
 
--- version 2
+-- version 2: nine tables, meta, series, held, applied, record, article, offer, price and price_minimum, with their keys, and an index on articles by value
 abbrev pub desk_schema : Schema
 desk_schema = indexed schema_9 (article_table 11) article_index
 

@@ -48,6 +48,7 @@ pub record IsUndone (old new : State) : Type 0 where
 abbrev pub LeavesOnly : State → Type 0
 LeavesOnly s = (db : Trees) → s.may_leave db → db ≡ s.committed.trees
 
+-- a transaction begins: it shows the same, and none was open before; a fault keeps the last commit; a crash leaves what it could leave before
 pub record BeginsWork {A E : Type 0} (old new : State) (result : Result A E) : Type 0 where
   pub begun : HasCleanDisk new → OnOk result (Shows old new old.now old.committed true × (old.in_transaction ≡ false))
   pub refused : HasCleanDisk new → OnErr result (KeepsCommit old new)
@@ -74,6 +75,7 @@ pub record IsCommitted (old new : State) : Type 0 where
   pub now : new.now ≡ old.now
   pub committed : new.committed ≡ old.now
 
+-- a transaction ends, which is refused where it was spent: the last commit is what it saw, or after a fault what it was before; a crash leaves what it could leave before or, where it was not spent, what it saw
 pub record EndsWork {A E : Type 0} (old new : State) (spent : Bool) (result : Result A E) : Type 0 where
   pub committed : HasCleanDisk new → OnOk result (IsCommitted old new)
   pub unspent : OnOk result (spent ≡ false)
@@ -84,7 +86,7 @@ pub record EndsWork {A E : Type 0} (old new : State) (spent : Bool) (result : Re
 abbrev pub HasOtherSchema : State → Trees → Type 0
 HasOtherSchema s db = ¬ (s.now.schema ≡ desk_schema)
 
--- What a call does to the rows: `change` is the rows after those before, and `Answer` is said of the rows before and the answer.
+-- What a call does to the rows, on a clean disk: with `Ok` the answer is true of the rows before (`Answer`), and `change` is the rows after those. After a fault the transaction is spent, and a spent one refuses each call. Over the desk's schema nothing is committed, and a crash leaves what it could leave before.
 pub record Works {A : Type 0} (Answer : DeskRows → A → Type 0) (change : DeskRows → DeskRows) (old new : State) (was now : Bool) (result : Result A StoreFault) : Type 0 where
   -- after a fault the transaction is spent, and a spent one refuses each call
   pub spent : now ≡ is_err result
@@ -108,7 +110,7 @@ pub record IsEmptied (schema : Schema) (db : Database) : Type 0 where
 abbrev pub HasNoRows : Schema → Database → Type 0
 HasNoRows schema db = IsEmptied schema db × IsDatabase db
 
--- A call that makes tables: it takes a database that was `Before` to one that is `After`.
+-- A call that makes or changes tables: with `Ok` it takes a database that was `Before` to one that is `After`; else as `Works`.
 pub record Makes {A : Type 0} (Before After : Database → Type 0) (old new : State) (was now : Bool) (result : Result A StoreFault) : Type 0 where
   pub spent : now ≡ is_err result
   pub refused : IsTrue was → result ≡ Err Unusable

@@ -85,6 +85,6 @@ abbrev pub first_field : List (List (List ℕ)) → List ℕ
 first_field ((field ∷ fields) ∷ rows) = field
 first_field _ = []
 
--- an answer is a refusal where its first field says so
+-- an answer is a refusal where its first field is `refused`
 unfoldable pub is_refused : Answer → Bool
 is_refused a = bytes_eq (first_field (answer_records a)) (codes "refused")

@@ -6,7 +6,7 @@ use Rattle.onix_rows.specs.Product.{content_records}
 use Rattle.onix_rows.specs.declared.parts.Header.{Header}
 use Rattle.onix_rows.specs.declared.parts.Product.{Product}
 
--- the text of the records of contents
+-- the text of the records of contents: a Price has its minimum as a tenth field only where that is above 1
 unfoldable pub contents_text : List Product → List ℕ
 contents_text c = records_text (content_records c)
 
@@ -22,6 +22,6 @@ end_record count = codes "EndMessage" ∷ decimal count ∷ []
 unfoldable pub framed : List (List (List ℕ)) → List (List (List ℕ))
 framed records = (plain_opening ∷ records) ++ end_record (length (plain_opening ∷ records)) ∷ []
 
--- a value is contents where its records, so framed, are a message with these contents
+-- a value is contents where its records, between a Message record of form 2 and the right end, are a message with these contents
 abbrev pub IsContents : List Product → Type 0
 IsContents c = (h : Header) × IsMessage (framed (content_records c)) h c

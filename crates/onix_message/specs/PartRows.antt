@@ -31,6 +31,6 @@ rows_after products = content_rows products ++ row.EndMessage (1 + length (conte
 abbrev pub HasDetails : ProductSupply → Type 0
 HasDetails s = s.details ≢ []
 
--- so has each supply of a product
+-- each supply of a product has a SupplyDetail
 abbrev pub SuppliesHaveDetails : Product → Type 0
 SuppliesHaveDetails p = AllByRecursion HasDetails p.supplies

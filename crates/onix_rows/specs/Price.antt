@@ -36,7 +36,7 @@ price_from h minimum price_type amount currency included regions excluded from u
   u ← optional day_of until
   Some (record { price_type = t; amount = a; currency = c; territory = z; minimum = minimum; from = f; until = u })
 
--- a price, in a message that begins so
+-- what the fields of a Price record say, with the defaults of the header that the message begins with
 unfoldable pub price_of : Opening → List (List ℕ) → Option Price
 price_of o (price_type ∷ amount ∷ currency ∷ included ∷ regions ∷ excluded ∷ from ∷ until ∷ more) = do
   m ← minimum_of o.form more

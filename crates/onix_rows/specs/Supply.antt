@@ -7,7 +7,7 @@ use Rattle.onix_rows.specs.Fields.{territory_fields}
 use Rattle.onix_rows.specs.Detail.{detail_records}
 use Rattle.onix_rows.specs.declared.parts.ProductSupply.{ProductSupply}
 
--- a market
+-- the market that the fields of a ProductSupply record say
 abbrev pub supply_of : List (List ℕ) → Option ProductSupply
 supply_of (included ∷ regions ∷ excluded ∷ []) = do
   t ← territory_of included regions excluded

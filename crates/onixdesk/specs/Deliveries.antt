@@ -67,7 +67,7 @@ pub record AreStopped (rules : List Rule) (L : List Request) (count : ℕ) (text
   pub answers_are : written (output rules L (deliveries texts) ++ part)
   pub stands_after : stands (followed_by (followed_by L (deliveries texts)) (deliveries last))
 
--- how the deliveries of so many files after L can end
+-- how the deliveries of so many files after L can end: all delivered and answered, with 0 or 1; or stopped by a fault, with 3, the answers before it written and of the last perhaps a part
 abbrev pub DeliveriesEnd : List Rule → List Request → ℕ → List (List ℕ) → List (List ℕ) → (List ℕ → Type 0) → (List Request → Type 0) → ℕ → Type 0
 DeliveriesEnd rules L count texts last written stands status =
     (AreDelivered rules L count texts written stands status × (last ≡ [])) ⊎ AreStopped rules L count texts last written stands status

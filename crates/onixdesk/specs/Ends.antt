@@ -40,8 +40,7 @@ pub record IsStopped (rules : List Rule) (L : List Request) (text : List ℕ)
 abbrev pub IsUnread : List Request → (List ℕ → Type 0) → (List Request → Type 0) → ℕ → Type 0
 IsUnread L written stands status = (status ≡ 3) × written [] × stands L
 
--- how a batch of that text after L can end with this status. Written: these bytes were written. Stands: the desk
--- stands for that list then
+-- how a batch of that text after L can end with this status: all answered, with 0 or 1; a fault behind some requests, with 3, their answers written but for a part of the last; or nothing asked and nothing written, with 3. Written: these bytes were written. Stands: the desk stands for that list then
 abbrev pub Ends : List Rule → List Request → List ℕ → (List ℕ → Type 0) → (List Request → Type 0) → ℕ → Type 0
 Ends rules L text written stands status =
     IsAnswered rules L text written stands status ⊎ (IsStopped rules L text written stands status ⊎ IsUnread L written stands status)

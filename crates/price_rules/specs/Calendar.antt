@@ -32,6 +32,6 @@ Covers HasAmount first end (s ∷ rest) =
     × Differs s rest
     × Covers HasAmount (s.last +ℤ pos 1) end rest
 
--- the calendar of the offer for the question
+-- the calendar of the offer for the question: spans that cover the range in order, each with the current price of all its days, neighbours of different amounts
 abbrev pub IsCalendar : Offer → CalendarQuery → List Span → Type 0
 IsCalendar offer q spans = Covers (λ day. IsCurrent offer (on_day q day)) q.from (q.to +ℤ pos 1) spans

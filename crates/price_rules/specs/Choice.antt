@@ -69,7 +69,7 @@ IsLeast Among None = (c : Pair) → Among c → ⊥
 IsLeast Among (Some choice) =
     (offer : Offer) × Among (choice, offer) × ((c : Pair) → Among c → Precedes c (choice, offer) → ⊥)
 
--- the choice is a candidate that no candidate precedes; none where there is no candidate
+-- the choice is a candidate that no candidate precedes; none where there is no candidate. A candidate (`IsCandidate`) is a rule and an offer that it admits by series and availability, with a current price that is not above the greatest amount of the rule; one precedes another (`Precedes`) by rule, amount, series, reference, place and index
 abbrev pub IsChoice : List Rule → List Offer → PriceQuery → Option Choice → Type 0
 IsChoice rules offers q choice = IsLeast (IsCandidate rules offers q) choice
 

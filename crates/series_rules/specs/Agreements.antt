@@ -27,7 +27,7 @@ named agreements name = find (has_name name) agreements
 abbrev pub between : List Agreement → Party → Option Party → Option Agreement
 between agreements sender addressee = find (has_parties sender addressee) agreements
 
--- some agreement has its name, or has its sender and addressee
+-- some agreement has the name of this one, or has its sender and addressee
 abbrev pub clashes : List Agreement → Agreement → Bool
 clashes agreements a = is_some (named agreements a.name) || is_some (between agreements a.sender a.addressee)
 
@@ -35,7 +35,7 @@ clashes agreements a = is_some (named agreements a.name) || is_some (between agr
 abbrev pub with_agreement : List Agreement → Agreement → List Agreement
 with_agreement agreements a = if clashes agreements a then agreements else agreements ++ a ∷ []
 
--- the agreements that stand after a list of requests, the earliest first
+-- the agreements that stand after a list of requests, the earliest first: each that was asked for, unless it clashes with one before it
 abbrev pub agreements_of : List Request → List Agreement
 agreements_of [] = []
 agreements_of (Agree a ∷ L) = with_agreement (agreements_of L) a
@@ -46,7 +46,7 @@ pub record AreDistinct (agreements : List Agreement) : Type 0 where
   pub by_name : (name : List ℕ) (a : Agreement) → named agreements name ≡ Some a → between agreements a.sender a.addressee ≡ Some a
   pub by_parties : (sender : Party) (addressee : Option Party) (a : Agreement) → between agreements sender addressee ≡ Some a → named agreements a.name ≡ Some a
 
--- no two have a name in common, nor a sender and addressee
+-- no two of the agreements have a name in common, nor a sender and addressee
 pub record NoTwoClash (agreements : List Agreement) : Type 0 where
   pub by_name : AllPairs (λ a b. a.name ≢ b.name) agreements
   pub by_parties : AllPairs (λ a b. a.sender ≡ b.sender → a.addressee ≢ b.addressee) agreements

@@ -37,7 +37,7 @@ agree_answer_by a (Some b) other = if same_agreement b a then Agreed else NameTa
 agree_answer_by a None (Some b) = SeriesTaken b.name
 agree_answer_by a None None = Agreed
 
--- what an agreement is answered after L
+-- what an agreement is answered after L: agreed, where it stands; the name is taken, the series is taken by another; or agreed
 abbrev pub agree_answer : List Request → Agreement → AgreeAnswer
 agree_answer L a = agree_answer_by a (named (agreements_of L) a.name) (between (agreements_of L) a.sender a.addressee)
 
@@ -69,7 +69,7 @@ abbrev pub delivery_answer_by : List Request → List Agreement → ℕ → Opti
 delivery_answer_by L agreements row None = delivery.Malformed row
 delivery_answer_by L agreements row (Some m) = message_answer_by L agreements m.0 m.1 m.0.number
 
--- what a delivery is answered after L. What stands is counted with the delivery itself
+-- what a delivery is answered after L, the first that fits: malformed with its row, unnumbered, unknown series, before the first, waived, other contents, applied with its counts, held. What stands is counted with the delivery itself
 abbrev pub delivery_answer : List Request → List (List (List ℕ)) → DeliveryAnswer
 delivery_answer L records = delivery_answer_by (Deliver records ∷ L) (agreements_of L) (bad_row records) (message_of records)
 
@@ -84,7 +84,7 @@ abbrev pub waive_answer_at : List Request → ℕ → Option Agreement → Waive
 waive_answer_at L n None = waiver.UnknownSeries
 waive_answer_at L n (Some a) = if nat_lt n a.first then waiver.BeforeFirst a.first else waived_by (first_at L a.name n)
 
--- what a waiver is answered after L
+-- what a waiver is answered after L, the first that fits: unknown series, before the first, a message stands there, waived
 abbrev pub waive_answer : List Request → List ℕ → ℕ → WaiveAnswer
 waive_answer L series n = waive_answer_at (Waive series n ∷ L) n (named (agreements_of L) series)
 

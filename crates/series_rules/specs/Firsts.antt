@@ -32,7 +32,7 @@ abbrev pub admitted_message : List Agreement → Option (Header × List Product)
 admitted_message agreements None = None
 admitted_message agreements (Some m) = admitted_number (between agreements m.0.sender m.0.addressee) m.0.number (Message m.1)
 
--- what a request may put at a number of a series, where these agreements stand
+-- what a request may put at a number of a series, where these agreements stand: a message with a number its contents, a waiver its mark, at a number of an agreed series that is not below its first
 abbrev pub admitted : List Agreement → Request → Option Placement
 admitted agreements (Deliver records) = admitted_message agreements (message_of records)
 admitted agreements (Waive series number) = admitted_at (named agreements series) number Waived

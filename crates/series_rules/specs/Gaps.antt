@@ -26,7 +26,7 @@ abbrev pub greatest_of : List Request → List ℕ → Option ℕ
 greatest_of [] series = None
 greatest_of (r ∷ L) series = greater_of (greatest_of L series) (number_in (admitted (agreements_of L) r) series)
 
--- it is the greatest number that has something, or nothing has
+-- the number is the greatest that has something, or nothing has
 abbrev pub IsGreatest : (ℕ → Option Standing) → Option ℕ → Type 0
 IsGreatest f None = (n : ℕ) → f n ≡ None
 IsGreatest f (Some g) = IsSome (f g) × ((n : ℕ) → g < n → f n ≡ None)
@@ -93,7 +93,7 @@ abbrev pub AreRisingFrom : ℕ → List ℕ → Type 0
 AreRisingFrom n [] = Unit {0}
 AreRisingFrom n (m ∷ ms) = (n ≤ m) × AreRisingFrom (m + 1) ms
 
--- they are the numbers from one on that have something, in order
+-- the numbers are those from one on that have something, in order
 pub record AreHeldFrom (f : ℕ → Option Standing) (from : ℕ) (numbers : List ℕ) : Type 0 where
   pub in_order : AreRisingFrom from numbers
   pub all_held : (n : ℕ) → from ≤ n → IsSome (f n) → Contains numbers n

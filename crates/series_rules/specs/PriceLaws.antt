@@ -36,6 +36,6 @@ IsCalendarAnswer isbn q offers (answer.Calendar article dated) =
     (IsBadRange q.from q.to → ⊥) × (article ≡ isbn) × AllZip (λ o d. (d.offer ≡ listed o) × IsCalendar o q d.spans) offers dated
 IsCalendarAnswer isbn q offers _ = ⊥
 
--- an answer about a calendar is that
+-- an answer about a calendar has the calendar of each offer, in their order, or refuses the range where it is bad
 abbrev pub CalendarsAreTrue : Type 0
 CalendarsAreTrue = (isbn : List ℕ) (q : CalendarQuery) (offers : List Offer) → IsCalendarAnswer isbn q offers (calendar_answer isbn q offers)

@@ -1,0 +1,1 @@
+"""What the files of specs/ define, and the page that tells it."""

@@ -1,0 +1,96 @@
+"""The public definitions of a crate's specs/, each with the comment above it."""
+
+import re
+from dataclasses import dataclass
+from pathlib import Path
+
+COMMENT = re.compile(r"(?:  )?-- (.*)")
+
+# Those of a section with parameters are indented.
+DEFINITION = re.compile(r"(?:  )?(?:abbrev pub|unfoldable pub|pub record|pub data) (\S+)")
+
+# Lemmas have no name that a contract cites, and private definitions no public contract.
+LEFT_OUT = re.compile(r"Lib|private|private\..*|.*Lemmas")
+
+IMPORT = re.compile(r"use Rattle\.(\w+)\.specs\.(\w+)(?:\.\{([^}]*)\}| as (\w+))")
+
+WORD = re.compile(r"[\w◌-]+(?:\.\w+)?")
+
+
+@dataclass(frozen=True, order=True)
+class Name:
+    """A name, in a file of the specs/ of a crate."""
+
+    crate: str
+    file: str
+    word: str
+
+
+@dataclass
+class File:
+    """A file of specs/: what its first line says of it, and its definitions in their order."""
+
+    crate: str
+    name: str
+    about: str
+    comments: dict[str, str]
+    cited: dict[str, set[Name]]
+
+
+def imported(text: str) -> dict[str, tuple[str, str, str]]:
+    """Crate, file and word of each name that a text imports, by the name that it has there.
+
+    A whole file that is imported under an alias has an empty word."""
+    found = {}
+    for crate, file, words, alias in IMPORT.findall(text):
+        if alias:
+            found[alias] = (crate, file, "")
+        for word in filter(None, (part.strip() for part in words.split(","))):
+            theirs, _, ours = word.partition(" as ")
+            found[ours or theirs] = (crate, file, theirs)
+    return found
+
+
+def names_in(text: str, imports: dict[str, tuple[str, str, str]]) -> set[Name]:
+    """The imported names that a text has."""
+    found = set()
+    for word in WORD.findall(text):
+        whole, _, part = word.partition(".")
+        if whole in imports:
+            crate, file, theirs = imports[whole]
+            if theirs or part:
+                found.add(Name(crate, file, theirs or part))
+    return found
+
+
+def read_file(crate: str, name: str, text: str) -> File:
+    lines = text.splitlines()
+    first = COMMENT.match(lines[0])
+    file = File(crate, name, first[1] if first else "", {}, {})
+    imports = imported(text)
+    comment, word = [], None
+    for line in lines:
+        if said := COMMENT.match(line):
+            comment.append(said[1])
+            continue
+        if found := DEFINITION.match(line):
+            word = found[1]
+            file.comments[word] = " ".join(comment)
+            file.cited[word] = set()
+        if word and not line.startswith("use "):
+            file.cited[word] |= names_in(line, imports)
+        comment = []
+    return file
+
+
+def read_crate(folder: Path) -> list[File]:
+    """The files of a crate's specs/, in the order in which Lib.antt names them."""
+    specs = folder / "specs"
+    if not specs.is_dir():
+        return []
+    order = re.findall(r"^pub mod (\S+)", (specs / "Lib.antt").read_text(encoding="utf-8"), re.M)
+    return [
+        read_file(folder.name, name, (specs / f"{name}.antt").read_text(encoding="utf-8"))
+        for name in order
+        if not LEFT_OUT.fullmatch(name)
+    ]

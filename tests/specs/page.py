@@ -1,0 +1,76 @@
+"""docs/DEFINITIONS.md, as the comments of specs/ have it."""
+
+from pathlib import Path
+
+from specs.contracts import cited_by
+from specs.definitions import File, Name, read_crate
+
+ROOT = Path(__file__).resolve().parent.parent.parent
+
+PAGE = ROOT / "docs/DEFINITIONS.md"
+
+INTRODUCTION = """\
+# Definitions
+
+What the contracts speak of, in plain English, crate by crate and file by file of their `specs/`: each \
+definition that a public contract names, and each that these take from another file. The definitions \
+themselves, the steps between them, and those whose names say all stand in the files. This page is made \
+of the comments there, by `tests/definitions`; edit them, and run it.
+
+A text is the list of its bytes, a record the list of its fields. A list of requests has its latest \
+first: `r ∷ L` is L and then r. What gives a value or none says both what is read and what is refused.
+"""
+
+
+def crates(root: Path) -> list[str]:
+    """The crates of the repository, lowest first."""
+    lines = (root / "crates.txt").read_text(encoding="utf-8").splitlines()
+    return [line.partition(":")[0] for line in lines if line and not line.startswith("#")]
+
+
+def reached(cited: set[Name], files: list[File]) -> set[Name]:
+    """What is cited, and what the definitions of that take from other files."""
+    uses = {
+        Name(file.crate, file.name, word): names
+        for file in files
+        for word, names in file.cited.items()
+    }
+    found, left = set(), [name for name in cited if name in uses]
+    while left:
+        name = left.pop()
+        if name not in found:
+            found.add(name)
+            left += [used for used in uses[name] if used in uses]
+    return found
+
+
+def remark(comment: str) -> str:
+    """A comment as it stands behind a name and a colon."""
+    first = comment.split()[0]
+    begins_sentence = first == "A" or first[1:].islower()
+    said = comment[0].lower() + comment[1:] if begins_sentence else comment
+    return said if said.endswith(".") else f"{said}."
+
+
+def file_lines(file: File, listed: set[Name]) -> list[str]:
+    """What the page says of a file: nothing, where none of its commented definitions is listed."""
+    remarks = [
+        f"- `{word}`: {remark(comment)}"
+        for word, comment in file.comments.items()
+        if comment and Name(file.crate, file.name, word) in listed
+    ]
+    return [f"**{file.name}.** {file.about}", "", *remarks, ""] if remarks else []
+
+
+def text(root: Path = ROOT) -> str:
+    """The whole page."""
+    names = crates(root)
+    files = [file for name in names for file in read_crate(root / "crates" / name)]
+    cited = set().union(*(cited_by(root / "crates" / name) for name in names))
+    listed = reached(cited, files)
+    lines = []
+    for name in names:
+        told = [line for file in files if file.crate == name for line in file_lines(file, listed)]
+        if told:
+            lines += [f"## {name}", "", *told]
+    return "\n".join([INTRODUCTION, *lines[:-1], ""])

@@ -111,6 +111,11 @@ CASES = [
         GAPS,
     ),
     (
+        "UPDATE series SET first_number = 0",
+        "UPDATE series SET first_number = 1",
+        GAPS,
+    ),
+    (
         "UPDATE held SET number = 1000000000 WHERE number = 4",
         "UPDATE held SET number = 4 WHERE number = 1000000000",
         GAPS,
@@ -123,6 +128,21 @@ CASES = [
     (
         "UPDATE offer SET availability = '2'",
         "UPDATE offer SET availability = '21'",
+        CATALOGUE,
+    ),
+    (
+        "UPDATE offer SET included = 'gb'",
+        "UPDATE offer SET included = 'GB IE'",
+        CATALOGUE,
+    ),
+    (
+        "UPDATE offer SET world = 2",
+        "UPDATE offer SET world = 0",
+        CATALOGUE,
+    ),
+    (
+        "UPDATE offer SET place = -1",
+        "UPDATE offer SET place = 1",
         CATALOGUE,
     ),
     (

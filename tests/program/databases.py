@@ -450,6 +450,15 @@ SupplyDetail,04,06,4012345000009,North Books,21,
     yield Outcome("an empty file: the gaps then", gaps(room), Ran(0, report))
 
 
+def beside_another_table(room):
+    """A database without a desk's tables counts as empty, and what else it holds stays."""
+    execute(room, "CREATE TABLE book (title TEXT); INSERT INTO book VALUES ('north');")
+    came = batch(room, b"Agree,north,06,4012345000009,06,5012345678900,1\n")
+    yield Outcome("beside another table: a batch", came, Ran(0, b"agreed,north,1\n"))
+    came = numbers(room, VERSION), rows(room, "SELECT * FROM book"), complaints(room)
+    yield Outcome("beside another table: what is kept", came, ([2], [("north",)], []))
+
+
 META = "CREATE TABLE meta (item TEXT PRIMARY KEY, amount INTEGER);"
 
 # Statements that make a database, and what the program says of it.
@@ -463,6 +472,11 @@ REFUSED = [
         b"onixdesk: storage: other version 1\n",
     ),
     (META, b"onixdesk: storage: unusable\n"),
+    (
+        "CREATE TABLE meta (item TEXT, amount TEXT); INSERT INTO meta VALUES ('version', 'two');",
+        b"onixdesk: storage: unusable\n",
+    ),
+    ("CREATE TABLE meta (title TEXT);", b"onixdesk: storage: unusable\n"),
     ("CREATE TABLE series (title TEXT);", b"onixdesk: storage: unusable\n"),
 ]
 
@@ -523,6 +537,7 @@ GROUPS = [
     Group("forty messages backwards", forty_messages_backwards),
     Group("rows of every table", rows_of_every_table),
     Group("a batch over an empty file", an_empty_file),
+    Group("a desk beside another table", beside_another_table),
     *(Group(sql, partial(is_refused, sql, line)) for sql, line in REFUSED),
     Group("the database comes before the command", is_opened_first),
     Group("rules come before the database", rules_come_first),

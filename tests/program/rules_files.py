@@ -10,7 +10,10 @@ NOT_TOML = b"onixdesk: rules: not TOML\n"
 # Name, text, line of the fault. Without a fault the status is 0, else 2.
 TEXTS = [
     ("no TOML", b"rule = ", NOT_TOML),
+    ("an array without rules", b"rule = []\n", b""),
+    ("a key that is no array", b"rule = 1\n", NOT_TOML),
     ("another key", b'shop = "north"\n', NOT_TOML),
+    ("another key beside rules", b"other = 1\n[[rule]]\n", NOT_TOML),
     ("not UTF-8", b"# \xff\n", NOT_TOML),
     ("4,194,304 bytes", b"#" * 4_194_303 + b"\n", b""),
     ("4,194,305 bytes", b"#" * 4_194_304 + b"\n", NOT_TOML),
@@ -18,6 +21,31 @@ TEXTS = [
         "a code of one digit",
         b'[[rule]]\nseries = "*"\ncodes = ["2"]\n',
         b"onixdesk: rules: bad rule 1\n",
+    ),
+    (
+        "a name outside its grammar",
+        b'[[rule]]\nseries = "North"\ncodes = ["20"]\n',
+        b"onixdesk: rules: bad rule 1\n",
+    ),
+    (
+        "no codes",
+        b'[[rule]]\nseries = "north"\ncodes = []\n',
+        b"onixdesk: rules: bad rule 1\n",
+    ),
+    (
+        "a rule without a series",
+        b'[[rule]]\ncodes = ["20"]\n',
+        b"onixdesk: rules: bad rule 1\n",
+    ),
+    (
+        "a second rule that is no table",
+        b'rule = [{ series = "*", codes = ["20"] }, 1]\n',
+        b"onixdesk: rules: bad rule 2\n",
+    ),
+    (
+        "a rule with all its keys",
+        b'[[rule]]\nseries = "north"\ncodes = ["20", "21"]\nmax = "12.99"\n',
+        b"",
     ),
     (
         "a second rule without codes",

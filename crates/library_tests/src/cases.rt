@@ -1,6 +1,6 @@
-// What a test says of each of its cases, and a text that a case names by its parts.
+// What a test says of each of its cases, and cases that stand in one text: a function that names a table
+// of many texts takes as many seconds to prove as one that names the text takes tenths.
 
-use onix_terms::Memory;
 use std::alloc::{AllocError, Global};
 use std::process::Abort;
 
@@ -11,26 +11,63 @@ pub fn expect(stop: &impl Abort, holds: bool, case: &str) {
     }
 }
 
-/// Ends the test with the name of the case, unless the text was made and is as wanted.
-pub fn expect_text(stop: &impl Abort, found: Result<String, Memory>, wanted: &str, case: &str) {
+/// Ends the test unless a text was made and is as wanted.
+pub fn expect_text<E: Drop>(stop: &impl Abort, found: Result<String, E>, wanted: &str) {
     match found {
-        Ok(text) => expect(stop, text.as_str() == wanted, case),
-        Err(_) => stop.panic(case),
+        Ok(text) => assert_eq!(stop; text.as_str(), wanted),
+        Err(_) => stop.panic(wanted),
     }
 }
 
-/// A text, another so many times, and a last one.
-pub fn repeated(
-    alloc: Global,
-    before: &[u8],
-    again: &[u8],
-    times: u32,
-    after: &[u8],
-) -> Result<Vec<u8>, AllocError> {
-    let mut all = before.to_vec(alloc)?;
-    for _ in 0..times {
-        all.extend_from_slice(again)?;
+/// The field at this place of a line, from 0, or an empty text.
+pub fn field(line: &str, place: usize) -> &str {
+    line.split(',').nth(place).unwrap_or("")
+}
+
+/// A case of a text of cases: what is given, what is to come of it, and what is to be found after it.
+#[derive(Clone, Copy)]
+pub struct Step<'a> {
+    pub name: &'a str,
+    pub given: &'a str,
+    pub wanted: &'a str,
+    pub after: &'a str,
+}
+
+// The case behind its `== `: a line with its name, what is given, a line `-- wanted`, what is wanted, and
+// where something is looked at after it, a line `-- after` and that.
+fn read_step<'a>(text: &'a str) -> Option<Step<'a>> {
+    let (name, rest) = text.split_once('\n')?;
+    let (given, rest) = rest.split_once("-- wanted\n")?;
+    let (wanted, after) = rest.split_once("-- after\n").unwrap_or((rest, ""));
+    Some(Step {
+        name,
+        given,
+        wanted,
+        after,
+    })
+}
+
+fn push_step<'a>(
+    stop: &impl Abort,
+    steps: &mut Vec<Step<'a>>,
+    text: &'a str,
+) -> Result<(), AllocError> {
+    match read_step(text) {
+        Some(step) => steps.push(step)?,
+        None => stop.panic(text),
     }
-    all.extend_from_slice(after)?;
-    Ok(all)
+    Ok(())
+}
+
+/// The cases of a text, each behind a line end and `== `.
+pub fn steps_of<'a>(
+    alloc: Global,
+    stop: &impl Abort,
+    text: &'a str,
+) -> Result<Vec<Step<'a>>, AllocError> {
+    let mut steps = Vec::new(alloc);
+    for step in text.split("\n== ").skip(1) {
+        push_step(stop, &mut steps, step)?;
+    }
+    Ok(steps)
 }

@@ -4,11 +4,17 @@
 #![tactic(auto)]
 
 #[cfg(test)]
+mod asking;
+#[cfg(test)]
 mod cases;
 #[cfg(test)]
-mod desks;
-#[cfg(test)]
 mod disks;
+#[cfg(test)]
+mod files;
+#[cfg(test)]
+mod lists;
+#[cfg(test)]
+mod refusals;
 #[cfg(test)]
 mod rules;
 #[cfg(test)]

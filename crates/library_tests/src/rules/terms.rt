@@ -1,6 +1,6 @@
 // Worked values of each term.
 
-use crate::cases::{expect, expect_text};
+use crate::cases::{expect, expect_text, field};
 use onix_terms::Memory;
 use onix_terms::amount::Amount;
 use onix_terms::code::{Code2, Country, Currency};
@@ -11,52 +11,93 @@ use onix_terms::number::Number;
 use onix_terms::plain::Plain;
 use onix_terms::quantity::Quantity;
 use onix_terms::series_name::SeriesName;
-use onix_terms::territory::{TermFault, Territory};
-use onix_terms::text::Text;
+use onix_terms::territory::Territory;
 use std::alloc::Global;
+use std::test::Fail;
 
-// Texts, and the thousandths of the amount that they write.
-const AMOUNTS: &[(&str, Option<u64>)] = &[
-    ("0", Some(0)),
-    ("0012.5", Some(12_500)),
-    ("12.99", Some(12_990)),
-    ("0.007", Some(7)),
-    ("999999999.999", Some(999_999_999_999)),
-    ("1.", None),
-    (".5", None),
-    ("1.0000", None),
-    ("1000000000", None),
-    ("1.2.3", None),
-    ("-1", None),
-    ("", None),
-];
+// Kinds of terms, texts, and the value of each: a number, or of what is its own text 1.
+const VALUES: &str = "amount,0,0
+amount,0012.5,12500
+amount,12.99,12990
+amount,0.007,7
+amount,999999999.999,999999999999
+amount,1.,none
+amount,.5,none
+amount,1.0000,none
+amount,1000000000,none
+amount,1.2.3,none
+amount,-1,none
+amount,,none
+day,19700101,0
+day,20240229,19782
+day,00010101,-719162
+day,99991231,2932896
+day,20230229,none
+day,00000101,none
+day,20231301,none
+day,2023010,none
+day,2023-1-1,none
+number,007,7
+number,999999,999999
+number,0000001,1
+number,999999999,999999999
+number,1000000000,none
+number,0,none
+number,+1,none
+number,,none
+quantity,007,7
+quantity,999999,999999
+quantity,0000001,none
+quantity,1000000,none
+quantity,0,none
+quantity,+1,none
+quantity,,none
+code,02,1
+code,15,1
+code,GB,none
+code,,none
+country,GB,1
+country,gb,none
+country,GBP,none
+currency,GBP,1
+currency,EUR,1
+currency,GB,none
+isbn,9781234567897,1
+isbn,978-234567897,none
+isbn,978123456789,none
+series,north,1
+series,02,1
+series,a2345678901234567890123456789012,1
+series,a23456789012345678901234567890123,none
+series,North,none
+series,,none";
 
-#[test]
-fn amounts(rt: HostRuntime) {
-    for (text, wanted) in AMOUNTS {
-        let found = Amount::read(text).map(Amount::thousandths);
-        expect(&rt, found == *wanted, text);
+fn value_of(kind: &str, text: &str) -> Option<i64> {
+    match kind {
+        "amount" => i64::try_from(Amount::read(text)?.thousandths()).ok(),
+        "day" => Some(i64::from(Day::read(text)?.number())),
+        "number" => Some(i64::from(Number::read(text)?.value())),
+        "quantity" => Some(i64::from(Quantity::read(text)?.value())),
+        "code" => Some(i64::from(Code2::read(text)?.as_str() == text)),
+        "country" => Some(i64::from(Country::read(text)?.as_str() == text)),
+        "currency" => Some(i64::from(Currency::read(text)?.as_str() == text)),
+        "isbn" => Some(i64::from(Isbn13::read(text)?.as_str() == text)),
+        _ => Some(i64::from(SeriesName::read(text)?.as_str() == text)),
     }
 }
 
-// Texts, and the number of the day that they write.
-const DAYS: &[(&str, Option<i32>)] = &[
-    ("19700101", Some(0)),
-    ("20240229", Some(19_782)),
-    ("00010101", Some(-719_162)),
-    ("99991231", Some(2_932_896)),
-    ("20230229", None),
-    ("00000101", None),
-    ("20231301", None),
-    ("2023010", None),
-    ("2023-1-1", None),
-];
+fn is_right(line: &str) -> bool {
+    let wanted = field(line, 2);
+    match value_of(field(line, 0), field(line, 1)) {
+        Some(value) => wanted.parse::<i64>().ok() == Some(value),
+        None => wanted == "none",
+    }
+}
 
 #[test]
-fn days(rt: HostRuntime) {
-    for (text, wanted) in DAYS {
-        let found = Day::read(text).map(Day::number);
-        expect(&rt, found == *wanted, text);
+fn values(rt: HostRuntime) {
+    for line in VALUES.lines() {
+        expect(&rt, is_right(line), line);
     }
 }
 
@@ -69,142 +110,48 @@ fn amount_and_day(alloc: Global, amount: Amount, day: Day) -> Result<String, Mem
 }
 
 #[test]
-fn amount_and_day_are_written(rt: HostRuntime) {
+fn values_are_taken_and_written(rt: HostRuntime) {
     let amount = Amount::from_thousandths(12_990).expect(&rt, "in range");
     let day = Day::from_number(19_782).expect(&rt, "in range");
     let written = amount_and_day(rt.alloc(), amount, day);
-    expect_text(&rt, written, "12.99020240229", "12.99 and 20240229");
-}
-
-// Texts, and the number and the quantity that they write.
-const NUMBERS: &[(&str, Option<u32>, Option<u32>)] = &[
-    ("007", Some(7), Some(7)),
-    ("999999", Some(999_999), Some(999_999)),
-    ("0000001", Some(1), None),
-    ("999999999", Some(999_999_999), None),
-    ("1000000000", None, None),
-    ("0", None, None),
-    ("+1", None, None),
-    ("", None, None),
-];
-
-#[test]
-fn numbers_and_quantities(rt: HostRuntime) {
-    for (text, number, quantity) in NUMBERS {
-        let found = Number::read(text).map(Number::value);
-        expect(&rt, found == *number, text);
-        let found = Quantity::read(text).map(Quantity::value);
-        expect(&rt, found == *quantity, text);
-    }
-}
-
-// Read by a kind of code, which then holds that very text; or not read.
-const YES: Option<bool> = Some(true);
-
-const NO: Option<bool> = None;
-
-// Texts, and whether they are a code of two characters, a country, a currency, an ISBN-13 and the
-// name of a series.
-const CODES: &[(&str, [Option<bool>; 5])] = &[
-    ("02", [YES, NO, NO, NO, YES]),
-    ("15", [YES, NO, NO, NO, YES]),
-    ("GB", [NO, YES, NO, NO, NO]),
-    ("IE", [NO, YES, NO, NO, NO]),
-    ("GBP", [NO, NO, YES, NO, NO]),
-    ("EUR", [NO, NO, YES, NO, NO]),
-    ("9781234567897", [NO, NO, NO, YES, YES]),
-    ("978-234567897", [NO, NO, NO, NO, YES]),
-    ("north", [NO, NO, NO, NO, YES]),
-    ("a2345678901234567890123456789012", [NO, NO, NO, NO, YES]),
-    ("a23456789012345678901234567890123", [NO, NO, NO, NO, NO]),
-    ("", [NO, NO, NO, NO, NO]),
-];
-
-fn is_code(text: &str) -> Option<bool> {
-    Some(Code2::read(text)?.as_str() == text)
-}
-
-fn is_country(text: &str) -> Option<bool> {
-    Some(Country::read(text)?.as_str() == text)
-}
-
-fn is_currency(text: &str) -> Option<bool> {
-    Some(Currency::read(text)?.as_str() == text)
-}
-
-fn is_isbn(text: &str) -> Option<bool> {
-    Some(Isbn13::read(text)?.as_str() == text)
-}
-
-fn is_series_name(text: &str) -> Option<bool> {
-    Some(SeriesName::read(text)?.as_str() == text)
-}
-
-#[test]
-fn codes_are_texts(rt: HostRuntime) {
-    for (text, wanted) in CODES {
-        let found = [
-            is_code(text),
-            is_country(text),
-            is_currency(text),
-            is_isbn(text),
-            is_series_name(text),
-        ];
-        expect(&rt, found == *wanted, text);
-    }
-}
-
-// Whether the territory names these countries and not the world.
-fn has_countries(alloc: Global, territory: &Territory, wanted: &str) -> Option<bool> {
-    let included = countries_text(alloc, territory.included.as_slice()).ok()?;
-    Some(included.as_str() == wanted && !territory.world)
-}
-
-fn is_equal_to_its_duplicate(territory: &Territory) -> Option<bool> {
-    Some(territory.duplicate().ok()?.is_equal(territory))
+    expect_text(&rt, written, "12.99020240229");
+    let are_too_large = Amount::from_thousandths(1_000_000_000_000).is_none()
+        && Day::from_number(2_932_897).is_none()
+        && Number::from_value(1_000_000_000).is_none()
+        && Quantity::from_value(1_000_000).is_none();
+    expect(&rt, are_too_large, "values above the largest");
+    let later = Day::from_number(19_783).expect(&rt, "in range");
+    let is_after = later.is_after(day) && !day.is_after(later) && !day.is_after(day);
+    expect(&rt, is_after, "a later day");
 }
 
 // Countries, and whether they lie in the territory of GB without IE.
-const INSIDE: &[(&str, bool)] = &[("GB", true), ("IE", false), ("FR", false)];
+const INSIDE: [(&str, bool); 3] = [("GB", true), ("IE", false), ("FR", false)];
 
 fn is_inside(text: &str, territory: &Territory) -> Option<bool> {
     Some(territory.contains(Country::read(text)?))
 }
 
 #[test]
-fn territories(rt: HostRuntime) {
-    let territory = Territory::read(rt.alloc(), "GB  IE GB", "", "IE").expect(&rt, "a territory");
+fn territories(rt: HostRuntime) -> Result<(), Fail> {
+    let territory = Territory::read(rt.alloc(), "GB  IE GB", "", "IE")?;
     for (text, inside) in INSIDE {
-        expect(&rt, is_inside(text, &territory) == Some(*inside), text);
+        expect(&rt, is_inside(text, &territory) == Some(inside), text);
     }
-    let named = has_countries(rt.alloc(), &territory, "GB IE");
-    expect(&rt, named == Some(true), "GB IE");
-    let equal = is_equal_to_its_duplicate(&territory);
-    expect(&rt, equal == Some(true), "the duplicate");
+    let named = countries_text(rt.alloc(), territory.included.as_slice())?;
+    assert_eq!(rt; named.as_str(), "GB IE");
+    let is_equal = territory.duplicate()?.is_equal(&territory);
+    expect(&rt, is_equal && !territory.world, "the duplicate");
+    Ok(())
 }
 
-// CountriesIncluded and RegionsIncluded.
-const NO_TERRITORIES: &[(&str, &str)] = &[("GB", "ECZ"), ("  ", ""), ("GBIE", ""), ("gb", "")];
-
-fn are_no_territory(alloc: Global, included: &str, regions: &str) -> bool {
-    let fault = Territory::read(alloc, included, regions, "").err();
-    matches!(fault, Some(TermFault::NotATerm))
-}
+// CountriesIncluded and RegionsIncluded that are no territory.
+const NO_TERRITORIES: [(&str, &str); 4] = [("GB", "ECZ"), ("  ", ""), ("GBIE", ""), ("gb", "")];
 
 #[test]
 fn fields_without_a_territory(rt: HostRuntime) {
     for (included, regions) in NO_TERRITORIES {
-        let refused = are_no_territory(rt.alloc(), included, regions);
-        expect(&rt, refused, included);
+        let read = Territory::read(rt.alloc(), included, regions, "");
+        expect(&rt, read.is_err(), included);
     }
-}
-
-fn copy_of(alloc: Global, text: &str) -> Result<String, Memory> {
-    let copy = Text::from_str(alloc, text)?.copy(alloc)?;
-    String::from_str(alloc, copy.as_str())
-}
-
-#[test]
-fn texts(rt: HostRuntime) {
-    expect_text(&rt, copy_of(rt.alloc(), "R1"), "R1", "R1");
 }

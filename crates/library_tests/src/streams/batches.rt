@@ -6,56 +6,50 @@ use csv_records::reading::RecordFault;
 use desk_batch::batch::{BatchFault, run_batch};
 use desk_memory::desk::MemoryDesk;
 use price_rules::precedence::Precedence;
-use std::alloc::{AllocError, Global};
+use std::alloc::Global;
+use std::io::{Read, Write};
 use std::process::Abort;
 use std::test::Fail;
 
-// A batch in parts, each with what a batch is answered that ends within this part or at its end.
-static PARTS: [(&str, &str); 13] = [
-    (
-        "Agree,north,06,4012345000009,06,5012345678900,",
-        "refused,malformed,1\n",
-    ),
-    ("1\n", "agreed,north,1\n"),
-    // A record whose first field begins no request belongs to the request before it.
-    ("Messag", "refused,malformed,2\n"),
-    (
-        "e,1,06,4012345000009,06,5012345678900,1,1,20250301,",
-        "agreed,north,1\nrefused,malformed,1\n",
-    ),
-    (
-        ",\nProduct,R1,03,15,",
-        "agreed,north,1\nrefused,malformed,2\n",
-    ),
-    (
-        "9781234567897\nProductSupply,GB IE,",
-        "agreed,north,1\nrefused,malformed,3\n",
-    ),
-    (
-        ",\nSupplyDetail,04,06,4012345000009,North Books,21",
-        "agreed,north,1\nrefused,malformed,4\n",
-    ),
-    (",\nEndMessage,", "agreed,north,1\nrefused,malformed,5\n"),
-    (
-        "4\n",
-        "agreed,north,1\napplied,north,1,replaced=1,updated=0,deleted=0,unknown=0,ignored=0\n",
-    ),
-    ("AskGap", "agreed,north,1\nrefused,malformed,6\n"),
-    (
-        "s,",
-        "agreed,north,1\napplied,north,1,replaced=1,updated=0,deleted=0,unknown=0,ignored=0\nrefused,malformed,1\n",
-    ),
-    (
-        "nort",
-        "agreed,north,1\napplied,north,1,replaced=1,updated=0,deleted=0,unknown=0,ignored=0\nrefused,unknown-series\n",
-    ),
-    (
-        "h\n",
-        "agreed,north,1\napplied,north,1,replaced=1,updated=0,deleted=0,unknown=0,ignored=0\ngaps,north,first=1,next=2,greatest=1,held=0,missing=0\n",
-    ),
-];
+// A batch in parts, each behind a `>` but the first, and behind its `<` what a batch is answered that ends
+// within this part or at its end. A record whose first field begins no request belongs to the request
+// before it.
+const PARTS: &str = "Agree,north,06,4012345000009,06,5012345678900,<refused,malformed,1
+>1
+<agreed,north,1
+>Messag<refused,malformed,2
+>e,1,06,4012345000009,06,5012345678900,1,1,20250301,<agreed,north,1
+refused,malformed,1
+>,
+Product,R1,03,15,<agreed,north,1
+refused,malformed,2
+>9781234567897
+ProductSupply,GB IE,<agreed,north,1
+refused,malformed,3
+>,
+SupplyDetail,04,06,4012345000009,North Books,21<agreed,north,1
+refused,malformed,4
+>,
+EndMessage,<agreed,north,1
+refused,malformed,5
+>4
+<agreed,north,1
+applied,north,1,replaced=1,updated=0,deleted=0,unknown=0,ignored=0
+>AskGap<agreed,north,1
+refused,malformed,6
+>s,<agreed,north,1
+applied,north,1,replaced=1,updated=0,deleted=0,unknown=0,ignored=0
+refused,malformed,1
+>nort<agreed,north,1
+applied,north,1,replaced=1,updated=0,deleted=0,unknown=0,ignored=0
+refused,unknown-series
+>h
+<agreed,north,1
+applied,north,1,replaced=1,updated=0,deleted=0,unknown=0,ignored=0
+gaps,north,first=1,next=2,greatest=1,held=0,missing=0
+";
 
-const GAPS: &str = "AskGaps,north\n";
+const GAPS: &[u8] = b"AskGaps,north\n";
 
 // A byte for each of the most that a batch may have, one more, and the end.
 const MOST_READS: usize = 4_194_306;
@@ -67,74 +61,44 @@ const NONE_APPLIED: &str = "gaps,north,first=1,next=1,greatest=,held=0,missing=0
 
 const ONE_APPLIED: &str = "gaps,north,first=1,next=2,greatest=1,held=0,missing=0\n";
 
-// A batch that ends here is answered with this.
+// Asks the desk a batch. All cases ask it here: a function that calls what is generic over a desk with a
+// known one is dear to prove.
+fn run<R: Read, W: Write>(
+    alloc: Global,
+    desk: &mut MemoryDesk,
+    reader: &mut R,
+    writer: &mut W,
+) -> Result<u64, BatchFault> {
+    run_batch(alloc, desk, &Precedence::none(alloc), reader, writer)
+}
+
+// A batch that comes one byte a read is answered with this.
 fn expect_answers(
     alloc: Global,
     stop: &impl Abort,
     desk: &mut MemoryDesk,
     batch: &[u8],
     answers: &str,
-) -> Result<(), Fail> {
+) {
     let mut written = Vec::new(alloc);
-    let mut reader = OneByte {
-        rest: batch,
-        reads: 0,
-    };
-    run_batch(
-        alloc,
-        desk,
-        &Precedence::none(alloc),
-        &mut reader,
-        &mut written,
-    )?;
+    let mut reader = OneByte::new(batch);
+    let ended = run(alloc, desk, &mut reader, &mut written);
+    assert!(stop; ended.is_ok(), "{answers}");
     assert_eq!(stop; written.as_slice(), answers.as_bytes());
-    Ok(())
 }
 
 // A batch whose read fails after these bytes asks nothing, also not the agreement, and answers nothing.
-fn expect_unread(alloc: Global, stop: &impl Abort, batch: &[u8]) -> Result<(), Fail> {
+fn expect_unread(alloc: Global, stop: &impl Abort, batch: &[u8]) {
     let mut desk = MemoryDesk::new(alloc);
     let mut written = Vec::new(alloc);
     let mut reader = FailingReader { rest: batch };
-    let ended = run_batch(
-        alloc,
-        &mut desk,
-        &Precedence::none(alloc),
-        &mut reader,
-        &mut written,
-    );
+    let ended = run(alloc, &mut desk, &mut reader, &mut written);
     assert!(stop; matches!(&ended, Err(BatchFault::Read)), "a failed read");
     assert!(stop; written.is_empty(), "an answer after a failed read");
-    expect_answers(alloc, stop, &mut desk, GAPS.as_bytes(), NOT_AGREED)
+    expect_answers(alloc, stop, &mut desk, GAPS, NOT_AGREED);
 }
 
-// A text of one byte more than a batch may have is read to its end, one byte a read, and to no more.
-#[test]
-fn most_reads(rt: HostRuntime) -> Result<(), Fail> {
-    let alloc = rt.alloc();
-    let text = vec![in alloc; b'a'; 4_194_305]?;
-    let mut desk = MemoryDesk::new(alloc);
-    let mut written = Vec::new(alloc);
-    let mut reader = OneByte {
-        rest: text.as_slice(),
-        reads: 0,
-    };
-    let ended = run_batch(
-        alloc,
-        &mut desk,
-        &Precedence::none(alloc),
-        &mut reader,
-        &mut written,
-    );
-    let is_too_large = matches!(&ended, Err(BatchFault::Records(RecordFault::TooLarge)));
-    assert!(rt; is_too_large, "a byte more");
-    assert!(rt; written.is_empty(), "an answer to a text that is too large");
-    let reads = reader.reads;
-    assert!(rt; reads <= MOST_READS, "{reads} reads");
-    Ok(())
-}
-
-// The same for what was read before and each further byte of a part.
+// Both for what was read before and each further byte of a part.
 fn expect_part(
     alloc: Global,
     stop: &impl Abort,
@@ -144,28 +108,23 @@ fn expect_part(
 ) -> Result<(), Fail> {
     for byte in part.as_bytes() {
         begun.push(*byte)?;
-        let mut desk = MemoryDesk::new(alloc);
-        expect_answers(alloc, stop, &mut desk, begun.as_slice(), answers)?;
-        expect_unread(alloc, stop, begun.as_slice())?;
+        let batch = begun.as_slice();
+        expect_answers(alloc, stop, &mut MemoryDesk::new(alloc), batch, answers);
+        expect_unread(alloc, stop, batch);
     }
     Ok(())
 }
 
-#[test]
-fn batches_cut_at_each_byte(rt: HostRuntime) -> Result<(), Fail> {
-    let mut begun = Vec::new(rt.alloc());
-    for (part, answers) in PARTS.as_slice() {
-        expect_part(rt.alloc(), &rt, &mut begun, part, answers)?;
+// The whole batch, after it was cut at each byte, and its answers.
+fn cut_at_each_byte(alloc: Global, stop: &impl Abort) -> Result<(Vec<u8>, &'static str), Fail> {
+    let mut begun = Vec::new(alloc);
+    let mut whole = "";
+    for text in PARTS.split('>') {
+        let (part, answers) = text.split_once('<').ok_or("a part without answers")?;
+        expect_part(alloc, stop, &mut begun, part, answers)?;
+        whole = answers;
     }
-    Ok(())
-}
-
-fn whole_batch(alloc: Global) -> Result<Vec<u8>, AllocError> {
-    let mut batch = Vec::new(alloc);
-    for (part, _) in PARTS.as_slice() {
-        batch.extend_from_slice(part.as_bytes())?;
-    }
-    Ok(batch)
+    Ok((begun, whole))
 }
 
 // How many answers are written in part or whole where so many bytes are taken: one a line.
@@ -181,27 +140,11 @@ fn begun_answers(taken: &[u8]) -> u64 {
 
 // Where the output takes these bytes alone, they are written, and the requests up to the answer that
 // they end in are asked, and no other.
-fn expect_written(
-    alloc: Global,
-    stop: &impl Abort,
-    batch: &[u8],
-    taken: &[u8],
-    fails: bool,
-) -> Result<(), Fail> {
+fn expect_written(alloc: Global, stop: &impl Abort, batch: &[u8], taken: &[u8], fails: bool) {
     let mut desk = MemoryDesk::new(alloc);
     let mut reader = batch;
-    let mut writer = FailingWriter {
-        left: taken.len(),
-        fails,
-        written: Vec::new(alloc),
-    };
-    let ended = run_batch(
-        alloc,
-        &mut desk,
-        &Precedence::none(alloc),
-        &mut reader,
-        &mut writer,
-    );
+    let mut writer = FailingWriter::new(alloc, taken.len(), fails);
+    let ended = run(alloc, &mut desk, &mut reader, &mut writer);
     let wanted = begun_answers(taken);
     let is_write = matches!(&ended, Err(BatchFault::Write { done }) if *done == wanted);
     assert!(stop; is_write, "{wanted} requests");
@@ -211,16 +154,38 @@ fn expect_written(
     } else {
         ONE_APPLIED
     };
-    expect_answers(alloc, stop, &mut desk, GAPS.as_bytes(), held)
+    expect_answers(alloc, stop, &mut desk, GAPS, held);
 }
 
+// Cut off after each byte, with a failed read after each, and with outputs that take part of the answers.
 #[test]
-fn outputs_that_take_part_of_the_answers(rt: HostRuntime) -> Result<(), Fail> {
-    let batch = whole_batch(rt.alloc())?;
-    let answers = PARTS[12].1.as_bytes();
-    for taken in 0..answers.len() {
-        expect_written(rt.alloc(), &rt, batch.as_slice(), &answers[..taken], true)?;
-        expect_written(rt.alloc(), &rt, batch.as_slice(), &answers[..taken], false)?;
+fn batches_at_their_ends(rt: HostRuntime) -> Result<(), Fail> {
+    let (batch, answers) = cut_at_each_byte(rt.alloc(), &rt)?;
+    for at in 0..answers.len() {
+        let taken = answers.as_bytes().get(..at).ok_or("a part of the answers")?;
+        expect_written(rt.alloc(), &rt, batch.as_slice(), taken, true);
+        expect_written(rt.alloc(), &rt, batch.as_slice(), taken, false);
     }
+    Ok(())
+}
+
+// A text of one byte more than a batch may have is read to its end, one byte a read, and to no more.
+#[test]
+fn most_reads(rt: HostRuntime) -> Result<(), Fail> {
+    let alloc = rt.alloc();
+    let text = vec![in alloc; b'a'; 4_194_305]?;
+    let mut written = Vec::new(alloc);
+    let mut reader = OneByte::new(text.as_slice());
+    let ended = run(
+        alloc,
+        &mut MemoryDesk::new(alloc),
+        &mut reader,
+        &mut written,
+    );
+    let is_too_large = matches!(&ended, Err(BatchFault::Records(RecordFault::TooLarge)));
+    assert!(rt; is_too_large, "a byte more");
+    assert!(rt; written.is_empty(), "an answer to a text that is too large");
+    let reads = reader.reads;
+    assert!(rt; reads <= MOST_READS, "{reads} reads");
     Ok(())
 }

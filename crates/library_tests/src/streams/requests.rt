@@ -1,14 +1,12 @@
-// Lists of requests that a desk is asked one after the other.
+// A list of requests that a desk is asked at once.
 
-use crate::desks::{DeskTask, over_memory, over_tables};
 use crate::streams::desks::BrokenDesk;
 use csv_records::reading::RecordReader;
 use desk_batch::request_rows::read_requests;
+use desk_memory::desk::MemoryDesk;
 use desk_text::answer_text::write_answer;
-use onix_terms::items::Items;
 use price_rules::precedence::Precedence;
 use series_rules::desk::Desk;
-use series_rules::requests::Request;
 use series_rules::run::ask_all;
 use std::alloc::Global;
 use std::process::Abort;
@@ -36,46 +34,30 @@ memory
 memory
 ";
 
-fn requests(alloc: Global) -> Result<Items<Request>, Fail> {
+// The answers are these, one after the other, with the text of each fault on a line.
+fn expect_answers<D: Desk>(
+    alloc: Global,
+    stop: &impl Abort,
+    desk: &mut D,
+    answers: &str,
+) -> Result<(), Fail> {
     let mut reader = RecordReader::new(alloc, REQUESTS.as_bytes())?;
     let requests = read_requests(alloc, &mut reader)?;
-    Ok(requests)
-}
-
-// The answers of a desk to these requests, one after the other, and the text of each fault on a line.
-fn answers_of<D: Desk>(alloc: Global, desk: &mut D, requests: &[Request]) -> Result<String, Fail> {
+    let outcomes = ask_all(alloc, desk, &Precedence::none(alloc), requests.as_slice())?;
     let mut text = String::new(alloc);
-    let outcomes = ask_all(alloc, desk, &Precedence::none(alloc), requests)?;
     for outcome in outcomes.as_slice() {
         match outcome {
             Ok(answer) => text.push_str(write_answer(alloc, answer)?.as_str())?,
-            Err(fault) => text.push_str(format!(in alloc; "{fault}\n")?.as_str())?,
+            Err(fault) => write!(text, "{fault}\n")?,
         }
     }
-    Ok(text)
-}
-
-// All requests as one list, with what is to be answered.
-#[derive(Clone, Copy)]
-struct AllAtOnce<'a> {
-    answers: &'a str,
-}
-
-impl<'a> DeskTask for AllAtOnce<'a> {
-    fn run<D: Desk>(&self, alloc: Global, stop: &impl Abort, desk: &mut D) -> Result<(), Fail> {
-        let requests = requests(alloc)?;
-        let text = answers_of(alloc, desk, requests.as_slice())?;
-        assert_eq!(stop; text.as_str(), self.answers);
-        Ok(())
-    }
+    assert_eq!(stop; text.as_str(), answers);
+    Ok(())
 }
 
 #[test]
 fn lists_of_requests(rt: HostRuntime) -> Result<(), Fail> {
     let alloc = rt.alloc();
-    let answered = AllAtOnce { answers: ANSWERS };
-    over_memory(alloc, &rt, &answered)?;
-    over_tables(alloc, &rt, &answered)?;
-    let faults = AllAtOnce { answers: FAULTS };
-    faults.run(alloc, &rt, &mut BrokenDesk { number: 0 })
+    expect_answers(alloc, &rt, &mut MemoryDesk::new(alloc), ANSWERS)?;
+    expect_answers(alloc, &rt, &mut BrokenDesk { number: 0 }, FAULTS)
 }

@@ -1,5 +1,6 @@
 // Readers and writers that do little at a time, and then fail.
 
+use std::alloc::Global;
 use std::io::{self, ErrorKind, Read, Write};
 
 /// Gives one byte a read, and counts its reads.
@@ -7,6 +8,13 @@ use std::io::{self, ErrorKind, Read, Write};
 pub struct OneByte<'a> {
     pub rest: &'a [u8],
     pub reads: usize,
+}
+
+impl<'a> OneByte<'a> {
+    /// Of these bytes.
+    pub fn new(rest: &'a [u8]) -> OneByte<'a> {
+        OneByte { rest, reads: 0 }
+    }
 }
 
 impl<'a> Read for OneByte<'a> {
@@ -48,6 +56,17 @@ pub struct FailingWriter {
     pub left: usize,
     pub fails: bool,
     pub written: Vec<u8>,
+}
+
+impl FailingWriter {
+    /// For so many bytes.
+    pub fn new(alloc: Global, left: usize, fails: bool) -> FailingWriter {
+        FailingWriter {
+            left,
+            fails,
+            written: Vec::new(alloc),
+        }
+    }
 }
 
 impl Write for FailingWriter {

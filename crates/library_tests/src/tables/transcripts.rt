@@ -10,8 +10,8 @@ use sqlite::Alter;
 use std::alloc::Global;
 use std::process::Abort;
 
-// Whether a call is answered as its line says; one that changes rows answers nothing.
-fn is_answered<S: Alter>(
+// Whether a call is answered so; one that changes rows answers nothing.
+fn has_answer<S: Alter>(
     alloc: Global,
     work: &mut Work<'_, S>,
     call: &str,
@@ -31,7 +31,7 @@ fn is_answered<S: Alter>(
 // The same of a line, behind whose colon may also stand that the call is `unusable`.
 fn holds<S: Alter>(alloc: Global, work: &mut Work<'_, S>, line: &str) -> Result<bool, StoreFault> {
     let (call, wanted) = line.split_once(':').unwrap_or((line, ""));
-    match is_answered(alloc, work, call, wanted) {
+    match has_answer(alloc, work, call, wanted) {
         Err(StoreFault::Unusable) => Ok(wanted == " unusable"),
         answer => answer,
     }
@@ -64,16 +64,25 @@ pub fn is_right<S: Alter>(
     Ok(wrong.is_none())
 }
 
+/// The first line of a transcript that is not answered as it says. The transaction is let go.
+pub fn first_unanswered<'a, S: Alter>(
+    alloc: Global,
+    tables: &mut Tables<S>,
+    transcript: &'a str,
+) -> Result<Option<&'a str>, StoreFault> {
+    let mut work = tables.work()?;
+    first_wrong(alloc, &mut work, transcript)
+}
+
 /// Ends the test with the first line that is not answered as it says. The transaction is let go.
 pub fn expect_answers<S: Alter>(
     alloc: Global,
-    rt: &impl Abort,
+    stop: &impl Abort,
     tables: &mut Tables<S>,
     transcript: &str,
 ) -> Result<(), StoreFault> {
-    let mut work = tables.work()?;
-    match first_wrong(alloc, &mut work, transcript)? {
-        Some(line) => rt.panic(line),
+    match first_unanswered(alloc, tables, transcript)? {
+        Some(line) => stop.panic(line),
         None => Ok(()),
     }
 }

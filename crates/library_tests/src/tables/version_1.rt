@@ -12,3 +12,14 @@ CREATE TABLE offer (series TEXT NOT NULL, reference TEXT NOT NULL, place INTEGER
 CREATE TABLE price (series TEXT NOT NULL, reference TEXT NOT NULL, place INTEGER NOT NULL, price_place INTEGER NOT NULL, price_type TEXT NOT NULL, amount INTEGER NOT NULL, currency TEXT NOT NULL, included TEXT NOT NULL, world INTEGER NOT NULL, excluded TEXT NOT NULL, from_day INTEGER, until_day INTEGER, PRIMARY KEY (series, reference, place, price_place), FOREIGN KEY (series, reference, place) REFERENCES offer (series, reference, place) ON DELETE CASCADE) STRICT;
 INSERT INTO meta VALUES ('version', 1);
 ";
+
+/// Rows for them.
+pub const ROWS: &str = "
+INSERT INTO series VALUES ('north', '06', '4012345000009', '06', '5012345678900', 1, 2);
+INSERT INTO held VALUES ('north', 5, 'later');
+INSERT INTO applied VALUES ('north', 1, 'first', 1, 2, 3, 4, 5);
+INSERT INTO record VALUES ('north', 'R1');
+INSERT INTO article VALUES ('north', 'R1', 1, '15', '9781234567897');
+INSERT INTO offer VALUES ('north', 'R1', 1, 1, 'GB IE', 0, '', '04', '06', '4012345000009', 'North Books', '21', '');
+INSERT INTO price VALUES ('north', 'R1', 1, 1, '02', 12990, 'GBP', '', 1, '', NULL, NULL);
+";

@@ -1,0 +1,151 @@
+// Lists of requests with their answers and what is reported between them, of any desk, where memory may
+// be refused once: then what is reported is what was reported before the request, or what is to be after
+// it, and made again it is answered as it is to be.
+
+pub mod drain;
+pub mod exchanges;
+pub mod questions;
+pub mod steps;
+
+use crate::asking::{Asked, Asks, expect_asked};
+use crate::cases::{Step, steps_of};
+use crate::refusals::Refusals;
+use price_rules::precedence::{Precedence, PrecedenceFault};
+use std::alloc::Global;
+use std::process::Abort;
+
+/// Requests, one after the other, as a text of cases.
+#[derive(Clone, Copy)]
+pub struct List<'a> {
+    pub name: &'a str,
+    /// The text of the rules that they are asked under.
+    pub rules: &'a str,
+    /// What is asked for a report after each request of which one is told, and the report before the
+    /// first, or none where any may be.
+    pub report: &'a str,
+    pub before: &'a str,
+    pub requests: &'a str,
+}
+
+// Rules and what is asked for a report.
+#[derive(Clone, Copy)]
+struct Between<'a> {
+    rules: &'a Precedence,
+    report: &'a str,
+}
+
+// The rules of a text; where memory is refused they are read once more.
+fn rules_of(
+    alloc: Global,
+    stop: &impl Abort,
+    refusals: &mut Refusals,
+    text: &str,
+) -> Result<Precedence, PrecedenceFault> {
+    match Precedence::read(alloc, text) {
+        Err(PrecedenceFault::Memory) => {
+            refusals.meet(stop);
+            Precedence::read(alloc, text)
+        }
+        rules => rules,
+    }
+}
+
+// Whether this is the report, where one is told.
+fn is_report(reported: &Asked, report: &str) -> bool {
+    report.is_empty() || reported.output.as_slice() == report.as_bytes()
+}
+
+// Ends the test unless a request that lacked memory left answers that begin as they are to be, and the
+// report from before it or the one after it.
+fn expect_near<A: Asks>(
+    alloc: Global,
+    stop: &impl Abort,
+    asks: &mut A,
+    between: Between<'_>,
+    begun: Asked,
+    before: &str,
+    step: Step<'_>,
+) {
+    let is_begun = step.wanted.as_bytes().starts_with(begun.output.as_slice());
+    assert!(stop; is_begun, "{}", step.name);
+    drop(begun);
+    let reported = asks.ask(alloc, between.rules, between.report);
+    let is_near = is_report(&reported, before) || is_report(&reported, step.after);
+    assert!(stop; is_near, "{}", step.name);
+}
+
+// Ends the test unless a request is answered as its step says.
+fn expect_answers<A: Asks>(
+    alloc: Global,
+    stop: &impl Abort,
+    refusals: &mut Refusals,
+    asks: &mut A,
+    between: Between<'_>,
+    before: &str,
+    step: Step<'_>,
+) {
+    let asked = asks.ask(alloc, between.rules, step.given);
+    if refusals.has_met(stop, asked.ended) {
+        expect_near(alloc, stop, asks, between, asked, before, step);
+        let again = asks.ask(alloc, between.rules, step.given);
+        expect_asked(stop, &again, step.wanted, step.name);
+    } else {
+        expect_asked(stop, &asked, step.wanted, step.name);
+    }
+}
+
+// The same of the report after it.
+fn expect_report<A: Asks>(
+    alloc: Global,
+    stop: &impl Abort,
+    refusals: &mut Refusals,
+    asks: &mut A,
+    between: Between<'_>,
+    step: Step<'_>,
+) {
+    let reported = Step {
+        name: step.name,
+        given: between.report,
+        wanted: step.after,
+        after: step.after,
+    };
+    expect_answers(alloc, stop, refusals, asks, between, step.after, reported);
+}
+
+/// Asks requests one after the other.
+pub fn expect_steps<A: Asks>(
+    alloc: Global,
+    stop: &impl Abort,
+    refusals: &mut Refusals,
+    asks: &mut A,
+    list: List<'_>,
+    steps: &[Step<'_>],
+) {
+    let rules = rules_of(alloc, stop, refusals, list.rules);
+    let rules = refusals.own(stop, rules);
+    let between = Between {
+        rules: &rules,
+        report: list.report,
+    };
+    let mut before = list.before;
+    for step in steps {
+        expect_answers(alloc, stop, refusals, asks, between, before, *step);
+        if !step.after.is_empty() {
+            expect_report(alloc, stop, refusals, asks, between, *step);
+        }
+        before = step.after;
+    }
+}
+
+/// Asks all requests of a list.
+pub fn expect_list<A: Asks>(
+    alloc: Global,
+    stop: &impl Abort,
+    refusals: &mut Refusals,
+    asks: &mut A,
+    list: List<'_>,
+) {
+    let steps = refusals.own(stop, steps_of(alloc, stop, list.requests));
+    assert!(stop; !steps.is_empty(), "{}", list.name);
+    expect_steps(alloc, stop, refusals, asks, list, steps.as_slice());
+}

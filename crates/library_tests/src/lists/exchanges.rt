@@ -1,0 +1,135 @@
+// Exchanges over HTTP: a message that waits, one that lets it be applied, a price, a choice, a calendar.
+// What is replied is taken from the desk's written rules.
+
+use crate::lists::List;
+
+/// The list, with a report on gaps by an exchange too.
+pub const EXCHANGES: List<'static> = List {
+    name: "exchanges",
+    rules: "[[rule]]
+series = \"south\"
+codes = [\"31\"]
+[[rule]]
+series = \"*\"
+codes = [\"20\", \"21\"]
+",
+    report: "GET /series/north/gaps HTTP/1.1\r
+\r
+",
+    before: "@",
+    requests: REQUESTS,
+};
+
+const REQUESTS: &str = "
+== the agreement, by a batch
+Agree,north,06,4012345000009,06,5012345678900,1
+-- wanted
+agreed,north,1
+-- after
+HTTP/1.1 200 OK\r
+Content-Type: application/json\r
+Content-Length: 91\r
+Connection: close\r
+\r
+{\"answer\":\"gaps\",\"first\":1,\"greatest\":null,\"held\":0,\"missing\":[],\"next\":1,\"series\":\"north\"}
+
+== 2 waits
+POST /messages HTTP/1.1\r
+Content-Length: 63\r
+\r
+Message,1,06,4012345000009,06,5012345678900,2,,,,
+EndMessage,1
+-- wanted
+HTTP/1.1 202 Accepted\r
+Content-Type: application/json\r
+Content-Length: 61\r
+Connection: close\r
+\r
+{\"answer\":\"held\",\"number\":2,\"series\":\"north\",\"waiting_for\":1}
+-- after
+HTTP/1.1 200 OK\r
+Content-Type: application/json\r
+Content-Length: 93\r
+Connection: close\r
+\r
+{\"answer\":\"gaps\",\"first\":1,\"greatest\":2,\"held\":1,\"missing\":[[1,1]],\"next\":1,\"series\":\"north\"}
+
+== 1 is applied, and 2 with it
+POST /messages HTTP/1.1\r
+Content-Length: 194\r
+\r
+Message,1,06,4012345000009,06,5012345678900,1,1,20250301,02,GBP
+Product,R1,03,15,9781234567897
+ProductSupply,GB IE,,
+SupplyDetail,04,06,4012345000009,North Books,21,
+Price,,1,,,,,,
+EndMessage,5
+-- wanted
+HTTP/1.1 200 OK\r
+Content-Type: application/json\r
+Content-Length: 109\r
+Connection: close\r
+\r
+{\"answer\":\"applied\",\"deleted\":0,\"ignored\":0,\"number\":1,\"replaced\":1,\"series\":\"north\",\"unknown\":0,\"updated\":0}
+-- after
+HTTP/1.1 200 OK\r
+Content-Type: application/json\r
+Content-Length: 88\r
+Connection: close\r
+\r
+{\"answer\":\"gaps\",\"first\":1,\"greatest\":2,\"held\":0,\"missing\":[],\"next\":3,\"series\":\"north\"}
+
+== a price
+GET /articles/9781234567897/price?day=20250301&country=GB&currency=GBP&type=02 HTTP/1.1\r
+\r
+-- wanted
+HTTP/1.1 200 OK\r
+Content-Type: application/json\r
+Content-Length: 135\r
+Connection: close\r
+\r
+{\"answer\":\"price\",\"isbn\":\"9781234567897\",\"offers\":[{\"amount\":\"1.000\",\"availability\":\"21\",\"place\":1,\"reference\":\"R1\",\"series\":\"north\"}]}
+-- after
+HTTP/1.1 200 OK\r
+Content-Type: application/json\r
+Content-Length: 88\r
+Connection: close\r
+\r
+{\"answer\":\"gaps\",\"first\":1,\"greatest\":2,\"held\":0,\"missing\":[],\"next\":3,\"series\":\"north\"}
+
+== a choice
+GET /articles/9781234567897/choice?day=20250301&country=GB&currency=GBP&type=02 HTTP/1.1\r
+\r
+-- wanted
+HTTP/1.1 200 OK\r
+Content-Type: application/json\r
+Content-Length: 143\r
+Connection: close\r
+\r
+{\"answer\":\"choice\",\"choice\":{\"amount\":\"1.000\",\"availability\":\"21\",\"place\":1,\"reference\":\"R1\",\"rule\":2,\"series\":\"north\"},\"isbn\":\"9781234567897\"}
+-- after
+HTTP/1.1 200 OK\r
+Content-Type: application/json\r
+Content-Length: 88\r
+Connection: close\r
+\r
+{\"answer\":\"gaps\",\"first\":1,\"greatest\":2,\"held\":0,\"missing\":[],\"next\":3,\"series\":\"north\"}
+
+== a calendar
+GET /articles/9781234567897/calendar?from=20250301&to=20250331&country=GB&currency=GBP&type=02 HTTP/1.1\r
+\r
+-- wanted
+HTTP/1.1 200 OK\r
+Content-Type: application/json\r
+Content-Length: 187\r
+Connection: close\r
+\r
+{\"answer\":\"calendar\",\"isbn\":\"9781234567897\",\"offers\":[{\"availability\":\"21\",\"place\":1,\"reference\":\"R1\",\"series\":\"north\",\"spans\":[{\"amount\":\"1.000\",\"first\":\"20250301\",\"last\":\"20250331\"}]}]}
+-- after
+HTTP/1.1 200 OK\r
+Content-Type: application/json\r
+Content-Length: 88\r
+Connection: close\r
+\r
+{\"answer\":\"gaps\",\"first\":1,\"greatest\":2,\"held\":0,\"missing\":[],\"next\":3,\"series\":\"north\"}
+";

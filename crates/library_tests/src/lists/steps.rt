@@ -1,0 +1,295 @@
+// Fifteen requests: messages that are late, two behind a gap and an update behind a second one, other
+// contents of a number that waits, waivers of a number that waits and of one that is a gap, a drain up to
+// the second gap and one that begins with a waiver, a deletion, updates, products that change nothing,
+// repeats of what was applied, and what is refused of a number that was waived or had.
+
+use crate::lists::List;
+
+/// The list, with a report on gaps, a price and the catalogue.
+pub const STEPS: List<'static> = List {
+    name: "steps",
+    rules: "",
+    report: "AskGaps,north
+AskPrice,9781234567897,20250301,GB,GBP,02
+AskCatalogue,north
+",
+    before: "refused,unknown-series
+price,9781234567897,0
+refused,unknown-series
+",
+    requests: REQUESTS,
+};
+
+const REQUESTS: &str = "
+== the agreement
+Agree,north,06,4012345000009,06,5012345678900,1
+-- wanted
+agreed,north,1
+-- after
+gaps,north,first=1,next=1,greatest=,held=0,missing=0
+price,9781234567897,0
+catalogue,north,0
+
+== 3 comes before 1
+Message,1,06,4012345000009,06,5012345678900,3,1,20250301,02,GBP
+Product,R3,03,15,9781234567897
+ProductSupply,GB IE,,
+SupplyDetail,04,06,4012345000009,North Books,21,
+Price,,3,,,,,,
+EndMessage,5
+-- wanted
+held,north,3,waiting-for=1
+-- after
+gaps,north,first=1,next=1,greatest=3,held=1,missing=1
+missing,1,2
+price,9781234567897,0
+catalogue,north,0
+
+== 3 again with other contents
+Message,1,06,4012345000009,06,5012345678900,3,,,,
+EndMessage,1
+-- wanted
+refused,other-contents,north,3
+-- after
+gaps,north,first=1,next=1,greatest=3,held=1,missing=1
+missing,1,2
+price,9781234567897,0
+catalogue,north,0
+
+== 4 waits too
+Message,1,06,4012345000009,06,5012345678900,4,1,20250301,02,GBP
+Product,R4,03,15,9781234567897
+ProductSupply,GB IE,,
+SupplyDetail,04,06,4012345000009,North Books,21,
+Price,,4,,,,,,
+EndMessage,5
+-- wanted
+held,north,4,waiting-for=1
+-- after
+gaps,north,first=1,next=1,greatest=4,held=2,missing=1
+missing,1,2
+price,9781234567897,0
+catalogue,north,0
+
+== 5 is waived behind the gap
+Waive,north,5
+-- wanted
+waived,north,5
+-- after
+gaps,north,first=1,next=1,greatest=5,held=3,missing=1
+missing,1,2
+price,9781234567897,0
+catalogue,north,0
+
+== an update, 8, waits behind a second gap
+Message,1,06,4012345000009,06,5012345678900,8,1,20250301,02,GBP
+Product,R3,04,15,9781234567897
+ProductSupply,GB,,
+SupplyDetail,04,06,4012345000009,North Books,21,
+Price,,7,,,,,,
+EndMessage,5
+-- wanted
+held,north,8,waiting-for=1
+-- after
+gaps,north,first=1,next=1,greatest=8,held=4,missing=2
+missing,1,2
+missing,6,7
+price,9781234567897,0
+catalogue,north,0
+
+== 1 is applied and fills no gap
+Message,1,06,4012345000009,06,5012345678900,1,1,20250301,02,GBP
+Product,R1,03,15,9781234567897
+ProductSupply,GB IE,,
+SupplyDetail,04,06,4012345000009,North Books,21,
+Price,,1,,,,,,
+EndMessage,5
+-- wanted
+applied,north,1,replaced=1,updated=0,deleted=0,unknown=0,ignored=0
+-- after
+gaps,north,first=1,next=2,greatest=8,held=4,missing=2
+missing,2,2
+missing,6,7
+price,9781234567897,1
+offer,north,R1,1,21,1.000
+catalogue,north,1
+record,R1,15,9781234567897
+ProductSupply,GB IE,,
+SupplyDetail,04,06,4012345000009,North Books,21,
+Price,02,1.000,GBP,,WORLD,,,
+
+== 2 deletes and lets all up to the second gap be applied
+Message,1,06,4012345000009,06,5012345678900,2,1,20250301,,
+Product,R1,05,15,9781234567897
+EndMessage,2
+-- wanted
+applied,north,2,replaced=0,updated=0,deleted=1,unknown=0,ignored=0
+-- after
+gaps,north,first=1,next=6,greatest=8,held=1,missing=1
+missing,6,7
+price,9781234567897,2
+offer,north,R3,1,21,3.000
+offer,north,R4,1,21,4.000
+catalogue,north,2
+record,R3,15,9781234567897
+ProductSupply,GB IE,,
+SupplyDetail,04,06,4012345000009,North Books,21,
+Price,02,3.000,GBP,,WORLD,,,
+record,R4,15,9781234567897
+ProductSupply,GB IE,,
+SupplyDetail,04,06,4012345000009,North Books,21,
+Price,02,4.000,GBP,,WORLD,,,
+
+== 2 again, of another date
+Message,1,06,4012345000009,06,5012345678900,2,2,20250302,,
+Product,R1,05,15,9781234567897
+EndMessage,2
+-- wanted
+applied,north,2,replaced=0,updated=0,deleted=1,unknown=0,ignored=0
+-- after
+gaps,north,first=1,next=6,greatest=8,held=1,missing=1
+missing,6,7
+price,9781234567897,2
+offer,north,R3,1,21,3.000
+offer,north,R4,1,21,4.000
+catalogue,north,2
+record,R3,15,9781234567897
+ProductSupply,GB IE,,
+SupplyDetail,04,06,4012345000009,North Books,21,
+Price,02,3.000,GBP,,WORLD,,,
+record,R4,15,9781234567897
+ProductSupply,GB IE,,
+SupplyDetail,04,06,4012345000009,North Books,21,
+Price,02,4.000,GBP,,WORLD,,,
+
+== 6 updates and is applied alone
+Message,1,06,4012345000009,06,5012345678900,6,1,20250301,02,GBP
+Product,R3,04,15,9781234567897
+ProductSupply,,WORLD,
+SupplyDetail,04,06,4012345000009,North Books,20,
+Price,,8,,,,,,
+EndMessage,5
+-- wanted
+applied,north,6,replaced=0,updated=1,deleted=0,unknown=0,ignored=0
+-- after
+gaps,north,first=1,next=7,greatest=8,held=1,missing=1
+missing,7,7
+price,9781234567897,2
+offer,north,R3,1,20,8.000
+offer,north,R4,1,21,4.000
+catalogue,north,2
+record,R3,15,9781234567897
+ProductSupply,,WORLD,
+SupplyDetail,04,06,4012345000009,North Books,20,
+Price,02,8.000,GBP,,WORLD,,,
+record,R4,15,9781234567897
+ProductSupply,GB IE,,
+SupplyDetail,04,06,4012345000009,North Books,21,
+Price,02,4.000,GBP,,WORLD,,,
+
+== 7 is waived and lets 8 be applied
+Waive,north,7
+-- wanted
+waived,north,7
+-- after
+gaps,north,first=1,next=9,greatest=8,held=0,missing=0
+price,9781234567897,2
+offer,north,R3,1,21,7.000
+offer,north,R4,1,21,4.000
+catalogue,north,2
+record,R3,15,9781234567897
+ProductSupply,GB,,
+SupplyDetail,04,06,4012345000009,North Books,21,
+Price,02,7.000,GBP,,WORLD,,,
+record,R4,15,9781234567897
+ProductSupply,GB IE,,
+SupplyDetail,04,06,4012345000009,North Books,21,
+Price,02,4.000,GBP,,WORLD,,,
+
+== updates, a deletion and another type of which two are unknown
+Message,1,06,4012345000009,06,5012345678900,9,1,20250301,,
+Product,R3,04,15,9780000000002
+Product,R9,04,15,9780000000002
+Product,R9,05,15,9780000000002
+Product,R3,88,15,9780000000002
+EndMessage,5
+-- wanted
+applied,north,9,replaced=0,updated=1,deleted=0,unknown=2,ignored=1
+-- after
+gaps,north,first=1,next=10,greatest=9,held=0,missing=0
+price,9781234567897,2
+offer,north,R3,1,21,7.000
+offer,north,R4,1,21,4.000
+catalogue,north,2
+record,R3,15,9781234567897
+ProductSupply,GB,,
+SupplyDetail,04,06,4012345000009,North Books,21,
+Price,02,7.000,GBP,,WORLD,,,
+record,R4,15,9781234567897
+ProductSupply,GB IE,,
+SupplyDetail,04,06,4012345000009,North Books,21,
+Price,02,4.000,GBP,,WORLD,,,
+
+== 1 again changes nothing
+Message,1,06,4012345000009,06,5012345678900,1,1,20250301,02,GBP
+Product,R1,03,15,9781234567897
+ProductSupply,GB IE,,
+SupplyDetail,04,06,4012345000009,North Books,21,
+Price,,1,,,,,,
+EndMessage,5
+-- wanted
+applied,north,1,replaced=1,updated=0,deleted=0,unknown=0,ignored=0
+-- after
+gaps,north,first=1,next=10,greatest=9,held=0,missing=0
+price,9781234567897,2
+offer,north,R3,1,21,7.000
+offer,north,R4,1,21,4.000
+catalogue,north,2
+record,R3,15,9781234567897
+ProductSupply,GB,,
+SupplyDetail,04,06,4012345000009,North Books,21,
+Price,02,7.000,GBP,,WORLD,,,
+record,R4,15,9781234567897
+ProductSupply,GB IE,,
+SupplyDetail,04,06,4012345000009,North Books,21,
+Price,02,4.000,GBP,,WORLD,,,
+
+== 7 again, which was waived
+Message,1,06,4012345000009,06,5012345678900,7,,,,
+EndMessage,1
+-- wanted
+refused,waived,north,7
+-- after
+gaps,north,first=1,next=10,greatest=9,held=0,missing=0
+price,9781234567897,2
+offer,north,R3,1,21,7.000
+offer,north,R4,1,21,4.000
+catalogue,north,2
+record,R3,15,9781234567897
+ProductSupply,GB,,
+SupplyDetail,04,06,4012345000009,North Books,21,
+Price,02,7.000,GBP,,WORLD,,,
+record,R4,15,9781234567897
+ProductSupply,GB IE,,
+SupplyDetail,04,06,4012345000009,North Books,21,
+Price,02,4.000,GBP,,WORLD,,,
+
+== 9, which was had, is waived
+Waive,north,9
+-- wanted
+refused,had,north,9
+-- after
+gaps,north,first=1,next=10,greatest=9,held=0,missing=0
+price,9781234567897,2
+offer,north,R3,1,21,7.000
+offer,north,R4,1,21,4.000
+catalogue,north,2
+record,R3,15,9781234567897
+ProductSupply,GB,,
+SupplyDetail,04,06,4012345000009,North Books,21,
+Price,02,7.000,GBP,,WORLD,,,
+record,R4,15,9781234567897
+ProductSupply,GB IE,,
+SupplyDetail,04,06,4012345000009,North Books,21,
+Price,02,4.000,GBP,,WORLD,,,
+";

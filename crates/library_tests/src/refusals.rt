@@ -1,0 +1,74 @@
+// Memory that may be refused once in a test, by `bench/refused_memory`, which says so in the
+// environment. Where none is refused, a call that answers want of memory ends the test, and so does a
+// second one where one request was refused. The words by which a test ends that could not go on are
+// those of no fault.
+
+use crate::asking::End;
+use std::process::Abort;
+use std::rt::Env;
+
+/// How often a call may still lack memory.
+#[derive(Drop)]
+pub struct Refusals {
+    left: u32,
+}
+
+impl Refusals {
+    /// Once where `REFUSED` stands in the environment, else never.
+    pub fn of(rt: &impl Env) -> Refusals {
+        let mut text = [0u8; 32];
+        let is_told = rt.var("REFUSED", &mut text).is_ok();
+        Refusals {
+            left: u32::from(is_told),
+        }
+    }
+
+    /// Never.
+    pub fn none() -> Refusals {
+        Refusals { left: 0 }
+    }
+
+    /// A call lacked memory.
+    pub fn meet(&mut self, stop: &impl Abort) {
+        match self.left.checked_sub(1) {
+            Some(left) => self.left = left,
+            None => stop.panic("want of memory that no refusal explains"),
+        }
+    }
+
+    /// Whether a request ended by want of memory. A disk in memory that lacked it has lost what it had,
+    /// so that nothing can be compared.
+    pub fn has_met(&mut self, stop: &impl Abort, ended: End) -> bool {
+        match ended {
+            End::Memory => {
+                self.meet(stop);
+                true
+            }
+            End::Lost => {
+                self.meet(stop);
+                stop.panic("a disk in memory that could not grow")
+            }
+            _ => false,
+        }
+    }
+
+    /// What the test makes for itself.
+    pub fn own<T, E: Drop>(&mut self, stop: &impl Abort, made: Result<T, E>) -> T {
+        match made {
+            Ok(made) => made,
+            Err(_) => {
+                self.meet(stop);
+                stop.panic("refused to the test itself")
+            }
+        }
+    }
+}
+
+/// Whether the cases of this name are to be run: `CASES` names them in the environment, or nothing does.
+pub fn are_chosen(rt: &impl Env, name: &str) -> bool {
+    let mut text = [0u8; 32];
+    match rt.var("CASES", &mut text) {
+        Ok(length) => length == name.len() && text.starts_with(name.as_bytes()),
+        Err(_) => true,
+    }
+}

@@ -109,7 +109,7 @@ fn task_of<'a>(
 }
 
 // The database file, where one is named.
-fn database<'a>(matches: &ArgMatches<'a>) -> Option<Database<'a>> {
+fn database_of<'a>(matches: &ArgMatches<'a>) -> Option<Database<'a>> {
     let name = matches.get_str("db")?;
     let is_existing = matches.get_flag("existing");
     Some(Database { name, is_existing })
@@ -141,7 +141,7 @@ fn asked_for<'a>(alloc: Global, matches: &ArgMatches<'a>) -> Reading<'a> {
         return Reading::Wrong(String::new(alloc));
     };
     let rules = matches.get_str("rules");
-    let db = database(matches);
+    let db = database_of(matches);
     if name == "migrate" {
         return migration(rules, db);
     }

@@ -2,12 +2,14 @@
 
 import os
 import re
+import shutil
 import subprocess
 from pathlib import Path
 
 from program.room import SECONDS, Group, Outcome, Ran
 
-LAUNCHER = Path(__file__).resolve().parent.parent.parent / "bin/onixdesk"
+TESTS = Path(__file__).resolve().parent.parent
+LAUNCHER = TESTS.parent / "bin/onixdesk"
 
 # The program stands on three of the four crates.
 CRATES = "low: csv\nhigh: low toml\nbeside: low\nonixdesk: high low clap\n"
@@ -92,6 +94,30 @@ def a_second_start(room):
     yield Outcome("launcher: its builds", calls, "rt run -- --help\n" * 2)
 
 
+def a_stale_program(room):
+    """`--is-current` says by its status whether the program is of the sources, and builds none."""
+    make_repository(room, QUICK)
+    yield Outcome("launcher: no program", launch(room, "--is-current"), Ran(1))
+    launch(room, "help")
+    yield Outcome("launcher: a program of these sources", launch(room, "--is-current"), Ran(0))
+    room.path("crates/onixdesk/src/main.rt").write_text("fn main() { }\n")
+    yield Outcome("launcher: a program of other sources", launch(room, "--is-current"), Ran(1))
+    calls = room.path("calls").read_text()
+    yield Outcome("launcher: it builds none", calls, "rt run -- --help\n")
+
+
+def tests_of_a_stale_program(room):
+    """The tests refuse a program whose sources have changed."""
+    make_repository(room, QUICK)
+    for name in ("tests", "bench"):
+        shutil.copytree(TESTS.parent / name, room.path(name))
+    launch(room, "help")
+    room.path("crates/onixdesk/src/main.rt").write_text("fn main() { }\n")
+    done = subprocess.run([room.path("tests/run")], capture_output=True, timeout=SECONDS)
+    said = b"a source has changed since" in done.stderr
+    yield Outcome("tests/run: a program of other sources", (done.returncode, said), (2, True))
+
+
 def a_build_that_fails(room):
     make_repository(room, FAILING)
     came = launch(room, "help")
@@ -104,5 +130,7 @@ def a_build_that_fails(room):
 GROUPS = [
     Group("a first build", a_first_build),
     Group("a second start", a_second_start),
+    Group("a stale program", a_stale_program),
+    Group("tests of a stale program", tests_of_a_stale_program),
     Group("a build that fails", a_build_that_fails),
 ]

@@ -49,7 +49,11 @@ pub fn sell() -> u32
 impl Clone for Book {
     type Leaf = u32;
 
-    ghost invariant = { IsBook };
+    ghost is_clone = { IsBook };
+}
+
+impl Model for Book {
+    ghost view = { IsBound };
 }
 """
 

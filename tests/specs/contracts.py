@@ -12,6 +12,9 @@ IMPL = re.compile(r"impl\b(?:<.*?>)? ?(.* for )?(\w*)")
 # The name of a clause is none of a definition.
 LABEL = re.compile(r"(?<=ensures )\w+ (?={)|(?<=requires )\w+ (?={)")
 
+# How a type's private fields are seen as its value is for its own crate alone.
+MODEL = "Model for "
+
 MEMBER = re.compile(r"\s*(pub )?(?:const |unsafe )*(?:fn|ghost) (?!use )")
 
 
@@ -39,7 +42,7 @@ class Clauses:
         self.is_given = self.is_program or line.startswith("pub trait ")
         if found := IMPL.match(line):
             self.may_be = found[2] in self.types
-            self.is_given = self.is_program or (self.may_be and bool(found[1]))
+            self.is_given = self.is_program or (self.may_be and found[1] not in (None, MODEL))
 
     def of(self, text: str) -> str:
         kept, on = [], False

@@ -82,6 +82,17 @@ def comments(room):
     yield Outcome("specs: names of other files", came, wanted)
 
 
+def remarks(room):
+    for comment, wanted in [
+        ("how it ends. Written: these bytes. Stands: that list", "how it ends."),
+        ("A fault, or none. It is told. Left: what is left", "a fault, or none. It is told."),
+        ("L and then r: both", "L and then r: both."),
+        ("With `Ok` it ends.", "with `Ok` it ends."),
+        ("JSON of it", "JSON of it."),
+    ]:
+        yield Outcome(f"the remark of {comment!r}", page.remark(comment), wanted)
+
+
 def contracts(room):
     for is_open, types, wanted in [
         (True, {"Book"}, ["IsBook", "IsSold", "pays"]),
@@ -100,5 +111,6 @@ def contracts(room):
 GROUPS = [
     Group("the page of definitions", current),
     Group("the comments of specs/", comments),
+    Group("the remarks on definitions", remarks),
     Group("the names in public contracts", contracts),
 ]

@@ -2,7 +2,7 @@
 
 from program.room import Group, Outcome
 from specs import page
-from specs.contracts import Clauses
+from specs.contracts import Clauses, public_modules
 from specs.definitions import Name, imported, names_in, read_file
 
 SPECS = """\
@@ -94,6 +94,13 @@ def remarks(room):
 
 
 def contracts(room):
+    texts = {
+        "lib": "mod a;\npub mod b;\npub mod c;\n",
+        "a": "pub mod d;\n",
+        "b": "pub mod e;\nmod f;\n",
+        "b::e": "pub mod g;\n",
+    }
+    yield Outcome("modules that others see", public_modules(texts), ["lib", "b", "c", "b::e", "b::e::g"])
     for is_open, types, wanted in [
         (True, {"Book"}, ["IsBook", "IsSold", "pays"]),
         (True, set(), ["IsSold", "pays"]),

@@ -6,7 +6,7 @@ from program.room import Group, Outcome
 from specs.page import ROOT, crates
 
 # `crate::module::name`, or several names in braces; perhaps a type before them, perhaps clauses behind.
-REFERENCE = re.compile(r"`(\w+)::(\w+)::(?:([A-Z]\w+)::)?(?:(\w+)|{([\w, ]+)})(?:: ([\w, ]+))?`")
+REFERENCE = re.compile(r"`(\w+)::([a-z]\w*(?:::[a-z]\w*)*)::(?:([A-Z]\w+)::)?(?:(\w+)|{([\w, ]+)})(?:: ([\w, ]+))?`")
 
 WRONG_BODIES = "## Wrong bodies\n"
 
@@ -29,7 +29,7 @@ def item(source: str, name: str) -> str | None:
 def missing(reference: tuple[str, str, list[str], list[str]]) -> list[str]:
     """What a reference names that is not there."""
     crate, module, names, clauses = reference
-    path = ROOT / "crates" / crate / "src" / f"{module}.rt"
+    path = (ROOT / "crates" / crate / "src").joinpath(*module.split("::")).with_suffix(".rt")
     if not path.is_file():
         return [f"{crate}::{module}"]
     source = path.read_text(encoding="utf-8")

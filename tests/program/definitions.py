@@ -2,7 +2,7 @@
 
 from program.room import Group, Outcome
 from specs import page
-from specs.contracts import Clauses
+from specs.contracts import Clauses, public_modules
 from specs.definitions import Name, imported, names_in, read_file
 
 SPECS = """\
@@ -49,7 +49,11 @@ pub fn sell() -> u32
 impl Clone for Book {
     type Leaf = u32;
 
-    ghost invariant = { IsBook };
+    ghost is_clone = { IsBook };
+}
+
+impl Model for Book {
+    ghost view = { IsBound };
 }
 """
 
@@ -78,7 +82,25 @@ def comments(room):
     yield Outcome("specs: names of other files", came, wanted)
 
 
+def remarks(room):
+    for comment, wanted in [
+        ("how it ends. Written: these bytes. Stands: that list", "how it ends."),
+        ("A fault, or none. It is told. Left: what is left", "a fault, or none. It is told."),
+        ("L and then r: both", "L and then r: both."),
+        ("With `Ok` it ends.", "with `Ok` it ends."),
+        ("JSON of it", "JSON of it."),
+    ]:
+        yield Outcome(f"the remark of {comment!r}", page.remark(comment), wanted)
+
+
 def contracts(room):
+    texts = {
+        "lib": "mod a;\npub mod b;\npub mod c;\n",
+        "a": "pub mod d;\n",
+        "b": "pub mod e;\nmod f;\n",
+        "b::e": "pub mod g;\n",
+    }
+    yield Outcome("modules that others see", public_modules(texts), ["lib", "b", "c", "b::e", "b::e::g"])
     for is_open, types, wanted in [
         (True, {"Book"}, ["IsBook", "IsSold", "pays"]),
         (True, set(), ["IsSold", "pays"]),
@@ -96,5 +118,6 @@ def contracts(room):
 GROUPS = [
     Group("the page of definitions", current),
     Group("the comments of specs/", comments),
+    Group("the remarks on definitions", remarks),
     Group("the names in public contracts", contracts),
 ]

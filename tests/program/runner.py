@@ -20,6 +20,7 @@ from program import (
     launcher,
     measured,
     migrations,
+    references,
     rules_files,
 )
 from program.room import Group, Outcome, Room
@@ -38,6 +39,7 @@ MODULES = [
     desks,
     damage,
     migrations,
+    references,
     examples,
     launcher,
     measured,

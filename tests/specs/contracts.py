@@ -5,6 +5,8 @@ from pathlib import Path
 
 from specs.definitions import Name, imported, names_in
 
+MODULE = re.compile(r"^pub mod (\w+);", re.M)
+
 TYPE = re.compile(r"pub (?:struct|enum) (\w+)")
 
 IMPL = re.compile(r"impl\b(?:<.*?>)? ?(.* for )?(\w*)")
@@ -12,12 +14,28 @@ IMPL = re.compile(r"impl\b(?:<.*?>)? ?(.* for )?(\w*)")
 # The name of a clause is none of a definition.
 LABEL = re.compile(r"(?<=ensures )\w+ (?={)|(?<=requires )\w+ (?={)")
 
+# How a type's private fields are seen as its value is for its own crate alone.
+MODEL = "Model for "
+
 MEMBER = re.compile(r"\s*(pub )?(?:const |unsafe )*(?:fn|ghost) (?!use )")
 
 
-def public_modules(root: str) -> list[str]:
-    """The modules that other crates see, by the text of a library's root file."""
-    return ["lib", *re.findall(r"^pub mod (\w+);", root, re.M)]
+def modules(folder: Path) -> dict[str, str]:
+    """The text of each module of a crate, by its path, as `rows::prices`; that of the crate is `lib` or `main`."""
+    source = folder / "src"
+    return {
+        "::".join(path.relative_to(source).with_suffix("").parts): path.read_text(encoding="utf-8")
+        for path in source.rglob("*.rt")
+    }
+
+
+def public_modules(texts: dict[str, str]) -> list[str]:
+    """The modules of a library that other crates see."""
+    found = ["lib"]
+    for module in found:
+        inside = "" if module == "lib" else f"{module}::"
+        found += [inside + name for name in MODULE.findall(texts.get(module, ""))]
+    return found
 
 
 class Clauses:
@@ -39,7 +57,7 @@ class Clauses:
         self.is_given = self.is_program or line.startswith("pub trait ")
         if found := IMPL.match(line):
             self.may_be = found[2] in self.types
-            self.is_given = self.is_program or (self.may_be and bool(found[1]))
+            self.is_given = self.is_program or (self.may_be and found[1] not in (None, MODEL))
 
     def of(self, text: str) -> str:
         kept, on = [], False
@@ -59,9 +77,9 @@ class Clauses:
 
 def cited_by(folder: Path) -> set[Name]:
     """The definitions that the public contracts of a crate name."""
-    texts = {path.stem: path.read_text(encoding="utf-8") for path in (folder / "src").glob("*.rt")}
+    texts = modules(folder)
     is_program = "main" in texts
-    opened = public_modules(texts.get("lib", ""))
+    opened = public_modules(texts)
     types = {name for module in opened for name in TYPE.findall(texts.get(module, ""))}
     found = set()
     for module, text in texts.items():

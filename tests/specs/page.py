@@ -1,5 +1,6 @@
 """docs/DEFINITIONS.md, as the comments of specs/ have it."""
 
+import re
 from pathlib import Path
 
 from specs.contracts import cited_by
@@ -8,6 +9,8 @@ from specs.definitions import File, Name, read_crate
 ROOT = Path(__file__).resolve().parent.parent.parent
 
 PAGE = ROOT / "docs/DEFINITIONS.md"
+
+PARAMETER = re.compile(r"(?<=\.) [A-Z]\w+: [^.]*\.?")
 
 INTRODUCTION = """\
 # Definitions
@@ -45,7 +48,11 @@ def reached(cited: set[Name], files: list[File]) -> set[Name]:
 
 
 def remark(comment: str) -> str:
-    """A comment as it stands behind a name and a colon."""
+    """A comment as it stands behind a name and a colon.
+
+    What it says of parameters, as in `Written: these bytes were written`, is for readers of the file,
+    who see them."""
+    comment = PARAMETER.sub("", comment)
     first = comment.split()[0]
     begins_sentence = first == "A" or first[1:].islower()
     said = comment[0].lower() + comment[1:] if begins_sentence else comment

@@ -29,7 +29,7 @@ pub record Served (rules : List Rule) (may_give : StoreFault → Type 0) (L : Li
   pub status_is : status ≡ reply.status
   pub text : written (reply_text reply)
 
--- An input got no reply. Taken: the desk has answered what the input asks for; else it was not asked, or had a fault. Sent: what the input is, where that is known
+-- an input got no reply: the desk stands for L, or where it has answered for L with the request that the input asks for. Taken: the desk has answered what the input asks for; else it was not asked, or had a fault. Sent: what the input is, where that is known
 abbrev pub Unsent : List Request → Option (List ℕ) → (List Request → Type 0) → Bool → Type 0
 Unsent L sent stands false = stands L
 Unsent L sent stands true = (r : Request) × IfSome sent (λ input. Asks input (Ok r)) × stands (r ∷ L)

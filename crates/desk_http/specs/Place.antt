@@ -22,7 +22,7 @@ pub record IsSegment (part : List ℕ) : Type 0 where
   pub some : 0 < length part
   pub no_slash : All (λ b. b ≢ 47) part
 
--- the part in a place's path
+-- the part in a place's path is one segment that is not empty
 abbrev pub HasSegment : Place → Type 0
 HasSegment messages = ⊤
 HasSegment (price isbn) = IsSegment isbn

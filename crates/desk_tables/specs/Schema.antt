@@ -120,7 +120,7 @@ price_minimum_table tree = strict_table (codes "price_minimum") tree
 abbrev pub price_minimum_definition : List ℕ
 price_minimum_definition = codes "CREATE TABLE price_minimum (series TEXT NOT NULL, reference TEXT NOT NULL, place INTEGER NOT NULL, price_place INTEGER NOT NULL, minimum INTEGER NOT NULL, PRIMARY KEY (series, reference, place, price_place), FOREIGN KEY (series, reference, place, price_place) REFERENCES price (series, reference, place, price_place) ON DELETE CASCADE) STRICT"
 
--- the schema after each CREATE, in turn
+-- the schema of no table; those behind it are the schema after each CREATE, in turn
 abbrev pub schema_0 : Schema
 schema_0 = record { tables = []; indexes = []; views = [] }
 

@@ -27,7 +27,7 @@ ReadFits text (Err (fault.Request f)) = ⊥
 abbrev pub IsUnasked : DeliveryFault → Type 0
 IsUnasked f = (f ≡ fault.Unreadable) ⊎ (f ≡ fault.Records record_fault.Memory)
 
--- how the delivery of a text after L can end. Written: these bytes were written. Stands: the desk stands for that list
+-- how the delivery of a text after L can end: as one request, or before anything was asked, where the text has no records or cannot be read. Written: these bytes were written. Stands: the desk stands for that list
 abbrev pub DeliveryFits : List Rule → List Request → List ℕ → (List ℕ → Type 0) → (List Request → Type 0) → Result Bool DeliveryFault → Type 0
 DeliveryFits rules L text written stands (Ok b) = HasRecords text × RequestFits rules L (delivery_of text) written stands (Ok b)
 DeliveryFits rules L text written stands (Err (fault.Request f)) = HasRecords text × RequestFits rules L (delivery_of text) written stands (Err f)

@@ -44,7 +44,7 @@ IsWritten L name written status =
 abbrev pub IsCut : List Request → Option (List ℕ) → (List ℕ → Type 0) → ℕ → Type 0
 IsCut L name written status = (status ≡ 3) × ((part rest : List ℕ) × (part ++ rest ≡ text_of (gaps_named L name)) × written part)
 
--- how the command can end after L. The question changes nothing that the desk stands for
+-- how the command can end after L: with the answer written and 0, or 1 for a refusal, or with a first part of it and 3. The question changes nothing that the desk stands for
 abbrev pub GapsEnd : List Request → Option (List ℕ) → (List ℕ → Type 0) → (List Request → Type 0) → ℕ → Type 0
 GapsEnd L name written stands status =
     (IsWritten L name written status ⊎ IsCut L name written status) × (stands L ⊎ stands (with_question L name))

@@ -8,7 +8,7 @@ abbrev pub migration_line : MigrateAnswer → List ℕ
 migration_line Migrated = codes "migrated\n"
 migration_line AlreadyTwo = codes "schema 2\n"
 
--- how the command can end. IsDone: a migration with that answer was done. Written: these bytes were written
+-- how the command can end: with 0 and the line of an answer written, or with 3 and nothing or a first part of that line. IsDone: a migration with that answer was done. Written: these bytes were written
 abbrev pub MigrationEnd : (MigrateAnswer → Type 0) → (List ℕ → Type 0) → ℕ → Type 0
 MigrationEnd is_done written status =
     ((answer : MigrateAnswer) × is_done answer × written (migration_line answer) × (status ≡ 0))

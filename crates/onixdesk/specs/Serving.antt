@@ -12,7 +12,7 @@ use Rattle.desk_http.specs.declared.exchange.HttpFault.{HttpFault}
 use Rattle.desk_http.specs.declared.exchange.HttpFault.TheVariants as fault
 
 -- how the exchange of a connection can end after L. Sent: what the client sends, where that is known. Stands: the
--- desk stands for that list. What the client was sent went from was to holds
+-- desk stands for that list. What the client was sent went from `was` to `holds`
 abbrev pub ExchangeEnds : List Rule → (StoreFault → Type 0) → List Request → Option (List ℕ) → (List Request → Type 0) → Option (List ℕ) → Option (List ℕ) → Result ℕ HttpFault → Type 0
 ExchangeEnds rules may_give L sent stands was holds (Ok status) =
     IfSome sent (λ input. Served rules may_give L input stands (Appends was holds) status)

@@ -1,0 +1,74 @@
+"""What the documents name of the crates, which is to be there."""
+
+import re
+
+from program.room import Group, Outcome
+from specs.page import ROOT, crates
+
+# `crate::module::name`, or several names in braces; perhaps a type before them, perhaps clauses behind.
+REFERENCE = re.compile(r"`(\w+)::([a-z]\w*(?:::[a-z]\w*)*)::(?:([A-Z]\w+)::)?(?:(\w+)|{([\w, ]+)})(?:: ([\w, ]+))?`")
+
+WRONG_BODIES = "## Wrong bodies\n"
+
+
+def references(text: str) -> list[tuple[str, str, list[str], list[str]]]:
+    """Crate, module, names and clauses of each reference of a text."""
+    found = []
+    for crate, module, kind, one, several, clauses in REFERENCE.findall(text):
+        names = [name for name in [kind, *(one or several).split(", ")] if name]
+        found.append((crate, module, names, clauses.split(", ") if clauses else []))
+    return found
+
+
+def item(source: str, name: str) -> str | None:
+    """The text of a source file from the last item of that name on, up to the next body."""
+    found = list(re.finditer(rf"\b(?:fn|struct|enum|trait|ghost) {name}\b", source))
+    return re.split(r"\n\s*{}?\n", source[found[-1].start() :])[0] if found else None
+
+
+def missing(reference: tuple[str, str, list[str], list[str]]) -> list[str]:
+    """What a reference names that is not there."""
+    crate, module, names, clauses = reference
+    path = (ROOT / "crates" / crate / "src").joinpath(*module.split("::")).with_suffix(".rt")
+    if not path.is_file():
+        return [f"{crate}::{module}"]
+    source = path.read_text(encoding="utf-8")
+    lost = [name for name in names if item(source, name) is None]
+    if lost:
+        return lost
+    return [
+        f"{name}: {clause}"
+        for name in names
+        if not name[0].isupper()
+        for clause in clauses
+        if not re.search(rf"\bensures\*? {clause} ", item(source, name))
+    ]
+
+
+def proofs(room):
+    text = (ROOT / "docs/PROOFS.md").read_text(encoding="utf-8")
+    for reference in references(text):
+        crate, module, names, _ = reference
+        yield Outcome(f"docs/PROOFS.md: {crate}::{module}::{names}", missing(reference), [])
+    found = sum(len(names) for _, _, names, _ in references(text))
+    yield Outcome("docs/PROOFS.md: each path is one reference", "::" in REFERENCE.sub("", text), False)
+    yield Outcome("docs/PROOFS.md names functions", found > 0, True)
+
+
+def wrong_bodies(room):
+    """Each edit has its line in the README of its crate, and each line its edit."""
+    for crate in crates(ROOT):
+        folders = (ROOT / "crates" / crate / "must-fail", ROOT / "wrong-bodies" / crate)
+        edits = {path.stem for folder in folders for path in folder.glob("*.edit")}
+        readme = ROOT / "crates" / crate / "README.md"
+        text = readme.read_text(encoding="utf-8") if readme.is_file() else ""
+        told = text.partition(WRONG_BODIES)[2]
+        unnamed = [name for name in sorted(edits) if f"`{name}`" not in told]
+        gone = [name for name in re.findall(r"`(\w+)`:", told) if name not in edits]
+        yield Outcome(f"crates/{crate}/README.md: its wrong bodies", (unnamed, gone), ([], []))
+
+
+GROUPS = [
+    Group("the clauses that docs/PROOFS.md names", proofs),
+    Group("the wrong bodies that READMEs name", wrong_bodies),
+]

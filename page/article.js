@@ -7,7 +7,7 @@ import { ask, isAbandoned } from "./desk.js";
 import { element } from "./elements.js";
 import { dayKeys, rangeKeys, readAll } from "./fields.js";
 import { choiceInWords, countInWords, keyOf, offersTable } from "./offers.js";
-import { codeInWords, codesOf, LANGUAGE, say, sayCount } from "./wording.js";
+import { codeInWords, codesOf, LANGUAGE, say, sayCount, wordsOfCode } from "./wording.js";
 
 const ASKED = ["isbn", "day", "quantity", "country", "currency", "type"];
 const RANGE = ["from", "until"];
@@ -61,6 +61,11 @@ function explain(name) {
   found(`${name}-words`).textContent = words ?? "";
 }
 
+/** Writes below the price type its words, which a narrow screen cuts off in the field. */
+function explainType() {
+  found("type-words").textContent = wordsOfCode("priceTypes", found("type").value) ?? "";
+}
+
 /** Offers the types that have words, and one more where the address or desk.json names it. */
 function fillTypes(chosen) {
   const codes = codesOf("priceTypes");
@@ -87,6 +92,7 @@ function fill(given, settings) {
   for (const name of [...ASKED, ...RANGE]) found(name).value = texts[name];
   explain("country");
   explain("currency");
+  explainType();
 }
 
 function textsOf(fields) {
@@ -148,6 +154,7 @@ export class Article {
     for (const name of ["country", "currency"]) {
       found(name).addEventListener("input", () => explain(name));
     }
+    found("type").addEventListener("change", explainType);
     for (const [id, move] of Object.entries(MOVES)) {
       found(id).addEventListener("click", () => this.#move(move));
     }
@@ -246,7 +253,8 @@ export class Article {
     );
     found("article-status").replaceChildren(...status);
     found("asked").textContent = questionInWords(question);
-    const rows = offersTable(offers, choice, question, this.#settings);
+    found("answer-heading").textContent = say("article.offers", { day: inWords(question.day) });
+    const rows = offersTable("answer-heading", offers, choice, question.currency, this.#settings);
     found("offers").replaceChildren(...(offers.length > 0 ? [rows] : []));
     found("answer").hidden = false;
   }
@@ -265,7 +273,7 @@ export class Article {
     this.#calendar = { offers, question, chosen: choice === null ? undefined : keyOf(choice) };
     found("calendar").hidden = offers.length === 0;
     found("calendar-asked").textContent = legendOf(question);
-    found("spans").replaceChildren(calendarTable(offers, question, this.#settings));
+    found("spans").replaceChildren(calendarTable("spans-heading", offers, question, this.#settings));
     this.#draw();
   }
 

@@ -57,13 +57,31 @@ function barOf(span, scale, currency) {
     drawn("title", {}, title),
   );
   Object.assign(shape.dataset, { first: span.first, last: span.last, amount: span.amount });
-  return { shape, text: span.amount.replace(/0$/, ""), middle: (left + right) / 2, room: right - left };
+  return { shape, text: span.amount.replace(/0$/, ""), left, right, middle: (left + right) / 2 };
 }
 
-function dayLine({ day, from, until }, scale, height) {
-  if (day < from || day > until) return [];
-  const x = scale.at(day, 0.5);
+/** Where the day asked for lies, in its middle, or `undefined` where that is outside the range. */
+function placeOfDay({ day, from, until }, scale) {
+  return from <= day && day <= until ? scale.at(day, 0.5) : undefined;
+}
+
+function dayLine(x, height) {
+  if (x === undefined) return [];
   return [drawn("line", { class: "day", x1: x, x2: x, y1: 0, y2: height })];
+}
+
+/** Where the middle of a bar's text lies, clear of the line of the day; `undefined` without room. */
+function placeInside({ text, left, right, middle }, line) {
+  const need = width(text) + SIGN;
+  if (need > right - left) return undefined;
+  if (line === undefined || Math.abs(line - middle) > need / 2) return middle;
+  const isLeft = line - left > right - line;
+  const [start, end] = isLeft ? [left, line] : [line, right];
+  return need <= end - start ? (isLeft ? end - need / 2 : start + need / 2) : undefined;
+}
+
+function amountText(x, y, text) {
+  return drawn("text", { class: "amount", x, y, "text-anchor": "middle" }, text);
 }
 
 function svg(whole, height, className, ...children) {
@@ -71,25 +89,34 @@ function svg(whole, height, className, ...children) {
   return drawn("svg", { ...size, class: className, "aria-hidden": "true" }, ...children);
 }
 
-function lane(offer, question, scale) {
-  const bars = offer.spans.map((span) => barOf(span, scale, question.currency));
-  const isInside = ({ text, room }) => width(text) + SIGN <= room;
-  const texts = bars.filter(({ text }) => text !== undefined);
-  const inside = texts.filter(isInside).map(({ text, middle }) =>
-    drawn("text", { class: "amount", x: middle, y: BAR / 2 + 5, "text-anchor": "middle" }, text),
-  );
-  const { placed, rows } = placeBelow(texts.filter((bar) => !isInside(bar)), scale.whole);
-  const below = placed.flatMap(({ text, middle, x, row }) => {
+/** The texts below the bars, each with a line that points at its bar. */
+function textsBelow(placed) {
+  return placed.flatMap(({ text, middle, x, row }) => {
     const y = BAR + BELOW * (row + 1);
     const pointer = { class: "pointer", x1: middle, x2: middle, y1: BAR, y2: y - BELOW + 4 };
-    return [
-      drawn("line", pointer),
-      drawn("text", { class: "amount", x: x + width(text) / 2, y, "text-anchor": "middle" }, text),
-    ];
+    return [drawn("line", pointer), amountText(x + width(text) / 2, y, text)];
   });
+}
+
+function lane(offer, question, scale) {
+  const line = placeOfDay(question, scale);
+  const bars = offer.spans.map((span) => barOf(span, scale, question.currency));
+  const texts = bars
+    .filter(({ text }) => text !== undefined)
+    .map((bar) => ({ ...bar, inside: placeInside(bar, line) }));
+  const inside = texts.filter((bar) => bar.inside !== undefined);
+  const outside = texts.filter((bar) => bar.inside === undefined);
+  const { placed, rows } = placeBelow(outside, scale.whole);
   const height = BAR + BELOW * rows + 4;
-  const line = dayLine(question, scale, height);
-  return svg(scale.whole, height, "lane", ...bars.map(({ shape }) => shape), ...line, ...inside, ...below);
+  return svg(
+    scale.whole,
+    height,
+    "lane",
+    ...bars.map(({ shape }) => shape),
+    ...dayLine(line, BAR + 4),
+    ...inside.map(({ text, inside: x }) => amountText(x, BAR / 2 + 5, text)),
+    ...textsBelow(placed),
+  );
 }
 
 function axis(question, scale) {
@@ -106,7 +133,7 @@ function axis(question, scale) {
     drawn("text", { class: "end", x: scale.whole, y: AXIS - 4, "text-anchor": "end" }, dayInShort(question.until)),
   ];
   const base = drawn("line", { class: "tick", x1: 0, x2: scale.whole, y1: 0.5, y2: 0.5 });
-  return svg(scale.whole, AXIS, "axis", base, ...ticks, ...ends, ...dayLine(question, scale, 5));
+  return svg(scale.whole, AXIS, "axis", base, ...ticks, ...ends, ...dayLine(placeOfDay(question, scale), 5));
 }
 
 function laneName(offer, settings) {
@@ -155,10 +182,10 @@ function rowsOf(offer, currency, settings) {
   }));
 }
 
-/** The calendar as a table with a row for each span. */
-export function calendarTable(offers, { currency }, settings) {
+/** The calendar as a table with a row for each span, named by the heading with that id. */
+export function calendarTable(heading, offers, { currency }, settings) {
   return table(
-    say("calendar.table"),
+    heading,
     ["offer", "first", "last", "price"].map((name) => say(`calendar.${name}`)),
     offers.flatMap((offer) => rowsOf(offer, currency, settings)),
   );

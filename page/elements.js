@@ -28,10 +28,11 @@ function cell(column, content, isFirst) {
 }
 
 /**
- * A table. `rows` are objects of `cells`, a list of children for each column, and `className`.
- * The roles are written out, since a table that is laid out in blocks on a narrow screen loses them.
+ * A table, named by the heading with that id. `rows` are objects of `cells`, a list of children for
+ * each column, and `className`. The roles are written out, since a table that is laid out in blocks on a
+ * narrow screen loses them.
  */
-export function table(caption, columns, rows) {
+export function table(heading, columns, rows) {
   const heads = columns.map((name) => element("th", { role: "columnheader", scope: "col" }, name));
   const body = rows.map(({ cells, className }) =>
     element(
@@ -42,8 +43,7 @@ export function table(caption, columns, rows) {
   );
   return element(
     "table",
-    { role: "table" },
-    element("caption", {}, caption),
+    { role: "table", "aria-labelledby": heading },
     element("thead", { role: "rowgroup" }, element("tr", { role: "row" }, ...heads)),
     element("tbody", { role: "rowgroup" }, ...body),
   );

@@ -2,7 +2,7 @@
 
 import { ask, isAbandoned } from "./desk.js";
 import { element } from "./elements.js";
-import { seriesInWords } from "./settings.js";
+import { seriesInWords, wholesalerOf } from "./settings.js";
 import { strip, stripLegend } from "./strip.js";
 import { LANGUAGE, say, sayCount } from "./wording.js";
 
@@ -162,8 +162,9 @@ export class Missing {
     const lacking = reports.filter(({ missing }) => missing.length > 0);
     const count = lacking.reduce((sum, { missing }) => sum + allOf(missing), 0);
     const messages = sayCount("missing.messages", count);
+    const wholesalers = lacking.map(({ series }) => wholesalerOf(this.#settings, series)).join(", ");
     const sentences = lacking.length > 0
-      ? [sayCount("missing.someMissing", lacking.length, { messages })]
+      ? [sayCount("missing.someMissing", lacking.length, { messages, wholesalers })]
       : [];
     const without = outcomes.length - reports.length;
     if (without > 0) sentences.push(sayCount("missing.notAsked", without));
@@ -182,7 +183,9 @@ export class Missing {
       const part = outcome.kind === "answer"
         ? reportPart(outcome.body, series, pixels)
         : refusalPart(outcome, series);
+      const hadFocus = place.contains(document.activeElement);
       place.replaceChildren(...part);
+      if (hadFocus) place.querySelector("button")?.focus();
     }
   }
 }

@@ -1,6 +1,5 @@
 // The offers of a day: which one the shop chooses, and the table of all.
 
-import { inWords } from "./days.js";
 import { element, table } from "./elements.js";
 import { seriesInWords, wholesalerOf } from "./settings.js";
 import { codeInWords, say, sayCount } from "./wording.js";
@@ -55,11 +54,11 @@ function rowOf(offer, choice, currency, settings) {
   };
 }
 
-/** The table of all offers on a day. */
-export function offersTable(offers, choice, { day, currency }, settings) {
+/** The table of all offers on a day, named by the heading with that id. */
+export function offersTable(heading, offers, choice, currency, settings) {
   const columns = ["wholesaler", "reference", "availability", "price", "choice"];
   return table(
-    say("article.offers", { day: inWords(day) }),
+    heading,
     columns.map((name) => say(`article.${name}`)),
     offers.map((offer) => rowOf(offer, choice, currency, settings)),
   );

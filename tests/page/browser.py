@@ -33,7 +33,6 @@ def options() -> Options:
         "--disable-gpu",
         "--ignore-certificate-errors",
         "--disable-background-networking",
-        "--lang=en-GB",
         f"--host-resolver-rules={names}",
     ]:
         chosen.add_argument(word)

@@ -111,10 +111,12 @@ class Site:
         return text
 
     def start_nginx(self):
-        self.nginx = subprocess.Popen(["nginx", "-e", self.room.path("error.log"), "-c", self.room.path("nginx.conf")])
+        words = ["-e", self.room.path("error.log"), "-c", self.room.path("nginx.conf")]
+        self.nginx = subprocess.Popen(["nginx", *words], stdin=subprocess.DEVNULL)
         wait_until(lambda: listens(self.port))
 
     def stop_nginx(self):
+        """By its own signal, so that its workers end too."""
         self.nginx.terminate()
         self.nginx.wait()
 
@@ -199,7 +201,7 @@ def running(room: Room):
         site.start_nginx()
         yield site
     finally:
-        for process in (site.nginx, site.desk):
-            if process is not None:
-                process.kill()
-                process.wait()
+        if site.nginx is not None:
+            site.stop_nginx()
+        if site.desk is not None:
+            site.stop_desk()

@@ -1,0 +1,33 @@
+"""The pictures of the documents, taken anew."""
+
+import base64
+
+from page.site import ROOT
+from page.week import article
+from program.room import Outcome
+
+PICTURES = {
+    "page-article.png": (article(quantity="10", **{"from": "2025-03-25", "until": "2025-06-30"}), "#picture svg"),
+    "page-missing.png": ("#missing", "#report-west p"),
+}
+WIDTH = 900
+MOST_BYTES = 150_000
+
+
+def taken(site, browser):
+    for name, (address, last) in PICTURES.items():
+        browser.size(WIDTH, 700)
+        browser.open(address)
+        browser.wait(lambda: browser.all(last))
+        # What changes from run to run has no place in a picture that is kept.
+        browser.run("document.getElementById('as-of').textContent = 'As of 09:30:00; asked again each minute.'")
+        height = browser.run("return Math.ceil(document.querySelector('main').getBoundingClientRect().bottom)")
+        browser.size(WIDTH, height + 10)
+        shot = browser.driver.execute_cdp_cmd("Page.captureScreenshot", {"format": "png"})
+        data = base64.b64decode(shot["data"])
+        (ROOT / "docs" / name).write_bytes(data)
+        yield Outcome(f"{name} is no more than {MOST_BYTES} bytes", len(data) <= MOST_BYTES, True)
+    browser.size(1100, 900)
+
+
+CASES = [taken]

@@ -144,6 +144,7 @@ export class Article {
   #watch;
   #asking = new AbortController();
   #calendar;
+  #answered;
   #given = {};
 
   constructor(settings, watch) {
@@ -188,13 +189,21 @@ export class Article {
     found("article-status").replaceChildren();
     found("answer").hidden = true;
     found("calendar").hidden = true;
+    found("picture").replaceChildren();
+    found("spans").replaceChildren();
     this.#calendar = undefined;
+    this.#answered = undefined;
   }
 
+  /** Goes to the address of a question; where the page is there already, it is asked anew. */
   #go(given) {
     const address = addressOf("article", given);
-    if (location.hash === address) this.show(given);
-    else location.hash = address;
+    if (location.hash !== address) {
+      location.hash = address;
+      return;
+    }
+    this.#answered = undefined;
+    this.show(given);
   }
 
   #submit(event) {
@@ -224,21 +233,32 @@ export class Article {
   }
 
   async #ask() {
-    this.#clear();
     const { values, problems } = readAll(textsOf([...ASKED, ...RANGE]));
+    const asked = JSON.stringify(ASKED.map((name) => values[name]));
+    // Where only the range is another one, the offers stay, and the buttons with the focus.
+    if (this.#answered?.asked !== asked) this.#clear();
     if (!markAll(ASKED, problems)) return;
     this.#asking = new AbortController();
     const { signal } = this.#asking;
-    found("article-status").replaceChildren(say("article.asking"));
     try {
-      const day = await askDay(values, signal, this.#watch);
-      this.#showDay(day, values);
-      if (day.refusal !== undefined) return;
-      found("calendar").hidden = false;
-      if (markAll(RANGE, problems)) await this.#askCalendar(values, day.choice, signal);
+      if (this.#answered === undefined) {
+        const day = await this.#askForDay(values, signal);
+        if (day === undefined) return;
+        this.#answered = { asked, choice: day.choice };
+        found("calendar").hidden = day.offers.length === 0;
+      }
+      if (markAll(RANGE, problems)) await this.#askCalendar(values, signal);
     } catch (fault) {
       if (!isAbandoned(fault)) throw fault;
     }
+  }
+
+  /** The offers and the choice, once they are shown; `undefined` where they were refused. */
+  async #askForDay(question, signal) {
+    found("article-status").replaceChildren(say("article.asking"));
+    const day = await askDay(question, signal, this.#watch);
+    this.#showDay(day, question);
+    return day.refusal === undefined ? day : undefined;
   }
 
   #showDay({ refusal, offers, choice }, question) {
@@ -259,19 +279,20 @@ export class Article {
     found("answer").hidden = false;
   }
 
-  async #askCalendar(question, choice, signal) {
+  async #askCalendar(question, signal) {
+    const path = `articles/${question.isbn}/calendar`;
+    const outcome = await ask(path, rangeKeys(question), signal, this.#watch);
     found("picture").replaceChildren();
     found("spans").replaceChildren();
     found("calendar-asked").textContent = "";
-    const path = `articles/${question.isbn}/calendar`;
-    const outcome = await ask(path, rangeKeys(question), signal, this.#watch);
+    this.#calendar = undefined;
     if (outcome.kind !== "answer") {
       refuse(outcome);
       return;
     }
     const { offers } = outcome.body;
+    const { choice } = this.#answered;
     this.#calendar = { offers, question, chosen: choice === null ? undefined : keyOf(choice) };
-    found("calendar").hidden = offers.length === 0;
     found("calendar-asked").textContent = legendOf(question);
     found("spans").replaceChildren(calendarTable("spans-heading", offers, question, this.#settings));
     this.#draw();

@@ -4,7 +4,7 @@ import { dayInShort, fromDesk, inWords, numberOf, ticksOf } from "./days.js";
 import { drawn, element, table } from "./elements.js";
 import { keyOf, money, referenceOf } from "./offers.js";
 import { seriesInWords } from "./settings.js";
-import { codeInWords, say } from "./wording.js";
+import { codeInWords, say, sayCount } from "./wording.js";
 
 // Lengths in pixels. A sign's width is that of a wide digit in the picture's font.
 const SIGN = 8;
@@ -161,7 +161,7 @@ export function calendarPicture(offers, question, chosen, settings, whole) {
     );
   });
   const days = { from: inWords(question.from), until: inWords(question.until) };
-  const label = say("calendar.picture", { offers: offers.length, ...days });
+  const label = sayCount("calendar.picture", offers.length, days);
   return element("div", { role: "img", "aria-label": label }, ...lanes, axis(question, scale));
 }
 

@@ -59,7 +59,10 @@ export const texts = {
     later: "Later",
     month: "A month",
     year: "A year",
-    picture: "Prices of {offers} from {from} to {until}, drawn to scale. The table below says the same.",
+    picture: {
+      one: "Prices of 1 offer from {from} to {until}, drawn to scale. The table below says the same.",
+      other: "Prices of {count} offers from {from} to {until}, drawn to scale. The table below says the same.",
+    },
     lane: "{wholesaler}, {reference}, {availability}",
     chosenLane: "{lane} – chosen on {day}",
     span: "{amount}, {from} to {until}",

@@ -139,7 +139,6 @@ def values_after(browser, id: str) -> list[str]:
     before = browser.run("return location.hash")
     browser.one(f"#{id}").click()
     browser.wait(lambda: browser.run("return location.hash") != before)
-    browser.wait(lambda: browser.all("#picture svg.lane"))
     return [browser.one(field).get_attribute("value") for field in ("#from", "#until")]
 
 
@@ -152,6 +151,8 @@ def buttons(site, browser):
         ("year", ["2025-01-31", "2026-01-30"]),
     ]:
         yield Outcome(f"the button {id}", values_after(browser, id), wanted)
+        focus = browser.run("return document.activeElement.id")
+        yield Outcome(f"the button {id} keeps the focus", focus, id)
     given = browser.run("return location.hash").split("&")[-2:]
     yield Outcome("the range is in the address", given, ["from=2025-01-31", "until=2026-01-30"])
 

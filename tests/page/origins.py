@@ -249,7 +249,8 @@ def own_host_alone(site, browser):
     browser.wait(lambda: browser.all("#picture svg"))
     browser.run("location.hash = '#missing'")
     browser.wait_for_text("#as-of", "As of")
-    addresses = [address for address in browser.requested() if address != "about:blank"]
+    # Neither an empty page nor an address that is its own data asks a host.
+    addresses = [found for found in browser.requested() if not found.startswith(("about:", "data:"))]
     hosts = {urlsplit(address)[:2] for address in addresses}
     yield Outcome("the hosts that the browser asked", hosts, {("https", site.own_host())})
     lines = [line.split(" ") for line in site.requests()[asked:]]

@@ -1,4 +1,4 @@
-.PHONY: test build
+.PHONY: test build page-test
 
 # The gate: every proof from nothing, the edits that the prover must refuse, the tests of the libraries,
 # and the program as two compilers build it: 'N passed, M failed'. The program that it built starts at
@@ -11,3 +11,8 @@ test:
 # The proved program, crates/onixdesk/out/onixdesk.
 build:
 	bin/onixdesk --help
+
+# The buyers' page in a browser, before nginx and the built program; tests/page/run says which of Debian's
+# packages it needs. The last line is 'page: N cases, M failed'.
+page-test:
+	@tests/page/run

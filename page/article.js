@@ -167,6 +167,8 @@ export class Article {
     this.leave();
     this.#given = given;
     fill(given, this.#settings);
+    // The next ISBN, typed or from a scanner, takes the place of this one.
+    if (document.activeElement === found("isbn")) found("isbn").select();
     markAll([...ASKED, ...RANGE], {});
     found("question-wrong").textContent = "";
     if (given.isbn === undefined) this.#clear();

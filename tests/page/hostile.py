@@ -21,6 +21,9 @@ def references(site, browser):
     made = browser.all("main img, main b, main script, main iframe")
     yield Outcome("no element of them", made, [])
     yield Outcome("no complaint of the browser", browser.complaints(), [])
+    # The other columns keep their words whole: a head of one line is no higher than two.
+    heights = browser.run("return [...document.querySelectorAll('#offers thead th')].map((head) => head.offsetHeight)")
+    yield Outcome(f"beside a long reference, {heights}", max(heights) < 60, True)
     wide = browser.run("return document.documentElement.scrollWidth <= innerWidth")
     yield Outcome("a long reference breaks", wide, True)
 

@@ -16,6 +16,7 @@ MOST_BYTES = 150_000
 
 
 def taken(site, browser):
+    browser.driver.execute_cdp_cmd("Emulation.setScrollbarsHidden", {"hidden": True})
     for name, (address, last) in PICTURES.items():
         browser.size(WIDTH, 700)
         browser.open(address)

@@ -191,8 +191,7 @@ export class Article {
     found("article-status").replaceChildren();
     found("answer").hidden = true;
     found("calendar").hidden = true;
-    found("picture").replaceChildren();
-    found("spans").replaceChildren();
+    for (const id of ["offers", "picture", "spans"]) found(id).replaceChildren();
     this.#calendar = undefined;
     this.#answered = undefined;
   }

@@ -1,4 +1,4 @@
-.PHONY: test wrong-bodies build
+.PHONY: test page-test wrong-bodies build
 
 # The gate: every proof from nothing, the edits that the prover must refuse, the tests of the libraries,
 # and the program as two compilers build it: 'N passed, M failed'. The program that it built starts at
@@ -15,3 +15,8 @@ wrong-bodies:
 # The proved program, crates/onixdesk/out/onixdesk.
 build:
 	bin/onixdesk --help
+
+# The buyers' page in a browser, before nginx and the built program; tests/page/run says which of Debian's
+# packages it needs. The last line is 'page: N cases, M failed'.
+page-test:
+	@tests/page/run

@@ -1,0 +1,137 @@
+// Days of the calendar, written YYYY-MM-DD, which is also how a field for a day has them.
+
+import { LANGUAGE } from "./wording.js";
+
+const FIRST = "0001-01-01";
+const LAST = "9999-12-31";
+const MILLISECONDS = 86_400_000;
+
+const long = new Intl.DateTimeFormat(LANGUAGE, {
+  day: "numeric",
+  month: "long",
+  year: "numeric",
+  timeZone: "UTC",
+});
+
+const short = new Intl.DateTimeFormat(LANGUAGE, {
+  day: "numeric",
+  month: "short",
+  year: "numeric",
+  timeZone: "UTC",
+});
+
+function instant(day) {
+  return new Date(`${day}T00:00:00Z`);
+}
+
+/** Whether a text is a day that exists, from the year 1 to 9999. */
+export function isDay(text) {
+  if (!/^\d{4}-\d\d-\d\d$/.test(text) || text < FIRST) return false;
+  const found = instant(text);
+  return !Number.isNaN(found.getTime()) && found.toISOString().startsWith(text);
+}
+
+/** The number of a day; 1970-01-01 is 0. */
+export function numberOf(day) {
+  return instant(day).getTime() / MILLISECONDS;
+}
+
+/** The day of a number; before the first and after the last day, that one. */
+export function dayOf(number) {
+  const within = Math.min(Math.max(number, numberOf(FIRST)), numberOf(LAST));
+  return new Date(within * MILLISECONDS).toISOString().slice(0, 10);
+}
+
+/** The day so many days later. */
+export function plusDays(day, count) {
+  return dayOf(numberOf(day) + count);
+}
+
+/** The same day so many months later, or the last day of that month where it is shorter. */
+export function plusMonths(day, count) {
+  const months = Number(day.slice(0, 4)) * 12 + Number(day.slice(5, 7)) - 1 + count;
+  if (months < 12) return FIRST;
+  if (months >= 120_000) return LAST;
+  const year = String(Math.floor(months / 12)).padStart(4, "0");
+  const month = String((months % 12) + 1).padStart(2, "0");
+  for (let date = Number(day.slice(8)); ; date -= 1) {
+    const found = `${year}-${month}-${String(date).padStart(2, "0")}`;
+    if (isDay(found)) return found;
+  }
+}
+
+/** Today, by the clock and the time zone of the browser. */
+export function today() {
+  const now = new Date();
+  const parts = [now.getMonth() + 1, now.getDate()].map((part) => String(part).padStart(2, "0"));
+  return [String(now.getFullYear()).padStart(4, "0"), ...parts].join("-");
+}
+
+/** A day as the desk writes it, YYYYMMDD. */
+export function toDesk(day) {
+  return day.replaceAll("-", "");
+}
+
+/** A day that the desk wrote. */
+export function fromDesk(text) {
+  return `${text.slice(0, 4)}-${text.slice(4, 6)}-${text.slice(6)}`;
+}
+
+/** A day in words, such as 10 April 2025. */
+export function inWords(day) {
+  return long.format(instant(day));
+}
+
+/** A day in short words, such as 10 Apr 2025. */
+export function dayInShort(day) {
+  return short.format(instant(day));
+}
+
+/** The last day of a range that begins with a day and is so many months long. */
+export function endOfMonths(from, months) {
+  return plusDays(plusMonths(from, months), -1);
+}
+
+/** How many days a range has. */
+export function lengthOf({ from, until }) {
+  return numberOf(until) - numberOf(from) + 1;
+}
+
+function tick(day, parts) {
+  const text = new Intl.DateTimeFormat(LANGUAGE, { ...parts, timeZone: "UTC" }).format(instant(day));
+  return { day, text };
+}
+
+/** The days of a short range, every day or every few of them. */
+function dayTicks({ from, until }, most) {
+  const step = [1, 2, 7, 14].find((days) => lengthOf({ from, until }) / days <= most) ?? 28;
+  const found = [];
+  for (let day = from; day <= until; day = plusDays(day, step)) {
+    found.push(tick(day, { day: "numeric" }));
+    if (plusDays(day, step) === day) break;
+  }
+  return found;
+}
+
+/** The first days of months, or of every few months; a January has its year. */
+function monthTicks({ from, until }, most) {
+  const months = lengthOf({ from, until }) / 30;
+  const step = [1, 2, 3, 6, 12, 24, 60].find((count) => months / count <= most) ?? 120;
+  const found = [];
+  let day = plusMonths(`${from.slice(0, 7)}-01`, from.endsWith("-01") ? 0 : 1);
+  while (day <= until) {
+    const place = Number(day.slice(0, 4)) * 12 + Number(day.slice(5, 7)) - 1;
+    const isJanuary = day.slice(5, 7) === "01";
+    if (place % step === 0) found.push(tick(day, isJanuary ? { year: "numeric" } : { month: "short" }));
+    const next = plusMonths(day, 1);
+    if (next <= day || !next.endsWith("-01")) break;
+    day = next;
+  }
+  return found;
+}
+
+/** The days that an axis of so many pixels names, with their texts. */
+export function ticksOf(from, until, pixels) {
+  const range = { from, until };
+  return lengthOf(range) <= 62 ? dayTicks(range, pixels / 26) : monthTicks(range, pixels / 44);
+}

@@ -1,0 +1,87 @@
+// Questions to the desk, which stands behind the page's own web server at `desk/`.
+
+import { urlBeside } from "./address.js";
+import { say } from "./wording.js";
+
+const REPLY_SECONDS = 15;
+const AGAIN_SECONDS = 5;
+
+function urlOf(path, keys) {
+  const url = urlBeside(`desk/${path}`);
+  url.search = new URLSearchParams(keys);
+  return url;
+}
+
+/** What a reply's JSON is, or `undefined` where it is none. */
+async function bodyOf(reply) {
+  const text = await reply.text();
+  try {
+    return JSON.parse(text);
+  } catch {
+    return undefined;
+  }
+}
+
+/** A reply as an answer, a refusal in the desk's word, a desk that is down, or something else. */
+function outcomeOf(status, body) {
+  if ([502, 503, 504].includes(status)) {
+    const reason = body?.answer === "fault" ? say(`down.reasons.${body.reason}`) : "";
+    return { kind: "down", words: [say(`down.${status}`), reason].join(" ").trim() };
+  }
+  if (body?.answer === "refused") return { kind: "refused", reason: body.reason };
+  if (status === 200 && body?.answer !== undefined) return { kind: "answer", body };
+  const path = status === 401 || status === 403 ? "wrong.forbidden" : "wrong.strange";
+  return { kind: "strange", words: say(path, { status }) };
+}
+
+/** Asks once. Throws `AbortError` where `signal` says that nobody waits for it any longer. */
+async function askOnce(path, keys, signal) {
+  const late = new AbortController();
+  const stop = () => late.abort();
+  const timer = setTimeout(stop, REPLY_SECONDS * 1000);
+  signal.addEventListener("abort", stop);
+  try {
+    signal.throwIfAborted();
+    const reply = await fetch(urlOf(path, keys), { cache: "no-store", signal: late.signal });
+    return outcomeOf(reply.status, await bodyOf(reply));
+  } catch (fault) {
+    signal.throwIfAborted();
+    if (fault.name !== "AbortError" && fault.name !== "TypeError") throw fault;
+    const why = fault.name === "AbortError" ? "late" : "unreached";
+    return { kind: "down", words: say(`down.${why}`) };
+  } finally {
+    clearTimeout(timer);
+    signal.removeEventListener("abort", stop);
+  }
+}
+
+function pause(signal) {
+  return new Promise((resolve, reject) => {
+    const timer = setTimeout(resolve, AGAIN_SECONDS * 1000);
+    signal.addEventListener("abort", () => {
+      clearTimeout(timer);
+      reject(signal.reason);
+    });
+  });
+}
+
+/**
+ * Asks until the desk answers or refuses. While it is down, `watch.down` has the words for it;
+ * `watch.up` is called where it replies.
+ */
+export async function ask(path, keys, signal, watch) {
+  for (;;) {
+    const outcome = await askOnce(path, keys, signal);
+    if (outcome.kind !== "down") {
+      watch.up();
+      return outcome;
+    }
+    watch.down(`${outcome.words} ${say("down.again", { seconds: AGAIN_SECONDS })}`);
+    await pause(signal);
+  }
+}
+
+/** Whether a fault says that nobody waits for an answer any longer. */
+export function isAbandoned(fault) {
+  return fault.name === "AbortError";
+}

@@ -1,0 +1,50 @@
+// Elements made by calls of the DOM alone. Texts become text nodes, so that nothing that a message
+// brought is ever read as markup.
+
+const DRAWING = "http://www.w3.org/2000/svg";
+
+function built(made, attributes, children) {
+  for (const [name, value] of Object.entries(attributes)) {
+    if (value !== undefined) made.setAttribute(name, value);
+  }
+  made.append(...children);
+  return made;
+}
+
+/** An HTML element; an attribute that is `undefined` is left out, and texts become text nodes. */
+export function element(name, attributes = {}, ...children) {
+  return built(document.createElement(name), attributes, children);
+}
+
+/** An SVG element, likewise. */
+export function drawn(name, attributes = {}, ...children) {
+  return built(document.createElementNS(DRAWING, name), attributes, children);
+}
+
+function cell(column, content, isFirst) {
+  const attributes = { role: isFirst ? "rowheader" : "cell", "data-column": column };
+  if (isFirst) attributes.scope = "row";
+  return element(isFirst ? "th" : "td", attributes, ...content);
+}
+
+/**
+ * A table, named by the heading with that id. `rows` are objects of `cells`, a list of children for
+ * each column, and `className`. The roles are written out, since a table that is laid out in blocks on a
+ * narrow screen loses them.
+ */
+export function table(heading, columns, rows) {
+  const heads = columns.map((name) => element("th", { role: "columnheader", scope: "col" }, name));
+  const body = rows.map(({ cells, className }) =>
+    element(
+      "tr",
+      { role: "row", class: className },
+      ...cells.map((content, at) => cell(columns[at], content, at === 0)),
+    ),
+  );
+  return element(
+    "table",
+    { role: "table", "aria-labelledby": heading },
+    element("thead", { role: "rowgroup" }, element("tr", { role: "row" }, ...heads)),
+    element("tbody", { role: "rowgroup" }, ...body),
+  );
+}

@@ -1,0 +1,69 @@
+// The fields of a question: what each text means, and what is wrong with it, in words.
+
+import { isDay, toDesk } from "./days.js";
+import { say, sayCount } from "./wording.js";
+
+const value = (text) => ({ value: text });
+const problem = (words) => ({ problem: words });
+
+function readIsbn(text) {
+  const digits = text.replace(/[\s\u00ad\u2010-\u2015\u2212-]/g, "");
+  if (digits === "") return problem(say("wrong.isbnEmpty"));
+  if (/^\d{9}[\dXx]$/.test(digits)) return problem(say("wrong.isbnTen"));
+  const sign = digits.match(/[^0-9]/u)?.[0];
+  if (sign !== undefined) return problem(say("wrong.isbnLetters", { sign }));
+  if (digits.length !== 13) return problem(sayCount("wrong.isbnDigits", digits.length));
+  return value(digits);
+}
+
+function readDay(text) {
+  return isDay(text) ? value(text) : problem(say("wrong.day"));
+}
+
+/** A reader of codes: the text in capitals, where it is as the grammar says. */
+function codeReader(grammar, wrong) {
+  return (text) => {
+    const code = text.trim().toUpperCase();
+    return grammar.test(code) ? value(code) : problem(say(wrong));
+  };
+}
+
+function readQuantity(text) {
+  const digits = text.trim();
+  const isQuantity = /^\d{1,6}$/.test(digits) && Number(digits) > 0;
+  return isQuantity ? value(String(Number(digits))) : problem(say("wrong.quantity"));
+}
+
+/** What the fields are called here, in an address and in the desk's queries, with their readers. */
+export const READERS = {
+  isbn: readIsbn,
+  day: readDay,
+  country: codeReader(/^[A-Z]{2}$/, "wrong.country"),
+  currency: codeReader(/^[A-Z]{3}$/, "wrong.currency"),
+  type: codeReader(/^\d\d$/, "wrong.type"),
+  quantity: readQuantity,
+  from: readDay,
+  until: readDay,
+};
+
+/** Reads texts by name; gives the `values` of those that are right and the `problems` of the others. */
+export function readAll(textsByName) {
+  const values = {};
+  const problems = {};
+  for (const [name, text] of Object.entries(textsByName)) {
+    const read = READERS[name](text);
+    if (read.problem === undefined) values[name] = read.value;
+    else problems[name] = read.problem;
+  }
+  return { values, problems };
+}
+
+/** The keys of the desk's query about what holds on a day. */
+export function dayKeys({ day, country, currency, type, quantity }) {
+  return { day: toDesk(day), country, currency, type, quantity };
+}
+
+/** The keys of the desk's query about a range of days. */
+export function rangeKeys({ from, until, country, currency, type, quantity }) {
+  return { from: toDesk(from), to: toDesk(until), country, currency, type, quantity };
+}

@@ -1,0 +1,86 @@
+// A strip of the numbers of a series: what is applied, what waits, and what is missing.
+
+import { drawn, element } from "./elements.js";
+import { say } from "./wording.js";
+
+// Lengths in pixels. What is missing is higher than the rest, so that it shows without colours too.
+const HEIGHT = 44;
+const TOP = 2;
+const FULL = 24;
+const INSET = 5;
+const LEAST = 3;
+
+/** The pieces of a report with missing numbers, each with its kind and its first and last number. */
+function piecesOf({ first, next, greatest, missing }) {
+  // A quarter of what is in question is shown of what is applied before it.
+  const start = Math.max(first, next - Math.ceil((greatest - next + 1) / 4));
+  const pieces = start < next ? [{ kind: "applied", from: start, to: next - 1 }] : [];
+  let after = next;
+  for (const [from, to] of missing) {
+    if (after < from) pieces.push({ kind: "waiting", from: after, to: from - 1 });
+    pieces.push({ kind: "missing", from, to });
+    after = to + 1;
+  }
+  if (after <= greatest) pieces.push({ kind: "waiting", from: after, to: greatest });
+  return pieces;
+}
+
+function pieceShape({ kind, from, to }, at, whole) {
+  const isMissing = kind === "missing";
+  const length = Math.max(at(to + 1) - at(from), isMissing ? LEAST : 0);
+  const inset = isMissing ? 0 : INSET;
+  const shape = drawn("rect", {
+    class: kind,
+    x: Math.min(at(from), whole - length),
+    y: TOP + inset,
+    width: length,
+    height: FULL - 2 * inset,
+  });
+  Object.assign(shape.dataset, { from, to });
+  return shape;
+}
+
+/** The strip of a report that has missing numbers, with `ranges` as their words. */
+export function strip(report, ranges, whole) {
+  const pieces = piecesOf(report);
+  const from = pieces[0].from;
+  const until = report.greatest;
+  const at = (number) => ((number - from) / (until - from + 1)) * whole;
+  // What is missing is drawn last, over what may lie under its least width.
+  const order = [...pieces].sort((one, other) => (one.kind === "missing") - (other.kind === "missing"));
+  return drawn(
+    "svg",
+    {
+      viewBox: `0 0 ${whole} ${HEIGHT}`,
+      width: whole,
+      height: HEIGHT,
+      class: "strip",
+      role: "img",
+      "aria-label": say("missing.strip", { from, until, ranges }),
+    },
+    ...order.map((piece) => pieceShape(piece, at, whole)),
+    drawn("text", { class: "end", x: 0, y: HEIGHT - 4 }, String(from)),
+    drawn("text", { class: "end", x: whole, y: HEIGHT - 4, "text-anchor": "end" }, String(until)),
+  );
+}
+
+/** What the heights and colours of a strip mean. */
+export function stripLegend() {
+  const kinds = [["applied", "applied"], ["missing", "lost"], ["waiting", "waiting"]];
+  const items = kinds.map(([kind, text]) => {
+    const inset = kind === "missing" ? 0 : 3;
+    const sample = { class: kind, x: 0, y: inset, width: 18, height: 14 - 2 * inset };
+    return element(
+      "li",
+      {},
+      drawn(
+        "svg",
+        { viewBox: "0 0 18 14", width: 18, height: 14, class: "strip", "aria-hidden": "true" },
+        drawn("rect", sample),
+      ),
+      " ",
+      say(`missing.${text}`),
+    );
+  });
+  return element("ul", { class: "legend" }, ...items);
+}

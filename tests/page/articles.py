@@ -1,0 +1,143 @@
+"""The view of an article, with the questions and answers of examples/shop/README.md."""
+
+from datetime import date
+
+from page.week import ISBN, OTHER_ISBN, article
+from program.room import Outcome
+
+NORTH = ["North Books (north)", "N-100", "21 – in stock"]
+SOUTH = ["South Books (south)", "S1", "21 – in stock"]
+WEST = ["Western Wholesale (west)", "W-7", "31 – out of stock"]
+NONE = "no price for this question"
+
+ONE_COPY = [
+    [*NORTH, "11.50 GBP", "Chosen by rule 2"],
+    [*SOUTH, "11.80 GBP", ""],
+    [*WEST, "8.00 GBP", ""],
+]
+TEN_COPIES = [
+    [*NORTH, "11.50 GBP", ""],
+    [*SOUTH, "9.95 GBP", "Chosen by rule 1"],
+    [*WEST, "8.00 GBP", ""],
+]
+
+
+def answered(browser) -> list[list[str]]:
+    browser.wait(lambda: browser.all("#offers tr"))
+    return browser.rows("#offers")
+
+
+def said(browser, words: str) -> bool:
+    return words in browser.wait_for_text("#article-status", words)
+
+
+def one_copy(site, browser):
+    browser.open(article())
+    yield Outcome("one copy: the offers", answered(browser), ONE_COPY)
+    chosen = "Buy from North Books at 11.50 GBP a copy. Rule 2 of the shop chooses it: “Else whoever has the book”."
+    yield Outcome("one copy: the choice", said(browser, chosen), True)
+    classes = browser.run("return [...document.querySelectorAll('#offers tbody tr')].map((row) => row.className)")
+    yield Outcome("one copy: only the chosen row is marked", classes, ["chosen", "", ""])
+    yield Outcome("one copy: what was asked", browser.text("#asked"), f"{ISBN} on 10 April 2025 in GB, GBP, price type 02 – recommended retail price, with tax, 1 copy")
+
+
+def ten_copies(site, browser):
+    browser.open(article(quantity="10"))
+    yield Outcome("ten copies: the offers", answered(browser), TEN_COPIES)
+    yield Outcome("ten copies: the choice", said(browser, "Buy from South Books at 9.95 GBP a copy."), True)
+
+
+def another_country(site, browser):
+    browser.open(article(country="IE", quantity="10"))
+    prices = [row[3] for row in answered(browser)]
+    yield Outcome("Ireland: South does not sell there", prices, ["11.50 GBP", NONE, "8.00 GBP"])
+
+
+def no_rule(site, browser):
+    browser.open(article(OTHER_ISBN))
+    rows = [["North Books (north)", "N-200", "40 – not available", "25.00 GBP", ""]]
+    yield Outcome("no rule: the offer", answered(browser), rows)
+    words = "No rule of the shop admits one of these offers, so none is chosen."
+    yield Outcome("no rule: it is said", said(browser, words), True)
+
+
+def no_offer(site, browser):
+    browser.open(article("9780000000002"))
+    yield Outcome("no offer: it is said", said(browser, "No wholesaler offers this book."), True)
+    yield Outcome("no offer: no table", browser.all("#offers tr"), [])
+
+
+def typed_question(site, browser):
+    """What is typed goes to the address, and the address alone brings the view back."""
+    browser.open("")
+    browser.wait(lambda: browser.one("#day").get_attribute("value"))
+    fields = ["#day", "#country", "#currency", "#type", "#quantity"]
+    values = [browser.one(field).get_attribute("value") for field in fields]
+    today = date.today().isoformat()
+    yield Outcome("the fields begin with", values, [today, "GB", "GBP", "02", "1"])
+    browser.one("#isbn").send_keys("978-1-234567 89-7\n")
+    yield Outcome("asked for by Enter", len(answered(browser)), 3)
+    chosen = browser.run("return [document.activeElement.id, String(getSelection())]")
+    yield Outcome("the next ISBN takes its place", chosen, ["isbn", ISBN])
+    browser.one("#quantity").clear()
+    browser.one("#quantity").send_keys("10\n")
+    browser.wait(lambda: "quantity=10" in browser.run("return location.hash"))
+    rows = answered(browser)
+    yield Outcome("hyphens and spaces are taken out", rows[1][:1], SOUTH[:1])
+    address = browser.run("return location.hash")
+    wanted = f"#article?isbn={ISBN}&day={today}&quantity=10&country=GB&currency=GBP&type=02"
+    yield Outcome("the question's address", address, wanted)
+    browser.open(address)
+    yield Outcome("the address brings the answer back", answered(browser), rows)
+    browser.run("location.hash = arguments[0]", article(quantity="10"))
+    browser.wait(lambda: "10 April 2025" in browser.text("#answer-heading"))
+    browser.driver.back()
+    browser.wait(lambda: "10 April 2025" not in browser.text("#answer-heading"))
+    yield Outcome("back to the question before", answered(browser), rows)
+    yield Outcome("the window's title", browser.driver.title, f"ISBN {ISBN} – onixdesk")
+
+
+def own_type(site, browser):
+    """A type that has no words here can be asked for by the address."""
+    browser.open(article(type="77"))
+    prices = [row[3] for row in answered(browser)]
+    yield Outcome("a type without words: the answer", prices, [NONE] * 3)
+    shown = browser.run("return document.querySelector('#type').selectedOptions[0].textContent")
+    yield Outcome("a type without words: its field", shown, "77 – no words for this code")
+
+
+def one_moment(site, browser):
+    """A message that comes between the two questions leaves no answer that contradicts itself."""
+    browser.open("")
+    browser.run(
+        """
+        const real = window.fetch;
+        window.asked = [];
+        window.fetch = async (url, ...rest) => {
+          window.asked.push(String(url).replace(/.*\\//, '').replace(/\\?.*/, ''));
+          const reply = await real(url, ...rest);
+          if (window.asked.filter((what) => what === 'price').length > 1) return reply;
+          if (!String(url).includes('/price?')) return reply;
+          const text = (await reply.text()).replace('11.500', '11.400');
+          return new Response(text, { status: 200 });
+        };
+        location.hash = arguments[0];
+        """,
+        article(),
+    )
+    rows = answered(browser)
+    yield Outcome("price and choice of one moment", rows, ONE_COPY)
+    asked = browser.run("return window.asked.slice(0, 4)")
+    yield Outcome("they are asked for again", asked, ["price", "choice"] * 2)
+
+
+CASES = [
+    one_copy,
+    ten_copies,
+    another_country,
+    no_rule,
+    no_offer,
+    typed_question,
+    own_type,
+    one_moment,
+]

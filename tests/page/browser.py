@@ -1,0 +1,122 @@
+"""A headless Chromium that finds the site's name at this machine, and no other name at all."""
+
+import contextlib
+import json
+import time
+
+from selenium import webdriver
+from selenium.common.exceptions import StaleElementReferenceException
+from selenium.webdriver.chrome.options import Options
+from selenium.webdriver.chrome.service import Service
+from selenium.webdriver.common.by import By
+
+from page.site import NAME, PASSWORD, SECONDS, USER, Site
+from program.serving import HOST
+
+CHROMIUM = "/usr/bin/chromium"
+DRIVER = "/usr/bin/chromedriver"
+
+STRANGER = "stranger.example.net"
+
+WIDE = (1100, 900)
+
+
+def options() -> Options:
+    chosen = Options()
+    chosen.binary_location = CHROMIUM
+    names = f"MAP {NAME} {HOST}, MAP {STRANGER} {HOST}, MAP * ~NOTFOUND, EXCLUDE {HOST}"
+    for word in [
+        "--headless=new",
+        # Chromium's own sandbox takes no root user, as whom a gate runs.
+        "--no-sandbox",
+        "--disable-dev-shm-usage",
+        "--disable-gpu",
+        "--ignore-certificate-errors",
+        "--disable-background-networking",
+        f"--host-resolver-rules={names}",
+    ]:
+        chosen.add_argument(word)
+    chosen.set_capability("goog:loggingPrefs", {"performance": "ALL", "browser": "ALL"})
+    return chosen
+
+
+class Browser:
+    def __init__(self, site: Site):
+        self.site = site
+        self.driver = webdriver.Chrome(options=options(), service=Service(DRIVER))
+        self.size(*WIDE)
+        # The browser asks for the name and the password once; from then on it knows them.
+        self.driver.get(site.address(user=f"{USER}:{PASSWORD}@"))
+        self.driver.get("about:blank")
+
+    def size(self, width: int, height: int):
+        """The size of what the page sees of the window."""
+        metrics = {"width": width, "height": height, "deviceScaleFactor": 1, "mobile": False}
+        self.driver.execute_cdp_cmd("Emulation.setDeviceMetricsOverride", metrics)
+
+    def open(self, address: str):
+        """Opens a view anew."""
+        self.driver.get("about:blank")
+        self.driver.get(self.site.address(f"/{address}"))
+
+    def one(self, selector: str):
+        return self.driver.find_element(By.CSS_SELECTOR, selector)
+
+    def all(self, selector: str) -> list:
+        return self.driver.find_elements(By.CSS_SELECTOR, selector)
+
+    def text(self, selector: str) -> str:
+        return self.one(selector).text
+
+    def texts(self, selector: str) -> list[str]:
+        return [found.text for found in self.all(selector)]
+
+    def run(self, script: str, *given):
+        return self.driver.execute_script(script, *given)
+
+    def wait(self, holds, seconds=SECONDS):
+        """Waits until it holds, and gives what it gave; after so many seconds, what it gave last."""
+        end = time.monotonic() + seconds
+        while True:
+            came = None
+            with contextlib.suppress(StaleElementReferenceException):
+                came = holds()
+            if came or time.monotonic() > end:
+                return came
+            time.sleep(0.05)
+
+    def wait_for_text(self, selector: str, words: str, seconds=SECONDS) -> str:
+        """Waits until a text has these words; gives the text."""
+        self.wait(lambda: words in self.text(selector), seconds)
+        return self.text(selector)
+
+    def rows(self, selector: str) -> list[list[str]]:
+        """The cells of a table's rows."""
+        script = """return [...document.querySelectorAll(arguments[0] + ' tbody tr')]
+            .map((row) => [...row.children].map((cell) => cell.textContent))"""
+        return self.run(script, selector)
+
+    def requested(self) -> list[str]:
+        """The addresses that pages asked for since the last look, in the browser's own record."""
+        found = []
+        for entry in self.driver.get_log("performance"):
+            message = json.loads(entry["message"])["message"]
+            if message["method"] == "Network.requestWillBeSent":
+                found.append(message["params"]["request"]["url"])
+        return found
+
+    def complaints(self) -> list[str]:
+        """What the browser wrote to its console since the last look."""
+        return [entry["message"] for entry in self.driver.get_log("browser")]
+
+    def picture(self, path: str):
+        self.driver.save_screenshot(path)
+
+
+@contextlib.contextmanager
+def browsing(site: Site):
+    browser = Browser(site)
+    try:
+        yield browser
+    finally:
+        browser.driver.quit()

@@ -1,0 +1,112 @@
+"""The page by the keyboard alone."""
+
+from selenium.webdriver.common.action_chains import ActionChains
+from selenium.webdriver.common.keys import Keys
+
+from page.articles import SOUTH
+from page.reports import allow_clipboard
+from page.week import ISBN
+from program.room import Outcome
+
+# A page has fewer places for the focus.
+MOST = 60
+
+FOCUS = """
+const found = document.activeElement;
+const style = getComputedStyle(found);
+return { id: found.id, text: found.textContent.trim(), outline: style.outlineStyle, width: parseFloat(style.outlineWidth) };
+"""
+
+
+def press(browser, *keys):
+    ActionChains(browser.driver).send_keys(*keys).perform()
+
+
+def tab_to(browser, holds) -> list[dict]:
+    """Presses the tabulator until the focus is at a place that holds; gives all places on the way."""
+    found = []
+    for _ in range(MOST):
+        press(browser, Keys.TAB)
+        found.append(browser.run(FOCUS))
+        if holds(found[-1]):
+            return found
+    raise AssertionError(f"the tabulator does not come there: {found}")
+
+
+def has_id(id: str):
+    return lambda focus: focus["id"] == id
+
+
+def day_keys(browser, year: str, month: str, date: str) -> str:
+    """The keys for a day in the order in which this browser's field has its parts."""
+    order = browser.run(
+        """return new Intl.DateTimeFormat(navigator.language).formatToParts(new Date())
+        .map(({ type }) => type)"""
+    )
+    parts = {"year": year, "month": month, "day": date}
+    return "".join(parts[part] for part in order if part in parts)
+
+
+def article(site, browser):
+    browser.open("")
+    browser.wait(lambda: browser.one("#day").get_attribute("value"))
+    way = tab_to(browser, has_id("isbn"))
+    yield Outcome("the way to the first field", [focus["id"] for focus in way], ["skip", "to-article", "to-missing", "isbn"])
+    press(browser, "978-1-234567-89-7")
+    way += tab_to(browser, has_id("day"))
+    press(browser, day_keys(browser, "2025", "04", "10"))
+    way += tab_to(browser, has_id("quantity"))
+    press(browser, "10")
+    press(browser, Keys.ENTER)
+    browser.wait(lambda: browser.all("#offers tr"))
+    chosen = [*SOUTH, "9.95 GBP", "Chosen by rule 1"]
+    yield Outcome("asked by the keyboard", browser.rows("#offers")[1], chosen)
+    day = browser.one("#day").get_attribute("value")
+    yield Outcome("a day by the keyboard", day, "2025-04-10")
+    browser.wait(lambda: browser.all("#picture svg"))
+    way += tab_to(browser, has_id("month"))
+    press(browser, Keys.SPACE)
+    browser.wait(lambda: "until=2025-04-09" in browser.run("return location.hash"))
+    given = browser.run("return location.hash").split("&")[-2:]
+    yield Outcome("a month by the keyboard", given, ["from=2025-03-10", "until=2025-04-09"])
+    unseen = [focus for focus in way if focus["outline"] == "none" or focus["width"] < 2]
+    yield Outcome("each place of the focus is seen", unseen, [])
+
+
+def missing(site, browser):
+    allow_clipboard(site, browser, "granted")
+    browser.open("")
+    browser.wait(lambda: browser.one("#day").get_attribute("value"))
+    tab_to(browser, has_id("to-missing"))
+    press(browser, Keys.ENTER)
+    browser.wait_for_text("#as-of", "As of")
+    tab_to(browser, lambda focus: focus["text"] == "Copy a request to send them again")
+    press(browser, Keys.ENTER)
+    told = browser.wait_for_text("#report-north .copied", "copied")
+    yield Outcome("copied by the keyboard", bool(told), True)
+
+
+def skipped(site, browser):
+    browser.open("")
+    browser.wait(lambda: browser.one("#day").get_attribute("value"))
+    tab_to(browser, has_id("skip"))
+    press(browser, Keys.ENTER)
+    press(browser, Keys.TAB)
+    yield Outcome("behind the link past the head", browser.run(FOCUS)["id"], "isbn")
+    yield Outcome("the link past the head keeps the view", browser.one("#article-view").is_displayed(), True)
+
+
+def wrong_field(site, browser):
+    """The focus goes to the first field that is wrong."""
+    browser.open("")
+    browser.wait(lambda: browser.one("#day").get_attribute("value"))
+    tab_to(browser, has_id("country"))
+    press(browser, "X", Keys.ENTER)
+    browser.wait_for_text("#isbn-wrong", "ISBN")
+    yield Outcome("the first wrong field", browser.run(FOCUS)["id"], "isbn")
+    press(browser, ISBN, Keys.ENTER)
+    browser.wait_for_text("#country-wrong", "letters")
+    yield Outcome("the next wrong field", browser.run(FOCUS)["id"], "country")
+
+
+CASES = [article, missing, skipped, wrong_field]

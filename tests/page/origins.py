@@ -1,0 +1,267 @@
+"""What the web server lets through to the desk, and what another site makes a buyer's browser send."""
+
+import contextlib
+import functools
+import http.server
+import socket
+import ssl
+import threading
+import time
+from urllib.parse import urlsplit
+
+from page.browser import STRANGER
+from page.site import NAME, PASSWORD
+from page.week import ISBN, article, empty_message
+from program.room import Outcome
+from program.serving import HOST
+
+PRICE = f"/desk/articles/{ISBN}/price?day=20250410&country=GB&currency=GBP&type=02"
+GAPS = "/desk/series/north/gaps"
+
+DOCUMENT = [("Sec-Fetch-Mode", "navigate"), ("Sec-Fetch-Dest", "document")]
+FRAME = [("Sec-Fetch-Mode", "navigate"), ("Sec-Fetch-Dest", "iframe")]
+SCRIPT = [("Sec-Fetch-Mode", "no-cors"), ("Sec-Fetch-Dest", "script")]
+
+
+def from_site(site: str, *fields) -> list[tuple[str, str]]:
+    return [("Sec-Fetch-Site", site), *fields]
+
+
+def policies(site) -> list[tuple[str, str, list, int]]:
+    """Requests with their fields, and the status that each is to have."""
+    own = site.address("")
+    return [
+        ("GET", GAPS, [], 200),
+        ("GET", PRICE, [("Origin", own)], 200),
+        ("GET", PRICE, [("Origin", "https://stranger.example.net")], 403),
+        ("GET", PRICE, [("Origin", own.replace("https", "http"))], 403),
+        ("GET", PRICE, [("Origin", f"https://{NAME}")], 403),
+        ("GET", PRICE, [("Origin", f"{own}0")], 403),
+        ("GET", PRICE, [("Origin", "null")], 403),
+        ("GET", PRICE, from_site("same-origin"), 200),
+        ("GET", PRICE, from_site("none", *DOCUMENT), 200),
+        ("GET", PRICE, from_site("same-site"), 403),
+        ("GET", PRICE, from_site("cross-site"), 403),
+        ("GET", PRICE, from_site("cross-site", *DOCUMENT), 403),
+        ("GET", PRICE, from_site("cross-site", *SCRIPT), 403),
+        ("GET", "/", from_site("cross-site", *DOCUMENT), 200),
+        ("GET", "/index.html", from_site("same-site", *DOCUMENT), 200),
+        ("GET", "/", from_site("cross-site", *FRAME), 403),
+        ("GET", "/main.js", from_site("cross-site", *SCRIPT), 403),
+        ("GET", "/desk.json", from_site("cross-site"), 403),
+        ("POST", "/desk/messages", [], 404),
+        ("POST", "/desk/messages", [("Origin", own), *from_site("same-origin")], 404),
+        ("GET", "/desk/messages", [], 404),
+        ("POST", GAPS, [("Content-Length", "0")], 403),
+        ("DELETE", GAPS, [], 403),
+        ("POST", "/", [("Content-Length", "0")], 403),
+        ("GET", "/desk/", [], 404),
+        ("GET", "/desk/nowhere", [], 404),
+        ("GET", "/desk/series/north/gaps/more", [], 404),
+        ("GET", "/desk/series/../messages", [], 404),
+        ("GET", "/desk/series/no%0d%0aGET/gaps", [], 404),
+        ("GET", "/desk/series/north/catalogue", [], 200),
+        ("GET", "/desk/series/nobody/gaps", [], 404),
+        ("GET", "/nginx.conf", [], 404),
+        ("GET", "/../passwords", [], 400),
+    ]
+
+
+# Those that go through to the desk, by what the desk then writes.
+THROUGH = ["200"] * 5 + ["404"]
+
+
+def server_rules(site, browser):
+    before = len(site.desk_lines())
+    for method, path, fields, wanted in policies(site):
+        status, _, _ = site.fetch(path, method, fields=fields)
+        yield Outcome(f"{method} {path} {fields}", status, wanted)
+    yield Outcome("what came to the desk", site.desk_lines()[before:], THROUGH)
+
+
+def passwords(site, browser):
+    before = len(site.desk_lines())
+    for password in ("", "another", PASSWORD + "x"):
+        for path in ("/", "/main.js", "/desk.json", GAPS):
+            status, _, _ = site.fetch(path, password=password)
+            yield Outcome(f"the password {password!r} for {path}", status, 401)
+    yield Outcome("without its password nothing comes to the desk", site.desk_lines()[before:], [])
+
+
+def hosts(site, browser):
+    before = len(site.desk_lines())
+    for host, wanted in [(STRANGER, 421), (HOST, 421), ("localhost", 421), (NAME, 200)]:
+        status, _, _ = site.fetch(GAPS, host=host)
+        yield Outcome(f"the host {host}", status, wanted)
+    context = ssl._create_unverified_context()
+    try:
+        with socket.create_connection((HOST, site.port)) as raw:
+            context.wrap_socket(raw, server_hostname=STRANGER)
+            came = "a certificate"
+    except ssl.SSLError:
+        came = "refused"
+    yield Outcome("the certificate for a stranger's name", came, "refused")
+    yield Outcome("of another host nothing comes to the desk", site.desk_lines()[before:], ["200"])
+
+
+FIELDS = {
+    "X-Content-Type-Options": "nosniff",
+    "Referrer-Policy": "no-referrer",
+    "Cross-Origin-Opener-Policy": "same-origin",
+    "Cross-Origin-Resource-Policy": "same-origin",
+}
+POLICY = {
+    "default-src 'none'",
+    "script-src 'self'",
+    "style-src 'self'",
+    "connect-src 'self'",
+    "form-action 'none'",
+    "base-uri 'none'",
+    "frame-ancestors 'none'",
+    "require-trusted-types-for 'script'",
+}
+
+
+def reply_fields(site, browser):
+    for path, cache in [("/", "no-cache"), ("/main.js", "no-cache"), (GAPS, "no-store"), ("/desk/messages", "no-store")]:
+        _, fields, _ = site.fetch(path)
+        policy = {part.strip() for part in fields["Content-Security-Policy"].split(";")}
+        yield Outcome(f"the policy of {path}", policy, POLICY)
+        came = {name: fields.get(name) for name in FIELDS}
+        yield Outcome(f"the fields of {path}", came, FIELDS)
+        yield Outcome(f"how long {path} is kept", fields["Cache-Control"], cache)
+
+
+def slow_client(site, browser):
+    """A buyer who sends a head byte by byte, or takes no reply, does not hold the desk."""
+    context = ssl._create_unverified_context()
+    before = len(site.desk_lines())
+    with contextlib.ExitStack() as opened:
+        for end in (b"", b"\r\n\r\n"):
+            raw = opened.enter_context(socket.create_connection((HOST, site.port)))
+            peer = opened.enter_context(context.wrap_socket(raw, server_hostname=NAME))
+            peer.sendall(f"GET {GAPS} HTTP/1.1\r\nHost: {site.own_host()}".encode() + end)
+        begun = time.monotonic()
+        status, _, _ = site.fetch(GAPS)
+        took = time.monotonic() - begun
+    yield Outcome("beside slow buyers another one is answered", status, 200)
+    yield Outcome(f"and at once, not in {took} s", took < 5, True)
+    yield Outcome("slow buyers are not at the desk", site.desk_lines()[before:], ["200"])
+
+
+STRANGERS_PAGE = """<!doctype html><title>begun</title>
+<iframe name="frame"></iframe><iframe src="{site}/"></iframe>
+<form id="post" method="post" enctype="text/plain" target="frame" action="{site}/desk/messages">
+<textarea name="message">{message}</textarea></form>
+<a id="page" href="{site}/{view}">page</a> <a id="price" href="{site}{price}">price</a>
+<script>
+const settled = (sent) => sent.then(() => 'sent', () => 'refused');
+const loaded = (name, source) => new Promise((resolve) => {{
+  const made = document.createElement(name);
+  made.onload = () => resolve('loaded');
+  made.onerror = () => resolve('refused');
+  made.src = source;
+  document.body.append(made);
+}});
+const read = (name) => settled(fetch('{site}{price}', {{ credentials: 'include' }})
+  .then(async (reply) => {{ window[name] = await reply.text(); }}));
+document.getElementById('post').submit();
+Promise.all([
+  settled(fetch('{site}/desk/messages', {{
+    method: 'POST', mode: 'no-cors', credentials: 'include',
+    headers: {{ 'Content-Type': 'text/plain' }}, body: document.querySelector('textarea').value }})),
+  settled(fetch('{site}{price}', {{ mode: 'no-cors', credentials: 'include' }})),
+  read('stolen'),
+  loaded('img', '{site}{price}'),
+  loaded('script', '{site}{price}'),
+]).then(() => setTimeout(() => {{ document.title = 'done'; }}, 500));
+</script>
+"""
+
+
+class Stranger(http.server.BaseHTTPRequestHandler):
+    """A site that is not the shop's."""
+
+    def __init__(self, text, *given):
+        self.text = text
+        super().__init__(*given)
+
+    def do_GET(self):
+        self.send_response(200)
+        self.send_header("Content-Type", "text/html")
+        self.end_headers()
+        self.wfile.write(self.text.encode())
+
+    def log_message(self, *_):
+        pass
+
+
+@contextlib.contextmanager
+def strangers_site(text: str):
+    server = http.server.ThreadingHTTPServer((HOST, 0), functools.partial(Stranger, text))
+    thread = threading.Thread(target=server.serve_forever)
+    thread.start()
+    try:
+        yield f"http://{STRANGER}:{server.server_port}/"
+    finally:
+        server.shutdown()
+        thread.join()
+        server.server_close()
+
+
+def another_site(site, browser):
+    """A page of another origin posts a message and asks for prices; nothing arrives."""
+    text = STRANGERS_PAGE.format(
+        site=site.address(""), message=empty_message(3), price=PRICE, view=article()
+    )
+    lines = len(site.desk_lines())
+    gaps = site.ask_desk("/series/north/gaps")
+    lines += 1
+    asked = len(site.requests())
+    with strangers_site(text) as address:
+        browser.driver.get(address)
+        done = browser.wait(lambda: browser.driver.title == "done")
+        yield Outcome("the stranger's page has sent all", bool(done), True)
+        stolen = browser.run("return window.stolen ?? null")
+        yield Outcome("a stranger's script reads nothing", stolen, None)
+        yield Outcome("nothing of it comes to the desk", site.desk_lines()[lines:], [])
+        came = [line.split(" ")[:2] for line in site.requests()[asked:]]
+        refused = [["403", "POST"]] * 2 + [["403", "GET"]] * 5
+        yield Outcome("all of it came to the web server", sorted(came), sorted(refused))
+        browser.one("#price").click()
+        browser.wait(lambda: urlsplit(browser.driver.current_url).hostname == NAME)
+        yield Outcome("a stranger's link to a price", "403 Forbidden" in browser.driver.page_source, True)
+        yield Outcome("of the link nothing comes to the desk", site.desk_lines()[lines:], [])
+        browser.driver.get(address)
+        browser.wait(lambda: browser.driver.title == "done")
+        browser.one("#page").click()
+        browser.wait(lambda: browser.all("#offers tr"))
+        yield Outcome("a link to a view opens it", len(browser.rows("#offers")), 3)
+    yield Outcome("the desk is as before", site.ask_desk("/series/north/gaps"), gaps)
+
+
+def own_host_alone(site, browser):
+    """The page asks no other host, by the browser's own record and by nginx's log."""
+    browser.open("")
+    browser.requested()
+    asked = len(site.requests())
+    browser.open(article())
+    browser.wait(lambda: browser.all("#picture svg"))
+    browser.run("location.hash = '#missing'")
+    browser.wait_for_text("#as-of", "As of")
+    # Neither an empty page nor an address that is its own data asks a host.
+    addresses = [found for found in browser.requested() if not found.startswith(("about:", "data:"))]
+    hosts = {urlsplit(address)[:2] for address in addresses}
+    yield Outcome("the hosts that the browser asked", hosts, {("https", site.own_host())})
+    lines = [line.split(" ") for line in site.requests()[asked:]]
+    yield Outcome("what nginx was asked for", sorted({(status, method, host) for status, method, host, _ in lines}), [("200", "GET", NAME)])
+    desk = [target.partition("?")[0] for _, _, _, target in lines if target.startswith("/desk/")]
+    wanted = [f"/desk/articles/{ISBN}/{what}" for what in ("price", "choice", "calendar")]
+    wanted += [f"/desk/series/{name}/gaps" for name in ("north", "south", "west")]
+    yield Outcome("what the desk was asked for", desk, wanted)
+    seen = {urlsplit(address).path for address in addresses}
+    yield Outcome("nginx and the browser agree", seen, {target.partition("?")[0] for *_, target in lines})
+    yield Outcome("the browser has nothing to complain of", browser.complaints(), [])
+
+
+CASES = [server_rules, passwords, hosts, reply_fields, slow_client, own_host_alone, another_site]

@@ -1,0 +1,35 @@
+"""The pictures of the documents, taken anew."""
+
+import base64
+
+from page.site import ROOT
+from page.week import article
+from program.room import Outcome
+
+PICTURES = {
+    "page-article.png": (article(quantity="10", **{"from": "2025-03-25", "until": "2025-06-30"}), "#picture"),
+    "page-missing.png": ("#missing", "#report-west"),
+}
+WIDTH = 900
+MARGIN = 24
+MOST_BYTES = 150_000
+
+
+def taken(site, browser):
+    browser.driver.execute_cdp_cmd("Emulation.setScrollbarsHidden", {"hidden": True})
+    for name, (address, last) in PICTURES.items():
+        browser.size(WIDTH, 700)
+        browser.open(address)
+        browser.wait(lambda: browser.one(last).text)
+        # What changes from run to run has no place in a picture that is kept.
+        browser.run("document.getElementById('as-of').textContent = 'As of 09:30:00; asked again each minute.'")
+        height = browser.run("return Math.ceil(arguments[0].getBoundingClientRect().bottom)", browser.one(last))
+        browser.size(WIDTH, height + MARGIN)
+        shot = browser.driver.execute_cdp_cmd("Page.captureScreenshot", {"format": "png"})
+        data = base64.b64decode(shot["data"])
+        (ROOT / "docs" / name).write_bytes(data)
+        yield Outcome(f"{name} is no more than {MOST_BYTES} bytes", len(data) <= MOST_BYTES, True)
+    browser.size(1100, 900)
+
+
+CASES = [taken]

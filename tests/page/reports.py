@@ -1,0 +1,178 @@
+"""The view of missing messages."""
+
+import re
+
+from page.site import PAGE
+from page.week import MISSING, empty_message
+from program.room import Outcome
+
+NORTH, SOUTH, WEST = "#report-north", "#report-south", "#report-west"
+
+# Missing numbers are red, and nothing else is.
+RED = """
+return [...document.querySelectorAll('body *')].filter((found) => {
+  if (found.getClientRects().length === 0) return false;
+  const style = getComputedStyle(found);
+  const colours = [style.backgroundColor, style.borderTopColor, style.borderLeftColor];
+  if (found.textContent.trim() !== '') colours.push(style.color);
+  if (found instanceof SVGElement) colours.push(style.fill, style.stroke);
+  return colours.some((colour) => {
+    const [red, green, blue, alpha] = (colour.match(/[\\d.]+/g) ?? [0, 0, 0]).map(Number);
+    return alpha !== 0 && red > 120 && green < red / 3 && blue < red / 3;
+  });
+}).map((found) => found.getAttribute('class') ?? `${found.parentElement.className} ${found.localName}`);
+"""
+STRIP = """
+const strip = document.querySelector(arguments[0] + ' svg.strip');
+const whole = strip.getBoundingClientRect();
+const [from, until] = [...strip.querySelectorAll('.end')].map((text) => Number(text.textContent));
+const scale = whole.width / (until - from + 1);
+return [...strip.querySelectorAll('rect')].map((piece) => {
+  const box = piece.getBoundingClientRect();
+  const ends = [(box.left - whole.left) / scale + from, (box.right - whole.left) / scale + from - 1];
+  return [piece.getAttribute('class'), ...ends.map((end) => Math.round(end * 100) / 100)];
+});
+"""
+
+
+def open_missing(browser):
+    browser.open("#missing")
+    browser.wait_for_text("#as-of", "As of")
+
+
+def reported(site, browser):
+    open_missing(browser)
+    yield Outcome("missing: in all", browser.text("#missing-status"), "5 messages missing in 1 series: North Books.")
+    heads = ["North Books (north)", "South Books (south)", "Western Wholesale (west)"]
+    yield Outcome("missing: the series of desk.json", browser.texts("#series h2"), heads)
+    north = "Messages 1 to 2 are applied; the next one is 3. 2 later messages wait for what is missing."
+    yield Outcome("missing: where north stands", browser.text(f"{NORTH} p"), north)
+    ranges = ["3 to 4 (2 messages)", "6 to 8 (3 messages)"]
+    yield Outcome("missing: north's ranges", browser.texts(f"{NORTH} .ranges li"), ranges)
+    south = "Messages 1 to 3 are applied; the next one is 4. No message waits."
+    yield Outcome("missing: south", browser.texts(f"{SOUTH} p"), [south, "Nothing is missing."])
+    west = "Message 40 is applied; the next one is 41. No message waits."
+    yield Outcome("missing: west", browser.texts(f"{WEST} p"), [west, "Nothing is missing."])
+
+
+def strip(site, browser):
+    """The strip's pieces lie where the desk's answer has the missing numbers."""
+    open_missing(browser)
+    report = site.ask_desk("/series/north/gaps")
+    yield Outcome("strip: the desk's answer", report["missing"], MISSING)
+    came = browser.run(STRIP, NORTH)
+    missing = [[from_, to] for kind, from_, to in came if kind == "missing"]
+    yield Outcome("strip: missing to scale", missing, MISSING)
+    others = sorted(piece for piece in came if piece[0] != "missing")
+    yield Outcome("strip: the others", others, [["applied", 1, 2], ["waiting", 5, 5], ["waiting", 9, 9]])
+    label = browser.one(f"{NORTH} svg.strip").accessible_name
+    wanted = "Numbers 1 to 9. Missing: 3 to 4 (2 messages), 6 to 8 (3 messages)."
+    yield Outcome("strip: its name", label, wanted)
+
+
+def red(site, browser):
+    open_missing(browser)
+    wanted = ["lacks", "missing", "missing", "missing", "ranges li", "ranges li"]
+    yield Outcome("red where messages are missing", sorted(browser.run(RED)), wanted)
+    browser.open("#article")
+    browser.one("#isbn").send_keys("1\n")
+    browser.wait_for_text("#isbn-wrong", "digit")
+    yield Outcome("red nowhere else", browser.run(RED), [])
+
+
+REQUEST = """To North Books
+
+These messages of your ONIX series "north" to us have not reached us: 3 to 4 (2 messages), 6 to 8 (3 messages) (5 messages in all). Please send them again, each with its own message number and unchanged contents.
+
+We have applied your messages up to number 2; 2 later ones wait for the missing ones.
+"""
+
+
+def allow_clipboard(site, browser, setting: str):
+    for name in ("clipboard-read", "clipboard-write"):
+        grant = {"origin": site.address("").rstrip("/"), "setting": setting, "permission": {"name": name}}
+        browser.driver.execute_cdp_cmd("Browser.setPermission", grant)
+
+
+def copied(site, browser):
+    allow_clipboard(site, browser, "granted")
+    open_missing(browser)
+    browser.one(f"{NORTH} button").click()
+    told = browser.wait_for_text(f"{NORTH} .copied", "copied")
+    yield Outcome("the request is copied", told, "The request is copied: paste it into a mail to North Books.")
+    text = browser.driver.execute_async_script("navigator.clipboard.readText().then(arguments[0])")
+    yield Outcome("the copied request", text, REQUEST)
+    allow_clipboard(site, browser, "denied")
+    open_missing(browser)
+    browser.one(f"{NORTH} button").click()
+    told = browser.wait_for_text(f"{NORTH} .copied", "Copy this text:")
+    yield Outcome("where copying is not allowed", "The browser does not let the page copy." in told, True)
+    text = browser.run("return document.activeElement.value.slice(0, document.activeElement.selectionEnd)")
+    yield Outcome("the request is shown and chosen", text, REQUEST)
+
+
+def unknown_series(site, browser):
+    """A series of desk.json that nobody agreed is told at that series; the others are shown."""
+    path = site.page / "desk.json"
+    text = (PAGE / "desk.json").read_text(encoding="utf-8")
+    path.write_text(text.replace('"name": "south"', '"name": "sooth"'), encoding="utf-8")
+    open_missing(browser)
+    words = 'The desk has no agreement with the name “sooth”. Look at desk.json, or make the agreement.'
+    yield Outcome("an unknown series", browser.text("#report-sooth"), words)
+    yield Outcome("beside an unknown series", "40" in browser.text(WEST), True)
+    said = browser.text("#missing-status")
+    wanted = "5 messages missing in 1 series: North Books. 1 series has no report."
+    yield Outcome("an unknown series, in all", said, wanted)
+    path.write_text(text, encoding="utf-8")
+
+
+def each_minute(site, browser):
+    """Messages that come while the view is open show within a minute, and what is the same stays."""
+    open_missing(browser)
+    browser.run("document.querySelector(arguments[0]).firstChild.isKept = true", SOUTH)
+    browser.run("document.querySelector(arguments[0]).focus()", f"{NORTH} button")
+    asked = len([line for line in site.requests() if "/desk/series/north/gaps" in line])
+    for number in (3, 4):
+        site.tell_desk(empty_message(number))
+    stands = browser.wait_for_text(f"{NORTH} p", "1 to 5 are applied", 70)
+    wanted = "Messages 1 to 5 are applied; the next one is 6. 1 later message waits for what is missing."
+    yield Outcome("after a minute: where north stands", stands, wanted)
+    asked_now = len([line for line in site.requests() if "/desk/series/north/gaps" in line])
+    yield Outcome("after a minute: it was asked once", asked_now - asked, 1)
+    yield Outcome("after a minute: what is missing", browser.texts(f"{NORTH} .ranges li"), ["6 to 8 (3 messages)"])
+    kept = browser.run("return document.querySelector(arguments[0]).firstChild.isKept", SOUTH)
+    yield Outcome("after a minute: what is the same stays", kept, True)
+    focus = browser.run("return document.activeElement.textContent")
+    yield Outcome("after a minute: the focus", focus, "Copy a request to send them again")
+    for number in (6, 7, 8):
+        site.tell_desk(empty_message(number))
+    said = browser.wait_for_text("#missing-status", "Nothing", 70)
+    yield Outcome("after two minutes", said, "Nothing is missing in any series.")
+    browser.run("location.hash = '#article'")
+    yield Outcome("no red where nothing is missing", browser.run(RED), [])
+
+
+LATE = """Agree,late,06,7000000000007,06,5012345678900,9000000
+Message,1,06,7000000000007,06,5012345678900,9000003,1,20250306,02,GBP
+EndMessage,1
+"""
+
+
+def late_start(site, browser):
+    """A series that begins with a great number, of which nothing is applied yet."""
+    site.stop_desk()
+    site.room.run("--db", "shop.db", "batch", given=LATE.encode())
+    site.start_desk()
+    text = (PAGE / "desk.json").read_text(encoding="utf-8")
+    text = re.sub(r'"series": \[.*?\]', '"series": [{"name": "late", "words": "Late Books"}]', text, flags=re.S)
+    (site.page / "desk.json").write_text(text, encoding="utf-8")
+    open_missing(browser)
+    words = "Nothing has come that could be applied; it begins with message 9000000. 1 later message waits for what is missing."
+    yield Outcome("a late start: where it stands", browser.text("#report-late p"), words)
+    came = browser.run(STRIP, "#report-late")
+    wanted = [["waiting", 9000003, 9000003], ["missing", 9000000, 9000002]]
+    yield Outcome("a late start: its strip", came, wanted)
+
+
+CASES = [reported, strip, red, copied, unknown_series]
+OVER_TIME = [each_minute, late_start]

@@ -1,0 +1,200 @@
+"""Narrow screens, paper, and what a screen reader and weak eyes have of the page."""
+
+from page.week import HOSTILE_ISBN, article
+from program.room import Outcome
+
+CALENDAR = {"from": "2025-03-25", "until": "2025-04-25"}
+
+VIEWS = {
+    "article": article(**CALENDAR),
+    "a year": article(),
+    "a long reference": article(HOSTILE_ISBN),
+    "a wrong article": article("12"),
+    "missing": "#missing",
+}
+
+# What goes beyond the window, and what text is cut off.
+BEYOND = """
+const beyond = [...document.querySelectorAll('main *, header *')].filter((found) => {
+  const box = found.getBoundingClientRect();
+  return box.width > 0 && box.left > -1000 && (box.right > innerWidth + 0.5 || box.left < -0.5);
+}).map((found) => found.outerHTML.slice(0, 80));
+return [document.documentElement.scrollWidth > innerWidth, beyond];
+"""
+
+# The contrast of each text that is shown to what is behind it, by WCAG 2's formula.
+CONTRAST = """
+const colour = (text) => {
+  const [red, green, blue, alpha = 1] = text.match(/[\\d.]+/g).map(Number);
+  return { parts: [red, green, blue], alpha };
+};
+const light = ({ parts }) => {
+  const [red, green, blue] = parts.map((part) => {
+    const share = part / 255;
+    return share <= 0.04045 ? share / 12.92 : ((share + 0.055) / 1.055) ** 2.4;
+  });
+  return 0.2126 * red + 0.7152 * green + 0.0722 * blue;
+};
+const behindHtml = (found) => {
+  for (let at = found; at !== null; at = at.parentElement) {
+    const back = colour(getComputedStyle(at).backgroundColor);
+    if (back.alpha === 1) return back;
+  }
+  return colour('rgb(255, 255, 255)');
+};
+const behindDrawing = (text) => {
+  const box = text.getBoundingClientRect();
+  const [x, y] = [(box.left + box.right) / 2, (box.top + box.bottom) / 2];
+  const under = [...text.ownerSVGElement.querySelectorAll('rect')].filter((shape) => {
+    const area = shape.getBoundingClientRect();
+    return area.left <= x && x <= area.right && area.top <= y && y <= area.bottom;
+  }).at(-1);
+  return under === undefined ? behindHtml(text.ownerSVGElement) : colour(getComputedStyle(under).fill);
+};
+const texts = document.createTreeWalker(document.body, NodeFilter.SHOW_TEXT);
+const found = [];
+while (texts.nextNode()) {
+  const holder = texts.currentNode.parentElement;
+  if (texts.currentNode.data.trim() === '' || holder.getClientRects().length === 0) continue;
+  if (['NOSCRIPT', 'SCRIPT', 'title'].includes(holder.nodeName)) continue;
+  const isDrawn = holder.nodeName === 'text';
+  const style = getComputedStyle(holder);
+  const ink = light(colour(isDrawn ? style.fill : style.color));
+  const back = light(isDrawn ? behindDrawing(holder) : behindHtml(holder));
+  const contrast = (Math.max(ink, back) + 0.05) / (Math.min(ink, back) + 0.05);
+  found.push([texts.currentNode.data.trim().slice(0, 40), contrast]);
+}
+return found;
+"""
+LEAST_CONTRAST = 4.5
+
+
+def shown(browser, address: str):
+    browser.open(address)
+    # Until what the view asked for is there, or what is wrong with it is told.
+    browser.wait(
+        lambda: browser.run(
+            """return document.querySelector('#spans tr') !== null
+              || document.querySelector('#as-of').textContent !== ''
+              || document.querySelector('#isbn-wrong').textContent !== ''"""
+        )
+    )
+
+
+def narrow(site, browser):
+    browser.size(320, 800)
+    for name, address in VIEWS.items():
+        shown(browser, address)
+        yield Outcome(f"320 pixels: {name}", browser.run(BEYOND), [False, []])
+    browser.size(1100, 900)
+
+
+def paper(site, browser):
+    """On paper there are the answers, and no fields and buttons."""
+    browser.driver.execute_cdp_cmd("Emulation.setEmulatedMedia", {"media": "print"})
+    browser.size(700, 1000)
+    for name in ("article", "missing"):
+        shown(browser, VIEWS[name])
+        seen = browser.run(
+            """return [...document.querySelectorAll('button, input, select, nav, a')]
+              .filter((found) => found.getClientRects().length > 0).map((found) => found.id)"""
+        )
+        yield Outcome(f"paper: {name}: no fields", seen, [])
+        yield Outcome(f"paper: {name}: nothing beyond", browser.run(BEYOND), [False, []])
+    shown(browser, VIEWS["article"])
+    parts = ["#asked", "#article-status", "#offers", "#picture", "#spans"]
+    yield Outcome("paper: the answers", [browser.one(part).is_displayed() for part in parts], [True] * 5)
+    browser.driver.execute_cdp_cmd("Emulation.setEmulatedMedia", {"media": ""})
+    browser.size(1100, 900)
+
+
+def contrast(site, browser):
+    browser.open("")
+    for name, address in VIEWS.items():
+        shown(browser, address)
+        texts = browser.run(CONTRAST)
+        yield Outcome(f"contrast: {name} has texts", len(texts) > 10, True)
+        weak = [text for text in texts if text[1] < LEAST_CONTRAST]
+        yield Outcome(f"contrast: {name}", weak, [])
+    browser.run(
+        """for (const id of ['down', 'settings-wrong']) {
+          document.getElementById(id).hidden = false;
+          document.getElementById(id).append('words');
+        }"""
+    )
+    weak = [text for text in browser.run(CONTRAST) if text[1] < LEAST_CONTRAST]
+    yield Outcome("contrast: notes", weak, [])
+
+
+# Roles that a screen reader stops at, each of which has to have a name.
+NAMED = {
+    "textbox", "combobox", "button", "link", "table", "image", "heading", "navigation", "region",
+    "Date", "form", "columnheader",
+}
+
+
+def nodes(browser) -> list[tuple[str, str, str]]:
+    """The role, name and description of each node that the browser tells a screen reader of."""
+    browser.driver.execute_cdp_cmd("Accessibility.enable", {})
+    tree = browser.driver.execute_cdp_cmd("Accessibility.getFullAXTree", {})
+    return [
+        tuple(node.get(part, {}).get("value", "") for part in ("role", "name", "description"))
+        for node in tree["nodes"]
+        if not node["ignored"]
+    ]
+
+
+def accessible(site, browser):
+    for name, address in VIEWS.items():
+        shown(browser, address)
+        found = nodes(browser)
+        nameless = [node for node in found if node[0] in NAMED and not node[1].strip()]
+        yield Outcome(f"accessible: {name}: all have names", nameless, [])
+        levels = browser.run(
+            """return [...document.querySelectorAll('h1, h2, h3')]
+              .filter((head) => head.getClientRects().length > 0).map((head) => Number(head.localName[1]))"""
+        )
+        steps = [after - before for before, after in zip(levels, levels[1:])]
+        whole = levels.count(1) == 1 and levels[0] == 1 and all(step <= 1 for step in steps)
+        yield Outcome(f"accessible: {name}: headings {levels}", whole, True)
+        ids = browser.run("return [...document.querySelectorAll('[id]')].map(({ id }) => id)")
+        yield Outcome(f"accessible: {name}: each id once", sorted(set(ids)), sorted(ids))
+
+
+def fields(site, browser):
+    shown(browser, VIEWS["a wrong article"])
+    found = nodes(browser)
+    labels = [(role, name) for role, name, _ in found if role in ("textbox", "combobox", "Date")]
+    wanted = [
+        ("textbox", "ISBN"), ("Date", "Day"), ("textbox", "Copies"), ("textbox", "Country"),
+        ("textbox", "Currency"), ("combobox", "Price type"),
+    ]
+    yield Outcome("accessible: the fields", labels, wanted)
+    told = next(description for role, name, description in found if (role, name) == ("textbox", "ISBN"))
+    words = "Thirteen digits; hyphens and spaces do not matter. These are 2 digits. An ISBN is thirteen."
+    yield Outcome("accessible: what is wrong is told with its field", told, words)
+
+
+def live(site, browser):
+    """Answers stand in live regions, which are there before them."""
+    browser.open("")
+    roles = [browser.one(place).aria_role for place in ("#article-status", "#missing-status", "#down")]
+    shown(browser, VIEWS["article"])
+    status = browser.run("return document.querySelector('#article-status').getAttribute('role')")
+    yield Outcome("accessible: the live region", status, "status")
+    found = nodes(browser)
+    tables = [name for role, name, _ in found if role == "table"]
+    yield Outcome("accessible: the tables", tables, ["Offers on 10 April 2025", "The same as a table"])
+    picture = [name for role, name, _ in found if role == "image"]
+    words = "Prices of 3 offers from 25 March 2025 to 25 April 2025, drawn to scale. The table below says the same."
+    yield Outcome("accessible: the picture", picture, [words])
+    cells = [role for role, _, _ in found if role in ("row", "columnheader", "rowheader", "cell")]
+    browser.size(320, 800)
+    narrow = [role for role, _, _ in nodes(browser) if role in ("row", "columnheader", "rowheader", "cell")]
+    browser.size(1100, 900)
+    yield Outcome("accessible: a narrow table is one too", narrow, cells)
+    language = browser.run("return document.documentElement.lang")
+    yield Outcome("accessible: the language", language, "en-GB")
+
+
+CASES = [narrow, paper, contrast, accessible, fields, live]

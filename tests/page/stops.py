@@ -1,0 +1,104 @@
+"""The desk or the web server down: the page says so and asks again by itself."""
+
+import contextlib
+import sqlite3
+
+from page.articles import ONE_COPY
+from page.site import DATABASE
+from page.week import ISBN, article
+from program.room import Outcome
+
+AGAIN = " The page asks again by itself every 5 seconds."
+
+
+def down(browser, words: str, seconds=30) -> bool:
+    return browser.wait_for_text("#down", words, seconds) == words
+
+
+def back(browser, name: str):
+    browser.wait(lambda: browser.all("#offers tr"), 30)
+    yield Outcome(f"{name}: answered by itself", browser.rows("#offers"), ONE_COPY)
+    yield Outcome(f"{name}: the note is gone", browser.one("#down").is_displayed(), False)
+    yield Outcome(f"{name}: the whole answer", bool(browser.wait(lambda: browser.all("#picture svg"))), True)
+
+
+def stopped(site, browser):
+    browser.open("")
+    site.stop_desk()
+    browser.one("#isbn").send_keys(f"{ISBN}\n")
+    words = "The desk is not running, or is just being started." + AGAIN
+    yield Outcome("a stopped desk is told", down(browser, words), True)
+    browser.run("location.hash = arguments[0]", article())
+    yield Outcome("a stopped desk is told of another question", down(browser, words), True)
+    yield Outcome("a stopped desk: an alert", browser.one("#down").aria_role, "alert")
+    site.start_desk()
+    yield from back(browser, "a stopped desk")
+
+
+def silent(site, browser):
+    browser.open("")
+    site.freeze_desk()
+    browser.run("location.hash = arguments[0]", article())
+    early = browser.wait(lambda: browser.one("#down").is_displayed(), 13)
+    yield Outcome("a silent desk has its time", bool(early), False)
+    words = "The desk has not answered in 15 seconds." + AGAIN
+    yield Outcome("a silent desk is told", down(browser, words), True)
+    site.thaw_desk()
+    yield from back(browser, "a silent desk")
+
+
+@contextlib.contextmanager
+def damaged(site):
+    """An offer whose availability is no code."""
+    path = site.room.path(DATABASE)
+    for wrong in ("xx", "31"):
+        site.stop_desk()
+        with contextlib.closing(sqlite3.connect(path)) as database:
+            with database:
+                database.execute("UPDATE offer SET availability = ? WHERE reference = 'W-7'", [wrong])
+        site.start_desk()
+        if wrong == "xx":
+            yield
+
+
+def faulty(site, browser):
+    with damaged(site):
+        browser.open(article())
+        words = (
+            "The desk has a fault of its storage. Another program has its file open, or the file is not "
+            "the desk's." + AGAIN
+        )
+        yield Outcome("a fault of storage is told", down(browser, words), True)
+        yield Outcome("a fault of storage: of the desk", "503" in site.desk_lines(), True)
+    yield from back(browser, "a fault of storage")
+
+
+def unreached(site, browser):
+    browser.open("")
+    site.stop_nginx()
+    browser.run("location.hash = arguments[0]", article())
+    words = "The web server of this page cannot be reached." + AGAIN
+    yield Outcome("a stopped web server is told", down(browser, words), True)
+    site.start_nginx()
+    yield from back(browser, "a stopped web server")
+
+
+def missing_view(site, browser):
+    """The reports stay while the desk is down; the note goes with the view."""
+    browser.open("#missing")
+    browser.wait_for_text("#as-of", "As of")
+    site.stop_desk()
+    browser.run("location.hash = '#article'")
+    browser.run("location.hash = '#missing'")
+    words = "The desk is not running, or is just being started." + AGAIN
+    yield Outcome("missing messages of a stopped desk", down(browser, words), True)
+    yield Outcome("what was reported stays", browser.texts("#report-north .ranges li")[:1], ["3 to 4 (2 messages)"])
+    browser.run("location.hash = '#article'")
+    yield Outcome("the note goes with its view", browser.wait(lambda: not browser.one("#down").is_displayed()), True)
+    browser.run("location.hash = '#missing'")
+    site.start_desk()
+    gone = browser.wait(lambda: not browser.one("#down").is_displayed(), 30)
+    yield Outcome("missing messages: the note is gone", gone, True)
+
+
+CASES = [stopped, silent, faulty, unreached, missing_view]

@@ -1,0 +1,56 @@
+"""The desk that the page is tried on: the week of the shop, and more messages of its wholesalers."""
+
+from program.room import Room
+from page.site import DATABASE, ROOT
+
+ISBN = "9781234567897"
+
+# Of the week's second book only an offer that cannot be had is left.
+OTHER_ISBN = "9780306406157"
+
+HOSTILE_ISBN = "9780000000019"
+HOSTILE = "<img src=x onerror=alert(1)>"
+LONG = "R" * 1024
+
+SENDER = "06,4012345000009"
+SHOP = "06,5012345678900"
+
+
+def empty_message(number: int, sender: str = SENDER) -> str:
+    return f"Message,1,{sender},{SHOP},{number},1,20250306,02,GBP\nEndMessage,1\n"
+
+
+# North's messages 1 and 2 are applied; with 5 and 9 the numbers 3 to 4 and 6 to 8 are missing.
+GAPS = empty_message(5) + empty_message(9)
+MISSING = [[3, 4], [6, 8]]
+
+# A series that desk.json does not name, with texts that mean something in HTML.
+HOSTILE_SENDER = "06,6000000000006"
+HOSTILE_MESSAGE = f"""Agree,odd,{HOSTILE_SENDER},{SHOP},1
+Message,1,{HOSTILE_SENDER},{SHOP},1,1,20250306,02,GBP
+Product,{HOSTILE},03,15,{HOSTILE_ISBN}
+ProductSupply,GB,,
+SupplyDetail,04,06,6000000000006,<b>Odd</b>,21,
+Price,,7.50,,,,,,
+Product,{LONG},03,15,{HOSTILE_ISBN}
+ProductSupply,GB,,
+SupplyDetail,04,06,6000000000006,Odd,20,
+Price,,7.25,,,,,20250401,20250401
+Price,,7.125,,,,,20250402,20250402
+EndMessage,10
+"""
+
+
+def fill(room: Room):
+    """Makes the database of the week with the gaps and the hostile texts."""
+    week = (ROOT / "examples/shop/week.csv").read_text(encoding="utf-8")
+    batch = (week + GAPS + HOSTILE_MESSAGE).encode()
+    rules = ROOT / "examples/shop/rules.toml"
+    room.run("--db", DATABASE, "--rules", rules, "batch", given=batch)
+
+
+def article(isbn: str = ISBN, **given) -> str:
+    """The address of the article view: the shop's questions of the week, unless other ones are given."""
+    asked = {"isbn": isbn, "day": "2025-04-10", "country": "GB", "currency": "GBP", "type": "02"}
+    asked |= given
+    return "#article?" + "&".join(f"{name}={value}" for name, value in asked.items())

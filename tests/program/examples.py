@@ -4,7 +4,7 @@ import shlex
 from pathlib import Path
 
 from program.room import Group, Outcome, Ran
-from program.serving import serving
+from program.serving import posted, serving
 
 ROOT = Path(__file__).resolve().parent.parent.parent
 
@@ -83,7 +83,60 @@ def desk_in_a_file(room):
         yield Outcome("README.md: the lines of serve", desk.ended(), desk.wanted(statuses))
 
 
+# A message with a price, its agreement, and rules that choose its offer.
+PRICED = """\
+Message,1,06,4012345000009,06,5012345678900,1,,,02,GBP
+Product,R1,03,15,9781234567897
+ProductSupply,GB IE,,
+SupplyDetail,04,06,4012345000009,North Books,21,
+Price,,12.99,,,,,,
+EndMessage,5
+"""
+AGREEMENT = "Agree,north,06,4012345000009,06,5012345678900,1\n"
+RULES = b'[[rule]]\nseries = "north"\ncodes = ["21"]\n'
+
+
+def bare(number: int) -> str:
+    """A message without products."""
+    return f"Message,1,06,4012345000009,06,5012345678900,{number},,,,\nEndMessage,1\n"
+
+
+def replies(room, words: list[str], inputs: list[bytes], wanted: list[str]):
+    """Each input is sent to one desk, and its reply compared with the body that the page shows."""
+    with serving(room, words, len(inputs)) as desk:
+        for input, body in zip(inputs, wanted, strict=True):
+            came = desk.reply([input]).partition(b"\r\n\r\n")[2]
+            yield Outcome(f"docs/HTTP.md: {body[:60]}", came, body.encode())
+
+
+def asked(line: str) -> bytes:
+    """What `curl` sends of a command of the page that asks."""
+    target = shlex.split(line)[-1].removeprefix("http://127.0.0.1:8080")
+    return f"GET {target} HTTP/1.1\r\n\r\n".encode()
+
+
+def page_of_http(room):
+    """Each request that the page of HTTP shows, to desks in the states that it tells of."""
+    _, *deliveries = block("docs/HTTP.md", "curl -H 'Expect:' --data-binary @message.csv")
+    questions = [lines for lines in blocks("docs/HTTP.md") if lines[0].startswith(("curl 'http", "curl http"))]
+    of_articles = [lines for lines in questions if "/articles/" in lines[0]]
+    of_series = [lines for lines in questions if "/series/" in lines[0]]
+
+    room.write("rules.toml", RULES)
+    room.run("--db", "priced.db", "batch", given=AGREEMENT.encode())
+    inputs = [posted(PRICED), posted(bare(3)), *(asked(line) for line, _ in of_articles)]
+    wanted = deliveries + [body for _, body in of_articles]
+    yield from replies(room, ["--db", "priced.db", "--rules", "rules.toml"], inputs, wanted)
+
+    messages = AGREEMENT + "".join(bare(number) for number in (1, 2, 5, 9))
+    room.run("--db", "bare.db", "batch", given=messages.encode())
+    inputs, wanted = [asked(line) for line, _ in of_series], [body for _, body in of_series]
+    yield from replies(room, ["--db", "bare.db"], inputs, wanted)
+    yield Outcome("docs/HTTP.md: its questions", (len(of_articles), len(of_series)), (3, 2))
+
+
 GROUPS = [
+    Group("the page of HTTP", page_of_http),
     Group("the first batch", first_batch),
     Group("the week of a shop", week),
     Group("a desk in a file", desk_in_a_file),

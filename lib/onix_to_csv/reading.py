@@ -26,6 +26,10 @@ PIECE = 131_072
 # The most bytes without the beginning of an element, and the most characters of a text that counts.
 STRETCH = 4_194_304
 
+# The fewest bytes of an element, and how many elements a piece may have beyond that, by its entities.
+ELEMENT_BYTES = 4
+ENTITY_ELEMENTS = 10_000
+
 # The most elements within one another below an element that is passed over.
 DEPTH = 1_000
 
@@ -110,8 +114,9 @@ class MessageReader:
         self.pieces: list[str] = []
         # How many elements are open from the one on that is passed over.
         self.depth = 0
-        # How many elements have begun, and how many bytes have come since the last of them.
-        self.started = 0
+        # How many elements have begun, the most that may have at the end of this piece, and how many
+        # bytes have come since the last of them.
+        self.started = self.most_started = 0
         self.stretch = 0
         # The handlers are bound once, since they are set at many elements.
         self.add_piece = self.pieces.append
@@ -140,10 +145,7 @@ class MessageReader:
         try:
             data = not_standalone(stream.read(PIECE))
             while data:
-                started = self.started
-                self.parser.Parse(data, False)
-                self.stretch = 0 if self.started > started else self.stretch + len(data)
-                self.look_at_bounds()
+                self.parse(data)
                 on_piece()
                 data = stream.read(PIECE)
             self.parser.Parse(b"", True)
@@ -151,6 +153,13 @@ class MessageReader:
             self.refuse(str(damage))
         except expat.ExpatError as error:
             raise Refusal(error.lineno, f"no well-formed XML: {reason(error)}") from None
+
+    def parse(self, data: bytes):
+        started = self.started
+        self.most_started = started + len(data) // ELEMENT_BYTES + ENTITY_ELEMENTS
+        self.parser.Parse(data, False)
+        self.stretch = 0 if self.started > started else self.stretch + len(data)
+        self.look_at_bounds()
 
     def refuse(self, why: str):
         raise Refusal(self.parser.CurrentLineNumber, why)
@@ -209,7 +218,7 @@ class MessageReader:
         self.parser.EndElementHandler = self.end
 
     def on_start(self, name: str, attributes: dict[str, str]):
-        self.started += 1
+        self.count_start()
         word = self.children.get(name)
         if word is None:
             self.pass_over()
@@ -220,6 +229,11 @@ class MessageReader:
             self.parser.CharacterDataHandler = self.add_piece
         else:
             self.open_composite(word)
+
+    def count_start(self):
+        self.started += 1
+        if self.started > self.most_started:
+            self.refuse(f"entities give more than {ENTITY_ELEMENTS} elements at once")
 
     def open_composite(self, word: Word):
         values = Values(self.parser.CurrentLineNumber)
@@ -272,7 +286,7 @@ class MessageReader:
         self.parser.EndElementHandler = self.end_below
 
     def on_start_below(self, _name: str, _attributes: dict[str, str]):
-        self.started += 1
+        self.count_start()
         self.depth += 1
         if self.depth > DEPTH:
             self.refuse(f"more than {DEPTH} elements within one another")

@@ -2,10 +2,10 @@
 
 from typing import NamedTuple
 
+from onix_to_csv.composites import TOO_LARGE
 from onix_to_csv.elements import Values
 from onix_to_csv.faults import Refusal, Wrong
 from onix_to_csv.identifiers import GLN, party
-from onix_to_csv.reading import MessageReader
 from onix_to_csv.terms import CODE, CURRENCY, NUMBER, REPEAT, field, optional_term, term
 
 FORM = "2"
@@ -44,8 +44,8 @@ def read_header(values: Values | None, choices: Choices) -> Header:
     tell whose message it is."""
     if values is None:
         raise Refusal(1, "no sender identifier: no Header before the first Product")
-    if MessageReader.TOO_LARGE in values:
-        raise Refusal(values.line, f"too large a Header, with {values[MessageReader.TOO_LARGE]}")
+    if TOO_LARGE in values:
+        raise Refusal(values.line, f"a Header too large, from a {values[TOO_LARGE]} on")
     try:
         return header_of(values, choices)
     except Wrong as wrong:

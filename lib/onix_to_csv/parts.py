@@ -6,8 +6,7 @@ from typing import BinaryIO
 
 from onix_to_csv.faults import Refusal, Wrong
 from onix_to_csv.headers import Header
-from onix_to_csv.products import Record
-from onix_to_csv.terms import MOST_BYTES, MOST_RECORDS
+from onix_to_csv.terms import MOST_BYTES, MOST_RECORDS, Record
 
 
 class Lines:

@@ -1,10 +1,12 @@
 """The record of a Price, or why it has none."""
 
 import re
+from typing import NamedTuple
 
 from onix_to_csv.elements import Values
 from onix_to_csv.faults import Wrong, shown
 from onix_to_csv.headers import Header
+from onix_to_csv.notes import LeftOut
 from onix_to_csv.territories import region_fault, territory_fields
 from onix_to_csv.terms import (
     AMOUNT,
@@ -12,6 +14,7 @@ from onix_to_csv.terms import (
     CURRENCY,
     DAY,
     QUANTITY,
+    Record,
     optional_term,
     term,
 )
@@ -26,9 +29,26 @@ FORMATS = {FROM: ONE_DAY, UNTIL: ONE_DAY, FROM_UNTIL: TWO_DAYS}
 HAS_MORE_DECIMALS = re.compile("[0-9]+[.][0-9]{4,}").fullmatch
 
 
-def has_no_record(price: Values) -> bool:
-    """Whether it is no price at all: it has neither an amount nor a code in place of one."""
-    return "PriceAmount" not in price and "PriceCoded" not in price
+class JudgedPrice(NamedTuple):
+    """What comes of a Price: its record, or why it is left out, or why it makes its product wrong, or
+    none of these; and the UnpricedItemType of one without an amount."""
+
+    record: Record | None = None
+    left_out: LeftOut | None = None
+    wrong: Wrong | None = None
+    unpriced: str | None = None
+
+
+def judge_price(price: Values, header: Header) -> JudgedPrice:
+    unpriced = None if "PriceAmount" in price else price.get("UnpricedItemType")
+    if "PriceAmount" not in price and "PriceCoded" not in price:
+        return JudgedPrice(unpriced=unpriced)
+    if why := left_out(price):
+        return JudgedPrice(left_out=LeftOut(price.line, "Price", why), unpriced=unpriced)
+    try:
+        return JudgedPrice(record=price_record(price, header))
+    except Wrong as wrong:
+        return JudgedPrice(wrong=wrong)
 
 
 def left_out(price: Values) -> str | None:
@@ -100,7 +120,7 @@ def days(price: Values) -> list[str]:
     return [optional_term(DAY, each[0] if each else "", "Date", price.line) for each in (first, last)]
 
 
-def price_record(price: Values, header: Header) -> list[str]:
+def price_record(price: Values, header: Header) -> Record:
     """The record of a Price that is not left out; Wrong where the desk would call it malformed."""
     line = price.line
     record = [

@@ -1,8 +1,7 @@
 """Reads an ONIX message from XML by expat, piece by piece.
 
-Neither the file's length, nor its depth, nor what it declares makes the memory grow: what a product
-says in elements that count is bounded, and a file that goes past the other bounds below is refused.
-No other file and no address is opened.
+No other file and no address is opened, and a file that goes past one of the bounds below is refused, so
+that neither its length, nor its depth, nor what it declares makes the memory grow.
 """
 
 import codecs
@@ -11,7 +10,8 @@ from collections.abc import Callable
 from typing import BinaryIO
 from xml.parsers import expat
 
-from onix_to_csv.elements import Values, Word, vocabulary
+from onix_to_csv.composites import Composites
+from onix_to_csv.elements import Word, vocabulary
 from onix_to_csv.entities import DECLARATIONS
 from onix_to_csv.faults import Damage, Refusal, shown
 
@@ -36,13 +36,6 @@ DEPTH = 1_000
 # The most names of elements, attributes and prefixes, and the most characters that they have together.
 NAMES = 20_000
 NAME_CHARACTERS = 1_048_576
-
-# The most composites below a product or header, and the most characters of their texts together.
-COMPOSITES = 20_000
-CHARACTERS = 4_194_304
-
-# Longer texts are wrong wherever they are written, and are kept no further.
-KEPT = 1_025
 
 # Between a namespace and a name. No namespace has a space.
 SEPARATOR = " "
@@ -86,30 +79,15 @@ def not_standalone(data: bytes) -> bytes:
 
 
 class MessageReader:
-    """Reads one message, and calls `on_header` and `on_product` with the Values of each Header and
-    Product directly below the root, where it ends. What they raise ends the reading.
+    """Reads one message into `composites`, whose closers get its Headers and Products."""
 
-    Of a Header or Product with more composites or longer texts than the bounds allow, what goes beyond
-    them is left out, and its key TOO_LARGE names the first composite or text that is.
-    """
-
-    TOO_LARGE = "too large"
-
-    def __init__(
-        self, on_header: Callable[[Values], None], on_product: Callable[[Values], None]
-    ):
-        self.callbacks = {"Header": on_header, "Product": on_product}
-        # What may stand in the composite that is open, what it holds, and both of those around it.
+    def __init__(self, composites: Composites):
+        self.composites = composites
+        # What may stand where the reading is.
         self.children: dict[str, Word] = {}
-        self.values: Values | None = None
-        self.around: list[tuple[dict[str, Word], Values]] = []
-        # The Header or Product that is open, and what is still free of its bounds.
-        self.top: Values | None = None
-        self.on_top_end: Callable[[Values], None] = on_header
-        self.composites = self.characters = 0
         # The text that is open, and what may stand beside it.
-        self.siblings = self.children
         self.text: Word | None = None
+        self.siblings = self.children
         self.attributes: dict[str, str] = {}
         self.pieces: list[str] = []
         # How many elements are open from the one on that is passed over.
@@ -227,37 +205,21 @@ class MessageReader:
             self.attributes = attributes
             self.siblings, self.children = self.children, NOTHING
             self.parser.CharacterDataHandler = self.add_piece
+        elif self.composites.open(word, self.children, self.parser.CurrentLineNumber):
+            self.children = word.children
         else:
-            self.open_composite(word)
+            self.pass_over()
 
     def count_start(self):
         self.started += 1
         if self.started > self.most_started:
             self.refuse(f"entities give more than {ENTITY_ELEMENTS} elements at once")
 
-    def open_composite(self, word: Word):
-        values = Values(self.parser.CurrentLineNumber)
-        if not self.around:
-            self.top, self.on_top_end = values, self.callbacks[word.name]
-            self.composites, self.characters = COMPOSITES, CHARACTERS
-        elif self.composites == 0:
-            self.top.setdefault(self.TOO_LARGE, word.name)
-            return self.pass_over()
-        elif word.is_repeatable:
-            self.values.setdefault(word.name, []).append(values)
-        elif self.values.setdefault(word.name, values) is not values:
-            return self.pass_over()
-        self.composites -= 1
-        self.around.append((self.children, self.values))
-        self.children, self.values = word.children, values
-
     def on_end(self, _name: str):
         if self.text:
             self.close_text()
-        elif self.around:
-            if len(self.around) == 1:
-                self.on_top_end(self.values)
-            self.children, self.values = self.around.pop()
+        elif self.composites.around:
+            self.children = self.composites.close()
 
     def close_text(self):
         self.parser.CharacterDataHandler = None
@@ -265,17 +227,8 @@ class MessageReader:
         word, self.text = self.text, None
         text = normalized("".join(self.pieces))
         self.pieces.clear()
-        if text and word.name not in self.values:
-            self.keep(word, text[:KEPT])
-
-    def keep(self, word: Word, text: str):
-        self.characters -= len(text)
-        if self.characters < 0:
-            self.top.setdefault(self.TOO_LARGE, word.name)
-            return
-        self.values[word.name] = text
-        if word.attribute in self.attributes:
-            self.values[word.attribute] = normalized(self.attributes[word.attribute])
+        if text and self.composites.keep(word.name, text) and word.attribute in self.attributes:
+            self.composites.keep(word.attribute, normalized(self.attributes[word.attribute]))
 
     # Elements that are passed over, with all below them.
 

@@ -6,6 +6,8 @@ from datetime import date
 
 from onix_to_csv.faults import Wrong, shown
 
+Record = list[str]
+
 FIELD_BYTES = 1_024
 
 # What a message may have, its first and its last record among them.

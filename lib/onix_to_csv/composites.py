@@ -1,0 +1,87 @@
+"""The composites of a message that are open, and what they hold, within bounds."""
+
+from collections.abc import Callable
+from typing import Any, NamedTuple
+
+from onix_to_csv.elements import Values, Word
+
+# The most composites and texts that a Header or Product may hold at once, and the most characters that
+# its texts may have together. No message has room for more, but for elements that are not written.
+ITEMS = 65_536
+CHARACTERS = 4_194_304
+
+# A longer text is wrong wherever it is written, and is kept no further.
+KEPT = 1_025
+
+# The key of a Header or Product that goes beyond these bounds. It has the name of the first element that
+# was not kept.
+TOO_LARGE = "too large"
+
+
+class Opened(NamedTuple):
+    """A composite that is open, and what goes on where it ends."""
+
+    word: Word
+    siblings: dict[str, Word]
+    parent: Values | None
+    items: int
+
+
+class Composites:
+    """Holds one Header or Product at a time.
+
+    `closers` has for the name of a composite a function, which gets its Values where it ends. What it
+    gives stands in their place in the composite around it, and counts as one item.
+    """
+
+    def __init__(self, closers: dict[str, Callable[[Values], Any]]):
+        self.closers = closers
+        self.around: list[Opened] = []
+        self.values: Values | None = None
+        # The Header or Product, and what is free of its bounds.
+        self.top: Values | None = None
+        self.items = self.characters = 0
+
+    def open(self, word: Word, siblings: dict[str, Word], line: int) -> bool:
+        """Opens a composite that begins at that line, unless it does not count."""
+        values = Values(line)
+        if not self.around:
+            self.top, self.items, self.characters = values, ITEMS, CHARACTERS
+        elif self.items == 0:
+            self.top.setdefault(TOO_LARGE, word.name)
+            return False
+        elif word.is_repeatable:
+            self.values.setdefault(word.name, []).append(values)
+        elif self.values.setdefault(word.name, values) is not values:
+            return False
+        self.items -= 1
+        self.around.append(Opened(word, siblings, self.values, self.items))
+        self.values = values
+        return True
+
+    def close(self) -> dict[str, Word]:
+        """Closes the composite that is open, and gives what may stand beside it."""
+        word, siblings, parent, items = self.around.pop()
+        closer = self.closers.get(word.name)
+        if closer:
+            closed = closer(self.values)
+            self.items = items
+            if parent is not None:
+                parent[word.name][-1] = closed
+        self.values = parent
+        return siblings
+
+    def keep(self, name: str, text: str) -> bool:
+        """Keeps a text of the composite that is open, where it is the first of that name and there is room
+        for it. Whether it is kept."""
+        if name in self.values:
+            return False
+        text = text[:KEPT]
+        self.items -= 1
+        self.characters -= len(text)
+        if self.items < 0 or self.characters < 0:
+            self.items = max(self.items, 0)
+            self.top.setdefault(TOO_LARGE, name)
+            return False
+        self.values[name] = text
+        return True

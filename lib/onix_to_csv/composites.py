@@ -1,7 +1,7 @@
 """The composites of a message that are open, and what they hold, within bounds."""
 
 from collections.abc import Callable
-from typing import Any, NamedTuple
+from typing import Any
 
 from onix_to_csv.elements import Values, Word
 
@@ -18,15 +18,6 @@ KEPT = 1_025
 TOO_LARGE = "too large"
 
 
-class Opened(NamedTuple):
-    """A composite that is open, and what goes on where it ends."""
-
-    word: Word
-    siblings: dict[str, Word]
-    parent: Values | None
-    items: int
-
-
 class Composites:
     """Holds one Header or Product at a time.
 
@@ -36,7 +27,9 @@ class Composites:
 
     def __init__(self, closers: dict[str, Callable[[Values], Any]]):
         self.closers = closers
-        self.around: list[Opened] = []
+        # Of each composite that is open: its name, what may stand beside it, the Values around it, and
+        # how many items are free but for those that it holds.
+        self.around: list[tuple[str, dict[str, Word], Values | None, int]] = []
         self.values: Values | None = None
         # The Header or Product, and what is free of its bounds.
         self.top: Values | None = None
@@ -44,7 +37,8 @@ class Composites:
 
     def open(self, word: Word, siblings: dict[str, Word], line: int) -> bool:
         """Opens a composite that begins at that line, unless it does not count."""
-        values = Values(line)
+        values = Values()
+        values.line = line
         if not self.around:
             self.top, self.items, self.characters = values, ITEMS, CHARACTERS
         elif self.items == 0:
@@ -55,19 +49,19 @@ class Composites:
         elif self.values.setdefault(word.name, values) is not values:
             return False
         self.items -= 1
-        self.around.append(Opened(word, siblings, self.values, self.items))
+        self.around.append((word.name, siblings, self.values, self.items))
         self.values = values
         return True
 
     def close(self) -> dict[str, Word]:
         """Closes the composite that is open, and gives what may stand beside it."""
-        word, siblings, parent, items = self.around.pop()
-        closer = self.closers.get(word.name)
+        name, siblings, parent, items = self.around.pop()
+        closer = self.closers.get(name)
         if closer:
             closed = closer(self.values)
             self.items = items
             if parent is not None:
-                parent[word.name][-1] = closed
+                parent[name][-1] = closed
         self.values = parent
         return siblings
 

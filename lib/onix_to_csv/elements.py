@@ -23,10 +23,7 @@ class Values(dict):
     reference name of its element, an attribute by its own name, and the line where it begins."""
 
     __slots__ = ("line",)
-
-    def __init__(self, line: int):
-        super().__init__()
-        self.line = line
+    line: int
 
 
 class Word(NamedTuple):

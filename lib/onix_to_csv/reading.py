@@ -23,7 +23,7 @@ OF_EXPAT = {"UTF-8", "UTF-16", "UTF-16BE", "UTF-16LE", "ISO-8859-1", "US-ASCII"}
 # How many bytes are read at once.
 PIECE = 131_072
 
-# The most bytes without the beginning of an element, and the most characters of a text that counts.
+# The most bytes without the beginning or end of an element, and the most characters of a text.
 STRETCH = 4_194_304
 
 # The fewest bytes of an element, and how many elements a piece may have beyond that, by its entities.
@@ -52,6 +52,8 @@ BYTE_ORDER_MARKS = {
 }
 DECLARED_WITHIN = 512
 
+
+StartHandler = Callable[[str, dict[str, str]], None]
 
 # What counts within a text.
 NOTHING: dict[str, Word] = {}
@@ -92,14 +94,16 @@ class MessageReader:
         self.pieces: list[str] = []
         # How many elements are open from the one on that is passed over.
         self.depth = 0
-        # How many elements have begun, the most that may have at the end of this piece, and how many
-        # bytes have come since the last of them.
-        self.started = self.most_started = 0
+        # How many bytes have come without an element.
         self.stretch = 0
+        # How many elements may still begin in this piece. It is counted where entities may give some.
+        self.elements = 0
         # The handlers are bound once, since they are set at many elements.
         self.add_piece = self.pieces.append
         self.start, self.end = self.on_start, self.on_end
         self.start_below, self.end_below = self.on_start_below, self.on_end_below
+        # The one of the two that is set.
+        self.present_start = self.on_root
         self.parser = self.new_parser()
 
     def new_parser(self):
@@ -114,7 +118,6 @@ class MessageReader:
         parser.XmlDeclHandler = self.on_xml_declaration
         # So that prefixes are among the names that are counted.
         parser.StartNamespaceDeclHandler = lambda _prefix, _address: None
-        parser.StartElementHandler = self.on_root
         return parser
 
     def read(self, stream: BinaryIO, on_piece: Callable[[], None]):
@@ -133,10 +136,10 @@ class MessageReader:
             raise Refusal(error.lineno, f"no well-formed XML: {reason(error)}") from None
 
     def parse(self, data: bytes):
-        started = self.started
-        self.most_started = started + len(data) // ELEMENT_BYTES + ENTITY_ELEMENTS
+        self.stretch += len(data)
+        self.elements = len(data) // ELEMENT_BYTES + ENTITY_ELEMENTS
+        self.parser.StartElementHandler = self.on_first_start
         self.parser.Parse(data, False)
-        self.stretch = 0 if self.started > started else self.stretch + len(data)
         self.look_at_bounds()
 
     def refuse(self, why: str):
@@ -144,7 +147,7 @@ class MessageReader:
 
     def look_at_bounds(self):
         if self.stretch > STRETCH:
-            self.refuse(f"more than {STRETCH} bytes without the beginning of an element")
+            self.refuse(f"more than {STRETCH} bytes without an element")
         names = list(filter(None, self.parser.intern))
         if len(names) > NAMES or sum(map(len, names)) > NAME_CHARACTERS:
             self.refuse("too many or too long names of elements, attributes and prefixes")
@@ -168,6 +171,19 @@ class MessageReader:
     def on_entity_declaration(self, name, is_parameter, _value, _base, address, _public, _notation):
         if is_parameter and address is not None:
             self.refuse(f"entity %{shown(name)}; is declared by an address")
+        if not is_parameter and self.start == self.on_start:
+            self.start, self.start_below = self.counted(self.start), self.counted(self.start_below)
+
+    def counted(self, on_start: StartHandler) -> StartHandler:
+        """The handler, for a document whose entities may give more elements than it has bytes for."""
+
+        def counted_start(name: str, attributes: dict[str, str]):
+            self.elements -= 1
+            if self.elements < 0:
+                self.refuse(f"entities give more than {ENTITY_ELEMENTS} elements at once")
+            on_start(name, attributes)
+
+        return counted_start
 
     def on_external_entity(self, context: str | None, _base, _address, _public) -> int:
         if context is not None:
@@ -190,13 +206,21 @@ class MessageReader:
         if release not in RELEASES:
             found = "no release" if release is None else f"release {shown(release)}"
             self.refuse(f"{found}, not {' or '.join(RELEASES)}")
-        self.started += 1
         self.children = children
-        self.parser.StartElementHandler = self.start
-        self.parser.EndElementHandler = self.end
+        self.listen(self.start, self.end)
+
+    def listen(self, start: StartHandler, end: Callable[[str], None]):
+        self.present_start = start
+        self.parser.StartElementHandler = start
+        self.parser.EndElementHandler = end
+
+    def on_first_start(self, name: str, attributes: dict[str, str]):
+        """Stands in for the handler that is set, until the first element begins in a piece."""
+        self.stretch = 0
+        self.parser.StartElementHandler = self.present_start
+        self.present_start(name, attributes)
 
     def on_start(self, name: str, attributes: dict[str, str]):
-        self.count_start()
         word = self.children.get(name)
         if word is None:
             self.pass_over()
@@ -210,11 +234,6 @@ class MessageReader:
         else:
             self.pass_over()
 
-    def count_start(self):
-        self.started += 1
-        if self.started > self.most_started:
-            self.refuse(f"entities give more than {ENTITY_ELEMENTS} elements at once")
-
     def on_end(self, _name: str):
         if self.text:
             self.close_text()
@@ -225,8 +244,10 @@ class MessageReader:
         self.parser.CharacterDataHandler = None
         self.children = self.siblings
         word, self.text = self.text, None
-        text = normalized("".join(self.pieces))
+        text = "".join(self.pieces)
         self.pieces.clear()
+        if not text.isalnum():
+            text = normalized(text)
         if text and self.composites.keep(word.name, text) and word.attribute in self.attributes:
             self.composites.keep(word.attribute, normalized(self.attributes[word.attribute]))
 
@@ -234,12 +255,11 @@ class MessageReader:
 
     def pass_over(self):
         self.depth = 1
-        self.parser.CharacterDataHandler = None
-        self.parser.StartElementHandler = self.start_below
-        self.parser.EndElementHandler = self.end_below
+        if self.text:
+            self.parser.CharacterDataHandler = None
+        self.listen(self.start_below, self.end_below)
 
     def on_start_below(self, _name: str, _attributes: dict[str, str]):
-        self.count_start()
         self.depth += 1
         if self.depth > DEPTH:
             self.refuse(f"more than {DEPTH} elements within one another")
@@ -247,8 +267,8 @@ class MessageReader:
     def on_end_below(self, _name: str):
         self.depth -= 1
         if self.depth == 0:
-            self.parser.StartElementHandler = self.start
-            self.parser.EndElementHandler = self.end
+            self.stretch = 0
+            self.listen(self.start, self.end)
             if self.text:
                 self.parser.CharacterDataHandler = self.add_piece
 

@@ -13,8 +13,7 @@ CHARACTERS = 4_194_304
 # A longer text is wrong wherever it is written, and is kept no further.
 KEPT = 1_025
 
-# The key of a Header or Product that goes beyond these bounds. It has the name of the first element that
-# was not kept.
+# The key of a Header or Product that goes beyond these bounds.
 TOO_LARGE = "too large"
 
 
@@ -42,7 +41,7 @@ class Composites:
         if not self.around:
             self.top, self.items, self.characters = values, ITEMS, CHARACTERS
         elif self.items == 0:
-            self.top.setdefault(TOO_LARGE, word.name)
+            self.top[TOO_LARGE] = True
             return False
         elif word.is_repeatable:
             self.values.setdefault(word.name, []).append(values)
@@ -75,7 +74,7 @@ class Composites:
         self.characters -= len(text)
         if self.items < 0 or self.characters < 0:
             self.items = max(self.items, 0)
-            self.top.setdefault(TOO_LARGE, name)
+            self.top[TOO_LARGE] = True
             return False
         self.values[name] = text
         return True

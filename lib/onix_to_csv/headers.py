@@ -45,7 +45,7 @@ def read_header(values: Values | None, choices: Choices) -> Header:
     if values is None:
         raise Refusal(1, "no sender identifier: no Header before the first Product")
     if TOO_LARGE in values:
-        raise Refusal(values.line, f"a Header too large, from a {values[TOO_LARGE]} on")
+        raise Refusal(values.line, "a Header too large")
     try:
         return header_of(values, choices)
     except Wrong as wrong:

@@ -30,6 +30,7 @@ class Input:
         except OSError as error:
             raise FileFault(name, error.strerror) from None
         self.size = state.st_size if stat.S_ISREG(state.st_mode) else None
+        self.taken = 0
         self.stream = gzip.GzipFile(fileobj=self.raw) if name.endswith(PACKED) else self.raw
 
     def __enter__(self) -> "Input":
@@ -40,15 +41,17 @@ class Input:
 
     def read(self, size: int) -> bytes:
         try:
-            return self.stream.read(size)
+            data = self.stream.read(size)
         except (gzip.BadGzipFile, EOFError, zlib.error) as error:
             raise Damage(f"no whole gzip file: {error}") from None
         except OSError as error:
             raise FileFault(self.name, error.strerror) from None
+        self.taken += len(data)
+        return data
 
     def position(self) -> int:
-        """How many bytes of the file were read, packed as it is."""
-        return self.raw.tell()
+        """How many bytes were read of the file, packed as it is, or else of the stream."""
+        return self.taken if self.size is None else self.raw.tell()
 
 
 def stem(name: str) -> str:

@@ -4,9 +4,9 @@ import csv
 from collections.abc import Callable
 from typing import BinaryIO
 
-from onix_to_csv.faults import Refusal, Wrong
+from onix_to_csv.faults import Refusal
 from onix_to_csv.headers import Header
-from onix_to_csv.terms import MOST_BYTES, MOST_RECORDS, Record
+from onix_to_csv.terms import MOST_BYTES, MOST_RECORDS, Record, too_large
 
 
 class Lines:
@@ -101,8 +101,3 @@ def lines(records: list[Record], line: int) -> bytes:
             raise too_large(line)
     return bytes(data)
 
-
-def too_large(line: int) -> Wrong:
-    return Wrong(
-        line, f"a Product too large for a message of {MOST_RECORDS} records and {MOST_BYTES} bytes"
-    )

@@ -6,7 +6,7 @@ from onix_to_csv.faults import Wrong
 from onix_to_csv.identifiers import pair
 from onix_to_csv.notes import LeftOut
 from onix_to_csv.supplies import detail_records, market_records
-from onix_to_csv.terms import CODE, MOST_RECORDS, Record, needed, term
+from onix_to_csv.terms import CODE, MOST_RECORDS, Record, needed, term, too_large
 
 DELETION = "05"
 
@@ -15,7 +15,7 @@ def product_records(product: Values) -> tuple[list[Record], list[LeftOut]]:
     """The records of a product, and what is left out of it; Wrong where the desk would call one of them
     malformed, or where none of its supplies is left."""
     if TOO_LARGE in product:
-        raise Wrong(product.line, f"a Product too large, from a {product[TOO_LARGE]} on")
+        raise too_large(product.line)
     records = [product_record(product)]
     missing: list[LeftOut] = []
     supplies = product.get("ProductSupply", [])
@@ -29,7 +29,7 @@ def product_records(product: Values) -> tuple[list[Record], list[LeftOut]]:
         details, missing_below = detail_records(supply)
         missing += missing_below
         if len(records) + len(markets) * (1 + len(details)) > MOST_RECORDS:
-            raise Wrong(product.line, f"a Product of more than {MOST_RECORDS} records")
+            raise too_large(product.line)
         for market in markets:
             records += [market, *details]
     if len(records) == 1:

@@ -31,9 +31,5 @@ class Progress:
 
 
 def how_far(file: Input) -> str:
-    try:
-        position = file.position()
-    except OSError:
-        return "reading"
-    read = f"{position / 1_000_000:.1f} MB"
+    read = f"{file.position() / 1_000_000:.1f} MB"
     return f"{read} of {file.size / 1_000_000:.1f} MB" if file.size else read

@@ -85,3 +85,10 @@ def term(rule: str, text: str | None, name: str, line: int) -> str:
 def optional_term(rule: str, text: str | None, name: str, line: int) -> str:
     """The text, which keeps that rule, or the empty text where it is absent; Wrong where it does not."""
     return term(rule, text, name, line) if text else ""
+
+
+def too_large(line: int) -> Wrong:
+    """Of a product that has no room in a message, even alone."""
+    return Wrong(
+        line, f"a Product too large for a message of {MOST_RECORDS} records and {MOST_BYTES} bytes"
+    )

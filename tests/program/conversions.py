@@ -135,6 +135,11 @@ class Case(NamedTuple):
         return {"": text.encode(), " in short tags": in_short_tags(text).encode()}
 
 
+def said(lines: list[str]) -> bytes:
+    """These lines of `onix-to-csv` on standard error."""
+    return "".join(f"onix-to-csv: {line}\n" for line in lines).encode()
+
+
 def in_short_tags(text: str) -> str:
     def short(found: re.Match) -> str:
         return found[1] + SHORT_TAGS.get(found[2], found[2])

@@ -23,6 +23,7 @@ from program import (
     migrations,
     rules_files,
     sample_feeds,
+    seeded_feeds,
 )
 from program.room import Group, Outcome, Room
 
@@ -40,8 +41,7 @@ MODULES = [
     converter_limits,
     converter_runs,
     sample_feeds,
-    converter_limits,
-    converter_runs,
+    seeded_feeds,
     databases,
     desks,
     damage,

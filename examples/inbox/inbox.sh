@@ -16,7 +16,10 @@ export LC_ALL
 
 complain() { echo "inbox.sh: $*" >&2; }
 
-[ $# -ge 2 ] && [ -d "$1" ] || { complain "it is called as inbox.sh FOLDER URL [WORDS OF onix-to-csv..]"; exit 2; }
+if [ $# -lt 2 ] || [ ! -d "$1" ]; then
+    complain "it is called as inbox.sh FOLDER URL [WORDS OF onix-to-csv..]"
+    exit 2
+fi
 folder=$1 url=$2
 shift 2
 converter=${ONIX_TO_CSV:-$(dirname "$0")/../../bin/onix-to-csv}

@@ -196,7 +196,8 @@ def check(words: list[str], feeds: list[tuple[str, bytes, int, Converted]], room
     notes = sum(len(wanted.said) for *_, wanted in feeds if wanted.records is not None)
     counted = [] if notes == 0 else ["1 note"] if notes == 1 else [f"{notes} notes"]
     wanted = max(status for _, _, status, _ in feeds), counted
-    yield Outcome(f"{feeds[0][0]}, and others: the status and the last line", (came.status, list(said)), wanted)
+    found = came.status, list(said)
+    yield Outcome(f"{feeds[0][0]}, and others: the status and the last line", found, wanted)
 
 
 def groups(cases: list[Case]):

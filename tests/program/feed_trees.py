@@ -274,7 +274,8 @@ class Maker:
         return self.countries() if self.is_one_of(2) else []
 
     def day(self) -> str:
-        return f"{self.random.randint(2024, 2026)}{self.random.randint(1, 12):02}{self.random.randint(1, 28):02}"
+        number = self.random.randint
+        return f"{number(2024, 2026)}{number(1, 12):02}{number(1, 28):02}"
 
     def price_date(self) -> PriceDate:
         role = self.random.choice(["14", "15", "24"])

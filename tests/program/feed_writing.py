@@ -158,7 +158,8 @@ class Writer:
 
     def price(self, price: Price):
         peculiar = price.peculiar
-        amount = price.amount
+        amount, quantity = price.amount, "0" if peculiar == "no quantity" else price.quantity
+        qualifier = "05" if peculiar == "PriceQualifier" else self.usual()
         if amount and peculiar in ("comma", "decimals"):
             amount = {"comma": "12,99", "decimals": "12.9900"}[peculiar]
 
@@ -169,11 +170,11 @@ class Writer:
         def below():
             self.in_any_order(
                 lambda: self.element("PriceType", price.price_type),
-                lambda: self.element("PriceQualifier", "05" if peculiar == "PriceQualifier" else self.usual()),
+                lambda: self.element("PriceQualifier", qualifier),
                 lambda: self.element("PricePer", "01" if peculiar == "PricePer" else self.usual()),
                 lambda: coded("PriceCondition", "PriceConditionType", "10"),
                 lambda: coded("PriceConstraint", "PriceConstraintType", "06"),
-                lambda: self.element("MinimumOrderQuantity", "0" if peculiar == "no quantity" else price.quantity),
+                lambda: self.element("MinimumOrderQuantity", quantity),
                 lambda: peculiar == "PriceCoded" and amount and self.composite("PriceCoded"),
                 lambda: self.element("PriceAmount", amount),
                 lambda: self.element("UnpricedItemType", price.unpriced),

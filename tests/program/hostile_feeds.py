@@ -3,19 +3,15 @@ memory and time; no other file and no address is opened."""
 
 import contextlib
 import os
-import re
 import socket
-import subprocess
-import sys
-import threading
 from collections.abc import Callable, Iterator
 from functools import partial
 from typing import NamedTuple
 
 from program.conversions import FRAMES, said
-from program.converter import CONVERTER
+from program.converter import measured
 from program.converter_runs import PRODUCT, message_of
-from program.room import SECONDS, Group, Outcome, Ran, Room
+from program.room import SECONDS, Group, Outcome, Ran
 
 MEMORY = 64 * 1_048_576
 
@@ -24,53 +20,6 @@ BOMB_SECONDS = 1
 
 FRAME = FRAMES["products"]
 ROOT = '<ONIXMessage release="3.0">'
-
-# Runs the converter and then writes its greatest resident memory, of this process alone.
-MEASURING = """
-import re, runpy, sys
-sys.argv = sys.argv[1:]
-try:
-    runpy.run_path(sys.argv[0], run_name="__main__")
-finally:
-    sys.stdout.flush()
-    with open("memory", "w") as file:
-        file.write(re.search("VmHWM: *\\t *([0-9]+) kB", open("/proc/self/status").read())[1])
-"""
-
-
-class Measured(NamedTuple):
-    ran: Ran
-    seconds: float
-    memory: int
-
-
-def feed_in(pieces: Iterator[bytes], stream):
-    """Writes the pieces, as far as they are taken."""
-    with contextlib.suppress(BrokenPipeError), stream:
-        for piece in pieces:
-            stream.write(piece)
-
-
-def measured(room: Room, pieces: Iterator[bytes], *words) -> Measured:
-    """Converts a feed from standard input."""
-    process = subprocess.Popen(
-        [sys.executable, "-I", "-S", "-c", MEASURING, CONVERTER, *words],
-        cwd=room.folder,
-        stdin=subprocess.PIPE,
-        stdout=subprocess.PIPE,
-        stderr=room.path("errors").open("wb"),
-    )
-    feeder = threading.Thread(target=feed_in, args=(pieces, process.stdin))
-    feeder.start()
-    output = process.stdout.read()
-    _, status, usage = os.wait4(process.pid, 0)
-    process.returncode = os.waitstatus_to_exitcode(status)
-    process.stdout.close()
-    feeder.join(SECONDS)
-    ran = Ran(process.returncode, output, room.path("errors").read_bytes())
-    memory = int(room.path("memory").read_text()) * 1024
-    return Measured(ran, usage.ru_utime + usage.ru_stime, memory)
-
 
 def nested(first: str, reference: str = "&") -> str:
     """Declarations of entities, each ten times the one before, of which the last is e11."""
@@ -246,7 +195,7 @@ CUT = [
     ),
     Case(
         "the second half of a character in UTF-16",
-        lambda: iter([f"{FRAME.before}<x>".encode("utf-16"), b"\x00\xdc", FRAME.behind.encode("utf-16-le")]),
+        lambda: iter([f"{FRAME.before}<x>".encode("utf-16"), b"\x00\xdc"]),
         "1: refused: no well-formed XML: not well-formed (invalid token)",
     ),
     *(
@@ -261,7 +210,7 @@ CUT = [
 
 
 def check(case: Case, seconds: float, room):
-    came = measured(room, case.pieces(), *case.words)
+    came = measured(room.folder, case.pieces(), *case.words)
     wanted = Ran(1, b"", said([f"-:{case.refused}"]))
     yield Outcome(f"hostile: {case.name}", came.ran, wanted)
     bounds = came.memory <= MEMORY or came.memory, came.seconds <= seconds or came.seconds
@@ -291,9 +240,9 @@ def nothing_else_is_opened(room):
                 + f'<x xmlns:xi="http://www.w3.org/2001/XInclude"><xi:include href="{address}"/></x>'
                 + PRODUCT.format("R1")
             )
-            came = measured(room, iter([feed.encode(), FRAME.behind.encode()]))
+            came = measured(room.folder, iter([feed.encode(), FRAME.behind.encode()]))
             yield Outcome(f"an address in a feed: {address}", came.ran, Ran(0, message_of("R1")))
-            came = measured(room, iter([feed.encode(), b"<x>&own;</x>", FRAME.behind.encode()]))
+            came = measured(room.folder, iter([feed.encode(), b"<x>&own;</x>", FRAME.behind.encode()]))
             wanted = Ran(1, b"", said(["-:1: refused: an entity that is declared by an address"]))
             yield Outcome(f"an entity by address: {address}", came.ran, wanted)
         try:

@@ -8,7 +8,6 @@ import subprocess
 from functools import partial
 from pathlib import Path
 
-from program.converter import convert
 from program.converter_runs import feed_of, message_of
 from program.databases import DATABASE, batch, execute
 from program.room import SECONDS, Group, Outcome, Ran, Room
@@ -290,10 +289,11 @@ def gaps(desk: Serving) -> bytes:
 def units(_room):
     """The path unit waits for just the files that the script takes."""
     script = re.search(r"case \$file in (\*.*?)\) ;; \*\) continue", SCRIPT.read_text())[1]
+    taken_endings = sorted(script.replace("*", "").split(" | "))
     unit = FOLDER.joinpath("onixdesk-inbox.path").read_text()
     waits = re.findall(r"PathExistsGlob=/var/lib/onixdesk-inbox/\*(\S+)", unit)
     endings = [".csv", ".onix", ".onix.gz", ".xml", ".xml.gz"]
-    yield Outcome("inbox: the endings of files", (sorted(script.replace("*", "").split(" | ")), sorted(waits)), (endings, endings))
+    yield Outcome("inbox: the endings of files", (taken_endings, sorted(waits)), (endings, endings))
 
 
 GROUPS = [

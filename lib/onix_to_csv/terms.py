@@ -3,6 +3,7 @@ these rules is malformed, and the desk would refuse the whole message."""
 
 import re
 from datetime import date
+from functools import lru_cache
 
 from onix_to_csv.faults import Wrong, shown
 
@@ -62,7 +63,8 @@ def field(text: str, name: str, line: int) -> str:
     """The text, which any field may have; Wrong where none may."""
     if CONTROL in text:
         raise Wrong(line, f"{name} has the control character U+007F")
-    if len(text.encode()) > FIELD_BYTES:
+    # A character has at most 4 bytes.
+    if len(text) * 4 > FIELD_BYTES and len(text.encode()) > FIELD_BYTES:
         raise Wrong(line, f"{name} has more than {FIELD_BYTES} bytes")
     return text
 
@@ -74,10 +76,16 @@ def needed(text: str | None, name: str, line: int) -> str:
     return field(text, name, line)
 
 
+@lru_cache
+def keeps(rule: str, text: str) -> bool:
+    """Whether a field of that rule may have the text. Few texts make up most of a feed's codes."""
+    return len(text) <= FIELD_BYTES and bool(RULES[rule](text))
+
+
 def term(rule: str, text: str | None, name: str, line: int) -> str:
     """The text, which keeps that rule; Wrong where it is absent or does not."""
-    text = needed(text, name, line)
-    if not RULES[rule](text):
+    if not (text and keeps(rule, text)):
+        needed(text, name, line)
         raise Wrong(line, f"{name} {shown(text)} is not {rule}")
     return text
 

@@ -2,7 +2,7 @@
 
 from onix_to_csv.elements import Values
 from onix_to_csv.faults import shown
-from onix_to_csv.terms import COUNTRIES, field, optional_term
+from onix_to_csv.terms import COUNTRIES, optional_term
 
 WORLD = "WORLD"
 
@@ -32,5 +32,4 @@ def territory_fields(territory: Values | None) -> list[str]:
 
 
 def countries(territory: Values, name: str) -> str:
-    text = optional_term(COUNTRIES, territory.get(name), name, territory.line)
-    return field(text, name, territory.line)
+    return optional_term(COUNTRIES, territory.get(name), name, territory.line)

@@ -1,0 +1,136 @@
+"""The elements of an ONIX message that count, each under the composite that it counts in.
+
+A composite is read as `Values`: the texts of its elements and the Values of its composites, by their
+reference names. `vocabulary` gives the same elements as the names in which a feed is written.
+"""
+
+from typing import NamedTuple
+
+
+class Element(NamedTuple):
+    """An element that counts. One without `children` is a text, unless `is_composite`."""
+
+    name: str
+    short_tag: str
+    children: tuple["Element", ...] = ()
+    is_composite: bool = False
+    is_repeatable: bool = False
+    attribute: str | None = None
+
+
+class Values(dict):
+    """What was read of a composite: each text, composite or list of repeatable composites by the
+    reference name of its element, an attribute by its own name, and the line where it begins."""
+
+    __slots__ = ("line",)
+    line: int
+
+
+class Word(NamedTuple):
+    """An Element as a feed writes it: its children by the names that the parser gives them."""
+
+    name: str
+    children: dict[str, "Word"] | None
+    is_repeatable: bool
+    attribute: str | None
+
+
+def text(name: str, short_tag: str, attribute: str | None = None) -> Element:
+    return Element(name, short_tag, attribute=attribute)
+
+
+def composite(name: str, *children: Element, short_tag: str | None = None) -> Element:
+    return Element(name, short_tag or name.lower(), children, is_composite=True)
+
+
+def repeatable(name: str, *children: Element) -> Element:
+    return composite(name, *children)._replace(is_repeatable=True)
+
+
+def identifiers(name: str, id_type: Element) -> Element:
+    return repeatable(name, id_type, text("IDValue", "b244"))
+
+
+TERRITORY = composite(
+    "Territory",
+    text("CountriesIncluded", "x449"),
+    text("RegionsIncluded", "x450"),
+    text("CountriesExcluded", "x451"),
+    text("RegionsExcluded", "x452"),
+)
+
+PRICE = repeatable(
+    "Price",
+    text("PriceType", "x462"),
+    text("PriceQualifier", "j261"),
+    text("PricePer", "j239"),
+    repeatable("PriceCondition", text("PriceConditionType", "x463")),
+    repeatable("PriceConstraint", text("PriceConstraintType", "x529")),
+    text("MinimumOrderQuantity", "j263"),
+    composite("PriceCoded"),
+    text("PriceAmount", "j151"),
+    text("UnpricedItemType", "j192"),
+    text("CurrencyCode", "j152"),
+    text("CurrencyZone", "x475"),
+    TERRITORY,
+    repeatable(
+        "PriceDate",
+        text("PriceDateRole", "x476"),
+        text("DateFormat", "j260"),
+        text("Date", "b306", attribute="dateformat"),
+    ),
+)
+
+SUPPLY_DETAIL = repeatable(
+    "SupplyDetail",
+    composite(
+        "Supplier",
+        text("SupplierRole", "j292"),
+        identifiers("SupplierIdentifier", text("SupplierIDType", "j345")),
+        text("SupplierName", "j137"),
+    ),
+    text("ProductAvailability", "j396"),
+    text("UnpricedItemType", "j192"),
+    PRICE,
+)
+
+HEADER = composite(
+    "Header",
+    composite("Sender", identifiers("SenderIdentifier", text("SenderIDType", "m379"))),
+    repeatable("Addressee", identifiers("AddresseeIdentifier", text("AddresseeIDType", "m380"))),
+    text("MessageNumber", "m180"),
+    text("MessageRepeat", "m181"),
+    text("SentDateTime", "x307"),
+    text("DefaultPriceType", "x310"),
+    text("DefaultCurrencyCode", "m186"),
+)
+
+PRODUCT = repeatable(
+    "Product",
+    text("RecordReference", "a001"),
+    text("NotificationType", "a002"),
+    identifiers("ProductIdentifier", text("ProductIDType", "b221")),
+    repeatable("ProductSupply", repeatable("Market", TERRITORY), SUPPLY_DETAIL),
+)
+
+MESSAGE = composite("ONIXMessage", HEADER, PRODUCT, short_tag="ONIXmessage")
+
+
+def vocabulary(root: str, prefix: str) -> dict[str, Word] | None:
+    """The children of the root of that name, written in its kind of names behind `prefix`; None where
+    no ONIX message has such a root."""
+    if root not in (MESSAGE.name, MESSAGE.short_tag):
+        return None
+    return words(MESSAGE.children, root == MESSAGE.short_tag, prefix)
+
+
+def words(elements: tuple[Element, ...], is_short: bool, prefix: str) -> dict[str, Word]:
+    return {
+        prefix + (element.short_tag if is_short else element.name): Word(
+            element.name,
+            words(element.children, is_short, prefix) if element.is_composite else None,
+            element.is_repeatable,
+            element.attribute,
+        )
+        for element in elements
+    }

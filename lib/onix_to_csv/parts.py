@@ -1,0 +1,103 @@
+"""A message as one or more parts, each a message of its own that the desk takes."""
+
+import csv
+from collections.abc import Callable
+from typing import BinaryIO
+
+from onix_to_csv.faults import Refusal
+from onix_to_csv.headers import Header
+from onix_to_csv.terms import MOST_BYTES, MOST_RECORDS, Record, too_large
+
+
+class Lines:
+    """What a CSV writer writes to: it gives back each line as its bytes."""
+
+    def write(self, line: str) -> bytes:
+        return line.encode()
+
+
+# Of a record its line. Fields are quoted only where they must be.
+line_of: Callable[[Record], bytes] = csv.writer(Lines(), lineterminator="\n").writerow
+
+
+def end_line(records: int) -> bytes:
+    return line_of(["EndMessage", str(records)])
+
+
+class Parts:
+    """Writes products into one part after the other, as many as fit into each.
+
+    `open_part` gives the stream of the next part. Of the parts beyond `count` nothing is written, but
+    they are counted, so that the refusal can say how many are needed.
+    """
+
+    def __init__(self, header: Header, count: int, open_part: Callable[[], BinaryIO]):
+        self.header = header
+        self.count = count
+        self.open_part = open_part
+        self.begun = 0
+        self.stream: BinaryIO | None = None
+        self.records = self.bytes = 0
+        # The line of the first product for which there was no part.
+        self.beyond: int | None = None
+        self.begin()
+
+    def begin(self):
+        opening = line_of(self.header.record(self.begun))
+        self.begun += 1
+        self.records, self.bytes = 1, len(opening)
+        self.stream = self.open_part() if self.begun <= self.count else None
+        self.write(opening)
+
+    def write(self, data: bytes):
+        if self.stream:
+            self.stream.write(data)
+
+    def end(self):
+        self.write(end_line(self.records))
+
+    def fits(self, records: int, size: int, opening_records: int, opening_size: int) -> bool:
+        records += opening_records
+        return (
+            records < MOST_RECORDS
+            and opening_size + size + len(end_line(records)) <= MOST_BYTES
+        )
+
+    def add(self, records: list[Record], line: int):
+        """Writes the records of the product that begins at that line; Wrong where no message has room
+        for them."""
+        data = lines(records, line)
+        if not self.fits(len(records), len(data), self.records, self.bytes):
+            opening = line_of(self.header.record(self.begun))
+            if self.records == 1 or not self.fits(len(records), len(data), 1, len(opening)):
+                raise too_large(line)
+            self.end()
+            self.begin()
+            if self.stream is None and self.beyond is None:
+                self.beyond = line
+        self.write(data)
+        self.records += len(records)
+        self.bytes += len(data)
+
+    def finish(self):
+        """Ends the message, and writes the parts that are left over; Refusal where it needs more."""
+        if self.beyond is not None:
+            raise Refusal(
+                self.beyond,
+                f"the message needs {self.begun} parts, not {self.count}; --parts {self.begun} makes them",
+            )
+        self.end()
+        while self.begun < self.count:
+            self.begin()
+            self.end()
+
+
+def lines(records: list[Record], line: int) -> bytes:
+    """The lines of a product's records; Wrong where they are more than a message may have."""
+    data = bytearray()
+    for record in records:
+        data += line_of(record)
+        if len(data) > MOST_BYTES:
+            raise too_large(line)
+    return bytes(data)
+

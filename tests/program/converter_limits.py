@@ -1,0 +1,142 @@
+"""Messages up to the desk's limits of 20,000 records and 4,194,304 bytes, beyond them, and in parts."""
+
+from program.conversions import FRAMES, said
+from program.converter import FEED, convert
+from program.converter_runs import PRODUCT, feed_of, message_of
+from program.room import Group, Outcome, Ran
+
+RECORDS = 20_000
+BYTES = 4_194_304
+
+# The most products of one record each beside Message and EndMessage.
+MOST = RECORDS - 2
+
+FRAME = FRAMES["products"]
+DETAIL = (
+    "<SupplyDetail><Supplier><SupplierRole>04</SupplierRole><SupplierName>North</SupplierName></Supplier>"
+    "<ProductAvailability>21</ProductAvailability>{}</SupplyDetail>"
+)
+PRICE = (
+    "<Price><MinimumOrderQuantity>2</MinimumOrderQuantity><PriceAmount>1</PriceAmount>"
+    "<Territory><CountriesIncluded>GB</CountriesIncluded></Territory>"
+    "<PriceDate><PriceDateRole>24</PriceDateRole><Date dateformat='06'>2025010120251231</Date></PriceDate>"
+    "</Price>"
+)
+
+
+def references(count: int) -> list[str]:
+    return [f"R{number:05}" for number in range(count)]
+
+
+def records(room):
+    names = references(MOST + 1)
+    room.write(FEED, feed_of(*names[:MOST]))
+    came = convert(room, FEED)
+    yield Outcome("as many records as a message may have", came, Ran(0, message_of(*names[:MOST])))
+
+    room.write(FEED, feed_of(*names))
+    came = convert(room, FEED)
+    line = MOST + 2
+    wanted = f"{FEED}:{line}: refused: the message needs 2 parts, not 1; --parts 2 makes them"
+    yield Outcome("one record more", came, Ran(1, b"", said([wanted])))
+    came = convert(room, "--parts", "2", FEED)
+    wanted = message_of(*names[:MOST], number=1) + message_of(names[MOST], number=2)
+    yield Outcome("one record more, in two parts", came, Ran(0, wanted))
+
+    names = references(2 * MOST + 1)
+    room.write(FEED, feed_of(*names))
+    came = convert(room, "--parts", "2", FEED)
+    line = 2 * MOST + 2
+    wanted = f"{FEED}:{line}: refused: the message needs 3 parts, not 2; --parts 3 makes them"
+    yield Outcome("more records than two parts may have", came, Ran(1, b"", said([wanted])))
+
+
+def long_references(size: int) -> list[str]:
+    """References of products whose message has that many bytes."""
+    count = size // 1_024
+    names = [f"R{number:04}".ljust(999, "x") for number in range(count)]
+    missing = size - len(message_of(*names))
+    last, missing = min(missing, 25), missing - min(missing, 25)
+    names[0] += "y" * last
+    for number in range(1, count):
+        more = min(missing, 25)
+        names[number] += "y" * more
+        missing -= more
+    assert len(message_of(*names)) == size
+    return names
+
+
+def size(room):
+    names = long_references(BYTES)
+    room.write(FEED, feed_of(*names))
+    came = convert(room, FEED)
+    yield Outcome("as many bytes as a message may have", came, Ran(0, message_of(*names)))
+    room.write("message.csv", came.output)
+    # Without agreements this is the answer to what is a message.
+    came = room.run("deliver", "message.csv")
+    wanted = Ran(1, b"refused,unknown-series\n")
+    yield Outcome("as many bytes as a message may have, delivered", came, wanted)
+
+    names = long_references(BYTES + 1)
+    room.write(FEED, feed_of(*names))
+    came = convert(room, "--parts", "2", "-o", ".", FEED)
+    parts = [room.path(f"feed.part-0{part}.csv").read_bytes() for part in (1, 2)]
+    wanted = [message_of(*names[:-1], number=1), message_of(names[-1], number=2)]
+    yield Outcome("one byte more, in two parts", (came, parts), (Ran(0), wanted))
+
+
+def product_of(details: int, prices: int) -> str:
+    """A product of 2 records, one for each supply detail, and so many prices of the first."""
+    supply = DETAIL.format(PRICE * prices) + DETAIL.format("") * (details - 1)
+    return PRODUCT.format("R1").replace(
+        "</Product>", f"<ProductSupply>{supply}</ProductSupply></Product>"
+    )
+
+
+def one_product(room):
+    wrong = "R1: {}a Product too large for a message of 20000 records and 4194304 bytes"
+    detail, price = "SupplyDetail,04,,,North,21,\n", "Price,,1,,GB,,,20250101,20251231,2\n"
+    for name, details, prices in [
+        ("prices", 1, MOST - 3),
+        ("supply details", MOST - 2, 0),
+    ]:
+        records = detail + price * prices + detail * (details - 1)
+        whole = f"{FRAME.records}Product,R1,03,15,9\nProductSupply,,,\n{records}EndMessage,19999\n"
+        room.write(FEED, (FRAME.before + product_of(details, prices) + FRAME.behind).encode())
+        came = convert(room, FEED)
+        yield Outcome(f"a product of 19,998 records, with {name}", came, Ran(0, whole.encode()))
+
+        more = product_of(details + (prices == 0), prices + (prices > 0))
+        feed = f"{FRAME.before}{PRODUCT.format('R0')}\n{more}\n{PRODUCT.format('R2')}{FRAME.behind}"
+        room.write(FEED, feed.encode())
+        came = convert(room, "--parts", "5", FEED)
+        said_of = said([f"{FEED}:2: refused: {wrong.format('')}"])
+        yield Outcome(f"a product of 19,999 records, with {name}", came, Ran(1, b"", said_of))
+        came = convert(room, "--leave-out-wrong", FEED)
+        said_of = said([f"{FEED}:2: {wrong.format('Product left out: ')}", "1 note"])
+        wanted = Ran(1, message_of("R0", "R2"), said_of)
+        yield Outcome(f"a product of 19,999 records, with {name}, left out", came, wanted)
+
+
+def a_whole_product_in_the_next_part(room):
+    """A product that does not fit into what is left of a part begins the next."""
+    names = references(MOST - 1)
+    feed = feed_of(*names).replace(
+        FRAME.behind.encode(), (product_of(1, 0) + FRAME.behind).encode()
+    )
+    room.write(FEED, feed)
+    came = convert(room, "--parts", "2", FEED)
+    second = (
+        FRAME.records.replace(",1,", ",2,")
+        + "Product,R1,03,15,9\nProductSupply,,,\nSupplyDetail,04,,,North,21,\nEndMessage,4\n"
+    )
+    wanted = Ran(0, message_of(*names, number=1) + second.encode())
+    yield Outcome("a whole product in the next part", came, wanted)
+
+
+GROUPS = [
+    Group("the records of a message", records),
+    Group("the bytes of a message", size),
+    Group("the records of a product", one_product),
+    Group("a whole product in the next part", a_whole_product_in_the_next_part),
+]

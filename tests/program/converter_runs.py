@@ -1,0 +1,290 @@
+"""The words, files and statuses of `onix-to-csv`."""
+
+import gzip
+import os
+import pty
+import subprocess
+import time
+from functools import partial
+from typing import NamedTuple
+
+from program.conversions import FRAMES, said
+from program.converter import CONVERTER, FEED, convert
+from program.room import SECONDS, Group, Outcome, Ran
+
+FRAME = FRAMES["products"]
+
+PRODUCT = (
+    "<Product><RecordReference>{}</RecordReference><NotificationType>03</NotificationType>"
+    "<ProductIdentifier><ProductIDType>15</ProductIDType><IDValue>9</IDValue></ProductIdentifier></Product>"
+)
+
+
+def feed_of(*references: str) -> bytes:
+    """A feed of products with these references, each on a line of its own, from the second on."""
+    return "\n".join([FRAME.before, *map(PRODUCT.format, references), FRAME.behind]).encode()
+
+
+def message_of(*references: str, number: int = 1) -> bytes:
+    """The records that such a feed gives."""
+    products = "".join(f"Product,{reference},03,15,9\n" for reference in references)
+    opening = FRAME.records.replace(",1,", f",{number},")
+    return f"{opening}{products}EndMessage,{len(references) + 1}\n".encode()
+
+
+ONE, TWO = feed_of("R1"), feed_of("R1", "R2")
+
+# A feed that is refused at its second line, and what is said of it.
+BAD = feed_of("")
+BAD_SAID = "2: refused: no RecordReference: no RecordReference"
+
+
+class Case(NamedTuple):
+    """Files that are there, words, how the run ends, and the files that it leaves beside those."""
+
+    name: str
+    files: dict[str, bytes]
+    words: list[str]
+    wanted: Ran
+    made: dict[str, bytes] = {}
+    given: bytes = b""
+
+
+CASES = [
+    Case("standard input", {}, [], Ran(0, message_of("R1")), given=ONE),
+    Case("standard input by its name", {}, ["-"], Ran(0, message_of("R1")), given=ONE),
+    Case(
+        "standard input, refused",
+        {},
+        ["-"],
+        Ran(1, b"", said([f"-:{BAD_SAID}"])),
+        given=BAD,
+    ),
+    Case(
+        "standard input into a folder",
+        {},
+        ["-o", "."],
+        Ran(0),
+        {"message.csv": message_of("R1")},
+        given=ONE,
+    ),
+    Case("a packed file", {"a.gz": gzip.compress(ONE)}, ["a.gz"], Ran(0, message_of("R1"))),
+    Case(
+        "a packed file in two pieces",
+        {"a.gz": gzip.compress(ONE[:99]) + gzip.compress(ONE[99:])},
+        ["a.gz"],
+        Ran(0, message_of("R1")),
+    ),
+    Case(
+        "a packed file that is cut",
+        {"a.gz": gzip.compress(ONE)[:-9]},
+        ["a.gz"],
+        Ran(
+            1,
+            b"",
+            said(
+                [
+                    "a.gz:1: refused: no whole gzip file: Compressed file ended before the"
+                    " end-of-stream marker was reached"
+                ]
+            ),
+        ),
+    ),
+    Case(
+        "a packed file that is none",
+        {"a.gz": ONE},
+        ["a.gz"],
+        Ran(1, b"", said(["a.gz:1: refused: no whole gzip file: Not a gzipped file (b'<O')"])),
+    ),
+    Case(
+        "names of files",
+        {"a.xml": ONE, "b.c.onix": ONE, "d": ONE, "e.xml.gz": gzip.compress(ONE)},
+        ["-o", ".", "a.xml", "b.c.onix", "d", "e.xml.gz"],
+        Ran(0),
+        {f"{name}.csv": message_of("R1") for name in ["a", "b.c", "d", "e"]},
+    ),
+    Case(
+        "parts on standard output follow each other",
+        {FEED: TWO},
+        ["--parts", "3", "--number", "5", FEED],
+        Ran(
+            0,
+            message_of("R1", "R2", number=13) + message_of(number=14) + message_of(number=15),
+        ),
+    ),
+    Case(
+        "parts in files",
+        {FEED: TWO},
+        ["--parts", "2", "-o", ".", FEED],
+        Ran(0),
+        {
+            "feed.part-01.csv": message_of("R1", "R2", number=1),
+            "feed.part-02.csv": message_of(number=2),
+        },
+    ),
+    Case(
+        "a hundred parts have three digits",
+        {FEED: TWO},
+        ["--parts", "100", "-o", ".", FEED],
+        Ran(0),
+        {
+            f"feed.part-{part:03}.csv": message_of(*(["R1", "R2"] if part == 1 else []), number=part)
+            for part in range(1, 101)
+        },
+    ),
+    Case(
+        "a refused file among others",
+        {"a.xml": ONE, "b.xml": BAD, "c.xml": TWO},
+        ["-o", ".", "a.xml", "b.xml", "c.xml"],
+        Ran(1, b"", said([f"b.xml:{BAD_SAID}"])),
+        {"a.csv": message_of("R1"), "c.csv": message_of("R1", "R2")},
+    ),
+    Case(
+        "a file that is not there outweighs one that is refused",
+        {"b.xml": BAD, "c.xml": TWO},
+        ["-o", ".", "absent.xml", "b.xml", ".", "c.xml"],
+        Ran(
+            3,
+            b"",
+            said(
+                [
+                    "absent.xml: No such file or directory",
+                    f"b.xml:{BAD_SAID}",
+                    ".: Is a directory",
+                ]
+            ),
+        ),
+        {"c.csv": message_of("R1", "R2")},
+    ),
+    Case(
+        "a wrong product left out",
+        {FEED: feed_of("", "R2")},
+        ["--leave-out-wrong", FEED],
+        Ran(
+            1,
+            message_of("R2"),
+            said([f"{FEED}:2: no RecordReference: Product left out: no RecordReference", "1 note"]),
+        ),
+    ),
+    Case(
+        "a file is there that has the same bytes",
+        {"a.xml": ONE, "a.csv": message_of("R1")},
+        ["-o", ".", "a.xml"],
+        Ran(0),
+    ),
+    Case(
+        "a file is there that has other bytes",
+        {"a.xml": ONE, "a.csv": message_of("R2")},
+        ["-o", ".", "a.xml"],
+        Ran(3, b"", said(["a.csv: is there, with other bytes"])),
+    ),
+    Case(
+        "the file of a later part is there with other bytes, and no part is written",
+        {"a.xml": ONE, "a.part-02.csv": b""},
+        ["--parts", "2", "-o", ".", "a.xml"],
+        Ran(3, b"", said(["a.part-02.csv: is there, with other bytes"])),
+    ),
+    Case(
+        "a file that becomes the same as another",
+        {"a.xml": ONE, "a.onix": TWO},
+        ["-o", ".", "a.xml", "a.onix"],
+        Ran(3, b"", said(["a.csv: is there, with other bytes"])),
+        {"a.csv": message_of("R1")},
+    ),
+    Case(
+        "a folder that is not there",
+        {"a.xml": ONE},
+        ["-o", "absent", "a.xml"],
+        Ran(3, b"", said(["absent: no folder"])),
+    ),
+    Case(
+        "a folder that is a file",
+        {"a.xml": ONE},
+        ["-o", "a.xml", "a.xml"],
+        Ran(3, b"", said(["a.xml: no folder"])),
+    ),
+]
+
+
+def check(case: Case, room):
+    for name, data in case.files.items():
+        room.write(name, data)
+    came = convert(room, *case.words, given=case.given)
+    left = {path.name: path.read_bytes() for path in room.folder.iterdir()}
+    yield Outcome(f"onix-to-csv: {case.name}", (came, left), (case.wanted, case.files | case.made))
+
+
+BAD_WORDS = [
+    ["--unknown"],
+    ["--part", "2"],
+    ["--parts"],
+    ["--parts", "0"],
+    ["--parts", "-1"],
+    ["--parts", "1000000000"],
+    ["--parts", "two"],
+    ["--number", "0"],
+    ["--number", "0000000001"],
+    ["--number", "٧"],
+    ["--id-type", "6"],
+    ["--id-type", "GL"],
+    ["--addressee", "06"],
+    ["--addressee", "06,"],
+    ["--addressee", "6,A"],
+    ["-o"],
+    ["a.xml", "b.xml"],
+    ["-o", ".", "--number", "1", "a.xml", "b.xml"],
+]
+
+
+def bad_words(room):
+    room.write("a.xml", ONE)
+    room.write("b.xml", ONE)
+    for words in BAD_WORDS:
+        came = convert(room, *words)
+        found = came.status, came.output, came.errors.startswith(b"usage: onix-to-csv ")
+        yield Outcome(f"onix-to-csv {words}", found, (2, b"", True))
+    left = sorted(path.name for path in room.folder.iterdir())
+    yield Outcome("onix-to-csv: nothing is written", left, ["a.xml", "b.xml"])
+    came = convert(room, "--help")
+    found = came.status, came.errors, came.output.startswith(b"usage: onix-to-csv ")
+    yield Outcome("onix-to-csv --help", found, (0, b"", True))
+
+
+def full_output(room):
+    room.write(FEED, ONE)
+    with open("/dev/full", "wb") as full:
+        done = subprocess.run(
+            [CONVERTER, FEED], cwd=room.folder, stdout=full, stderr=subprocess.PIPE, timeout=SECONDS
+        )
+    wanted = 3, said(["standard output: No space left on device"])
+    yield Outcome("an output that takes nothing", (done.returncode, done.stderr), wanted)
+
+
+def terminal(room):
+    """On a terminal a line shows how far it is, and is taken away at the end."""
+    ours, theirs = pty.openpty()
+    process = subprocess.Popen(
+        [CONVERTER], cwd=room.folder, stdin=subprocess.PIPE, stdout=subprocess.PIPE, stderr=theirs
+    )
+    os.close(theirs)
+    process.stdin.write(FRAME.before.encode())
+    for _ in range(4):
+        process.stdin.write(b"<Note/>" * 30_000)
+        process.stdin.flush()
+        time.sleep(0.25)
+    process.stdin.write(FRAME.behind.encode())
+    output, _ = process.communicate(timeout=SECONDS)
+    shown = os.read(ours, 65536).decode()
+    os.close(ours)
+    yield Outcome("a terminal: the records", (process.returncode, output), (0, message_of()))
+    lines = shown.split("\r\033[K")
+    is_so = all(line.startswith("-: ") for line in lines[1:-1])
+    yield Outcome("a terminal: how far it is", (len(lines) > 2, is_so, lines[-1]), (True, True, ""))
+
+
+GROUPS = [
+    *(Group(case.name, partial(check, case)) for case in CASES),
+    Group("bad words", bad_words),
+    Group("an output that takes nothing", full_output),
+    Group("a terminal", terminal),
+]

@@ -1,0 +1,33 @@
+"""The week in XML of examples/shop/onix: its commands, and what its README says that they write."""
+
+import subprocess
+
+from program.converter import CONVERTER
+from program.examples import ROOT, blocks, written
+from program.room import SECONDS, Group, Outcome, Room
+
+README = "examples/shop/onix/README.md"
+
+
+def like_the_repository(room: Room):
+    """The folder of the room with what the commands name, of which bin/onixdesk is the tested program."""
+    room.path("bin").mkdir()
+    room.path("bin/onixdesk").symlink_to(room.program)
+    room.path("bin/onix-to-csv").symlink_to(CONVERTER)
+    room.path("examples").symlink_to(ROOT / "examples")
+
+
+def week(room):
+    like_the_repository(room)
+    for command, *lines in blocks(README):
+        done = subprocess.run(
+            ["sh", "-c", command],
+            cwd=room.folder,
+            stdout=subprocess.PIPE,
+            stderr=subprocess.STDOUT,
+            timeout=SECONDS,
+        )
+        yield Outcome(f"{README}: {command}", (done.returncode, done.stdout), (0, written(lines)))
+
+
+GROUPS = [Group("the week in XML", week)]

@@ -1,0 +1,259 @@
+"""Feeds that are made to harm: each is refused by one line, and nothing is written, within a bound on
+memory and time; no other file and no address is opened."""
+
+import contextlib
+import os
+import socket
+from collections.abc import Callable, Iterator
+from functools import partial
+from typing import NamedTuple
+
+from program.conversions import FRAMES, said
+from program.converter import measured
+from program.converter_runs import PRODUCT, message_of
+from program.room import SECONDS, Group, Outcome, Ran
+
+MEMORY = 64 * 1_048_576
+
+# Of processor time, with the start of Python.
+BOMB_SECONDS = 1
+
+FRAME = FRAMES["products"]
+ROOT = '<ONIXMessage release="3.0">'
+
+def nested(first: str, reference: str = "&") -> str:
+    """Declarations of entities, each ten times the one before, of which the last is e11."""
+    sign, mark = ("% ", "&#37;") if reference == "%" else ("", "&")
+    declarations = [f'<!ENTITY {sign}e0 "{first}">']
+    for number in range(1, 12):
+        inner = f"{mark}e{number - 1};" * 10
+        declarations.append(f'<!ENTITY {sign}e{number} "{inner}">')
+    return "".join(declarations)
+
+
+def typed(declarations: str, within: str) -> Iterator[bytes]:
+    """A feed with a document type of these declarations and this beside its products."""
+    document_type = f"<!DOCTYPE ONIXMessage [{declarations}]>"
+    yield (document_type + FRAME.before + within + FRAME.behind).encode()
+
+
+def repeated(before: str, piece: str, count: int, behind: str = "") -> Iterator[bytes]:
+    yield (FRAME.before + before).encode()
+    for _ in range(count):
+        yield piece.encode()
+    yield (behind + FRAME.behind).encode()
+
+
+def numbered(text: str, count: int) -> Iterator[bytes]:
+    """A feed with this text for each number, a thousand in each piece."""
+    yield FRAME.before.encode()
+    for thousand in range(count // 1000):
+        yield "".join(text.format(thousand * 1000 + number) for number in range(1000)).encode()
+
+
+class Case(NamedTuple):
+    name: str
+    pieces: Callable[[], Iterator[bytes]]
+    refused: str
+    words: list[str] = []
+
+
+AMPLIFIED = (
+    "1: refused: no well-formed XML: limit on input amplification factor (from DTD and entities) breached"
+)
+ENTITY_ELEMENTS = "1: refused: entities give more than 10000 elements at once"
+STRETCH = "1: refused: more than 4194304 bytes without an element"
+NAMES = "1: refused: too many or too long names of elements, attributes and prefixes"
+
+TOO_LARGE = "1: refused: R1: a Product too large for a message of 20000 records and 4194304 bytes"
+
+MEGABYTE = "x" * 1_000_000
+
+BOMBS = [
+    Case("nested entities in a text", lambda: typed(nested("lol"), PRODUCT.format("&e11;")), AMPLIFIED),
+    Case("nested entities in what is passed over", lambda: typed(nested("lol"), "<x>&e11;</x>"), AMPLIFIED),
+    Case("nested entities in an attribute", lambda: typed(nested("lol"), '<x y="&e11;"/>'), AMPLIFIED),
+    Case("nested entities of elements", lambda: typed(nested("<x/><x/>"), "&e11;"), ENTITY_ELEMENTS),
+    Case(
+        "nested entities of wrong products",
+        lambda: typed(nested("<Product/><Product/>"), "&e11;"),
+        ENTITY_ELEMENTS,
+        ["--leave-out-wrong"],
+    ),
+    Case(
+        "nested entities of declarations",
+        lambda: typed(nested("<!ENTITY x 'y'>", "%") + "%e11;", ""),
+        AMPLIFIED,
+    ),
+    Case(
+        "one long entity many times",
+        lambda: typed(f'<!ENTITY e "{"x" * 100_000}">', PRODUCT.format("&e;" * 10_000)),
+        AMPLIFIED,
+    ),
+    Case(
+        "an entity within itself",
+        lambda: typed('<!ENTITY e "&f;"><!ENTITY f "&e;">', "<x>&e;</x>"),
+        "1: refused: no well-formed XML: recursive entity reference",
+    ),
+]
+
+LARGE = [
+    Case(
+        "a depth of 100,000 elements",
+        lambda: repeated("<x>" * 100_000, "", 0, "</x>" * 100_000),
+        "1: refused: more than 1000 elements within one another",
+    ),
+    Case(
+        "a depth of 100,000 products",
+        lambda: repeated("<Product>" * 100_000, "", 0, "</Product>" * 100_000),
+        "1: refused: more than 1000 elements within one another",
+    ),
+    Case(
+        "a text of 100 MB that counts",
+        lambda: repeated("<Product><RecordReference>", MEGABYTE, 100, "</RecordReference></Product>"),
+        "1: refused: RecordReference has more than 4194304 characters",
+    ),
+    Case(
+        "a text of 100 MB with elements in it",
+        lambda: repeated("<Product><RecordReference>", "x<b/>" * 200_000, 100, "</RecordReference>"),
+        "1: refused: RecordReference has more than 4194304 characters",
+    ),
+    Case("a text of 100 MB that does not count", lambda: repeated("<x>", MEGABYTE, 100, "</x>"), STRETCH),
+    Case("a comment of 100 MB", lambda: repeated("<!--", MEGABYTE, 100, "-->"), STRETCH),
+    Case("an attribute of 100 MB", lambda: repeated('<x y="', MEGABYTE, 100, '"/>'), STRETCH),
+    Case("a name of 100 MB", lambda: repeated("<", MEGABYTE, 100, "/>"), STRETCH),
+    Case("a section of 100 MB", lambda: repeated("<x><![CDATA[", MEGABYTE, 100, "]]></x>"), STRETCH),
+    Case("names without end", lambda: numbered("<x{0}/>", 1_000_000), NAMES),
+    Case("names of attributes without end", lambda: numbered('<x y{0}=""/>', 1_000_000), NAMES),
+    Case("prefixes without end", lambda: numbered('<x xmlns:p{0}="p"/>', 1_000_000), NAMES),
+    Case(
+        "identifiers without end",
+        lambda: repeated(
+            "<Product><RecordReference>R1</RecordReference>",
+            "<ProductIdentifier><ProductIDType>15</ProductIDType><IDValue>9</IDValue></ProductIdentifier>"
+            * 1000,
+            100,
+            "</Product>",
+        ),
+        TOO_LARGE,
+    ),
+    Case(
+        "prices without end",
+        lambda: repeated(
+            "<Product><RecordReference>R1</RecordReference><ProductSupply><SupplyDetail>",
+            "<Price><PriceQualifier>05</PriceQualifier><PriceAmount>1</PriceAmount></Price>" * 1000,
+            100,
+            "</SupplyDetail></ProductSupply></Product>",
+        ),
+        TOO_LARGE,
+    ),
+    Case(
+        "ten thousand markets of ten thousand supply details",
+        lambda: repeated(
+            PRODUCT.format("R1").removesuffix("</Product>")
+            + "<ProductSupply>"
+            + "<Market/>" * 10_000
+            + (
+                "<SupplyDetail><Supplier><SupplierRole>01</SupplierRole><SupplierName>N</SupplierName>"
+                "</Supplier><ProductAvailability>20</ProductAvailability></SupplyDetail>"
+            )
+            * 10_000,
+            "",
+            0,
+            "</ProductSupply></Product>",
+        ),
+        TOO_LARGE,
+    ),
+]
+
+CUT = [
+    Case("a cut file", lambda: iter([FRAME.before.encode()]), "1: refused: no well-formed XML: no element found"),
+    Case(
+        "a file that is cut in a tag",
+        lambda: iter([f"{FRAME.before}\n<Product".encode()]),
+        "2: refused: no well-formed XML: unclosed token",
+    ),
+    Case(
+        "bytes that are not UTF-8",
+        lambda: iter([f"{FRAME.before}\n<x>".encode(), b"\xe9</x>", FRAME.behind.encode()]),
+        "2: refused: no well-formed XML: not well-formed (invalid token)",
+    ),
+    Case(
+        "a surrogate in UTF-8",
+        lambda: iter([f"{FRAME.before}\n<x>".encode(), b"\xed\xa0\x80</x>", FRAME.behind.encode()]),
+        "2: refused: no well-formed XML: not well-formed (invalid token)",
+    ),
+    Case(
+        "a byte that Windows-1252 has not",
+        lambda: iter([b'<?xml version="1.0" encoding="windows-1252"?>', ROOT.encode(), b"\x81"]),
+        "1: refused: no well-formed XML: not well-formed (invalid token)",
+    ),
+    Case(
+        "a byte that US-ASCII has not",
+        lambda: iter([b'<?xml version="1.0" encoding="US-ASCII"?>', ROOT.encode(), b"<x>\xe9</x>"]),
+        "1: refused: no well-formed XML: not well-formed (invalid token)",
+    ),
+    Case(
+        "the second half of a character in UTF-16",
+        lambda: iter([f"{FRAME.before}<x>".encode("utf-16"), b"\x00\xdc"]),
+        "1: refused: no well-formed XML: not well-formed (invalid token)",
+    ),
+    *(
+        Case(
+            f"the encoding {encoding}",
+            lambda encoding=encoding: iter([f'<?xml version="1.0" encoding="{encoding}"?>{ROOT}'.encode()]),
+            f"1: refused: encoding {encoding} is neither expat's nor of single bytes",
+        )
+        for encoding in ["shift_jis", "utf-7", "hex", "nonsense", "undefined"]
+    ),
+]
+
+
+def check(case: Case, seconds: float, room):
+    came = measured(room.folder, case.pieces(), *case.words)
+    wanted = Ran(1, b"", said([f"-:{case.refused}"]))
+    yield Outcome(f"hostile: {case.name}", came.ran, wanted)
+    bounds = came.memory <= MEMORY or came.memory, came.seconds <= seconds or came.seconds
+    yield Outcome(f"hostile: {case.name}, within bounds", bounds, (True, True))
+
+
+@contextlib.contextmanager
+def listening():
+    """A port, and the connections that came to it."""
+    with socket.socket() as listener:
+        listener.bind(("127.0.0.1", 0))
+        listener.listen()
+        listener.setblocking(False)
+        yield listener.getsockname()[1], listener
+
+
+def nothing_else_is_opened(room):
+    """Neither a file nor an address that a feed names: a pipe at the file would block whoever opens it,
+    and the port tells of each connection."""
+    os.mkfifo(room.path("pipe"))
+    with listening() as (port, listener):
+        for address in [f"http://127.0.0.1:{port}/x", room.path("pipe").as_uri(), "pipe"]:
+            feed = (
+                f'<!DOCTYPE ONIXMessage PUBLIC "x" "{address}" [<!ENTITY own SYSTEM "{address}">]>'
+                f'<?xml-stylesheet href="{address}"?>'
+                + FRAME.before
+                + f'<x xmlns:xi="http://www.w3.org/2001/XInclude"><xi:include href="{address}"/></x>'
+                + PRODUCT.format("R1")
+            )
+            came = measured(room.folder, iter([feed.encode(), FRAME.behind.encode()]))
+            yield Outcome(f"an address in a feed: {address}", came.ran, Ran(0, message_of("R1")))
+            came = measured(room.folder, iter([feed.encode(), b"<x>&own;</x>", FRAME.behind.encode()]))
+            wanted = Ran(1, b"", said(["-:1: refused: an entity that is declared by an address"]))
+            yield Outcome(f"an entity by address: {address}", came.ran, wanted)
+        try:
+            connections = listener.accept()
+        except BlockingIOError:
+            connections = None
+        yield Outcome("an address in a feed: connections", connections, None)
+
+
+GROUPS = [
+    *(Group(case.name, partial(check, case, BOMB_SECONDS)) for case in BOMBS),
+    *(Group(case.name, partial(check, case, SECONDS)) for case in LARGE + CUT),
+    Group("addresses in a feed", nothing_else_is_opened),
+]

@@ -35,7 +35,7 @@ expect() {
 
 expect 200 '{"answer":"gaps","first":1,"greatest":3,"held":1,"missing":[[2,2]],"next":2,"series":"north"}' /series/north/gaps
 head -n 6 "$root/examples/shop/tuesday.csv" >"$room/message.csv"
-expect 200 '{"answer":"applied","deleted":0,"ignored":0,"number":2,"replaced":0,"series":"north","unknown":0,"updated":1}' /messages --data-binary "@$room/message.csv"
+expect 200 '{"answer":"applied","deleted":0,"ignored":0,"number":2,"replaced":0,"series":"north","unknown":0,"updated":1}' /messages --header "Expect:" --data-binary "@$room/message.csv"
 expect 200 '{"answer":"price","isbn":"9781234567897","offers":[{"amount":"11.990","availability":"21","place":1,"reference":"N-100","series":"north"}]}' '/articles/9781234567897/price?day=20250304&country=GB&currency=GBP&type=02'
 expect 404 '{"answer":"refused","reason":"unknown-series"}' /series/west/gaps
 expect 404 '{"answer":"refused","reason":"not-found"}' /nowhere

@@ -2,10 +2,11 @@
 one whose lines cannot be written."""
 
 import contextlib
+import signal
 import socket
 from typing import NamedTuple
 
-from program.commands import AGREEMENT
+from program.commands import AGREEMENT, APPLIED, FIRST
 from program.databases import DATABASE, batch
 from program.room import UNREADABLE, Group, Outcome, Ran
 from program.serving import HOST, TRIES, Exchange, connected, free_port, receive, serving
@@ -45,9 +46,15 @@ GAPS = Exchange(
 )
 
 
+AGREED = b"agreed,north,1\n"
+
+# How many connections are served by a desk that has no number of them.
+UNENDED = 40
+
+
 def clients_of_a_port(room):
     """None of them stops the desk. All are connected before the first that is waited for is let go."""
-    yield Outcome("the agreement", batch(room, AGREEMENT), Ran(0, b"agreed,north,1\n"))
+    yield Outcome("the agreement", batch(room, AGREEMENT), Ran(0, AGREED))
     with (
         serving(room, ["--db", DATABASE], len(CLIENTS)) as desk,
         contextlib.ExitStack() as connections,
@@ -62,6 +69,17 @@ def clients_of_a_port(room):
         yield Outcome("the last of six clients", receive(last), GAPS.reply())
         wanted = desk.wanted([client.line for client in CLIENTS])
         yield Outcome("the lines of six clients", desk.ended(), wanted)
+
+
+def served_until_it_is_stopped(room):
+    """Without a number of connections no client ends the desk."""
+    yield Outcome("the agreement and a message", batch(room, AGREEMENT + FIRST), Ran(0, AGREED + APPLIED))
+    with serving(room, ["--db", DATABASE], None) as desk:
+        for number in range(UNENDED):
+            yield Outcome(f"connection {number}", desk.reply([GAPS.input]), GAPS.reply())
+        yield Outcome("the desk after them", desk.process.poll(), None)
+        wanted = desk.wanted(["200"] * UNENDED, -signal.SIGTERM)
+        yield Outcome("the desk that is stopped", desk.stopped(), wanted)
 
 
 def a_port_that_is_taken(room):
@@ -87,6 +105,7 @@ def unwritten_lines(room):
 
 GROUPS = [
     Group("clients of a port", clients_of_a_port),
+    Group("a port without a number of connections", served_until_it_is_stopped),
     Group("a port that is taken", a_port_that_is_taken),
     Group("a port whose lines cannot be written", unwritten_lines),
 ]

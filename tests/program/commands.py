@@ -24,13 +24,23 @@ EndMessage,5
 APPLIED = b"applied,north,1,replaced=1,updated=0,deleted=0,unknown=0,ignored=0\n"
 
 
+# Message 2 of it, without products, and its answer.
+SECOND = b"Message,1,06,4012345000009,06,5012345678900,2,,,,\nEndMessage,1\n"
+
+HELD = b"held,north,2,waiting-for=1\n"
+
+SECOND_APPLIED = b"applied,north,2,replaced=0,updated=0,deleted=0,unknown=0,ignored=0\n"
+
+
 class Delivery(NamedTuple):
-    """A text, the files that are delivered, and what comes of it where `north` is agreed."""
+    """A text, the files that are delivered, what comes of it where `north` is agreed, and the standard
+    input."""
 
     name: str
     text: bytes
     files: list[str]
     wanted: Ran
+    given: bytes | None = UNREADABLE
 
 
 DELIVERIES = [
@@ -79,13 +89,36 @@ DELIVERIES = [
         [FILE],
         Ran(1, b"refused,malformed,1\n"),
     ),
+    Delivery("standard input", b"", ["-"], Ran(0, APPLIED), FIRST),
+    Delivery("a file, and standard input", FIRST, [FILE, "-"], Ran(0, APPLIED + SECOND_APPLIED), SECOND),
+    Delivery("standard input, and a file", FIRST, ["-", FILE], Ran(0, HELD + APPLIED), SECOND),
+    Delivery(
+        "standard input, twice",
+        b"",
+        ["-", "-"],
+        Ran(1, APPLIED + b"refused,malformed,1\n"),
+        FIRST,
+    ),
+    Delivery(
+        "a file, and a standard input that cannot be read",
+        FIRST,
+        [FILE, "-", FILE],
+        Ran(3, APPLIED, b"onixdesk: file: -\n"),
+    ),
+    Delivery(
+        "a file whose name is a path to -",
+        b"",
+        ["./-"],
+        Ran(3, b"", b"onixdesk: file: ./-\n"),
+        FIRST,
+    ),
 ]
 
 
 def deliver(case: Delivery, room):
     room.write(FILE, case.text)
     agreed = batch(room, AGREEMENT)
-    came = room.run("--db", DATABASE, "deliver", *case.files, given=UNREADABLE)
+    came = room.run("--db", DATABASE, "deliver", *case.files, given=case.given)
     wanted = Ran(0, b"agreed,north,1\n"), case.wanted
     yield Outcome(f"deliver: {case.name}", (agreed, came), wanted)
 

@@ -1,9 +1,11 @@
 """The examples, which are to be answered as the documents say."""
 
+import os
 import shlex
+import subprocess
 from pathlib import Path
 
-from program.room import Group, Outcome, Ran
+from program.room import SECONDS, Group, Outcome, Ran
 from program.serving import posted, serving
 
 ROOT = Path(__file__).resolve().parent.parent.parent
@@ -135,9 +137,41 @@ def page_of_http(room):
     yield Outcome("docs/HTTP.md: its questions", (len(of_articles), len(of_series)), (3, 2))
 
 
+def gaps_script(room, *words) -> Ran:
+    done = subprocess.run(
+        [ROOT / "examples/gaps.sh", *words],
+        cwd=room.folder,
+        env={**os.environ, "ONIXDESK": str(room.program)},
+        capture_output=True,
+        timeout=SECONDS,
+    )
+    return Ran(done.returncode, done.stdout, done.stderr)
+
+
+def gaps_by_night(room):
+    """The script over a database file: numbers that lack, then none, then series and files that are not
+    there."""
+    agreement = b"Agree,north,06,4012345000009,06,5012345678900,1\n"
+    message = "Message,1,06,4012345000009,06,5012345678900,{},,,,\nEndMessage,1\n"
+    room.run("--db", "shop.db", "batch", given=agreement + message.format(2).encode())
+    report = b"gaps,north,first=1,next=1,greatest=2,held=1,missing=1\nmissing,1,1\n"
+    no_report = b"west: no report\n"
+    found = gaps_script(room, "shop.db", "north")
+    yield Outcome("gaps.sh: a number that lacks", found, Ran(1, report))
+    found = gaps_script(room, "shop.db", "west", "north")
+    yield Outcome("gaps.sh: a series that is not agreed", found, Ran(2, report, no_report))
+    room.run("--db", "shop.db", "batch", given=message.format(1).encode())
+    yield Outcome("gaps.sh: no number lacks", gaps_script(room, "shop.db", "north"), Ran(0))
+    found = gaps_script(room, "other.db", "west")
+    line = b"onixdesk: storage: unusable\n"
+    yield Outcome("gaps.sh: a mistyped file", found, Ran(2, b"", line + no_report))
+    yield Outcome("gaps.sh: the mistyped file then", room.path("other.db").exists(), False)
+
+
 GROUPS = [
     Group("the page of HTTP", page_of_http),
     Group("the first batch", first_batch),
     Group("the week of a shop", week),
     Group("a desk in a file", desk_in_a_file),
+    Group("gaps by night", gaps_by_night),
 ]

@@ -18,6 +18,7 @@ CRATES = "low: csv\nhigh: low toml\nbeside: low\nonixdesk: high low clap\n"
 # that prints its words. It is called in the folder of the program's crate.
 TOOLCHAIN = """\
 #!/bin/sh
+[ "$1" != version ] || exec echo a toolchain
 echo "rt $*" >>../../calls
 sleep 3
 for crate in low high onixdesk; do
@@ -95,13 +96,16 @@ def a_second_start(room):
 
 
 def a_stale_program(room):
-    """`--is-current` says by its status whether the program is of the sources, and builds none."""
+    """`--sources` writes the digest of the sources where the program is built of them, and builds none."""
     make_repository(room, QUICK)
-    yield Outcome("launcher: no program", launch(room, "--is-current"), Ran(1))
+    wrong = Ran(3, b"", b"onixdesk: no program is built of these sources; 'make test' or 'make build' builds it\n")
+    yield Outcome("launcher: no program", launch(room, "--sources"), wrong)
     launch(room, "help")
-    yield Outcome("launcher: a program of these sources", launch(room, "--is-current"), Ran(0))
+    came = launch(room, "--sources")
+    is_digest = re.fullmatch(rb"[0-9a-f]{64}\n", came.output) is not None
+    yield Outcome("launcher: a program of these sources", (came.status, is_digest), (0, True))
     room.path("crates/onixdesk/src/main.rt").write_text("fn main() { }\n")
-    yield Outcome("launcher: a program of other sources", launch(room, "--is-current"), Ran(1))
+    yield Outcome("launcher: a program of other sources", launch(room, "--sources"), wrong)
     calls = room.path("calls").read_text()
     yield Outcome("launcher: it builds none", calls, "rt run -- --help\n")
 

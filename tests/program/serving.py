@@ -93,10 +93,15 @@ class Serving:
         output, errors = self.process.communicate(timeout=SECONDS)
         return Ran(self.process.returncode, self.first_line + output, errors)
 
-    def wanted(self, lines: list[str]) -> Ran:
+    def stopped(self) -> Ran:
+        """How a run that goes on ended, once it was told to."""
+        self.process.terminate()
+        return self.ended()
+
+    def wanted(self, lines: list[str], status=0) -> Ran:
         """How it is to end after connections with these lines."""
         text = "".join(f"{line}\n" for line in [f"listening {self.port}", *lines])
-        return Ran(0, text.encode())
+        return Ran(status, text.encode())
 
 
 def free_port() -> int:
@@ -105,11 +110,13 @@ def free_port() -> int:
         return listener.getsockname()[1]
 
 
-def started(room: Room, words: list[str], connections: int) -> Serving:
-    """Starts `serve` for so many connections, on a port that no other program has."""
+def started(room: Room, words: list[str], connections: int | None) -> Serving:
+    """Starts `serve` for so many connections, or until it is stopped, on a port that no other program
+    has."""
+    requests = [] if connections is None else ["--requests", str(connections)]
     for _ in range(TRIES):
         port = free_port()
-        process = room.start(*words, "serve", "--port", str(port), "--requests", str(connections))
+        process = room.start(*words, "serve", "--port", str(port), *requests)
         if line := process.stdout.readline():
             return Serving(process, port, line)
         output, errors = process.communicate(timeout=SECONDS)
@@ -119,7 +126,7 @@ def started(room: Room, words: list[str], connections: int) -> Serving:
 
 
 @contextlib.contextmanager
-def serving(room: Room, words: list[str], connections: int):
+def serving(room: Room, words: list[str], connections: int | None):
     desk = started(room, words, connections)
     try:
         yield desk

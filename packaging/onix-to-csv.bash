@@ -1,0 +1,13 @@
+# Completion of onix-to-csv for bash.
+_onix_to_csv() {
+    local cur prev words cword
+    _init_completion || return
+    case $prev in
+        --parts | --number | --addressee | --id-type) return ;;
+        -o) _filedir -d; return ;;
+    esac
+    case $cur in
+        -*) COMPREPLY=($(compgen -W "--parts --number --addressee --id-type --leave-out-wrong -o --help" -- "$cur")) ;;
+        *) _filedir ;;
+    esac
+} && complete -F _onix_to_csv onix-to-csv

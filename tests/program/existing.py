@@ -1,0 +1,82 @@
+"""The option `--existing`: a database file that is missing is a fault, and none is made."""
+
+from functools import partial
+
+from program.commands import AGREEMENT, APPLIED, FIRST
+from program.databases import DATABASE, complaints
+from program.room import UNREADABLE, Group, Outcome, Ran
+from program.serving import got, serving
+
+UNUSABLE = Ran(3, b"", b"onixdesk: storage: unusable\n")
+
+# The commands, each over a database that is missing. None of them meets what it would meet first itself.
+COMMANDS = [
+    "batch",
+    "deliver absent.csv",
+    "gaps north",
+    "migrate",
+    "serve --port 1 --requests 1",
+    "serve --port 1",
+]
+
+EXISTING = ["--db", DATABASE, "--existing"]
+
+GAPS = b"gaps,north,first=1,next=2,greatest=1,held=0,missing=0\n"
+
+
+def is_missing(command: str, room):
+    for words in EXISTING, ["--existing", "--db", DATABASE], ["--db", f"absent/{DATABASE}", "--existing"]:
+        came = room.run(*words, *command.split(), given=UNREADABLE)
+        yield Outcome(f"missing: {words} {command}", came, UNUSABLE)
+    yield Outcome(f"missing: the folder after {command}", list(room.folder.iterdir()), [])
+
+
+def is_a_link_to_nothing(room):
+    """What the link names is missing, and is not made either."""
+    room.path(DATABASE).symlink_to("other.db")
+    for command in "batch", "migrate":
+        came = room.run(*EXISTING, command, given=UNREADABLE)
+        yield Outcome(f"a link to nothing: {command}", came, UNUSABLE)
+    names = [path.name for path in room.folder.iterdir()]
+    yield Outcome("a link to nothing: the folder then", names, [DATABASE])
+
+
+def rules_come_first(room):
+    came = room.run(*EXISTING, "--rules", "absent.toml", "batch", given=UNREADABLE)
+    wanted = Ran(2, b"", b"onixdesk: file: absent.toml\n")
+    yield Outcome("rules before a missing database", came, wanted)
+
+
+def is_there(room):
+    """Each command does what it does without the option. An empty file is there too."""
+    room.write(DATABASE, b"")
+    room.write("message.csv", FIRST)
+    for command, given, wanted in [
+        ("batch", AGREEMENT, b"agreed,north,1\n"),
+        ("deliver message.csv", UNREADABLE, APPLIED),
+        ("gaps north", UNREADABLE, GAPS),
+        ("migrate", UNREADABLE, b"schema 2\n"),
+    ]:
+        came = room.run(*EXISTING, *command.split(), given=given)
+        yield Outcome(f"a database that is there: {command}", came, Ran(0, wanted))
+    reply = '{"answer":"gaps","first":1,"greatest":1,"held":0,"missing":[],"next":2,"series":"north"}'
+    question = got("/series/north/gaps", "200 OK", reply)
+    with serving(room, EXISTING, 1) as desk:
+        came = desk.reply([question.input]), desk.ended()
+        yield Outcome("a database that is there: serve", came, (question.reply(), desk.wanted(["200"])))
+    yield Outcome("a database that is there: the file then", complaints(room), [])
+
+
+def an_empty_file_is_migrated(room):
+    room.write(DATABASE, b"")
+    came = room.run(*EXISTING, "migrate", given=UNREADABLE)
+    yield Outcome("an empty file that is there: migrate", came, Ran(0, b"migrated\n"))
+
+
+GROUPS = [
+    *(Group(f"missing: {command}", partial(is_missing, command)) for command in COMMANDS),
+    Group("a database that is a link to nothing", is_a_link_to_nothing),
+    Group("rules come before a missing database", rules_come_first),
+    Group("a database that is there", is_there),
+    Group("an empty file that is there", an_empty_file_is_migrated),
+]

@@ -128,10 +128,10 @@ function axis(question, scale) {
       drawn("text", { class: "tick", x: place, y: 17, "text-anchor": "middle" }, text),
     ];
   });
-  const ends = [
-    drawn("text", { class: "end", x: 0, y: AXIS - 4 }, dayInShort(question.from)),
-    drawn("text", { class: "end", x: scale.whole, y: AXIS - 4, "text-anchor": "end" }, dayInShort(question.until)),
-  ];
+  const [left, right] = [{ x: 0 }, { x: scale.whole, "text-anchor": "end" }];
+  const ends = [[left, question.from], [right, question.until]].map(([place, day]) =>
+    drawn("text", { class: "end", y: AXIS - 4, ...place }, dayInShort(day)),
+  );
   const base = drawn("line", { class: "tick", x1: 0, x2: scale.whole, y1: 0.5, y2: 0.5 });
   return svg(scale.whole, AXIS, "axis", base, ...ticks, ...ends, ...dayLine(placeOfDay(question, scale), 5));
 }

@@ -37,7 +37,7 @@ export function numberOf(day) {
 }
 
 /** The day of a number; before the first and after the last day, that one. */
-export function dayOf(number) {
+function dayOf(number) {
   const within = Math.min(Math.max(number, numberOf(FIRST)), numberOf(LAST));
   return new Date(within * MILLISECONDS).toISOString().slice(0, 10);
 }

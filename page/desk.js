@@ -1,7 +1,7 @@
 // Questions to the desk, which stands behind the page's own web server at `desk/`.
 
 import { urlBeside } from "./address.js";
-import { say } from "./wording.js";
+import { say, wordsOfCode } from "./wording.js";
 
 const REPLY_SECONDS = 15;
 const AGAIN_SECONDS = 5;
@@ -25,7 +25,7 @@ async function bodyOf(reply) {
 /** A reply as an answer, a refusal in the desk's word, a desk that is down, or something else. */
 function outcomeOf(status, body) {
   if ([502, 503, 504].includes(status)) {
-    const reason = body?.answer === "fault" ? say(`down.reasons.${body.reason}`) : "";
+    const reason = wordsOfCode("down.reasons", body?.reason) ?? "";
     return { kind: "down", words: [say(`down.${status}`), reason].join(" ").trim() };
   }
   if (body?.answer === "refused") return { kind: "refused", reason: body.reason };

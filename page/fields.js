@@ -35,7 +35,7 @@ function readQuantity(text) {
 }
 
 /** What the fields are called here, in an address and in the desk's queries, with their readers. */
-export const READERS = {
+const READERS = {
   isbn: readIsbn,
   day: readDay,
   country: codeReader(/^[A-Z]{2}$/, "wrong.country"),

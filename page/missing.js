@@ -56,12 +56,13 @@ async function copy(text, series, place) {
 
 function missingPart(report, series, pixels) {
   const ranges = rangesInWords(report.missing);
+  const items = report.missing.map((range) => element("li", {}, rangeInWords(range)));
   const done = element("div", { class: "copied", role: "status" });
   const button = element("button", { type: "button" }, say("missing.copy"));
   button.addEventListener("click", () => copy(requestFor(report, series), series, done));
   return [
     element("p", { class: "lacks" }, sayCount("missing.missing", allOf(report.missing))),
-    element("ul", { class: "ranges" }, ...report.missing.map((range) => element("li", {}, rangeInWords(range)))),
+    element("ul", { class: "ranges" }, ...items),
     strip(report, ranges, pixels),
     stripLegend(),
     element("p", { class: "buttons" }, button),
@@ -136,7 +137,7 @@ export class Missing {
 
   /** Asks about each series, one after the other: the desk answers one question at a time. */
   async #round(signal) {
-    this.#timer = setTimeout(() => this.show(), MINUTE);
+    const begun = Date.now();
     try {
       for (const { name } of this.#settings.series) {
         const outcome = await ask(`series/${name}/gaps`, {}, signal, this.#watch);
@@ -146,8 +147,12 @@ export class Missing {
       found("as-of").textContent = say("missing.asOf", { time: clock.format(new Date()) });
       this.#say(this.#summary());
     } catch (fault) {
-      if (!isAbandoned(fault)) throw fault;
+      if (isAbandoned(fault)) return;
+      throw fault;
     }
+    // While the desk is down the round goes on, and asks again by itself.
+    const rest = Math.max(0, begun + MINUTE - Date.now());
+    this.#timer = setTimeout(() => this.#round(signal), rest);
   }
 
   /** Says something in the live region, unless it is what stands there. */

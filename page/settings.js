@@ -80,7 +80,7 @@ function checkKeys(given, problems) {
 }
 
 /** The settings of a text, those that are right, with what is wrong with the others in words. */
-export function readSettings(text) {
+function readSettings(text) {
   const problems = [];
   const given = readObject(text, problems);
   if (given !== undefined) checkKeys(given, problems);

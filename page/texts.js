@@ -11,8 +11,6 @@ export const texts = {
     skip: "Skip to the content",
     views: "Views",
     seriesInWords: "{words} ({name})",
-    rangeOfDays: "{from} to {until}",
-    rangeOfNumbers: "{from} to {until}",
     amount: "{amount} {currency}",
   },
 
@@ -144,7 +142,6 @@ export const texts = {
     late: "The desk has not answered in 15 seconds.",
     unreached: "The web server of this page cannot be reached.",
     again: "The page asks again by itself every {seconds} seconds.",
-    back: "The desk answers again.",
     reasons: {
       memory: "It has too little memory at the moment.",
       size: "The answer is too large for it.",

@@ -28,7 +28,7 @@ export function sayCount(path, count, values = {}) {
   return filled(forms[plurals.select(count)] ?? forms.other, { count, ...values });
 }
 
-/** The words of a code of `priceTypes` or `availabilities`, or `undefined`. */
+/** The words of a code in a table of texts, such as `availabilities`, or `undefined`. */
 export function wordsOfCode(list, code) {
   const words = at(list);
   return Object.hasOwn(words, code) ? words[code] : undefined;

@@ -34,11 +34,16 @@ def said(browser, words: str) -> bool:
 def one_copy(site, browser):
     browser.open(article())
     yield Outcome("one copy: the offers", answered(browser), ONE_COPY)
-    chosen = "Buy from North Books at 11.50 GBP a copy. Rule 2 of the shop chooses it: “Else whoever has the book”."
-    yield Outcome("one copy: the choice", said(browser, chosen), True)
-    classes = browser.run("return [...document.querySelectorAll('#offers tbody tr')].map((row) => row.className)")
+    chosen = "Buy from North Books at 11.50 GBP a copy."
+    rule = "Rule 2 of the shop chooses it: “Else whoever has the book”."
+    yield Outcome("one copy: the choice", said(browser, f"{chosen} {rule}"), True)
+    classes = browser.run(
+        """return [...document.querySelectorAll('#offers tbody tr')].map((row) => row.className)"""
+    )
     yield Outcome("one copy: only the chosen row is marked", classes, ["chosen", "", ""])
-    yield Outcome("one copy: what was asked", browser.text("#asked"), f"{ISBN} on 10 April 2025 in GB, GBP, price type 02 – recommended retail price, with tax, 1 copy")
+    price_type = "price type 02 – recommended retail price, with tax"
+    question = f"{ISBN} on 10 April 2025 in GB, GBP, {price_type}, 1 copy"
+    yield Outcome("one copy: what was asked", browser.text("#asked"), question)
 
 
 def ten_copies(site, browser):

@@ -10,7 +10,8 @@ from selenium.webdriver.chrome.options import Options
 from selenium.webdriver.chrome.service import Service
 from selenium.webdriver.common.by import By
 
-from page.site import NAME, PASSWORD, SECONDS, USER, Site
+from page.site import NAME, PASSWORD, USER, Site
+from program.room import SECONDS
 from program.serving import HOST
 
 CHROMIUM = "/usr/bin/chromium"

@@ -87,7 +87,8 @@ def week(site, browser):
     came = [[name, *span] for name, lane in zip(names, browser.run(AMOUNTS)) for span in lane]
     yield Outcome("the week's calendar: as its document has it", came, SPANS)
     texts = browser.run(
-        "return [...document.querySelectorAll('#picture svg.lane')].map((lane) => [...lane.querySelectorAll('.amount')].map((text) => text.textContent))"
+        """return [...document.querySelectorAll('#picture svg.lane')].map((lane) =>
+          [...lane.querySelectorAll('.amount')].map((text) => text.textContent))"""
     )
     wanted = [["12.99", "11.50", "10.75", "11.50"], ["11.80"], ["8.00"]]
     yield Outcome("the week's calendar: the amounts", texts, wanted)
@@ -190,7 +191,8 @@ def resized(site, browser):
         fits = browser.wait(
             lambda: browser.run(
                 """const place = document.querySelector('#picture');
-                return Number(place.querySelector('svg').getAttribute('width')) === Math.floor(place.clientWidth)"""
+                const drawn = Number(place.querySelector('svg').getAttribute('width'));
+                return drawn === Math.floor(place.clientWidth);"""
             )
         )
         yield Outcome(f"the picture in a window of {width}", fits, True)

@@ -13,7 +13,9 @@ def references(site, browser):
     yield Outcome("hostile references in the offers", [row[1] for row in rows], [HOSTILE, LONG])
     yield Outcome("a series that desk.json does not name", {row[0] for row in rows}, {"odd"})
     offers = [f"odd, {HOSTILE}, 21 – in stock", f"odd, {LONG}, 20 – available"]
-    lanes = browser.run("return [...document.querySelectorAll('#picture .lane-name')].map((name) => name.textContent)")
+    lanes = browser.run(
+        """return [...document.querySelectorAll('#picture .lane-name')].map((name) => name.textContent)"""
+    )
     wanted = [f"{offers[0]} – chosen on 10 April 2025", offers[1]]
     yield Outcome("hostile references in the picture", lanes, wanted)
     table = {row[0] for row in browser.rows("#spans")}
@@ -22,7 +24,9 @@ def references(site, browser):
     yield Outcome("no element of them", made, [])
     yield Outcome("no complaint of the browser", browser.complaints(), [])
     # The other columns keep their words whole: a head of one line is no higher than two.
-    heights = browser.run("return [...document.querySelectorAll('#offers thead th')].map((head) => head.offsetHeight)")
+    heights = browser.run(
+        """return [...document.querySelectorAll('#offers thead th')].map((head) => head.offsetHeight)"""
+    )
     yield Outcome(f"beside a long reference, {heights}", max(heights) < 60, True)
     wide = browser.run("return document.documentElement.scrollWidth <= innerWidth")
     yield Outcome("a long reference breaks", wide, True)

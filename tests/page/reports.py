@@ -42,7 +42,8 @@ def open_missing(browser):
 
 def reported(site, browser):
     open_missing(browser)
-    yield Outcome("missing: in all", browser.text("#missing-status"), "5 messages missing in 1 series: North Books.")
+    said = "5 messages missing in 1 series: North Books."
+    yield Outcome("missing: in all", browser.text("#missing-status"), said)
     heads = ["North Books (north)", "South Books (south)", "Western Wholesale (west)"]
     yield Outcome("missing: the series of desk.json", browser.texts("#series h2"), heads)
     north = "Messages 1 to 2 are applied; the next one is 3. 2 later messages wait for what is missing."
@@ -80,12 +81,13 @@ def red(site, browser):
     yield Outcome("red nowhere else", browser.run(RED), [])
 
 
-REQUEST = """To North Books
-
-These messages of your ONIX series "north" to us have not reached us: 3 to 4 (2 messages), 6 to 8 (3 messages) (5 messages in all). Please send them again, each with its own message number and unchanged contents.
-
-We have applied your messages up to number 2; 2 later ones wait for the missing ones.
-"""
+REQUEST = (
+    "To North Books\n\n"
+    'These messages of your ONIX series "north" to us have not reached us: 3 to 4 (2 messages), 6 to 8 '
+    "(3 messages) (5 messages in all). Please send them again, each with its own message number and "
+    "unchanged contents.\n\n"
+    "We have applied your messages up to number 2; 2 later ones wait for the missing ones.\n"
+)
 
 
 def allow_clipboard(site, browser, setting: str):
@@ -99,7 +101,8 @@ def copied(site, browser):
     open_missing(browser)
     browser.one(f"{NORTH} button").click()
     told = browser.wait_for_text(f"{NORTH} .copied", "copied")
-    yield Outcome("the request is copied", told, "The request is copied: paste it into a mail to North Books.")
+    words = "The request is copied: paste it into a mail to North Books."
+    yield Outcome("the request is copied", told, words)
     text = browser.driver.execute_async_script("navigator.clipboard.readText().then(arguments[0])")
     yield Outcome("the copied request", text, REQUEST)
     allow_clipboard(site, browser, "denied")
@@ -134,19 +137,20 @@ def each_minute(site, browser):
     asked = len([line for line in site.requests() if "/desk/series/north/gaps" in line])
     for number in (3, 4):
         site.tell_desk(empty_message(number))
-    stands = browser.wait_for_text(f"{NORTH} p", "1 to 5 are applied", 70)
+    stands = browser.wait_for_text(f"{NORTH} p", "1 to 5 are applied")
     wanted = "Messages 1 to 5 are applied; the next one is 6. 1 later message waits for what is missing."
     yield Outcome("after a minute: where north stands", stands, wanted)
     asked_now = len([line for line in site.requests() if "/desk/series/north/gaps" in line])
     yield Outcome("after a minute: it was asked once", asked_now - asked, 1)
-    yield Outcome("after a minute: what is missing", browser.texts(f"{NORTH} .ranges li"), ["6 to 8 (3 messages)"])
+    ranges = browser.texts(f"{NORTH} .ranges li")
+    yield Outcome("after a minute: what is missing", ranges, ["6 to 8 (3 messages)"])
     kept = browser.run("return document.querySelector(arguments[0]).firstChild.isKept", SOUTH)
     yield Outcome("after a minute: what is the same stays", kept, True)
     focus = browser.run("return document.activeElement.textContent")
     yield Outcome("after a minute: the focus", focus, "Copy a request to send them again")
     for number in (6, 7, 8):
         site.tell_desk(empty_message(number))
-    said = browser.wait_for_text("#missing-status", "Nothing", 70)
+    said = browser.wait_for_text("#missing-status", "Nothing")
     yield Outcome("after two minutes", said, "Nothing is missing in any series.")
     browser.run("location.hash = '#article'")
     yield Outcome("no red where nothing is missing", browser.run(RED), [])
@@ -164,10 +168,12 @@ def late_start(site, browser):
     site.room.run("--db", "shop.db", "batch", given=LATE.encode())
     site.start_desk()
     text = (PAGE / "desk.json").read_text(encoding="utf-8")
-    text = re.sub(r'"series": \[.*?\]', '"series": [{"name": "late", "words": "Late Books"}]', text, flags=re.S)
+    late = '"series": [{"name": "late", "words": "Late Books"}]'
+    text = re.sub(r'"series": \[.*?\]', late, text, flags=re.S)
     (site.page / "desk.json").write_text(text, encoding="utf-8")
     open_missing(browser)
-    words = "Nothing has come that could be applied; it begins with message 9000000. 1 later message waits for what is missing."
+    begins = "Nothing has come that could be applied; it begins with message 9000000."
+    words = f"{begins} 1 later message waits for what is missing."
     yield Outcome("a late start: where it stands", browser.text("#report-late p"), words)
     came = browser.run(STRIP, "#report-late")
     wanted = [["waiting", 9000003, 9000003], ["missing", 9000000, 9000002]]

@@ -35,7 +35,7 @@ class Sequence(NamedTuple):
 
 SEQUENCES = [
     Sequence("stops", stops.CASES),
-    Sequence("minutes", reports.OVER_TIME),
+    Sequence("minutes", [*reports.OVER_TIME, *origins.AT_THE_END]),
     Sequence(
         "views",
         [

@@ -186,7 +186,8 @@ def live(site, browser):
     tables = [name for role, name, _ in found if role == "table"]
     yield Outcome("accessible: the tables", tables, ["Offers on 10 April 2025", "The same as a table"])
     picture = [name for role, name, _ in found if role == "image"]
-    words = "Prices of 3 offers from 25 March 2025 to 25 April 2025, drawn to scale. The table below says the same."
+    days = "from 25 March 2025 to 25 April 2025"
+    words = f"Prices of 3 offers {days}, drawn to scale. The table below says the same."
     yield Outcome("accessible: the picture", picture, [words])
     cells = [role for role, _, _ in found if role in ("row", "columnheader", "rowheader", "cell")]
     browser.size(320, 800)

@@ -14,8 +14,8 @@ import subprocess
 import time
 from pathlib import Path
 
-from program.room import Room
-from program.serving import HOST, connected, free_port
+from program.room import SECONDS, Room
+from program.serving import HOST, TRIES, connected, free_port, receive
 
 ROOT = Path(__file__).resolve().parent.parent.parent
 PAGE = ROOT / "page"
@@ -26,8 +26,8 @@ PASSWORD = "a-word-to-pass"
 CONNECTIONS = 100_000
 DATABASE = "shop.db"
 
-# How long a server may take to start; it takes a hundredth of it.
-SECONDS = 20
+# The desk's line for a request that nothing else of the tests makes.
+MARK = "501"
 
 MAIN = """
 {user}
@@ -56,11 +56,15 @@ def listens(port: int) -> bool:
     return False
 
 
-def wait_until(holds):
+class NotStarted(Exception):
+    """A server ended at once, as where another program has its port, or does not listen in time."""
+
+
+def wait_until(holds, server: subprocess.Popen):
     end = time.monotonic() + SECONDS
     while not holds():
-        if time.monotonic() > end:
-            raise TimeoutError("a server of the test does not start")
+        if server.poll() is not None or time.monotonic() > end:
+            raise NotStarted(server.args)
         time.sleep(0.02)
 
 
@@ -78,7 +82,7 @@ class Site:
         self.desk = None
         self.nginx = None
         self.page = room.path("page")
-        shutil.copytree(PAGE, self.page)
+        shutil.copytree(PAGE, self.page, dirs_exist_ok=True)
         self._prepare()
 
     def _prepare(self):
@@ -113,7 +117,7 @@ class Site:
     def start_nginx(self):
         words = ["-e", self.room.path("error.log"), "-c", self.room.path("nginx.conf")]
         self.nginx = subprocess.Popen(["nginx", *words], stdin=subprocess.DEVNULL)
-        wait_until(lambda: listens(self.port))
+        wait_until(lambda: listens(self.port), self.nginx)
 
     def stop_nginx(self):
         """By its own signal, so that its workers end too."""
@@ -129,7 +133,7 @@ class Site:
             self.desk = subprocess.Popen(
                 [self.room.program, *words], cwd=self.room.folder, stdout=lines
             )
-        wait_until(lambda: self.desk_lines().count(self._listening()) == starts)
+        wait_until(lambda: self.desk_lines().count(self._listening()) == starts, self.desk)
 
     def _listening(self) -> str:
         return f"listening {self.desk_port}"
@@ -150,6 +154,21 @@ class Site:
         path = self.room.path("lines")
         return path.read_text().splitlines() if path.exists() else []
 
+    def mark(self) -> int:
+        """How many lines there are once the desk has served all that came before: it serves one
+        connection after the other, and the last of these lines is that of a request made here."""
+        marks = self.desk_lines().count(MARK)
+        with connected(self.desk_port) as peer:
+            peer.sendall(b"GET / HTTP/1.1\r\nTransfer-Encoding: chunked\r\n\r\n")
+            receive(peer)
+        wait_until(lambda: self.desk_lines().count(MARK) > marks, self.desk)
+        return len(self.desk_lines()) - self.desk_lines()[::-1].index(MARK)
+
+    def lines_since(self, mark: int) -> list[str]:
+        """The desk's lines since a mark."""
+        end = self.mark()
+        return [line for line in self.desk_lines()[mark:end] if line != MARK]
+
     def requests(self) -> list[str]:
         """What nginx was asked: each line has the status, the method, the host and the target."""
         return self.room.path("access.log").read_text().splitlines()
@@ -158,7 +177,7 @@ class Site:
         """The body of the desk's own reply, past nginx."""
         with connected(self.desk_port) as peer:
             peer.sendall(f"GET {target} HTTP/1.1\r\n\r\n".encode())
-            reply = b"".join(iter(lambda: peer.recv(65536), b""))
+            reply = receive(peer)
         return json.loads(reply.partition(b"\r\n\r\n")[2])
 
     def tell_desk(self, message: str):
@@ -191,17 +210,32 @@ class Site:
             reply = connection.getresponse()
             return reply.status, dict(reply.getheaders()), reply.read()
 
+    def stop(self):
+        if self.nginx is not None:
+            self.stop_nginx()
+        if self.desk is not None:
+            self.stop_desk()
+
+
+def started(room: Room) -> Site:
+    """A site with both servers, at ports that no other program has."""
+    for tries in range(1, TRIES + 1):
+        site = Site(room)
+        try:
+            site.start_desk()
+            site.start_nginx()
+            return site
+        except NotStarted:
+            site.stop()
+            if tries == TRIES:
+                raise
+
 
 @contextlib.contextmanager
 def running(room: Room):
     """A site with both servers, over the database that the folder has."""
-    site = Site(room)
+    site = started(room)
     try:
-        site.start_desk()
-        site.start_nginx()
         yield site
     finally:
-        if site.nginx is not None:
-            site.stop_nginx()
-        if site.desk is not None:
-            site.stop_desk()
+        site.stop()

@@ -11,12 +11,12 @@ from program.room import Outcome
 AGAIN = " The page asks again by itself every 5 seconds."
 
 
-def down(browser, words: str, seconds=30) -> bool:
-    return browser.wait_for_text("#down", words, seconds) == words
+def down(browser, words: str) -> bool:
+    return browser.wait_for_text("#down", words) == words
 
 
 def back(browser, name: str):
-    browser.wait(lambda: browser.all("#offers tr"), 30)
+    browser.wait(lambda: browser.all("#offers tr"))
     yield Outcome(f"{name}: answered by itself", browser.rows("#offers"), ONE_COPY)
     yield Outcome(f"{name}: the note is gone", browser.one("#down").is_displayed(), False)
     yield Outcome(f"{name}: the whole answer", bool(browser.wait(lambda: browser.all("#picture svg"))), True)
@@ -69,7 +69,7 @@ def faulty(site, browser):
             "the desk's." + AGAIN
         )
         yield Outcome("a fault of storage is told", down(browser, words), True)
-        yield Outcome("a fault of storage: of the desk", "503" in site.desk_lines(), True)
+        yield Outcome("a fault of storage: of the desk", "503" in site.lines_since(0), True)
     yield from back(browser, "a fault of storage")
 
 
@@ -92,12 +92,14 @@ def missing_view(site, browser):
     browser.run("location.hash = '#missing'")
     words = "The desk is not running, or is just being started." + AGAIN
     yield Outcome("missing messages of a stopped desk", down(browser, words), True)
-    yield Outcome("what was reported stays", browser.texts("#report-north .ranges li")[:1], ["3 to 4 (2 messages)"])
+    ranges = browser.texts("#report-north .ranges li")
+    yield Outcome("what was reported stays", ranges[:1], ["3 to 4 (2 messages)"])
     browser.run("location.hash = '#article'")
-    yield Outcome("the note goes with its view", browser.wait(lambda: not browser.one("#down").is_displayed()), True)
+    gone = browser.wait(lambda: not browser.one("#down").is_displayed())
+    yield Outcome("the note goes with its view", gone, True)
     browser.run("location.hash = '#missing'")
     site.start_desk()
-    gone = browser.wait(lambda: not browser.one("#down").is_displayed(), 30)
+    gone = browser.wait(lambda: not browser.one("#down").is_displayed())
     yield Outcome("missing messages: the note is gone", gone, True)
 
 

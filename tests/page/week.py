@@ -46,7 +46,10 @@ def fill(room: Room):
     week = (ROOT / "examples/shop/week.csv").read_text(encoding="utf-8")
     batch = (week + GAPS + HOSTILE_MESSAGE).encode()
     rules = ROOT / "examples/shop/rules.toml"
-    room.run("--db", DATABASE, "--rules", rules, "batch", given=batch)
+    filled = room.run("--db", DATABASE, "--rules", rules, "batch", given=batch)
+    # Some of the week's answers are refusals.
+    if filled.status != 1:
+        raise RuntimeError(f"the database of the test: {filled.errors}")
 
 
 def article(isbn: str = ISBN, **given) -> str:

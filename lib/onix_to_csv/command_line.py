@@ -5,6 +5,7 @@ import re
 import sys
 from pathlib import Path
 from typing import TextIO
+from xml.parsers import expat
 
 from onix_to_csv.converting import Conversion
 from onix_to_csv.faults import FileFault, Refusal, shown
@@ -13,6 +14,7 @@ from onix_to_csv.identifiers import GLN
 from onix_to_csv.inputs import STANDARD_INPUT, Input, stem
 from onix_to_csv.outputs import Folder, StandardOutput
 from onix_to_csv.progress import Progress
+from onix_to_csv.reading import OLDEST_EXPAT
 from onix_to_csv.terms import CODE, NUMBER, RULES
 
 PROGRAM = "onix-to-csv"
@@ -105,6 +107,9 @@ class Run:
 
     def convert_all(self, names: list[str]) -> int:
         """Converts each of the files, and gives the greatest of their statuses."""
+        if expat.version_info < OLDEST_EXPAT:
+            self.say(f"{expat.EXPAT_VERSION} does not bound what entities give")
+            return FAULT
         if self.folder and not self.folder.is_dir():
             self.say(f"{shown(str(self.folder))}: no folder")
             return FAULT

@@ -20,6 +20,9 @@ RELEASES = ("3.0", "3.1")
 # The encodings that expat knows itself. Of the others pyexpat takes those of single bytes from Python.
 OF_EXPAT = {"UTF-8", "UTF-16", "UTF-16BE", "UTF-16LE", "ISO-8859-1", "US-ASCII"}
 
+# The first version of expat that bounds what entities give.
+OLDEST_EXPAT = (2, 4, 0)
+
 # How many bytes are read at once.
 PIECE = 131_072
 

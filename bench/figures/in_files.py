@@ -59,8 +59,8 @@ def over_new_file(desk: Desk, pieces: list[str]) -> int:
 
 
 def bare_runs(desk: Desk, brought: Brought) -> tuple[Run, Run]:
-    """The run by which SQLite alone puts the rows that those messages brought to the desk's file, and the same
-    run without these rows. BenchmarkFault where it does not end with the same rows."""
+    """The run by which SQLite alone puts the rows that those messages brought to the desk's file, and the
+    same run without these rows. BenchmarkFault where it does not end with the same rows."""
     program, bare = tools.bare_rows(desk.folder), desk.folder / "bare.db"
     words = [program, desk.file, bare, str(brought.records)]
     run = Run([*words, str(brought.messages)])
@@ -77,6 +77,7 @@ def rows(file: Path) -> list[list[tuple]]:
 
 
 def by_sqlite(desk: Desk, brought: Brought) -> int:
+    """The time in which SQLite alone puts what those messages brought to the desk's file."""
     return beyond(*bare_runs(desk, brought))
 
 

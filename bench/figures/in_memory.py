@@ -14,8 +14,8 @@ ANSWERS = 40
 
 
 def unknown_messages(desk: Desk) -> tuple[Run, Path]:
-    """The run that reads 500 messages of a series that nobody agreed, and refuses each once it has read all of
-    it; and the file that has them."""
+    """The run that reads 500 messages of a series that nobody agreed, and refuses each once it has read
+    all of it; and the file that has them."""
     given = desk.text("messages", texts.greatest_messages())
     return desk.batch(given, statuses=(REFUSED,)), given
 

@@ -2,20 +2,21 @@
 # Runs a desk over HTTP on a new database, sends it seven requests by curl, and compares each status and
 # reply with the one written here.
 #     examples/http.sh [PORT]
+# The program is bin/onixdesk, or the one that ONIXDESK names.
 # Status 0; 1 where a reply is another one; 2 where the desk or curl cannot be run.
 set -u
 port=${1:-8080}
 root=$(cd "$(dirname "$0")/.." && pwd)
+program=${ONIXDESK:-$root/bin/onixdesk}
 room=$(mktemp -d) || exit 2
 desk=
 trap '[ -z "$desk" ] || kill "$desk" 2>/dev/null; rm -rf "$room"' EXIT
 command -v curl >/dev/null || { echo "http.sh: no curl" >&2; exit 2; }
 
-run() { "$root/bin/onixdesk" --db "$room/shop.db" "$@"; }
-run batch <"$root/examples/shop/monday.csv" >/dev/null || exit 2
-"$root/bin/onixdesk" --db "$room/shop.db" serve --port "$port" --requests 7 >"$room/lines" &
+"$program" --db "$room/shop.db" batch <"$root/examples/shop/monday.csv" >/dev/null || exit 2
+"$program" --db "$room/shop.db" serve --port "$port" --requests 7 >"$room/lines" &
 desk=$!
-for _ in 1 2 3 4 5 6 7 8 9 10 11 12 13 14 15 16 17 18 19 20; do
+for _ in $(seq 120); do
     grep -q listening "$room/lines" && break
     sleep 0.5
 done

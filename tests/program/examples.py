@@ -6,7 +6,7 @@ import subprocess
 from pathlib import Path
 
 from program.room import SECONDS, Group, Outcome, Ran
-from program.serving import posted, serving
+from program.serving import free_port, posted, serving
 
 ROOT = Path(__file__).resolve().parent.parent.parent
 
@@ -137,15 +137,25 @@ def page_of_http(room):
     yield Outcome("docs/HTTP.md: its questions", (len(of_articles), len(of_series)), (3, 2))
 
 
-def gaps_script(room, *words) -> Ran:
+def script(room, name: str, *words) -> Ran:
+    """How a script of the examples ends that runs the program of the room."""
     done = subprocess.run(
-        [ROOT / "examples/gaps.sh", *words],
+        [ROOT / "examples" / name, *words],
         cwd=room.folder,
         env={**os.environ, "ONIXDESK": str(room.program)},
         capture_output=True,
         timeout=SECONDS,
     )
     return Ran(done.returncode, done.stdout, done.stderr)
+
+
+def gaps_script(room, *words) -> Ran:
+    return script(room, "gaps.sh", *words)
+
+
+def script_of_http(room):
+    """The script compares each reply with the one that is written in it."""
+    yield Outcome("http.sh: its replies", script(room, "http.sh", str(free_port())), Ran(0))
 
 
 def gaps_by_night(room):
@@ -170,6 +180,7 @@ def gaps_by_night(room):
 
 GROUPS = [
     Group("the page of HTTP", page_of_http),
+    Group("the script of HTTP", script_of_http),
     Group("the first batch", first_batch),
     Group("the week of a shop", week),
     Group("a desk in a file", desk_in_a_file),

@@ -19,11 +19,11 @@ loop-name-preserved g c =
     let ran = c.in-Ok.ensures.run in
     let longer = length-append inv.texts (ran.0 ∷ []) in
     record {
-      premise = λ sound. inv.premise (c.deliver_file.ensures.premise sound);
+      premise = λ sound. inv.premise (c.deliver_named.ensures.premise sound);
       texts = inv.texts ++ ran.0 ∷ [];
       counted = omega (arith, inv.counted, longer);
       so_far = λ L stands sound.
-          let before = inv.so_far L stands (c.deliver_file.ensures.premise sound) in
+          let before = inv.so_far L stands (c.deliver_named.ensures.premise sound) in
           let one = ran.1 (followed_by L (deliveries inv.texts)) before.3 sound in
           let more = one_more_file c.args.precedence.now L inv.texts ran.0 in (
             rw (more.refused, one.1.0) (refused_more _ _ _ before.0),
@@ -45,8 +45,8 @@ returns-in-Err-clause-end g c =
       λ L stands sound.
           let before = inv.so_far L stands (c.in-Err.ensures.premise sound) in
           inr (stopped_by c.args.precedence.now L (length c.args.names.now) inv.texts ran.0
-          (g.W.Write.contents c.args.output.now) (g.W.Write.contents c.loop-name.output) (g.W.Write.contents c.deliver_file.new.writer)
-          (g.D.Desk.stands_for c.deliver_file.new.desk) c.in-Err.fault c.report_delivery.result c.report_delivery.ensures
+          (g.W.Write.contents c.args.output.now) (g.W.Write.contents c.loop-name.output) (g.W.Write.contents c.deliver_named.new.writer)
+          (g.D.Desk.stands_for c.deliver_named.new.desk) c.in-Err.fault c.report_delivery.result c.report_delivery.ensures
           (omega (arith, inv.counted)) before.1 before.2 (ran.1 (followed_by L (deliveries inv.texts)) before.3 sound)),
     )
 

@@ -67,9 +67,13 @@ def no_rule(site, browser):
 
 
 def no_offer(site, browser):
-    browser.open(article("9780000000002"))
+    """A book without offers leaves nothing of the one before."""
+    browser.open(article())
+    answered(browser)
+    browser.run("location.hash = arguments[0]", article("9780000000002"))
     yield Outcome("no offer: it is said", said(browser, "No wholesaler offers this book."), True)
     yield Outcome("no offer: no table", browser.all("#offers tr"), [])
+    yield Outcome("no offer: no calendar", browser.one("#calendar").is_displayed(), False)
 
 
 def typed_question(site, browser):

@@ -90,13 +90,15 @@ def missing(site, browser):
 
 
 def skipped(site, browser):
-    browser.open("")
-    browser.wait(lambda: browser.one("#day").get_attribute("value"))
+    browser.open("#missing")
+    browser.wait_for_text("#as-of", "As of")
     tab_to(browser, has_id("skip"))
     press(browser, Keys.ENTER)
     press(browser, Keys.TAB)
-    yield Outcome("behind the link past the head", browser.run(FOCUS)["id"], "isbn")
-    yield Outcome("the link past the head keeps the view", browser.one("#article-view").is_displayed(), True)
+    text = browser.run(FOCUS)["text"]
+    yield Outcome("behind the link past the head", text, "Copy a request to send them again")
+    address = browser.run("return location.hash")
+    yield Outcome("the link past the head keeps the view", address, "#missing")
 
 
 def wrong_field(site, browser):

@@ -32,6 +32,8 @@ def policies(site) -> list[tuple[str, str, list, int]]:
     own = site.address("")
     return [
         ("GET", GAPS, [], 200),
+        # The desk takes a head of 16,384 bytes, and gets none of the browser's fields.
+        ("GET", GAPS, [(f"X-Long-{number}", "a" * 6000) for number in range(3)], 200),
         ("GET", PRICE, [("Origin", own)], 200),
         ("GET", PRICE, [("Origin", "https://stranger.example.net")], 403),
         ("GET", PRICE, [("Origin", own.replace("https", "http"))], 403),
@@ -68,14 +70,14 @@ def policies(site) -> list[tuple[str, str, list, int]]:
 
 
 # Those that go through to the desk, by what the desk then writes.
-THROUGH = ["200"] * 5 + ["404"]
+THROUGH = ["200"] * 6 + ["404"]
 
 
 def server_rules(site, browser):
     before = site.mark()
     for method, path, fields, wanted in policies(site):
         status, _, _ = site.fetch(path, method, fields=fields)
-        yield Outcome(f"{method} {path} {fields}", status, wanted)
+        yield Outcome(f"{method} {path} {str(fields)[:100]}", status, wanted)
     yield Outcome("what came to the desk", site.lines_since(before), THROUGH)
 
 

@@ -194,6 +194,9 @@ def live(site, browser):
     narrow = [role for role, _, _ in nodes(browser) if role in ("row", "columnheader", "rowheader", "cell")]
     browser.size(1100, 900)
     yield Outcome("accessible: a narrow table is one too", narrow, cells)
+    # Not every browser keeps what a table is where its parts are laid out as blocks.
+    bare = browser.all("table:not([role]), :is(thead, tbody, tr, th, td):not([role])")
+    yield Outcome("accessible: the roles of tables are written out", len(bare), 0)
     language = browser.run("return document.documentElement.lang")
     yield Outcome("accessible: the language", language, "en-GB")
 

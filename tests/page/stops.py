@@ -36,9 +36,13 @@ def stopped(site, browser):
 
 
 def silent(site, browser):
-    browser.open("")
+    browser.open(article(quantity="10"))
+    browser.wait(lambda: browser.all("#picture svg"))
     site.freeze_desk()
     browser.run("location.hash = arguments[0]", article())
+    browser.wait(lambda: "Asking" in browser.text("#article-status"))
+    stale = browser.all("#offers tr, #picture svg, #spans tr")
+    yield Outcome("a new question leaves nothing of the one before", stale, [])
     early = browser.wait(lambda: browser.one("#down").is_displayed(), 13)
     yield Outcome("a silent desk has its time", bool(early), False)
     words = "The desk has not answered in 15 seconds." + AGAIN
@@ -95,8 +99,10 @@ def missing_view(site, browser):
     ranges = browser.texts("#report-north .ranges li")
     yield Outcome("what was reported stays", ranges[:1], ["3 to 4 (2 messages)"])
     browser.run("location.hash = '#article'")
-    gone = browser.wait(lambda: not browser.one("#down").is_displayed())
-    yield Outcome("the note goes with its view", gone, True)
+    browser.wait(lambda: not browser.one("#down").is_displayed())
+    # A view that was left asks no more.
+    again = browser.wait(lambda: browser.one("#down").is_displayed(), 8)
+    yield Outcome("the note goes with its view", bool(again), False)
     browser.run("location.hash = '#missing'")
     site.start_desk()
     gone = browser.wait(lambda: not browser.one("#down").is_displayed())

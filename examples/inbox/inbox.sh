@@ -4,8 +4,8 @@
 # notes and answers beside it in NAME.answer.
 #     inbox.sh FOLDER URL [WORDS OF onix-to-csv..]
 # It takes what ends in .csv (a message in records), .xml, .onix, .xml.gz or .onix.gz; a file may have such
-# a name only once it is whole. A file stays where there is no desk at URL or one that answers 503, and
-# where it cannot be read or converted.
+# a name only once it is whole. A file stays where there is no desk at URL or one that answers 503, where it
+# cannot be read or converted, and where it changed, or another got its name, while it was taken.
 # A second run waits until the first has ended. A run that was killed is made good by the next: the desk
 # answers a message that comes again, and changes nothing.
 # Status 0; 1 where a file stayed; 2 where it cannot begin. It needs curl and flock. ONIX_TO_CSV names the
@@ -14,7 +14,7 @@ set -u
 LC_ALL=C
 export LC_ALL
 
-complain() { echo "inbox.sh: $*" >&2; }
+complain() { printf 'inbox.sh: %s\n' "$*" >&2; }
 
 if [ $# -lt 2 ] || [ ! -d "$1" ]; then
     complain "it is called as inbox.sh FOLDER URL [WORDS OF onix-to-csv..]"
@@ -22,6 +22,8 @@ if [ $# -lt 2 ] || [ ! -d "$1" ]; then
 fi
 folder=$1 url=$2
 shift 2
+# No word of a command begins with its dash.
+case $folder in -*) folder=./$folder ;; esac
 converter=${ONIX_TO_CSV:-$(dirname "$0")/../../bin/onix-to-csv}
 for program in curl flock "$converter"; do
     command -v "$program" >/dev/null || { complain "no $program"; exit 2; }
@@ -53,7 +55,7 @@ post() {
     code=$(curl --silent --show-error --max-time 300 --header Expect: --data-binary "@$1" \
         --output "$work/reply" --write-out '%{http_code}' "$url/messages" 2>"$work/errors")
     reply="$code $(cat "$work/reply" "$work/errors")"
-    echo "$reply" >>"$work/answer"
+    printf '%s\n' "$reply" >>"$work/answer"
     case $reply in
     '200 {"answer":"applied"'* | '202 {"answer":"held"'*) return 0 ;;
     '400 '* | '409 '* | '413 '* | '422 '*) return 1 ;;
@@ -72,9 +74,13 @@ place() {
     done
 }
 
+# What tells a file from another of its name, and from itself with other bytes.
+state() { stat -L -c '%d %i %s %y' -- "$1"; }
+
 # Takes a file. Status 2 where it stays, 3 where nobody answers.
 take() {
     rm -rf "$work" && mkdir -p "$work/messages" || return 2
+    state_before=$(state "$1" 2>"$work/answer") || return 2
     convert "$@"
     verdict=$?
     if [ $verdict -eq 0 ]; then
@@ -87,6 +93,10 @@ take() {
     fi
     [ $verdict -lt 2 ] || return 2
     if [ $verdict -eq 0 ]; then place "$folder/done" "$1"; else place "$folder/refused" "$1"; fi
+    if [ "$(state "$1" 2>&1)" != "$state_before" ]; then
+        echo "it changed while it was taken" >>"$work/answer"
+        return 2
+    fi
     # The answer first: until the file is moved, it is taken again.
     mv -f -- "$work/answer" "$target.answer" && mv -f -- "$1" "$target" || return 2
 }
@@ -97,7 +107,12 @@ while [ $taken -eq 1 ]; do
     taken=0 status=0
     for file in "$folder"/*; do
         case $file in *.csv | *.xml | *.onix | *.xml.gz | *.onix.gz) ;; *) continue ;; esac
-        [ -f "$file" ] || continue
+        if [ ! -f "$file" ]; then
+            # With status 0 a unit that waits for such names would start the next run at once, for ever.
+            complain "$file stays: it is no file"
+            status=1
+            continue
+        fi
         take "$file" "$@"
         case $? in
         0) taken=1 ;;

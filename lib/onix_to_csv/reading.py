@@ -48,11 +48,16 @@ WHITE_SPACE = re.compile("[ \t\r\n]+")
 # expat lets a document that stands alone use no entity that is declared outside of it, as those of HTML
 # are; what else the word says is nothing to a parser that does not validate.
 STANDALONE = re.compile("""<\\?xml[^>]*?(\\sstandalone\\s*=\\s*(?:"yes"|'yes'))\\s*\\?>""")
-BYTE_ORDER_MARKS = {
+
+# What the first two bytes of a file say of its encoding: a byte order mark, or `<` in two bytes.
+ENCODING_SIGNS = {
     codecs.BOM_UTF16_LE: "utf-16-le",
     codecs.BOM_UTF16_BE: "utf-16-be",
     codecs.BOM_UTF8[:2]: "utf-8",
+    "<".encode("utf-16-le"): "utf-16-le",
+    "<".encode("utf-16-be"): "utf-16-be",
 }
+
 DECLARED_WITHIN = 512
 
 
@@ -71,7 +76,7 @@ def normalized(text: str) -> str:
 
 def not_standalone(data: bytes) -> bytes:
     """The beginning of a file, with spaces where its XML declaration says that it stands alone."""
-    codec = BYTE_ORDER_MARKS.get(data[:2], "latin-1")
+    codec = ENCODING_SIGNS.get(data[:2], "latin-1")
     head = data[:DECLARED_WITHIN].decode(codec, "replace")
     found = STANDALONE.match(head.removeprefix("\ufeff"))
     if not found:

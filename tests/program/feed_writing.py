@@ -9,7 +9,10 @@ from program.feed_trees import Detail, Message, Pair, Price, PriceDate, Product,
 
 NAMESPACES = {False: "http://ns.editeur.org/onix/3.0/reference", True: "http://ns.editeur.org/onix/3.0/short"}
 
-ENCODINGS = ["UTF-8", "utf-8", "UTF-16", "ISO-8859-1", "windows-1252", "koi8-r", "US-ASCII", ""]
+ENCODINGS = [
+    *("UTF-8", "utf-8", "UTF-16", "UTF-16LE", "UTF-16BE"),
+    *("ISO-8859-1", "windows-1252", "koi8-r", "US-ASCII", ""),
+]
 
 SPACES = [" ", "\n", "\t", "  \n ", "\r\n"]
 

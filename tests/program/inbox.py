@@ -8,6 +8,7 @@ import subprocess
 from functools import partial
 from pathlib import Path
 
+from program.converter import CONVERTER
 from program.converter_runs import feed_of, message_of
 from program.databases import DATABASE, batch, execute
 from program.room import SECONDS, Group, Outcome, Ran, Room
@@ -200,6 +201,69 @@ def kept(room: Room) -> dict[str, bytes]:
     return {name: data for name, data in contents(room).items() if "/" not in name}
 
 
+# A converter during whose work another file gets the name of the first one, or the file grows.
+CHANGING = {
+    "replaced": "mv in/next in/a.xml",
+    "grown": "cat in/next >in/a.xml",
+}
+
+
+def what_changes_meanwhile(change: str, room):
+    """A file that changed while the one before was taken is not moved with its answer, but taken by the
+    next run."""
+    batch(room, AGREEMENT)
+    one, two = numbered(["R1"], 1), numbered(["R2"], 2)
+    put(room, {"a.xml": one, "next": two})
+    room.write(
+        "converter", f'#!/bin/sh\n"{CONVERTER}" "$@" || exit\n{CHANGING[change]}\n'.encode()
+    )
+    room.path("converter").chmod(0o755)
+    with serving(room, WORDS, 2) as desk:
+        came = ended(start(room, desk.port, ONIX_TO_CSV=str(room.path("converter"))))
+        said = Ran(1, b"", b"inbox.sh: in/a.xml stays: it changed while it was taken\n")
+        room.path("in/next").unlink(missing_ok=True)
+        yield Outcome(f"inbox: {change} meanwhile", (came, kept(room)), (said, {"a.xml": two}))
+        came = run(room, desk.port)
+        wanted = Ran(0), taken("done", "a.xml", two, of_north(2, replaced=1))
+        yield Outcome(f"inbox: {change}, the next run", (came, contents(room)), wanted)
+        yield Outcome(f"inbox: {change}, the desk", desk.ended(), desk.wanted(["200", "200"]))
+
+
+def what_is_no_file(room):
+    """What has such a name and is no file stays, and is told: a unit that waits for the name would else
+    start one run after the other."""
+    put(room, {})
+    room.path("in/a.csv").mkdir()
+    room.path("in/b.xml").symlink_to("absent")
+    lines = [f"inbox.sh: in/{name} stays: it is no file\n" for name in ("a.csv", "b.xml")]
+    yield Outcome("inbox: no files", run(room, 1), Ran(1, b"", "".join(lines).encode()))
+    room.path("in/a.csv").rmdir()
+    room.path("in/b.xml").unlink()
+    yield Outcome("inbox: an empty folder", run(room, 1), Ran(0))
+
+
+def strange_names(room):
+    """A folder and files whose names have dashes, spaces and backslashes."""
+    batch(room, AGREEMENT)
+    names = ["-o.csv", "a \\c\n b.csv", "* $(x).csv"]
+    folder = room.path("-in")
+    folder.mkdir()
+    for number, name in enumerate(sorted(names), 1):
+        folder.joinpath(name).write_bytes(message_of(number=number))
+    with serving(room, WORDS, len(names)) as desk:
+        done = subprocess.run(
+            ["sh", SCRIPT, "-in", url(desk.port)], cwd=room.folder, capture_output=True, timeout=SECONDS
+        )
+        came = Ran(done.returncode, done.stdout, done.stderr)
+        yield Outcome("inbox: strange names", came, Ran(0))
+        yield Outcome(
+            "inbox: strange names, what is taken",
+            sorted(path.name for path in folder.joinpath("done").iterdir()),
+            sorted(name + ending for name in names for ending in ("", ".answer")),
+        )
+        yield Outcome("inbox: strange names, the desk", desk.ended(), desk.wanted(["200"] * len(names)))
+
+
 def another_server(room):
     """What is no answer of a desk takes no file."""
     put(room, {"b.csv": message_of(number=2)})
@@ -305,6 +369,12 @@ GROUPS = [
     Group("inbox: names that come again", names_that_come_again),
     Group("inbox: words of the converter", words_of_the_converter),
     Group("inbox: what stays", what_stays),
+    *(
+        Group(f"inbox: {change} meanwhile", partial(what_changes_meanwhile, change))
+        for change in CHANGING
+    ),
+    Group("inbox: no files", what_is_no_file),
+    Group("inbox: strange names", strange_names),
     Group("inbox: another server", another_server),
     Group("inbox: bad calls", bad_calls),
     Group("inbox: two at once", two_at_once),

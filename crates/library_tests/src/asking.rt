@@ -74,12 +74,21 @@ fn end_of_batch(ended: Result<u64, BatchFault>) -> End {
 }
 
 // How an exchange with this reply ended.
+fn end_of_reply(status: u16, reply: &[u8]) -> End {
+    if status != 503 {
+        End::Done
+    } else if reply.ends_with("\"memory\"}".as_bytes()) {
+        End::Memory
+    } else if reply.ends_with("\"disk\"}".as_bytes()) {
+        End::Disk
+    } else {
+        End::Other
+    }
+}
+
 fn end_of_exchange(ended: Result<u16, HttpFault>, reply: &[u8]) -> End {
     match ended {
-        Ok(503) if reply.ends_with(b"{\"answer\":\"fault\",\"reason\":\"memory\"}") => End::Memory,
-        Ok(503) if reply.ends_with(b"{\"answer\":\"fault\",\"reason\":\"disk\"}") => End::Disk,
-        Ok(503) => End::Other,
-        Ok(_) => End::Done,
+        Ok(status) => end_of_reply(status, reply),
         Err(HttpFault::Memory { .. } | HttpFault::Write { .. }) => End::Memory,
         Err(HttpFault::Read) => End::Other,
     }
@@ -95,15 +104,19 @@ fn batch<D: Desk>(alloc: Global, desk: &mut D, rules: &Precedence, text: &str) -
     }
 }
 
-// A line end is written behind the reply, as behind all that tests compare.
+// A line end is written behind the reply, as behind all that tests compare. That of a fault is no answer.
 fn exchange<D: Desk>(alloc: Global, desk: &mut D, rules: &Precedence, text: &str) -> Asked {
     let mut output = Vec::new(alloc);
     let ended = serve_one(alloc, desk, rules, &mut text.as_bytes(), &mut output);
-    let ended = end_of_exchange(ended, output.as_slice());
-    let is_whole = output.push(b'\n').is_ok();
+    let mut ended = end_of_exchange(ended, output.as_slice());
+    if !matches!(ended, End::Done) {
+        output.clear();
+    } else if output.push(b'\n').is_err() {
+        ended = End::Memory;
+    }
     Asked {
         output,
-        ended: if is_whole { ended } else { End::Memory },
+        ended,
         is_opened: true,
     }
 }

@@ -16,7 +16,13 @@ codes = [\"20\", \"21\"]
     report: "GET /series/north/gaps HTTP/1.1\r
 \r
 ",
-    before: "@",
+    before: "HTTP/1.1 404 Not Found\r
+Content-Type: application/json\r
+Content-Length: 46\r
+Connection: close\r
+\r
+{\"answer\":\"refused\",\"reason\":\"unknown-series\"}
+",
     requests: REQUESTS,
 };
 

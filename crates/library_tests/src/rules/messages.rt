@@ -174,7 +174,7 @@ fn fault_of(alloc: Global, bytes: &[u8]) -> Option<RecordFault> {
 
 #[test]
 fn records_are_read_and_written(rt: HostRuntime) {
-    let written = written_again(rt.alloc(), b"\xef\xbb\xbfa,\"b\"\"c\",\r\n\r\n\"d\"");
+    let written = written_again(rt.alloc(), "\u{feff}a,\"b\"\"c\",\r\n\r\n\"d\"".as_bytes());
     expect_text(&rt, written, "a,\"b\"\"c\",\nd\n");
     let fault = fault_of(rt.alloc(), b"\xff");
     assert!(rt; matches!(fault, Some(RecordFault::NotUtf8)), "no UTF-8");

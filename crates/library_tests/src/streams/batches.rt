@@ -49,7 +49,7 @@ applied,north,1,replaced=1,updated=0,deleted=0,unknown=0,ignored=0
 gaps,north,first=1,next=2,greatest=1,held=0,missing=0
 ";
 
-const GAPS: &[u8] = b"AskGaps,north\n";
+const GAPS: &str = "AskGaps,north\n";
 
 // A byte for each of the most that a batch may have, one more, and the end.
 const MOST_READS: usize = 4_194_306;
@@ -95,7 +95,7 @@ fn expect_unread(alloc: Global, stop: &impl Abort, batch: &[u8]) {
     let ended = run(alloc, &mut desk, &mut reader, &mut written);
     assert!(stop; matches!(&ended, Err(BatchFault::Read)), "a failed read");
     assert!(stop; written.is_empty(), "an answer after a failed read");
-    expect_answers(alloc, stop, &mut desk, GAPS, NOT_AGREED);
+    expect_answers(alloc, stop, &mut desk, GAPS.as_bytes(), NOT_AGREED);
 }
 
 // Both for what was read before and each further byte of a part.
@@ -115,16 +115,14 @@ fn expect_part(
     Ok(())
 }
 
-// The whole batch, after it was cut at each byte, and its answers.
-fn cut_at_each_byte(alloc: Global, stop: &impl Abort) -> Result<(Vec<u8>, &'static str), Fail> {
+// The whole batch, after it was cut at each byte.
+fn cut_at_each_byte(alloc: Global, stop: &impl Abort) -> Result<Vec<u8>, Fail> {
     let mut begun = Vec::new(alloc);
-    let mut whole = "";
     for text in PARTS.split('>') {
         let (part, answers) = text.split_once('<').ok_or("a part without answers")?;
         expect_part(alloc, stop, &mut begun, part, answers)?;
-        whole = answers;
     }
-    Ok((begun, whole))
+    Ok(begun)
 }
 
 // How many answers are written in part or whole where so many bytes are taken: one a line.
@@ -154,13 +152,16 @@ fn expect_written(alloc: Global, stop: &impl Abort, batch: &[u8], taken: &[u8], 
     } else {
         ONE_APPLIED
     };
-    expect_answers(alloc, stop, &mut desk, GAPS, held);
+    expect_answers(alloc, stop, &mut desk, GAPS.as_bytes(), held);
 }
 
 // Cut off after each byte, with a failed read after each, and with outputs that take part of the answers.
 #[test]
 fn batches_at_their_ends(rt: HostRuntime) -> Result<(), Fail> {
-    let (batch, answers) = cut_at_each_byte(rt.alloc(), &rt)?;
+    let batch = cut_at_each_byte(rt.alloc(), &rt)?;
+    let (_, answers) = PARTS
+        .rsplit_once('<')
+        .ok_or("the answers of the last part")?;
     for at in 0..answers.len() {
         let taken = answers.as_bytes().get(..at).ok_or("a part of the answers")?;
         expect_written(rt.alloc(), &rt, batch.as_slice(), taken, true);

@@ -116,8 +116,8 @@ fn expect_slow(
 fn most_input(alloc: Global) -> Result<Vec<u8>, AllocError> {
     let mut input = MOST_HEAD.as_bytes().to_vec(alloc)?;
     let letters = vec![in alloc; b'a'; 4_194_305]?;
-    input.extend_from_slice(letters.as_slice().get(..16_327).unwrap_or(b""))?;
-    input.extend_from_slice(b"\r\n\r\n")?;
+    input.extend_from_slice(letters.as_slice().get(..16_327).unwrap_or("".as_bytes()))?;
+    input.extend_from_slice("\r\n\r\n".as_bytes())?;
     input.extend_from_slice(letters.as_slice())?;
     Ok(input)
 }

@@ -7,8 +7,8 @@ use Rattle.csv_records.specs.declared.reading.RecordFault.TheVariants as record_
 use Rattle.price_rules.specs.declared.precedence.Rule.{Rule}
 use Rattle.series_rules.specs.Answers.{answers, followed_by}
 use Rattle.desk_text.specs.AnswerText.{is_refused, text_of}
-use Rattle.desk_batch.specs.Pieces.{pieces}
-use Rattle.desk_batch.specs.RequestRows.{request_of}
+use Rattle.desk_requests.specs.Pieces.{pieces}
+use Rattle.desk_requests.specs.RequestRows.{request_of}
 use Rattle.series_rules.specs.declared.requests.Request.{Request}
 use Rattle.desk_batch.specs.declared.batch.BatchFault.{BatchFault}
 use Rattle.desk_batch.specs.declared.batch.BatchFault.TheVariants as fault

@@ -1,6 +1,3 @@
-pub mod Pieces
-pub mod Closed
-pub mod RequestRows
 pub mod Batch
 pub mod BatchSteps
 pub mod OneRequest

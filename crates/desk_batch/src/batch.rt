@@ -9,9 +9,9 @@ ghost use Rattle.desk_batch.specs.BatchFaults.{IsBatchFaultOf, IsRequestFaultOf}
 ghost use Rattle.desk_batch.specs.OneRequest.{RequestFits};
 ghost use Rattle.series_rules.specs.declared.requests.Request.{Request};
 
-use crate::request_rows::read_requests;
 use csv_records::reading::{LIMIT, RecordFault, RecordReader};
 use csv_records::streams::{InputFault, WriteFault, read_input, write_whole};
+use desk_requests::request_rows::read_requests;
 use desk_text::answer_text::{is_refusal, write_answer};
 use onix_message::agreement::StoreFault;
 use onix_terms::items::Items;

@@ -5,12 +5,12 @@ use Rattle.std.specs.Io.KnownBytes.{Consumes}
 use Rattle.httparse.specs.Grammar.{RequestHead, ReadsRequest, print_request}
 use Rattle.httparse.proofs.GrammarLemmas.{ReadsRequest-append}
 use Rattle.series_rules.specs.declared.requests.Request.{Request}
-use Rattle.desk_http.specs.declared.fault.InputFault.{InputFault}
-use Rattle.desk_http.specs.declared.fault.InputFault.TheVariants as fault
-use Rattle.desk_http.specs.declared.refusal.Refusal.{Refusal}
+use Rattle.http_requests.specs.declared.fault.InputFault.{InputFault}
+use Rattle.http_requests.specs.declared.fault.InputFault.TheVariants as fault
+use Rattle.http_requests.specs.declared.refusal.Refusal.{Refusal}
 use Rattle.desk_http.specs.Asks.{Asks, IfDecided, asks_of, with_head}
-use Rattle.desk_http.specs.Head.{HasHead}
-use Rattle.desk_http.specs.Steps.{Gives}
+use Rattle.http_requests.specs.Head.{HasHead}
+use Rattle.http_requests.specs.Steps.{Gives}
 
 -- what holds of the bytes that follow says what holds of the input
 pub known_then : (P Q : List ℕ → Type 0) (a b : Option (List ℕ)) (bytes : List ℕ) → Consumes a b bytes

@@ -2,9 +2,9 @@
 use Rattle.std.proofs.Common.{◌≡◌, ℕ, List, Result, Err, sym, ap, ◌∙◌, refl}
 use Rattle.httparse.proofs.GrammarLemmas.{request_unique}
 use Rattle.series_rules.specs.declared.requests.Request.{Request}
-use Rattle.desk_http.specs.declared.refusal.Refusal.{Refusal}
+use Rattle.http_requests.specs.declared.refusal.Refusal.{Refusal}
 use Rattle.desk_http.specs.Asks.{Asks, asks_of, without_head, with_head}
-use Rattle.desk_http.specs.Head.{refusal_of}
+use Rattle.http_requests.specs.Head.{refusal_of}
 
 pub asks_once : (input : List ℕ) (a b : Result Request Refusal) → Asks input a → Asks input b → a ≡ b
 asks_once input a b (without_head p) (without_head q) = ap (λ why. Err why) (sym p.why_is ∙ q.why_is)

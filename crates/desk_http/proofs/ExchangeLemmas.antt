@@ -8,13 +8,13 @@ use Rattle.series_rules.specs.declared.requests.Request.{Request}
 use Rattle.desk_http.specs.declared.exchange.HttpFault.{HttpFault}
 use Rattle.desk_http.specs.declared.exchange.HttpFault.TheVariants as fault
 use Rattle.desk_http.specs.declared.exchange.ReplyText.{ReplyText}
-use Rattle.desk_http.specs.declared.refusal.Refusal.{Refusal}
+use Rattle.http_requests.specs.declared.refusal.Refusal.{Refusal}
 use Rattle.desk_http.specs.AnswerReply.{reply_of_answer}
 use Rattle.desk_http.specs.Asks.{Asks}
 use Rattle.desk_http.specs.Exchange.{AtMostOneMore, Exchanges, Served, Unsent, answers, faults, refuses}
 use Rattle.desk_http.specs.ExchangeSteps.{AskFits, IsAnswered, IfMemory, IfWrite, IsReplied, IsUnreplied, reply_view}
 use Rattle.desk_http.specs.Reply.{Reply, reply_text}
-use Rattle.desk_http.proofs.KnownLemmas.{IfSome-map}
+use Rattle.http_requests.specs.KnownLemmas.{IfSome-map}
 
 -- a status and a body are those of an answer
 pub reply_is : (a : Answer) (status : ℕ) (body : List ℕ) → status ≡ (reply_of_answer a).status → body ≡ (reply_of_answer a).body

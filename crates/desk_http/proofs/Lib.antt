@@ -1,14 +1,6 @@
 pub mod AskLemmas
 pub mod AsksLaws
-pub mod BufferLemmas
-pub mod EmptyLineLemmas
 pub mod ExchangeLemmas
-pub mod FieldLemmas
-pub mod HeadLemmas
-pub mod KnownLemmas
-pub mod PostedLemmas
-pub mod RefusalLemmas
-pub mod SizeLemmas
 pub mod Statuses
 pub mod InsertLemmas
 pub mod PlaceLemmas

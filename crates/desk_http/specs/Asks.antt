@@ -3,18 +3,18 @@ use Rattle.std.specs.Prelude.{ℕ, List, Result, Ok, Err, ⊤}
 use Rattle.httparse.specs.Grammar.{RequestHead}
 use Rattle.series_rules.specs.declared.requests.Request.{Request}
 use Rattle.series_rules.specs.declared.requests.Request.TheVariants as request
-use Rattle.desk_http.specs.declared.fault.InputFault.{InputFault}
-use Rattle.desk_http.specs.declared.fault.InputFault.TheVariants as fault
-use Rattle.desk_http.specs.declared.refusal.Refusal.{Refusal}
-use Rattle.desk_http.specs.declared.refusal.Refusal.TheVariants as refusal
+use Rattle.http_requests.specs.declared.fault.InputFault.{InputFault}
+use Rattle.http_requests.specs.declared.fault.InputFault.TheVariants as fault
+use Rattle.http_requests.specs.declared.refusal.Refusal.{Refusal}
+use Rattle.http_requests.specs.declared.refusal.Refusal.TheVariants as refusal
 use Rattle.desk_http.specs.declared.routes.Route.{Route}
 use Rattle.desk_http.specs.declared.routes.Route.TheVariants as route
-use Rattle.desk_http.specs.Head.{HasHead, IsRefused}
+use Rattle.http_requests.specs.Head.{HasHead, IsRefused}
 use Rattle.desk_http.specs.Keys.{part_at}
-use Rattle.desk_http.specs.Posted.{records_posted}
+use Rattle.http_requests.specs.Posted.{records_posted}
 use Rattle.desk_http.specs.Questions.{calendar_asked, prices_asked, series_asked}
 use Rattle.desk_http.specs.Routing.{path_of, query_of, route_asked}
-use Rattle.desk_http.specs.Steps.{◌>>=◌}
+use Rattle.http_requests.specs.Steps.{◌>>=◌}
 
 -- the question of a GET, by its route, the part of the path that stands for itself, and the query.
 -- The path of messages asks no question

@@ -4,7 +4,7 @@ use Rattle.onix_message.specs.declared.agreement.StoreFault.{StoreFault}
 use Rattle.price_rules.specs.declared.precedence.Rule.{Rule}
 use Rattle.series_rules.specs.Answers.{answer_to}
 use Rattle.series_rules.specs.declared.requests.Request.{Request}
-use Rattle.desk_http.specs.declared.refusal.Refusal.{Refusal}
+use Rattle.http_requests.specs.declared.refusal.Refusal.{Refusal}
 use Rattle.desk_http.specs.AnswerReply.{reply_of_answer, reply_of_fault}
 use Rattle.desk_http.specs.Asks.{Asks}
 use Rattle.desk_http.specs.Refusals.{reply_of_refusal}

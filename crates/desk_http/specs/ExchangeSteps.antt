@@ -8,7 +8,7 @@ use Rattle.series_rules.specs.declared.requests.Request.{Request}
 use Rattle.desk_http.specs.declared.exchange.HttpFault.{HttpFault}
 use Rattle.desk_http.specs.declared.exchange.HttpFault.TheVariants as fault
 use Rattle.desk_http.specs.declared.exchange.ReplyText.{ReplyText}
-use Rattle.desk_http.specs.declared.refusal.Refusal.{Refusal}
+use Rattle.http_requests.specs.declared.refusal.Refusal.{Refusal}
 use Rattle.desk_http.specs.AnswerReply.{reply_of_answer, reply_of_fault}
 use Rattle.desk_http.specs.Refusals.{reply_of_refusal}
 use Rattle.desk_http.specs.Reply.{Reply}

@@ -2,17 +2,12 @@ pub mod AnswerReply
 pub mod Asks
 pub mod Exchange
 pub mod ExchangeSteps
-pub mod Fields
-pub mod Head
-pub mod HeadRead
 pub mod Laws
-pub mod Posted
 pub mod Query
 pub mod Questions
 pub mod Refusals
 pub mod Reply
 pub mod Routing
-pub mod Steps
 pub mod Writing
 pub mod Keys
 pub mod Place

@@ -4,9 +4,9 @@ use Rattle.std.specs.Cmp.Lexicographic.{pointwise}
 use Rattle.std.specs.Str.Lossy.{utf8_lossy}
 use Rattle.form_urlencoded.specs.Form.{decode, raw_pairs}
 use Rattle.onix_terms.specs.Quantity.{quantity_of}
-use Rattle.desk_http.specs.declared.refusal.Refusal.{Refusal}
-use Rattle.desk_http.specs.declared.refusal.Refusal.TheVariants as refusal
-use Rattle.desk_http.specs.Steps.{◌>>=◌, or_refuse}
+use Rattle.http_requests.specs.declared.refusal.Refusal.{Refusal}
+use Rattle.http_requests.specs.declared.refusal.Refusal.TheVariants as refusal
+use Rattle.http_requests.specs.Steps.{◌>>=◌, or_refuse}
 
 -- the text that an encoded name or value stands for
 abbrev pub text_of : List ℕ → List ℕ

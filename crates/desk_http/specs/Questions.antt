@@ -4,10 +4,10 @@ use Rattle.onix_terms.specs.Code.{code2_of, country_of, currency_of, isbn13_of}
 use Rattle.onix_terms.specs.Day.{day_of}
 use Rattle.onix_terms.specs.SeriesName.{series_name_of}
 use Rattle.price_rules.specs.declared.offer.PriceQuery.{PriceQuery}
-use Rattle.desk_http.specs.declared.refusal.Refusal.{Refusal}
-use Rattle.desk_http.specs.declared.refusal.Refusal.TheVariants as refusal
+use Rattle.http_requests.specs.declared.refusal.Refusal.{Refusal}
+use Rattle.http_requests.specs.declared.refusal.Refusal.TheVariants as refusal
 use Rattle.desk_http.specs.Query.{needed, quantity_asked, term}
-use Rattle.desk_http.specs.Steps.{◌>>=◌, or_refuse}
+use Rattle.http_requests.specs.Steps.{◌>>=◌, or_refuse}
 
 -- the prices that a query asks for on that day
 unfoldable pub prices_on : ℤ → List ℕ → Result PriceQuery Refusal

@@ -1,7 +1,7 @@
 -- The reply to each refusal.
 use Rattle.std.specs.Prelude.{codes}
-use Rattle.desk_http.specs.declared.refusal.Refusal.{Refusal}
-use Rattle.desk_http.specs.declared.refusal.Refusal.TheVariants as r
+use Rattle.http_requests.specs.declared.refusal.Refusal.{Refusal}
+use Rattle.http_requests.specs.declared.refusal.Refusal.TheVariants as r
 use Rattle.desk_http.specs.Reply.{Reply, method_refusal, refusal}
 use Rattle.desk_http.specs.Routing.{method_name}
 

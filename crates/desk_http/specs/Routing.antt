@@ -2,15 +2,15 @@
 use Rattle.std.specs.Prelude.{ℕ, ◌==◌, List, nat_lt, length, bytes_eq, if◌then◌else◌, Result, Ok, Err, codes}
 use Rattle.std.specs.List.{after_first, before_first}
 use Rattle.httparse.specs.Grammar.{RequestHead}
-use Rattle.desk_http.specs.declared.refusal.Refusal.{Refusal}
-use Rattle.desk_http.specs.declared.refusal.Refusal.TheVariants as refusal
-use Rattle.desk_http.specs.declared.refusal.Method.{Method}
-use Rattle.desk_http.specs.declared.refusal.Method.TheVariants as method
+use Rattle.http_requests.specs.declared.refusal.Refusal.{Refusal}
+use Rattle.http_requests.specs.declared.refusal.Refusal.TheVariants as refusal
+use Rattle.http_requests.specs.declared.refusal.Method.{Method}
+use Rattle.http_requests.specs.declared.refusal.Method.TheVariants as method
 use Rattle.desk_http.specs.declared.routes.Route.{Route}
 use Rattle.desk_http.specs.declared.routes.Route.TheVariants as route
-use Rattle.desk_http.specs.Fields.{field_values}
+use Rattle.http_requests.specs.Fields.{field_values}
 use Rattle.desk_http.specs.Keys.{route_at}
-use Rattle.desk_http.specs.Steps.{◌>>=◌, or_refuse}
+use Rattle.http_requests.specs.Steps.{◌>>=◌, or_refuse}
 
 -- the path of a target: what stands before the first question mark
 abbrev pub path_of : List ℕ → List ℕ

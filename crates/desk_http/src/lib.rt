@@ -2,33 +2,24 @@
 //! a request, asks a desk, and writes the reply; `answer_reply::reply_of` makes the reply to an
 //! answer.
 //!
-//! `specs/Asks.antt` says what the bytes of a connection ask for. Its parts: `Head` (the head among
-//! the bytes, or why there is none), `Routing` over `Place`, `Table` and `Keys` (the path and the
+//! `specs/Asks.antt` says what the bytes of a connection ask for. Its parts: the head and the body,
+//! which are defined in `http_requests`; `Routing` over `Place`, `Table` and `Keys` (the path and the
 //! method: which paths there are and where each leads, the table of the router of `matchit`, and what
-//! it finds), `Posted` over `Fields` (the body of a POST), `Questions` over `Query` (what a GET asks).
-//! `AnswerReply` and `Refusals` say what is replied, `Reply` has the text of a reply, and `Exchange`
-//! puts both together. `laws` has what these definitions come to.
+//! it finds); `Questions` over `Query` (what a GET asks). `AnswerReply` and `Refusals` say what is
+//! replied, `Reply` has the text of a reply, and `Exchange` puts both together. `laws` has what these
+//! definitions come to.
 //!
-//! It stands beside `desk_batch` over the same desks. The bytes of a body are read and those of a
-//! reply written by `csv_records`, which reads the records of a body too; the JSON of a reply is
-//! that of `desk_json`.
+//! It stands beside `desk_batch` over the same desks. The bytes of a reply are written by
+//! `csv_records`; the JSON of a reply is that of `desk_json`.
 #![tactic(auto)]
 
 pub mod answer_reply;
-mod body;
 pub mod exchange;
-mod fault;
-mod fields;
-mod head;
 pub mod laws;
-mod parts;
 mod query;
 mod questions;
-mod reading;
-pub mod refusal;
 pub mod reply;
 mod request;
 pub mod routes;
 mod routing;
-mod scan;
 pub mod serve;

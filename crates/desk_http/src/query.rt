@@ -5,11 +5,11 @@ ghost use Rattle.std.specs.Cow.{cow_str_bytes};
 ghost use Rattle.onix_terms.specs.Code.{code2_of, country_of, currency_of};
 ghost use Rattle.onix_terms.specs.Day.{day_of};
 ghost use Rattle.desk_http.specs.Query.{needed, needed_value, quantity_asked, value_of};
-ghost use Rattle.desk_http.specs.Steps.{Gives};
+ghost use Rattle.http_requests.specs.Steps.{Gives};
 
-use crate::fault::InputFault;
-use crate::refusal::Refusal;
 use form_urlencoded::parse;
+use http_requests::fault::InputFault;
+use http_requests::refusal::Refusal;
 use onix_terms::code::{Code2, Country, Currency};
 use onix_terms::day::Day;
 use onix_terms::quantity::Quantity;

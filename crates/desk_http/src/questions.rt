@@ -1,11 +1,11 @@
 // What the path and the query of a GET ask.
 
 ghost use Rattle.desk_http.specs.Questions.{calendar_asked, prices_asked, prices_on, series_asked};
-ghost use Rattle.desk_http.specs.Steps.{Gives};
+ghost use Rattle.http_requests.specs.Steps.{Gives};
 
-use crate::fault::InputFault;
 use crate::query::{read_country, read_currency, read_day, read_price_type, read_quantity};
-use crate::refusal::Refusal;
+use http_requests::fault::InputFault;
+use http_requests::refusal::Refusal;
 use onix_terms::day::Day;
 use onix_terms::isbn13::Isbn13;
 use onix_terms::series_name::SeriesName;

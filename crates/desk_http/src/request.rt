@@ -3,17 +3,17 @@
 ghost use Rattle.std.specs.Prelude.{◌≡◌, ◌++◌, ℕ, List, IfSome};
 ghost use Rattle.httparse.specs.Grammar.{RequestHead};
 ghost use Rattle.desk_http.specs.Asks.{Asks, IfDecided, asks_of, question_at, question_of, request_at};
-ghost use Rattle.desk_http.specs.HeadRead.{IsHeadOf};
-ghost use Rattle.desk_http.specs.Steps.{Gives};
+ghost use Rattle.http_requests.specs.HeadRead.{IsHeadOf};
+ghost use Rattle.http_requests.specs.Steps.{Gives};
 
-use crate::body::read_posted;
-use crate::fault::InputFault;
-use crate::head::read_head;
-use crate::parts::{Head, HeadRead};
 use crate::questions::{read_calendar_question, read_price_question, read_series};
-use crate::refusal::Refusal;
 use crate::routes::{Route, cut, part};
 use crate::routing::read_route;
+use http_requests::body::read_posted;
+use http_requests::fault::InputFault;
+use http_requests::head::read_head;
+use http_requests::parts::{Head, HeadRead};
+use http_requests::refusal::Refusal;
 use price_rules::offer::CalendarQuery;
 use series_rules::requests::Request;
 use std::alloc::Global;

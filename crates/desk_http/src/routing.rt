@@ -2,15 +2,15 @@
 
 ghost use Rattle.std.specs.Prelude.{◌≡◌};
 ghost use Rattle.httparse.specs.Grammar.{RequestHead};
-ghost use Rattle.desk_http.specs.HeadRead.{IsHeadOf};
+ghost use Rattle.http_requests.specs.HeadRead.{IsHeadOf};
 ghost use Rattle.desk_http.specs.Keys.{route_at};
 ghost use Rattle.desk_http.specs.Routing.{method_name, method_of, route_asked, route_found};
-ghost use Rattle.desk_http.specs.Steps.{Gives};
+ghost use Rattle.http_requests.specs.Steps.{Gives};
 
-use crate::fault::InputFault;
-use crate::parts::Head;
-use crate::refusal::{Method, Refusal};
 use crate::routes::{Route, cut, find, routes};
+use http_requests::fault::InputFault;
+use http_requests::parts::Head;
+use http_requests::refusal::{Method, Refusal};
 use std::alloc::Global;
 
 // The method that a route takes.

@@ -16,13 +16,13 @@ ghost use Rattle.desk_http.specs.Writing.{AppendsFront};
 
 use crate::answer_reply::{fault_kind, reply_of};
 use crate::exchange::{HttpFault, ReplyText};
-use crate::fault::InputFault;
-use crate::refusal::Refusal;
 use crate::reply::reply_text;
 use crate::request::read_request;
 use crate::routing::method_name;
 use csv_records::streams::{WriteFault, write_whole};
 use desk_json::bodies::{fault_body, refused_body};
+use http_requests::fault::InputFault;
+use http_requests::refusal::Refusal;
 use onix_message::agreement::StoreFault;
 use price_rules::precedence::Precedence;
 use series_rules::answering::answer;

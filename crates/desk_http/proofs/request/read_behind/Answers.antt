@@ -2,8 +2,8 @@ use Rattle.std.proofs.Common.{◌++◌, Err}
 use Rattle.series_rules.specs.declared.requests.Request.{Request}
 use Rattle.desk_http.specs.Asks.{asks_of, request_at}
 use Rattle.desk_http.specs.Routing.{route_asked}
-use Rattle.desk_http.specs.Steps.{Gives}
-use Rattle.desk_http.proofs.KnownLemmas.{IfSome-all, IfSome-map, gives_next, gives_refused}
+use Rattle.http_requests.specs.Steps.{Gives}
+use Rattle.http_requests.specs.KnownLemmas.{IfSome-all, IfSome-map, gives_next, gives_refused}
 use Rattle.desk_http.proofs.request.read_behind.Goals as goal
 
 pub returns-in-Ok : goal.returns-in-Ok

@@ -1,10 +1,10 @@
 use Rattle.std.proofs.Common.{◌++◌, Err}
 use Rattle.desk_http.specs.Asks.{Asks, IfDecided, asks_of, without_head}
-use Rattle.desk_http.specs.Head.{IsRefused}
-use Rattle.desk_http.specs.HeadRead.{head_text}
-use Rattle.desk_http.specs.Steps.{Gives}
+use Rattle.http_requests.specs.Head.{IsRefused}
+use Rattle.http_requests.specs.HeadRead.{head_text}
+use Rattle.http_requests.specs.Steps.{Gives}
 use Rattle.desk_http.proofs.AskLemmas.{asked_for, known_then}
-use Rattle.desk_http.proofs.KnownLemmas.{IfSome-map}
+use Rattle.http_requests.specs.KnownLemmas.{IfSome-map}
 use Rattle.desk_http.proofs.request.read_request.Goals as goal
 
 pub returns-in-Ok-Complete : goal.returns-in-Ok-Complete

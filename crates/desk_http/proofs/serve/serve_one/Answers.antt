@@ -6,7 +6,7 @@ use Rattle.desk_http.specs.Exchange.{Served}
 use Rattle.desk_http.specs.ExchangeSteps.{reply_view}
 use Rattle.desk_http.specs.Writing.{AppendsFront}
 use Rattle.desk_http.proofs.ExchangeLemmas.{asked_once, fault_after, fault_before, fault_between, served, served_in_part}
-use Rattle.desk_http.proofs.KnownLemmas.{IfSome-map}
+use Rattle.http_requests.specs.KnownLemmas.{IfSome-map}
 use Rattle.desk_http.proofs.serve.serve_one.Goals as goal
 
 pub returns-in-Err-clause-memory : goal.returns-in-Err-clause-memory

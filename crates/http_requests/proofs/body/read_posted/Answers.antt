@@ -1,0 +1,18 @@
+use Rattle.std.proofs.Common.{◌++◌, refl, sym}
+use Rattle.http_requests.specs.Posted.{records_behind, records_posted, size_asked}
+use Rattle.http_requests.specs.Steps.{Gives}
+use Rattle.http_requests.specs.KnownLemmas.{IfSome-all, IfSome-map, gives_next}
+use Rattle.http_requests.proofs.body.read_posted.Goals as goal
+
+pub returns-in-Ok : goal.returns-in-Ok
+unfolding records_posted
+returns-in-Ok g c h is =
+    IfSome-map (g.R.Read.remaining c.args.reader.now) (λ more. Gives c.read_delivery.result (records_behind c.in-Ok.size (c.args.behind.now ++ more))) _
+    (λ more gives. gives_next (size_asked h) c.in-Ok.size (λ size. records_behind size (c.args.behind.now ++ more)) c.read_delivery.result (sym (c.in-Ok.ensures.size h is)) gives)
+    c.read_delivery.ensures
+
+pub returns-in-Err : goal.returns-in-Err
+unfolding records_posted
+returns-in-Err g c h is =
+    IfSome-all (g.R.Read.remaining c.args.reader.now) _
+    (λ more. rw (← c.in-Err.ensures.size h is) refl)

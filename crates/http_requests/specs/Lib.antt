@@ -1,0 +1,6 @@
+pub mod Fields
+pub mod Head
+pub mod HeadRead
+pub mod Posted
+pub mod Steps
+pub mod KnownLemmas

@@ -1,0 +1,196 @@
+// The head of a request.
+
+ghost use Rattle.std.specs.Prelude.{◌≡◌, ◌≤◌, ℕ, nat_lt, List, ◌++◌, true, length, vec_len, take, Ok, Err, IfOk, IfSome, IfNone, IfErr, OnErr, OnOk, option_map};
+ghost use Rattle.std.specs.Io.KnownBytes.{Consumes};
+ghost use Rattle.httparse.specs.Grammar.{RequestHead, print_request};
+ghost use Rattle.httparse.specs.Spans.{IsRequestOf, IsRequestWithin};
+ghost use Rattle.csv_records.specs.RecordTexts.{limit};
+ghost use Rattle.http_requests.specs.Head.{HasNoHead, IsNeverHead, has_empty_line, skip_line_ends, IsRefused};
+ghost use Rattle.http_requests.specs.Fields.{field_values, only_value};
+ghost use Rattle.http_requests.specs.Steps.{RefusesNothing};
+ghost use Rattle.http_requests.specs.Posted.{size_asked};
+ghost use Rattle.http_requests.specs.HeadRead.{IfComplete, IfRefused, head_text, IsHeadOf};
+
+use crate::fault::InputFault;
+use crate::fields::{Repeated, body_size, only_value};
+use crate::parts::{Head, HeadRead};
+use crate::reading::read_once;
+use crate::refusal::Refusal;
+use crate::scan::{has_empty_line, refusal_of_full, skip_line_ends};
+use httparse::Status;
+use httparse::spans::{EMPTY_HEADER_SPAN, HeaderSpan, RequestSpans, parse_request};
+use std::alloc::{AllocError, Global};
+use std::io::Read;
+
+/// The most bytes that a head may have.
+const HEAD_LIMIT: usize = 16384;
+
+// A field takes three bytes at least.
+const MOST_FIELDS: usize = 5461;
+
+impl Head {
+    /// The method of the request.
+    pub fn method(&self) -> &[u8]
+        ensures { (h : RequestHead) → IsHeadOf self.now h → result.now ≡ h.method }
+    {
+        self.parts.method.of(&self.bytes[..self.filled])
+    }
+
+    /// The target of the request.
+    pub(crate) fn target(&self) -> &[u8]
+        ensures { (h : RequestHead) → IsHeadOf self.now h → result.now ≡ h.target }
+    {
+        self.parts.path.of(&self.bytes[..self.filled])
+    }
+
+    /// The bytes that were read behind the head.
+    pub fn behind(&self) -> &[u8]
+        ensures { (h : RequestHead) → IsHeadOf self.now h → head_text self.now ≡ print_request h ++ result.now }
+    {
+        &self.bytes[self.parts.len..self.filled]
+    }
+
+    /// The value of the only field of a name, `None` where there is none, and an error where there
+    /// are more.
+    pub(crate) fn only_field(&self, name: &[u8]) -> Result<Option<&[u8]>, Repeated>
+        ensures one { (h : RequestHead) → IsHeadOf self.now h → IfOk result (λ found.
+            only_value (field_values name.now h) ≡ Ok (option_map (λ v. v.now) found)) }
+        ensures more { (h : RequestHead) → IsHeadOf self.now h → OnErr result (only_value (field_values name.now h) ≡ Err tt) }
+    {
+        only_value(
+            &self.bytes[..self.filled],
+            &self.spans[..self.parts.headers],
+            name,
+        )
+    }
+
+    /// The target as text.
+    pub fn target_text(&self) -> &str
+        ensures { (h : RequestHead) → IsHeadOf self.now h → result.now ≡ h.target }
+    {
+        // httparse takes a target only where it is UTF-8.
+        str::from_utf8(self.target()).unwrap_or("")
+    }
+
+    /// Whether a field of that name is there.
+    pub fn has_field(&self, name: &[u8]) -> bool
+        ensures { (h : RequestHead) → IsHeadOf self.now h → result ≡ nat_lt 0 (length (field_values name.now h)) }
+    {
+        match self.only_field(name) {
+            Ok(None) => false,
+            Ok(Some(_)) => true,
+            Err(Repeated) => true,
+        }
+    }
+
+    /// How many bytes the body of a POST has, by its Content-Length.
+    pub(crate) fn body_size(&self) -> Result<usize, Refusal>
+        ensures size { (h : RequestHead) → IsHeadOf self.now h → result ≡ size_asked h }
+        ensures most { IfOk result (λ size. size ≤ limit) }
+    {
+        body_size(self.only_field(b"content-length"))
+    }
+}
+
+/// The head that the bytes begin with, `None` where more bytes have to come, or a refusal that no
+/// further bytes change.
+fn judge(bytes: &[u8], spans: &mut [HeaderSpan]) -> Result<Option<RequestSpans>, Refusal>
+    requires { MOST_FIELDS ≤ length spans.old }
+    ensures whole { IfOk result (λ found. IfSome found (IsRequestOf bytes.now spans.new)) }
+    ensures within { IfOk result (λ found. IfSome found (IsRequestWithin bytes.now spans.new)) }
+    ensures more { IfOk result (λ found. IfNone found (HasNoHead bytes.now)) }
+    ensures never { OnErr result (IsNeverHead bytes.now) }
+    ensures ended { OnErr result (has_empty_line (skip_line_ends bytes.now) ≡ true) }
+    ensures why { IfErr result (λ why. why ≡ Refusal.BadHead) }
+{
+    match parse_request(bytes, spans) {
+        Ok(Status::Complete(parts)) => Ok(Some(parts)),
+        Ok(Status::Partial) => Ok(None),
+        Err(_) => {
+            if has_empty_line(skip_line_ends(bytes)) {
+                Err(Refusal::BadHead)
+            } else {
+                Ok(None)
+            }
+        }
+    }
+}
+
+/// How many bytes were read of a head, and where its parts are.
+#[derive(Clone, Copy)]
+pub(crate) struct Found {
+    filled: usize,
+    parts: RequestSpans,
+}
+
+/// Reads into the bytes until the head is whole or a refusal is decided.
+fn fill_head<R: Read>(
+    reader: &mut R,
+    bytes: &mut [u8],
+    spans: &mut [HeaderSpan],
+) -> Result<Result<Found, Refusal>, InputFault>
+    requires room { length bytes.old ≡ HEAD_LIMIT }
+    requires fields { MOST_FIELDS ≤ length spans.old }
+    ensures filled { IfOk result (λ read. IfOk read (λ found. found.filled ≤ HEAD_LIMIT)) }
+    ensures whole { IfOk result (λ read. IfOk read (λ found.
+        IsRequestOf (take found.filled bytes.new) spans.new found.parts)) }
+    ensures within { IfOk result (λ read. IfOk read (λ found.
+        IsRequestWithin (take found.filled bytes.new) spans.new found.parts)) }
+    ensures read { IfOk result (λ read. IfOk read (λ found.
+        Consumes (R.remaining reader.old) (R.remaining reader.new) (take found.filled bytes.new))) }
+    ensures refused { IfOk result (λ read. IfErr read (λ why.
+        IfSome (R.remaining reader.old) (λ input. IsRefused input why))) }
+    ensures fault { RefusesNothing result }
+{
+    let mut filled = 0;
+    while filled < HEAD_LIMIT {
+        let total = read_once(reader, bytes, filled)?;
+        if total == filled {
+            return Ok(Err(Refusal::BadHead));
+        }
+        filled = total;
+        match judge(&bytes[..filled], spans) {
+            Ok(Some(parts)) => return Ok(Ok(Found { filled, parts })),
+            Ok(None) => {}
+            Err(refusal) => return Ok(Err(refusal)),
+        }
+    }
+    Ok(Err(refusal_of_full(bytes)))
+}
+
+// A buffer for a head, all zero.
+fn head_buffer(alloc: Global) -> Result<Vec<u8>, AllocError>
+    ensures { IfOk result (λ bytes. vec_len bytes ≡ HEAD_LIMIT) }
+{
+    vec![in alloc; 0u8; HEAD_LIMIT]
+}
+
+// Room for the fields of a head.
+fn field_spans(alloc: Global) -> Result<Vec<HeaderSpan>, AllocError>
+    ensures { IfOk result (λ spans. vec_len spans ≡ MOST_FIELDS) }
+{
+    vec![in alloc; EMPTY_HEADER_SPAN; MOST_FIELDS]
+}
+
+/// Reads until the head is whole or a refusal is decided.
+pub fn read_head<R: Read>(alloc: Global, reader: &mut R) -> Result<HeadRead, InputFault>
+    ensures whole { IfOk result (λ read. IfComplete read (λ head. (h : RequestHead) × IsHeadOf head h)) }
+    ensures limit { IfOk result (λ read. IfComplete read (λ head. length (head_text head) ≤ HEAD_LIMIT)) }
+    ensures read { IfOk result (λ read. IfComplete read (λ head.
+        Consumes (R.remaining reader.old) (R.remaining reader.new) (head_text head))) }
+    ensures refused { IfOk result (λ read. IfRefused read (λ why.
+        IfSome (R.remaining reader.old) (λ input. IsRefused input why))) }
+    ensures fault { RefusesNothing result }
+{
+    let mut bytes = head_buffer(alloc)?;
+    let mut spans = field_spans(alloc)?;
+    match fill_head(reader, &mut bytes, &mut spans)? {
+        Ok(Found { filled, parts }) => Ok(HeadRead::Complete(Head {
+            bytes,
+            filled,
+            spans,
+            parts,
+        })),
+        Err(refusal) => Ok(HeadRead::Refused(refusal)),
+    }
+}

@@ -9,6 +9,7 @@ use Rattle.desk_tables.specs.ArticleAnswers.{offer_with, AreOfferRowsOf, AreOffe
 use Rattle.desk_tables.specs.RecordRows.{RecordRow}
 use Rattle.desk_tables.specs.Rows.{DeskRows}
 use Rattle.desk_tables.specs.declared.rows.row_types.OfferRow as typed
+use Rattle.desk_tables.proofs.ReadLoops.{zip_push}
 
 -- the offers of a record were added, but for those of the rows that are left
 abbrev pub OffersSoFar : RecordRow → List typed.OfferRow → List Offer → List Offer → DeskRows → Type 0
@@ -17,12 +18,6 @@ OffersSoFar row left was now rows =
 
 pub offers_none : (row : RecordRow) (read : List typed.OfferRow) (was : List Offer) (rows : DeskRows) → AreOfferRowsOf rows row read → OffersSoFar row read was was rows
 offers_none row read was rows h = (read, [], [], h, refl, tt, sym (append-nil was))
-
-zip_push : {A B : Type 0} (R : A → B → Type 0) (xs : List A) (ys : List B) (x : A) (y : B) → AllZip R xs ys → R x y → AllZip R (xs ++ x ∷ []) (ys ++ y ∷ [])
-zip_push R [] [] x y all here = (here, tt)
-zip_push R [] (z ∷ ys) x y all here = absurd all
-zip_push R (z ∷ xs) [] x y all here = absurd all
-zip_push R (a ∷ xs) (b ∷ ys) x y all here = (all.0, zip_push R xs ys x y all.1 here)
 
 pub offers_more : (row : RecordRow) (x : typed.OfferRow) (left : List typed.OfferRow) (was now : List Offer) (prices : List Price) (rows : DeskRows) → OffersSoFar row (x ∷ left) was now rows → ArePricesAt x.series x.reference x.place rows prices
     → OffersSoFar row left was (now ++ offer_with x prices ∷ []) rows

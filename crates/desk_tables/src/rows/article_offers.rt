@@ -7,8 +7,8 @@ ghost use Rattle.desk_tables.specs.RecordAnswers.{two_columns, AreRising};
 ghost use Rattle.desk_tables.specs.RecordRows.{record_columns};
 
 use crate::rows::columns::code_column;
+use crate::rows::from_row::FromRow;
 use crate::rows::prices::priced_row;
-use crate::rows::records::record_row;
 use crate::rows::row_types::{MinimumRow, OfferRow, PriceRow, RecordRow};
 use onix_message::agreement::StoreFault;
 use onix_rows::parts::Price;
@@ -29,11 +29,12 @@ fn is_article_type(id_type: &Code2) -> bool
 fn identified(rows: &Vec<Row>) -> Result<Vec<RecordRow>, StoreFault>
     ensures { IfOk result (λ records. map record_columns records.items ≡ map two_columns (filter shows_article rows.now.items)) }
 {
-    let mut records = Vec::new(*rows.allocator());
+    let alloc = *rows.allocator();
+    let mut records = Vec::new(alloc);
     for row in rows.as_slice() {
         let id_type = code_column(row, 2)?;
         if is_article_type(&id_type) {
-            let one = record_row(row)?;
+            let one = RecordRow::from_row(alloc, row)?;
             if records.push(one).is_err() {
                 return Err(StoreFault::Memory);
             }

@@ -7,6 +7,7 @@ ghost use Rattle.desk_tables.specs.RecordReadings.{bool_in, code_of, day_in, ter
 ghost use Rattle.desk_tables.specs.Rows.{party_type, party_value, IsAddressee};
 
 use crate::rows::fault::fault_of;
+use crate::rows::from_row::{FromRow, all_rows};
 use onix_message::agreement::StoreFault;
 use onix_terms::amount::Amount;
 use onix_terms::code::{Code2, Currency};
@@ -201,16 +202,21 @@ pub fn first_text(rows: &Vec<Row>) -> Result<Option<Text>, StoreFault>
     }
 }
 
+impl FromRow for Number {
+    ghost use Rattle.std.specs.Prelude.{pos};
+    ghost use Rattle.sqlite_value.specs.Order.{column};
+    ghost use Rattle.sqlite_value.specs.declared.value.Value.TheVariants.{Int};
+
+    ghost is_row = { λ row n. Int (pos n) ≡ column row 0 };
+
+    fn from_row(_alloc: Global, row: &Row) -> Result<Number, StoreFault> {
+        number_column(row, 0)
+    }
+}
+
 /// The number of each row.
 pub fn numbers(rows: &Vec<Row>) -> Result<Vec<Number>, StoreFault>
     ensures { IfOk result (λ numbers. map (λ n. Int (pos n)) numbers.items ≡ map (λ row. column row 0) rows.now.items) }
 {
-    let mut numbers = Vec::new(*rows.allocator());
-    for row in rows.as_slice() {
-        let number = number_column(row, 0)?;
-        if numbers.push(number).is_err() {
-            return Err(StoreFault::Memory);
-        }
-    }
-    Ok(numbers)
+    all_rows(rows)
 }

@@ -2,7 +2,7 @@
 
 ghost use Rattle.std.specs.Prelude.{◌≡◌, ◌<◌, Err, IfOk, IfSome, Some, length, map, position};
 ghost use Rattle.std.specs.Ordering.{is_lt};
-ghost use Rattle.desk_tables.specs.RecordRows.{minimum_row, minimum_columns};
+ghost use Rattle.desk_tables.specs.RecordRows.{minimum_columns};
 ghost use Rattle.desk_tables.specs.RecordAnswers.{five_columns, is_minimum_at, minimum_at, minimum_key, price_cmp, read_priced, AreRising};
 ghost use Rattle.desk_tables.specs.RecordReadings.{day_in, number_in, territory_at, text_in};
 ghost use Rattle.sqlite_value.specs.Order.{column};
@@ -11,6 +11,7 @@ use crate::rows::columns::{
     amount_column, code_column, currency_column, day_column, name_column, territory_columns,
     text_column, whole_column,
 };
+use crate::rows::from_row::{FromRow, all_rows};
 use crate::rows::row_types::{MinimumRow, PriceRow};
 use onix_message::agreement::StoreFault;
 use onix_rows::parts::Price;
@@ -19,36 +20,33 @@ use onix_terms::text::Text;
 use sqlite::Row;
 use std::alloc::Global;
 
-// The row of `price_minimum` that a query shows.
-fn minimum_row(row: &Row) -> Result<MinimumRow, StoreFault>
-    ensures { IfOk result (λ r. minimum_columns r ≡ five_columns row.now) }
-{
-    let series = name_column(row, 0)?;
-    let place = whole_column(row, 2)?;
-    let price_place = whole_column(row, 3)?;
-    let minimum = whole_column(row, 4)?;
-    let reference = text_column(row, 1)?;
-    Ok(MinimumRow {
-        series,
-        reference,
-        place,
-        price_place,
-        minimum,
-    })
+impl FromRow for MinimumRow {
+    ghost use Rattle.desk_tables.specs.RecordRows.{minimum_columns};
+    ghost use Rattle.desk_tables.specs.RecordAnswers.{five_columns};
+
+    ghost is_row = { λ row r. minimum_columns r ≡ five_columns row };
+
+    fn from_row(_alloc: Global, row: &Row) -> Result<MinimumRow, StoreFault> {
+        let series = name_column(row, 0)?;
+        let place = whole_column(row, 2)?;
+        let price_place = whole_column(row, 3)?;
+        let minimum = whole_column(row, 4)?;
+        let reference = text_column(row, 1)?;
+        Ok(MinimumRow {
+            series,
+            reference,
+            place,
+            price_place,
+            minimum,
+        })
+    }
 }
 
 /// The minimum of each row that a query shows.
 pub fn all_minimums(rows: &Vec<Row>) -> Result<Vec<MinimumRow>, StoreFault>
     ensures { IfOk result (λ minimums. map minimum_columns minimums.items ≡ map five_columns rows.now.items) }
 {
-    let mut minimums = Vec::new(*rows.allocator());
-    for row in rows.as_slice() {
-        let one = minimum_row(row)?;
-        if minimums.push(one).is_err() {
-            return Err(StoreFault::Memory);
-        }
-    }
-    Ok(minimums)
+    all_rows(rows)
 }
 
 // Whether a minimum stands before that of a price.

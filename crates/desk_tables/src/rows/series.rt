@@ -1,6 +1,6 @@
 //! The table `series`: the agreements, each with the number that is applied next.
 
-ghost use Rattle.std.specs.Prelude.{◌≡◌, Err, IfOk, map, option_map, slice_get};
+ghost use Rattle.std.specs.Prelude.{◌≡◌, IfOk, map, option_map, slice_get};
 ghost use Rattle.std.specs.List.{AllByRecursion};
 ghost use Rattle.desk_tables.specs.Shown.{seven_columns, HasAddresseeType};
 ghost use Rattle.desk_tables.specs.Rows.{series_columns, IsAddressee};
@@ -8,8 +8,10 @@ ghost use Rattle.desk_tables.specs.Rows.{series_columns, IsAddressee};
 use crate::rows::columns::{
     addressee_columns, name_column, number_column, party_columns, whole_column,
 };
+use crate::rows::from_row::{FromRow, all_rows};
 use onix_message::agreement::{Agreement, StoreFault};
 use sqlite::Row;
+use std::alloc::Global;
 
 /// An agreement, with the number of its series that is applied next.
 #[derive(Drop, PartialEq, Eq)]
@@ -18,24 +20,27 @@ pub struct SeriesRow {
     pub next: u32,
 }
 
-// The row of the table that a query shows.
-fn series_row(row: &Row) -> Result<SeriesRow, StoreFault>
-    ensures columns { IfOk result (λ series. series_columns series ≡ seven_columns row.now) }
-    ensures has_type { IfOk result (λ series. IsAddressee series.agreement.addressee) }
-{
-    // What takes no memory comes first, so that few ways out let go of anything.
-    let name = name_column(row, 0)?;
-    let first = number_column(row, 5)?;
-    let next = whole_column(row, 6)?;
-    let sender = party_columns(row, 1, 2)?;
-    let addressee = addressee_columns(row, 3, 4)?;
-    let agreement = Agreement {
-        name,
-        sender,
-        addressee,
-        first,
-    };
-    Ok(SeriesRow { agreement, next })
+impl FromRow for SeriesRow {
+    ghost use Rattle.desk_tables.specs.Shown.{seven_columns};
+    ghost use Rattle.desk_tables.specs.Rows.{series_columns, IsAddressee};
+
+    ghost is_row = { λ row r. (series_columns r ≡ seven_columns row) × IsAddressee r.agreement.addressee };
+
+    fn from_row(_alloc: Global, row: &Row) -> Result<SeriesRow, StoreFault> {
+        // What takes no memory comes first, so that few ways out let go of anything.
+        let name = name_column(row, 0)?;
+        let first = number_column(row, 5)?;
+        let next = whole_column(row, 6)?;
+        let sender = party_columns(row, 1, 2)?;
+        let addressee = addressee_columns(row, 3, 4)?;
+        let agreement = Agreement {
+            name,
+            sender,
+            addressee,
+            first,
+        };
+        Ok(SeriesRow { agreement, next })
+    }
 }
 
 /// The agreement of the first row that a query shows, or `None` where it shows none.
@@ -44,7 +49,7 @@ pub fn first_series(rows: &Vec<Row>) -> Result<Option<SeriesRow>, StoreFault>
     ensures has_type { IfOk result (λ series. HasAddresseeType series) }
 {
     match rows.first() {
-        Some(row) => Ok(Some(series_row(row)?)),
+        Some(row) => Ok(Some(SeriesRow::from_row(*rows.allocator(), row)?)),
         None => Ok(None),
     }
 }
@@ -54,12 +59,5 @@ pub fn all_series(rows: &Vec<Row>) -> Result<Vec<SeriesRow>, StoreFault>
     ensures columns { IfOk result (λ series. map series_columns series.items ≡ map seven_columns rows.now.items) }
     ensures has_type { IfOk result (λ series. AllByRecursion (λ r. IsAddressee r.agreement.addressee) series.items) }
 {
-    let mut series = Vec::new(*rows.allocator());
-    for row in rows.as_slice() {
-        let one = series_row(row)?;
-        if series.push(one).is_err() {
-            return Err(StoreFault::Memory);
-        }
-    }
-    Ok(series)
+    all_rows(rows)
 }

@@ -23,14 +23,14 @@ pub struct Header {
 }
 
 /// An identifier of a product, by its type of code list 5.
-#[derive(Clone, Drop, PartialEq, Eq)]
+#[derive(Drop, PartialEq, Eq)]
 pub struct ProductIdentifier {
     pub id_type: Code2,
     pub id_value: Text,
 }
 
 /// Who supplies a product, by an identifier, a name or both.
-#[derive(Clone, Drop, PartialEq, Eq)]
+#[derive(Drop, PartialEq, Eq)]
 pub struct Supplier {
     pub role: Code2,
     pub party: Option<Party>,
@@ -38,7 +38,7 @@ pub struct Supplier {
 }
 
 /// A price of a type and a currency, from a number of copies on, where and when it holds.
-#[derive(Clone, Drop, PartialEq, Eq)]
+#[derive(Drop, PartialEq, Eq)]
 pub struct Price {
     pub price_type: Code2,
     pub amount: Amount,
@@ -52,7 +52,7 @@ pub struct Price {
 }
 
 /// One supplier's availability of a product, and its prices.
-#[derive(Clone, Drop, PartialEq, Eq)]
+#[derive(Drop, PartialEq, Eq)]
 pub struct SupplyDetail {
     pub supplier: Supplier,
     pub availability: Code2,
@@ -61,14 +61,14 @@ pub struct SupplyDetail {
 }
 
 /// The supply of a product to a market.
-#[derive(Clone, Drop, PartialEq, Eq)]
+#[derive(Drop, PartialEq, Eq)]
 pub struct ProductSupply {
     pub market: Territory,
     pub details: Items<SupplyDetail>,
 }
 
 /// One product of a message.
-#[derive(Clone, Drop, PartialEq, Eq)]
+#[derive(Drop, PartialEq, Eq)]
 pub struct Product {
     pub reference: Text,
     pub notification: Code2,

@@ -1,14 +1,29 @@
 // The parts of contents are plain data.
 
+ghost use Rattle.std.specs.Prelude.{◌≡◌};
+
 use crate::parts::{Price, Product, ProductIdentifier, ProductSupply, Supplier, SupplyDetail};
 use onix_terms::plain::Plain;
+use std::alloc::AllocError;
+
+impl Clone for ProductIdentifier {
+    ghost is_clone = { λ x y. y ≡ x };
+
+    fn clone(&self) -> Result<ProductIdentifier, AllocError> {
+        let id_value = self.id_value.duplicate()?;
+        Ok(ProductIdentifier {
+            id_type: self.id_type,
+            id_value,
+        })
+    }
+}
 
 impl Plain for ProductIdentifier {
     ghost use Rattle.std.proofs.Common.{ap};
     ghost use Rattle.std.specs.Cmp.Lexicographic.{bytes_decides};
     ghost use Rattle.onix_terms.specs.Plain.{decides-both, decides-same};
 
-    ghost clone_is_same = { λ x y e. λ i. record { id_type = e.0 i; id_value = e.1 i } };
+    ghost clone_is_same = { λ x y e. e };
 
     ghost eq_decides = { λ x y. decides-same
         (λ e. λ i. record { id_type = e.0 i; id_value = e.1 i })
@@ -16,17 +31,27 @@ impl Plain for ProductIdentifier {
         (decides-both (bytes_decides x.id_type y.id_type) (bytes_decides x.id_value y.id_value)) };
 }
 
+impl Clone for Supplier {
+    ghost is_clone = { λ x y. y ≡ x };
+
+    fn clone(&self) -> Result<Supplier, AllocError> {
+        let name = self.name.duplicate()?;
+        let party = self.party.duplicate()?;
+        Ok(Supplier {
+            role: self.role,
+            party,
+            name,
+        })
+    }
+}
+
 impl Plain for Supplier {
     ghost use Rattle.std.proofs.Common.{ap};
     ghost use Rattle.std.specs.Cmp.Lexicographic.{bytes_decides};
-    ghost use Rattle.onix_terms.specs.Plain.{decides-both, decides-same, option-clones-same, option-decides};
+    ghost use Rattle.onix_terms.specs.Plain.{decides-both, decides-same, option-decides};
     ghost use Rattle.onix_terms.specs.contracts.plain.PartyPlain.TheImpl.Laws as party;
 
-    ghost clone_is_same = { λ x y e. λ i. record {
-      role = e.0 i;
-      party = option-clones-same party.clone_is_same-law x.party y.party e.1.0 i;
-      name = e.1.1 i;
-    } };
+    ghost clone_is_same = { λ x y e. e };
 
     ghost eq_decides = { λ x y. decides-same
         (λ e. λ i. record { role = e.0 i; party = e.1.0 i; name = e.1.1 i })
@@ -35,22 +60,31 @@ impl Plain for Supplier {
         (decides-both (option-decides party.eq_decides-law x.party y.party) (bytes_decides x.name y.name))) };
 }
 
+impl Clone for Price {
+    ghost is_clone = { λ x y. y ≡ x };
+
+    fn clone(&self) -> Result<Price, AllocError> {
+        let territory = self.territory.duplicate()?;
+        Ok(Price {
+            price_type: self.price_type,
+            amount: self.amount,
+            currency: self.currency,
+            territory,
+            minimum: self.minimum,
+            from: self.from,
+            until: self.until,
+        })
+    }
+}
+
 impl Plain for Price {
     ghost use Rattle.std.proofs.Common.{ap};
     ghost use Rattle.std.specs.Cmp.Lexicographic.{bytes_decides};
     ghost use Rattle.std.proofs.lemmas.Bool.Decides.{Decides-eqb, Decides-int_eq};
-    ghost use Rattle.onix_terms.specs.Plain.{decides-both, decides-same, option-clones-same, option-decides};
+    ghost use Rattle.onix_terms.specs.Plain.{decides-both, decides-same, option-decides};
     ghost use Rattle.onix_terms.specs.contracts.plain.TerritoryPlain.TheImpl.Laws as territory;
 
-    ghost clone_is_same = { λ x y e. λ i. record {
-      price_type = e.0 i;
-      amount = e.1.0 i;
-      currency = e.1.1.0 i;
-      territory = territory.clone_is_same-law x.territory y.territory e.1.1.1.0 i;
-      minimum = e.1.1.1.1.0 i;
-      from = option-clones-same (λ a b h. h) x.from y.from e.1.1.1.1.1.0 i;
-      until = option-clones-same (λ a b h. h) x.until y.until e.1.1.1.1.1.1 i;
-    } };
+    ghost clone_is_same = { λ x y e. e };
 
     ghost eq_decides = { λ x y. decides-same
         (λ e. λ i. record {
@@ -71,19 +105,29 @@ impl Plain for Price {
         (decides-both (option-decides Decides-int_eq x.from y.from) (option-decides Decides-int_eq x.until y.until))))))) };
 }
 
+impl Clone for SupplyDetail {
+    ghost is_clone = { λ x y. y ≡ x };
+
+    fn clone(&self) -> Result<SupplyDetail, AllocError> {
+        let supplier = self.supplier.duplicate()?;
+        let prices = self.prices.duplicate()?;
+        Ok(SupplyDetail {
+            supplier,
+            availability: self.availability,
+            unpriced: self.unpriced,
+            prices,
+        })
+    }
+}
+
 impl Plain for SupplyDetail {
     ghost use Rattle.std.proofs.Common.{ap};
     ghost use Rattle.std.specs.Cmp.Lexicographic.{bytes_decides, pointwise_decides};
-    ghost use Rattle.onix_terms.specs.Plain.{clones-same, decides-both, decides-same, option-clones-same, option-decides};
+    ghost use Rattle.onix_terms.specs.Plain.{decides-both, decides-same, option-decides};
     ghost use Rattle.onix_rows.specs.contracts.plain.SupplierPlain.TheImpl.Laws as supplier;
     ghost use Rattle.onix_rows.specs.contracts.plain.PricePlain.TheImpl.Laws as price;
 
-    ghost clone_is_same = { λ x y e. λ i. record {
-      supplier = supplier.clone_is_same-law x.supplier y.supplier e.0 i;
-      availability = e.1.0 i;
-      unpriced = option-clones-same (λ a b h. h) x.unpriced y.unpriced e.1.1.0 i;
-      prices = clones-same price.clone_is_same-law x.prices y.prices e.1.1.1 i;
-    } };
+    ghost clone_is_same = { λ x y e. e };
 
     ghost eq_decides = { λ x y. decides-same
         (λ e. λ i. record {
@@ -98,17 +142,27 @@ impl Plain for SupplyDetail {
         (decides-both (option-decides bytes_decides x.unpriced y.unpriced) (pointwise_decides price.eq_decides-law x.prices y.prices)))) };
 }
 
+impl Clone for ProductSupply {
+    ghost is_clone = { λ x y. y ≡ x };
+
+    fn clone(&self) -> Result<ProductSupply, AllocError> {
+        let market = self.market.duplicate()?;
+        let details = self.details.duplicate()?;
+        Ok(ProductSupply {
+            market,
+            details,
+        })
+    }
+}
+
 impl Plain for ProductSupply {
     ghost use Rattle.std.proofs.Common.{ap};
     ghost use Rattle.std.specs.Cmp.Lexicographic.{pointwise_decides};
-    ghost use Rattle.onix_terms.specs.Plain.{clones-same, decides-both, decides-same};
+    ghost use Rattle.onix_terms.specs.Plain.{decides-both, decides-same};
     ghost use Rattle.onix_terms.specs.contracts.plain.TerritoryPlain.TheImpl.Laws as territory;
     ghost use Rattle.onix_rows.specs.contracts.plain.SupplyDetailPlain.TheImpl.Laws as detail;
 
-    ghost clone_is_same = { λ x y e. λ i. record {
-      market = territory.clone_is_same-law x.market y.market e.0 i;
-      details = clones-same detail.clone_is_same-law x.details y.details e.1 i;
-    } };
+    ghost clone_is_same = { λ x y e. e };
 
     ghost eq_decides = { λ x y. decides-same
         (λ e. λ i. record { market = e.0 i; details = e.1 i })
@@ -116,19 +170,30 @@ impl Plain for ProductSupply {
         (decides-both (territory.eq_decides-law x.market y.market) (pointwise_decides detail.eq_decides-law x.details y.details)) };
 }
 
+impl Clone for Product {
+    ghost is_clone = { λ x y. y ≡ x };
+
+    fn clone(&self) -> Result<Product, AllocError> {
+        let reference = self.reference.duplicate()?;
+        let ids = self.ids.duplicate()?;
+        let supplies = self.supplies.duplicate()?;
+        Ok(Product {
+            reference,
+            notification: self.notification,
+            ids,
+            supplies,
+        })
+    }
+}
+
 impl Plain for Product {
     ghost use Rattle.std.proofs.Common.{ap};
     ghost use Rattle.std.specs.Cmp.Lexicographic.{bytes_decides, pointwise_decides};
-    ghost use Rattle.onix_terms.specs.Plain.{clones-same, decides-both, decides-same};
+    ghost use Rattle.onix_terms.specs.Plain.{decides-both, decides-same};
     ghost use Rattle.onix_rows.specs.contracts.plain.ProductIdentifierPlain.TheImpl.Laws as identifier;
     ghost use Rattle.onix_rows.specs.contracts.plain.ProductSupplyPlain.TheImpl.Laws as supply;
 
-    ghost clone_is_same = { λ x y e. λ i. record {
-      reference = e.0 i;
-      notification = e.1.0 i;
-      ids = clones-same identifier.clone_is_same-law x.ids y.ids e.1.1.0 i;
-      supplies = clones-same supply.clone_is_same-law x.supplies y.supplies e.1.1.1 i;
-    } };
+    ghost clone_is_same = { λ x y e. e };
 
     ghost eq_decides = { λ x y. decides-same
         (λ e. λ i. record {

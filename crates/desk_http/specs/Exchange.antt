@@ -23,7 +23,7 @@ abbrev pub LeavesAfter : List Request → Result Request Refusal → List Reques
 LeavesAfter L (Ok r) after left = LeavesEither left after (r ∷ L)
 LeavesAfter L (Err why) after left = LeavesOnly left after
 
--- a client was replied to: to what it asked for, as the desk makes it (`Exchanges`). Sent: what the client sent, where that is known. Stands: the desk stands for that list. Was, left: a crash could leave what that list comes to, and may now. Written: this text was written
+-- a client was replied to: to what it asked for, as the desk makes it (`Exchanges`). Sent: what the client sent, where that is known. Stands: the desk stands for that list. Was: a crash could leave what that list comes to. Left: it may leave that now. Written: this text was written
 pub record Served (rules : List Rule) (may_give : StoreFault → Type 0) (L : List Request) (sent : Option (List ℕ))
     (stands was left : List Request → Type 0) (written : List ℕ → Type 0) (status : ℕ) : Type 0 where
   pub wanted : Result Request Refusal

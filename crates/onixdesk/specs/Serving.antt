@@ -12,7 +12,7 @@ use Rattle.desk_http.specs.declared.exchange.HttpFault.{HttpFault}
 use Rattle.desk_http.specs.declared.exchange.HttpFault.TheVariants as fault
 
 -- how the exchange of a connection can end after L. Sent: what the client sends, where that is known. Stands: the
--- desk stands for that list. Was, left: a crash could leave what that list comes to, and may now. What the client was
+-- desk stands for that list. Was: a crash could leave what that list comes to. Left: it may leave that now. What the client was
 -- sent went from `held` to `holds`
 abbrev pub ExchangeEnds : List Rule → (StoreFault → Type 0) → List Request → Option (List ℕ) → (List Request → Type 0) → (List Request → Type 0) → (List Request → Type 0) → Option (List ℕ) → Option (List ℕ) → Result ℕ HttpFault → Type 0
 ExchangeEnds rules may_give L sent stands was left held holds (Ok status) = Served rules may_give L sent stands was left (Appends held holds) status

@@ -16,8 +16,8 @@ use Rattle.onixdesk.specs.declared.command_line.Task.TheVariants as task
 
 -- how a command can end, under the rules of a precedence table. Told: what the input tells of its bytes. Stood: the
 -- desk stood for that list when it began. Sound: the premise on its store holds when it ends. Written: these bytes
--- were written. Stands: the desk stands for that list then. Was, left: a crash could leave what that list comes to when
--- it began, and may when it ends. No clause can say what a file holds
+-- were written. Stands: the desk stands for that list then. Was: a crash could leave what that list comes to when it
+-- began. Left: it may leave that when it ends. No clause can say what a file holds
 abbrev pub TaskEnds : List Rule → Task → Option (List ℕ) → (List Request → Type 0) → Type 0 → (List ℕ → Type 0) → (List Request → Type 0) → (List Request → Type 0) → (List Request → Type 0) → ℕ → Type 0
 TaskEnds rules task.Batch told stood sound written stands was left status =
     (text : List ℕ) × IsTold told text × ((L : List Request) → stood L → sound → Ends rules L text written stands status × (LeavesOnly was L → KeepsAnswered rules L (requests_of text) written left))

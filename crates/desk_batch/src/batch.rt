@@ -3,10 +3,12 @@
 ghost use Rattle.std.specs.Prelude.{◌≡◌, ◌≤◌, ℕ, List, IfErr, if◌then◌else◌};
 ghost use Rattle.std.specs.Io.KnownBytes.{Appends};
 ghost use Rattle.csv_records.specs.Streams.{IsTold};
-ghost use Rattle.desk_batch.specs.Batch.{BatchFits, RunFits};
+ghost use Rattle.desk_batch.specs.Batch.{BatchFits, RunFits, requests_of};
 ghost use Rattle.desk_batch.specs.BatchSteps.{RequestsFit, TextFits};
 ghost use Rattle.desk_batch.specs.BatchFaults.{IsBatchFaultOf, IsRequestFaultOf};
+ghost use Rattle.desk_batch.specs.Leaves.{BatchLeaves, KeepsAnswered, RequestLeaves, RunLeaves};
 ghost use Rattle.desk_batch.specs.OneRequest.{RequestFits};
+ghost use Rattle.series_rules.specs.Leaves.{LeavesOnly};
 ghost use Rattle.series_rules.specs.declared.requests.Request.{Request};
 
 use csv_records::reading::{LIMIT, RecordFault, RecordReader};
@@ -100,7 +102,9 @@ fn read_batch<R: Read>(alloc: Global, reader: &mut R) -> Result<Items<Request>, 
 }
 
 /// Asks one request under a precedence table, writes its answer, and says whether that is a
-/// refusal. A fault of the store is want of memory or one that the desk may give.
+/// refusal. A fault of the store is want of memory or one that the desk may give. From a desk of
+/// which a crash leaves only the list it stands for, a crash leaves only that with the request, but
+/// after a fault of the store perhaps the list alone.
 pub fn run_request<D: Desk, W: Write>(
     alloc: Global,
     desk: &mut D,
@@ -111,6 +115,7 @@ pub fn run_request<D: Desk, W: Write>(
     ensures premise { D.is_sound desk.new → D.is_sound desk.old }
     ensures run { (L : List Request) → D.stands_for desk.old L → D.is_sound desk.new →
         RequestFits precedence.now L request.now (Appends (W.contents writer.old) (W.contents writer.new)) (D.stands_for desk.new) result }
+    ensures left { (L : List Request) → D.stands_for desk.old L → D.is_sound desk.new → LeavesOnly (D.may_leave desk.old) L → RequestLeaves L request.now (D.may_leave desk.new) result }
     ensures fault { IfErr result (IsRequestFaultOf D.may_give) }
 {
     let answer = match answer(alloc, desk, precedence, request) {
@@ -140,6 +145,7 @@ fn run_and_drop<D: Desk, W: Write>(
     ensures premise { D.is_sound desk.new → D.is_sound desk.old }
     ensures run { (L : List Request) → D.stands_for desk.old L → D.is_sound desk.new →
         RequestFits precedence.now L request (Appends (W.contents writer.old) (W.contents writer.new)) (D.stands_for desk.new) result }
+    ensures left { (L : List Request) → D.stands_for desk.old L → D.is_sound desk.new → LeavesOnly (D.may_leave desk.old) L → RequestLeaves L request (D.may_leave desk.new) result }
     ensures fault { IfErr result (IsRequestFaultOf D.may_give) }
 {
     let outcome = run_request(alloc, desk, precedence, &request, writer);
@@ -165,6 +171,7 @@ fn run_requests<D: Desk, W: Write>(
     ensures premise { D.is_sound desk.new → D.is_sound desk.old }
     ensures run { (L : List Request) → D.stands_for desk.old L → D.is_sound desk.new →
         RunFits precedence.now L requests (Appends (W.contents writer.old) (W.contents writer.new)) (D.stands_for desk.new) result }
+    ensures left { (L : List Request) → D.stands_for desk.old L → D.is_sound desk.new → LeavesOnly (D.may_leave desk.old) L → RunLeaves L requests (D.may_leave desk.new) result }
     ensures fault { IfErr result (IsBatchFaultOf D.may_give) }
 {
     // No more than there is room to count.
@@ -189,6 +196,10 @@ fn run_requests<D: Desk, W: Write>(
 /// 4,194,304, makes all requests, then asks them one after the other and writes each answer before
 /// the next request. Gives the number of refusals. A fault of the store is want of memory or one
 /// that the desk may give.
+///
+/// From a desk of which a crash leaves only the list it stands for, whatever is written is of
+/// requests that each crash leaves: only what the desk then stands for, or after a fault of the store
+/// that with the next request.
 pub fn run_batch<D: Desk, R: Read, W: Write>(
     alloc: Global,
     desk: &mut D,
@@ -197,9 +208,13 @@ pub fn run_batch<D: Desk, R: Read, W: Write>(
     writer: &mut W,
 ) -> Result<u64, BatchFault>
     ensures premise { D.is_sound desk.new → D.is_sound desk.old }
-    // There is a text, that of the reader where it tells its bytes, for which the batch ends as the definitions have it.
+    // There is a text, that of the reader where it tells its bytes, for which the batch ends as the
+    // definitions have it, and of whose requests a crash leaves all that is written of. A stop inside
+    // the batch is a disk that fails from then on, so it is the end with a fault of the store.
     ensures run { (text : List ℕ) × IsTold (R.remaining reader.old) text × ((L : List Request) → D.stands_for desk.old L → D.is_sound desk.new →
-        BatchFits precedence.now L text (Appends (W.contents writer.old) (W.contents writer.new)) (D.stands_for desk.new) result) }
+        BatchFits precedence.now L text (Appends (W.contents writer.old) (W.contents writer.new)) (D.stands_for desk.new) result
+        × (LeavesOnly (D.may_leave desk.old) L → BatchLeaves L text (D.may_leave desk.new) result
+        × KeepsAnswered precedence.now L (requests_of text) (Appends (W.contents writer.old) (W.contents writer.new)) (D.may_leave desk.new))) }
     ensures fault { IfErr result (IsBatchFaultOf D.may_give) }
 {
     let requests = match read_batch(alloc, reader) {

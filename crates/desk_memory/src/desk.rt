@@ -256,6 +256,9 @@ impl Desk for MemoryDesk {
 
     ghost stands_for = { λ d L. StandsFor d.kept.items L };
 
+    // A crash leaves nothing of it.
+    ghost may_leave = { λ d M. ⊥ };
+
     ghost may_give = { λ f. f ≡ Memory };
 
     ghost by_content = { λ d L M same stands. stands_by_content d.kept.items L M same stands };

@@ -6,6 +6,7 @@ use Rattle.sqlite_trees.specs.Tree.{Trees}
 use Rattle.desk_tables.specs.Rows.{DeskRows, Holds}
 use Rattle.onix_message.specs.declared.agreement.StoreFault.{StoreFault}
 use Rattle.series_rules.specs.Agreements.{agreements_of, clashes}
+use Rattle.series_rules.specs.Content.{SameContent}
 use Rattle.series_rules.specs.Firsts.{Placement, admitted, first_at}
 use Rattle.series_rules.specs.Gaps.{AreHeldFrom, IsGreatest, NoneBelow, report_by}
 use Rattle.series_rules.specs.Series.{IsNext}
@@ -22,6 +23,10 @@ HoldsRequests db L = (rows : DeskRows) × Holds db rows × StandsFor rows L
 -- the trees are those of a database that holds what those requests come to
 abbrev pub AreRowsOf : Trees → List Request → Type 0
 AreRowsOf trees L = (db : Database) × (db.trees ≡ trees) × HoldsRequests db L
+
+-- A crash may leave what M comes to: it may leave a thing that comes to nothing else. A thing that comes to no list is as every list
+abbrev pub LeftIn : {Thing : Type 0} → (Thing → List Request → Type 0) → (Thing → Type 0) → List Request → Type 0
+LeftIn {Thing} ComesTo may M = (d : Thing) × may d × ((K : List Request) → ComesTo d K → SameContent M K)
 
 -- while the connection is open, it is in no transaction, and its database holds what those requests come to, committed
 abbrev pub KeepsRequests : State → List Request → Type 0

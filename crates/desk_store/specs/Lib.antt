@@ -5,4 +5,5 @@ pub mod Stands
 pub mod Changes
 pub mod Desks
 pub mod ContentLemmas
+pub mod LeftLemmas
 pub mod FirstForm

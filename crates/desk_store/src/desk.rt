@@ -11,6 +11,7 @@ ghost use Rattle.sqlite_wal.specs.Reads.{AreClean};
 ghost use Rattle.desk_store.specs.Desks.{AreRowsOf, IsAsked, IsQuestioned, KeepsRequests};
 ghost use Rattle.desk_store.specs.Openings.{AreFilesOf, HasNoMeta, HoldRowsOf, IsFaultFor, IsOther, IsReady, LeavesOne, ShowsOnly, TellsFiles, TellsFound, left_in};
 ghost use Rattle.series_rules.specs.Answers.{agree_answer, catalogue_answer, delivery_answer, gaps_answer, waive_answer};
+ghost use Rattle.series_rules.specs.Leaves.{LeavesOnly};
 ghost use Rattle.series_rules.specs.Offers.{offers_after};
 ghost use Rattle.series_rules.specs.declared.requests.Request.{Request};
 
@@ -60,11 +61,17 @@ impl<S: Alter + Drop> DeskStore<S> {
 
 impl<S: Alter> DeskStore<S> {
     /// What the desk is against its tables: its premise is a clean disk, and it stands for a list of
-    /// requests exactly where, while its store is open, the tables hold what those come to.
+    /// requests exactly where, while its store is open, the tables hold what those come to. A crash
+    /// leaves only a list where it leaves no tables but those that hold the rows of what that comes
+    /// to; so it is with what the desk stands for, while its store is open.
     pub fn is_by_its_tables(&self)
         ensures premise { ⟦<DeskStore<S> as Desk>⟧.is_sound self.now ↔ HasCleanDisk (state S.Store self.now.tables.connection) }
         ensures stands { (L : List Request) → ⟦<DeskStore<S> as Desk>⟧.stands_for self.now L ↔ KeepsRequests (state S.Store self.now.tables.connection) L }
-    {}
+        ensures leaves { (L : List Request) → ((left : Trees) → (state S.Store self.now.tables.connection).may_leave left → AreRowsOf left L) → LeavesOnly (⟦<DeskStore<S> as Desk>⟧.may_leave self.now) L }
+        ensures durable { IsTrue (state S.Store self.now.tables.connection).is_open → (L : List Request) → KeepsRequests (state S.Store self.now.tables.connection) L → LeavesOnly (⟦<DeskStore<S> as Desk>⟧.may_leave self.now) L }
+    {
+        self.leaves_its_requests();
+    }
 
     /// While its store is open, a crash leaves the rows of the requests that the desk stands for, and
     /// nothing else.
@@ -178,12 +185,14 @@ impl<S: Alter> Desk for DeskStore<S> {
     ghost use Rattle.std.specs.Prelude.{⊤};
     ghost use Rattle.sqlite.specs.Held.{state};
     ghost use Rattle.sqlite.specs.State.{HasCleanDisk};
-    ghost use Rattle.desk_store.specs.Desks.{KeepsRequests};
+    ghost use Rattle.desk_store.specs.Desks.{AreRowsOf, KeepsRequests, LeftIn};
     ghost use Rattle.desk_store.specs.ContentLemmas.{keeps_by_content};
 
     ghost is_sound = { λ d. HasCleanDisk (state S.Store d.tables.connection) };
 
     ghost stands_for = { λ d L. KeepsRequests (state S.Store d.tables.connection) L };
+
+    ghost may_leave = { λ d M. LeftIn AreRowsOf (state S.Store d.tables.connection).may_leave M };
 
     ghost may_give = { λ f. ⊤ };
 

@@ -12,6 +12,8 @@ pub mod OfferLemmas
 pub mod PriceAnswers
 pub mod Answers
 pub mod Content
+pub mod Leaves
+pub mod LeavesLemmas
 pub mod Laws
 pub mod PriceLaws
 pub mod Runs

@@ -1,8 +1,9 @@
 // One request, asked of any desk.
 
-ghost use Rattle.std.specs.Prelude.{◌≡◌, ℕ, List, ◌∷◌, IfErr, IfOk, OnErr, Option};
+ghost use Rattle.std.specs.Prelude.{◌≡◌, ℕ, List, ◌∷◌, IfErr, IfOk, OnErr, OnOk, Option};
 ghost use Rattle.series_rules.specs.Answers.{answer_to, catalogue_answer, catalogue_or_unknown, gaps_answer, gaps_or_unknown};
 ghost use Rattle.series_rules.specs.Faults.{IsFaultOf};
+ghost use Rattle.series_rules.specs.Leaves.{LeavesNoMore, LeavesOneMore, LeavesOnly};
 ghost use Rattle.series_rules.specs.Offers.{offers_after};
 ghost use Rattle.series_rules.specs.PriceAnswers.{calendar_answer, chosen_by, prices_of};
 ghost use Rattle.series_rules.specs.declared.requests.Request.{Request};
@@ -30,6 +31,7 @@ fn answer_price<D: Desk>(
     ensures ok { (L : List Request) → D.stands_for desk.old L → D.is_sound desk.new → IfOk result (λ a.
         a ≡ Answer.Price isbn.now (prices_of query.now (offers_after L isbn.now))) }
     ensures left { (L : List Request) → D.stands_for desk.old L → D.is_sound desk.new → D.stands_for desk.new L }
+    ensures crash { (L : List Request) → D.stands_for desk.old L → D.is_sound desk.new → LeavesNoMore (D.may_leave desk.old) (D.may_leave desk.new) }
     ensures fault { IfErr result (IsFaultOf D.may_give) }
 {
     let offers = desk.offers_of(isbn)?;
@@ -53,6 +55,7 @@ fn answer_choice<D: Desk>(
     ensures ok { (L : List Request) → D.stands_for desk.old L → D.is_sound desk.new → IfOk result (λ a.
         a ≡ Answer.Choice isbn.now (chosen_by precedence.now query.now (offers_after L isbn.now))) }
     ensures left { (L : List Request) → D.stands_for desk.old L → D.is_sound desk.new → D.stands_for desk.new L }
+    ensures crash { (L : List Request) → D.stands_for desk.old L → D.is_sound desk.new → LeavesNoMore (D.may_leave desk.old) (D.may_leave desk.new) }
     ensures fault { IfErr result (IsFaultOf D.may_give) }
 {
     let offers = desk.offers_of(isbn)?;
@@ -75,6 +78,7 @@ fn answer_calendar<D: Desk>(
     ensures ok { (L : List Request) → D.stands_for desk.old L → D.is_sound desk.new → IfOk result (λ a.
         a ≡ calendar_answer isbn.now query.now (offers_after L isbn.now)) }
     ensures left { (L : List Request) → D.stands_for desk.old L → D.is_sound desk.new → D.stands_for desk.new L }
+    ensures crash { (L : List Request) → D.stands_for desk.old L → D.is_sound desk.new → LeavesNoMore (D.may_leave desk.old) (D.may_leave desk.new) }
     ensures fault { IfErr result (IsFaultOf D.may_give) }
 {
     if is_bad_range(query.from, query.to) {
@@ -96,6 +100,7 @@ fn answer_gaps<D: Desk>(desk: &mut D, series: &SeriesName) -> Result<Answer, Sto
     ensures ok { (L : List Request) → D.stands_for desk.old L → D.is_sound desk.new → IfOk result (λ a.
         a ≡ gaps_or_unknown (gaps_answer L series.now)) }
     ensures left { (L : List Request) → D.stands_for desk.old L → D.is_sound desk.new → D.stands_for desk.new L }
+    ensures crash { (L : List Request) → D.stands_for desk.old L → D.is_sound desk.new → LeavesNoMore (D.may_leave desk.old) (D.may_leave desk.new) }
     ensures fault { IfErr result (IsFaultOf D.may_give) }
 {
     match desk.gaps(series)? {
@@ -110,6 +115,7 @@ fn answer_catalogue<D: Desk>(desk: &mut D, series: &SeriesName) -> Result<Answer
     ensures ok { (L : List Request) → D.stands_for desk.old L → D.is_sound desk.new → IfOk result (λ a.
         a ≡ catalogue_or_unknown series.now (catalogue_answer L series.now)) }
     ensures left { (L : List Request) → D.stands_for desk.old L → D.is_sound desk.new → D.stands_for desk.new L }
+    ensures crash { (L : List Request) → D.stands_for desk.old L → D.is_sound desk.new → LeavesNoMore (D.may_leave desk.old) (D.may_leave desk.new) }
     ensures fault { IfErr result (IsFaultOf D.may_give) }
 {
     match desk.catalogue(series)? {
@@ -122,8 +128,10 @@ fn answer_catalogue<D: Desk>(desk: &mut D, series: &SeriesName) -> Result<Answer
 }
 
 /// Asks a desk one request under a precedence table, and gives its answer. With `Ok` the desk
-/// stands for the list with the request, and after a fault for the list without it. A fault is want
-/// of memory or one that the desk may give.
+/// stands for the list with the request, and after a fault for the list without it. A crash leaves
+/// what it could leave before or the list with the request; once the request is answered, that
+/// alone, if nothing but the list was left before. A fault is want of memory or one that the desk
+/// may give.
 pub fn answer<D: Desk>(
     alloc: Global,
     desk: &mut D,
@@ -134,6 +142,8 @@ pub fn answer<D: Desk>(
     ensures ok { (L : List Request) → D.stands_for desk.old L → D.is_sound desk.new → IfOk result (λ a.
         (a ≡ answer_to precedence.now L request.now) × D.stands_for desk.new (request.now ∷ L)) }
     ensures err { (L : List Request) → D.stands_for desk.old L → D.is_sound desk.new → OnErr result (D.stands_for desk.new L) }
+    ensures crash { (L : List Request) → D.stands_for desk.old L → D.is_sound desk.new → LeavesOneMore (D.may_leave desk.old) (D.may_leave desk.new) (request.now ∷ L) }
+    ensures alone { (L : List Request) → D.stands_for desk.old L → D.is_sound desk.new → LeavesOnly (D.may_leave desk.old) L → OnOk result (LeavesOnly (D.may_leave desk.new) (request.now ∷ L)) }
     ensures fault { IfErr result (IsFaultOf D.may_give) }
 {
     match request {

@@ -2,7 +2,7 @@
 
 ghost use Rattle.std.specs.Prelude.{◌≡◌, ◌∷◌, List, IfOk, OnErr};
 ghost use Rattle.series_rules.specs.Faults.{HasFaultsOf};
-ghost use Rattle.series_rules.specs.Runs.{AreAnswered, without_faulted};
+ghost use Rattle.series_rules.specs.Runs.{AreAnswered, LeftAlong, without_faulted};
 ghost use Rattle.series_rules.specs.declared.requests.Request.{Request};
 
 use crate::answering::answer;
@@ -16,8 +16,9 @@ use std::alloc::{AllocError, Global};
 
 /// Asks a desk requests one after the other, and goes on after a storage fault. Leaving out the
 /// requests that were answered with a storage fault, each answer is the definition's, and the
-/// desk then stands for the list with the other requests. Each fault is want of memory or one that
-/// the desk may give. Where memory runs out for the outcomes, nothing was asked.
+/// desk then stands for the list with the other requests. What a crash may leave, it could leave
+/// before, or it is what the desk stood for at some request with that request. Each fault is want of
+/// memory or one that the desk may give. Where memory runs out for the outcomes, nothing was asked.
 pub fn ask_all<D: Desk>(
     alloc: Global,
     desk: &mut D,
@@ -27,6 +28,8 @@ pub fn ask_all<D: Desk>(
     ensures premise { D.is_sound desk.new → D.is_sound desk.old }
     ensures answers { (L : List Request) → D.stands_for desk.old L → D.is_sound desk.new → IfOk result (λ outcomes.
         AreAnswered precedence.now L requests.now outcomes × D.stands_for desk.new (without_faulted L requests.now outcomes)) }
+    ensures left { (L : List Request) → D.stands_for desk.old L → D.is_sound desk.new → IfOk result (λ outcomes.
+        (M : List Request) → D.may_leave desk.new M → LeftAlong (D.may_leave desk.old) L requests.now outcomes M) }
     ensures fault { IfOk result (HasFaultsOf D.may_give) }
     ensures err { OnErr result (desk.new ≡ desk.old) }
 {

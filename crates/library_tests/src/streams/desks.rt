@@ -54,6 +54,8 @@ impl Desk for BrokenDesk {
 
     ghost stands_for = { λ d L. Unit {0} };
 
+    ghost may_leave = { λ d M. ⊥ };
+
     ghost may_give = { λ f. Unit {0} };
 
     ghost by_content = { λ d L M same stands. tt };

@@ -19,6 +19,7 @@ loop-request-init g c =
       counted = refl;
       few = omega arith;
       so_far = λ L stands sound. (refl, Appends-nil (g.W.Write.contents c.args.writer.now), stands);
+      leaves = λ L stands sound only. only;
     }
 
 pub loop-request-preserved : goal.loop-request-preserved
@@ -43,6 +44,10 @@ loop-request-preserved g c =
             rw more.written (Appends-trans _ _ _ _ _ before.1 one.1),
             rw more.stood one.2,
           );
+      leaves = λ L stands sound only.
+          let still = c.run_and_drop.ensures.premise sound in
+          let more = one_more c.args.precedence.now L inv.some r in
+          rw more.stood (c.in-Ok.ensures.left (followed_by L inv.some) (inv.so_far L stands still).2 sound (inv.leaves L stands still only));
     }
 
 pub returns-in-Err-Store-clause-run : goal.returns-in-Err-Store-clause-run
@@ -98,3 +103,40 @@ returns-in-Err-Memory-clause-run g c = λ L stands sound.
       subst (Appends _ _) (append-nil (output c.args.precedence.now L inv.some)) (Appends-trans _ _ _ _ _ before.1 one.0),
       rw more.stood one.1,
     )
+
+pub returns-in-Err-Store-clause-left : goal.returns-in-Err-Store-clause-left
+returns-in-Err-Store-clause-left g c = λ L stands sound only.
+    let inv = c.loop-request.invariant in
+    let r = c.in-Some.request in
+    let rest = into_iter_items c.next.new.self in
+    let split = inv.split ∙ ap (λ t. inv.some ++ t) c.in-Some.ensures.steps.0 in
+    let first = first_ones c.args.requests inv.some (r ∷ rest) c.loop-request.done split inv.counted in
+    let next = next_ones c.args.requests inv.some rest r c.loop-request.done split inv.counted in
+    let still = c.run_and_drop.ensures.premise sound in
+    let one = rw c.in-Err-Store.field-0-is at (c.in-Err-Store.ensures.left (followed_by L inv.some) (inv.so_far L stands still).2 sound (inv.leaves L stands still only)) in
+    let more = one_more c.args.precedence.now L inv.some r in
+    rw (first, next.0, more.stood) one
+
+pub returns-in-Err-Write-clause-left : goal.returns-in-Err-Write-clause-left
+returns-in-Err-Write-clause-left g c = λ L stands sound only.
+    let inv = c.loop-request.invariant in
+    let r = c.in-Some.request in
+    let rest = into_iter_items c.next.new.self in
+    let split = inv.split ∙ ap (λ t. inv.some ++ t) c.in-Some.ensures.steps.0 in
+    let next = next_ones c.args.requests inv.some rest r c.loop-request.done split inv.counted in
+    let still = c.run_and_drop.ensures.premise sound in
+    let one = rw c.in-Err-Write.field-0-is at (c.in-Err-Write.ensures.left (followed_by L inv.some) (inv.so_far L stands still).2 sound (inv.leaves L stands still only)) in
+    let more = one_more c.args.precedence.now L inv.some r in
+    rw (next.0, more.stood) one
+
+pub returns-in-Err-Memory-clause-left : goal.returns-in-Err-Memory-clause-left
+returns-in-Err-Memory-clause-left g c = λ L stands sound only.
+    let inv = c.loop-request.invariant in
+    let r = c.in-Some.request in
+    let rest = into_iter_items c.next.new.self in
+    let split = inv.split ∙ ap (λ t. inv.some ++ t) c.in-Some.ensures.steps.0 in
+    let next = next_ones c.args.requests inv.some rest r c.loop-request.done split inv.counted in
+    let still = c.run_and_drop.ensures.premise sound in
+    let one = rw c.in-Err-Memory.field-0-is at (c.in-Err-Memory.ensures.left (followed_by L inv.some) (inv.so_far L stands still).2 sound (inv.leaves L stands still only)) in
+    let more = one_more c.args.precedence.now L inv.some r in
+    rw (next.0, more.stood) one

@@ -3,6 +3,7 @@ use Rattle.std.specs.Io.KnownBytes.{Appends}
 use Rattle.std.specs.Vec.Iter.{into_iter_items, into_iter_len}
 use Rattle.series_rules.specs.Answers.{followed_by}
 use Rattle.desk_batch.specs.Batch.{output, refusals}
+use Rattle.series_rules.specs.Leaves.{LeavesOnly}
 use Rattle.series_rules.specs.declared.requests.Request.{Request}
 use Rattle.desk_batch.proofs.batch.run_requests.Given as goal
 
@@ -20,4 +21,6 @@ invariant-loop-request g l = record {
       (l.refused ≡ refusals l.precedence L some) ×
       Appends (g.W.Write.contents l.fn.writer) (g.W.Write.contents l.writer) (output l.precedence L some) ×
       g.D.Desk.stands_for l.desk (followed_by L some);
+  leaves : (L : List Request) → g.D.Desk.stands_for l.fn.desk L → g.D.Desk.is_sound l.desk → LeavesOnly (g.D.Desk.may_leave l.fn.desk) L →
+      LeavesOnly (g.D.Desk.may_leave l.desk) (followed_by L some);
 }

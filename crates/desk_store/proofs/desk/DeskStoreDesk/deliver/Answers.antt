@@ -1,0 +1,14 @@
+use Rattle.std.proofs.Common.{◌∷◌}
+use Rattle.series_rules.specs.declared.requests.Request.TheVariants.{Deliver}
+use Rattle.desk_store.specs.Desks.{AreRowsOf, changes}
+use Rattle.desk_store.specs.LeftLemmas.{alone_of, one_more_in, unchanged}
+use Rattle.desk_store.proofs.desk.DeskStoreDesk.deliver.Goals as goal
+
+pub returns-clause-crash : goal.returns-clause-crash
+returns-clause-crash g c = λ L keeps clean. one_more_in AreRowsOf _ _ (Deliver c.args.records.now ∷ L) (c.ask_deliver.ensures.crash clean L keeps)
+
+pub returns-clause-alone : goal.returns-clause-alone
+returns-clause-alone g c = λ L keeps clean only.
+    let r = Deliver c.args.records.now in
+    let asked = c.ask_deliver.ensures in
+    alone_of AreRowsOf _ _ L r (changes L r) c.ask_deliver.result (asked.crash clean L keeps) (asked.alone clean L keeps) (unchanged L r) only

@@ -4,6 +4,7 @@ one whose lines cannot be written."""
 import contextlib
 import signal
 import socket
+import struct
 from typing import NamedTuple
 
 from program.commands import AGREEMENT, APPLIED, FIRST
@@ -21,14 +22,12 @@ class Client(NamedTuple):
     line: str
 
 
+# A message of `north` without products, and its delivery.
+MESSAGE = b"Message,1,06,4012345000009,06,5012345678900,%d,,,,\nEndMessage,1\n"
+DELIVERY = b"POST /messages HTTP/1.1\r\nContent-Length: 63\r\n\r\n" + MESSAGE
+
 CLIENTS = [
-    # A delivery of message 1 of `north`, without products.
-    Client(
-        b"POST /messages HTTP/1.1\r\nContent-Length: 63\r\n\r\n"
-        b"Message,1,06,4012345000009,06,5012345678900,1,,,,\nEndMessage,1\n",
-        False,
-        "200",
-    ),
+    Client(DELIVERY % 1, False, "200"),
     Client(b"", True, "400"),
     # Falls silent in its head. The desk waits for it for 10 seconds.
     Client(b"GET /series/north/gaps", False, "fault"),
@@ -71,6 +70,35 @@ def clients_of_a_port(room):
         yield Outcome("the lines of six clients", desk.ended(), wanted)
 
 
+GAPS_AFTER_TWO = GAPS._replace(
+    body='{"answer":"gaps","first":1,"greatest":2,"held":0,"missing":[],"next":3,"series":"north"}',
+)
+
+# An end of a connection that waits for nothing, and tells the other side that it is reset.
+RESET = struct.pack("ii", 1, 0)
+
+
+def clients_that_are_gone(room):
+    """What they sent counts, though they closed their connections before their turn came."""
+    yield Outcome("the agreement", batch(room, AGREEMENT), Ran(0, AGREED))
+    with serving(room, ["--db", DATABASE], 5) as desk:
+        first, whole, reset, part = [connected(desk.port) for _ in range(4)]
+        whole.sendall(DELIVERY % 1)
+        whole.close()
+        reset.sendall(DELIVERY % 2)
+        reset.setsockopt(socket.SOL_SOCKET, socket.SO_LINGER, RESET)
+        reset.close()
+        part.sendall((DELIVERY % 3)[:-1])
+        part.close()
+        first.sendall(GAPS.input)
+        receive(first)
+        first.close()
+        came = desk.reply([GAPS.input])
+        yield Outcome("the gaps after clients that were gone", came, GAPS_AFTER_TWO.reply())
+        wanted = desk.wanted(["200", "200", "fault", "400", "200"])
+        yield Outcome("the lines of clients that were gone", desk.ended(), wanted)
+
+
 def served_until_it_is_stopped(room):
     """Without a number of connections no client ends the desk."""
     yield Outcome("the agreement and a message", batch(room, AGREEMENT + FIRST), Ran(0, AGREED + APPLIED))
@@ -105,6 +133,7 @@ def unwritten_lines(room):
 
 GROUPS = [
     Group("clients of a port", clients_of_a_port),
+    Group("clients that are gone before their turn", clients_that_are_gone),
     Group("a port without a number of connections", served_until_it_is_stopped),
     Group("a port that is taken", a_port_that_is_taken),
     Group("a port whose lines cannot be written", unwritten_lines),

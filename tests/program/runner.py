@@ -6,6 +6,7 @@ from concurrent.futures import ThreadPoolExecutor
 from pathlib import Path
 
 from program import (
+    architecture,
     batches,
     clients,
     command_lines,
@@ -53,6 +54,7 @@ MODULES = [
     seeded_feeds,
     databases,
     definitions,
+    architecture,
     existing,
     desks,
     damage,

@@ -1,0 +1,1 @@
+"""The picture of the crates, docs/crates.svg."""

@@ -1,0 +1,89 @@
+"""The crates of crates.txt, in layers."""
+
+from collections.abc import Callable
+from dataclasses import dataclass
+from pathlib import Path
+
+ROOT = Path(__file__).resolve().parent.parent.parent
+
+# The layers, highest first, each with what it is for and its crates.
+LAYERS = {
+    "Ways in": (
+        "batches, HTTP, program",
+        ["desk_text", "desk_requests", "desk_batch", "desk_json", "http_requests", "desk_http", "onixdesk", "library_tests"],
+    ),
+    "Tables": ("a desk in a file", ["desk_tables", "catalogue_store", "desk_store", "desk_stops"]),
+    "Rules": ("what is answered", ["price_rules", "catalogue_rules", "series_rules", "desk_memory"]),
+    "Words": ("what a message says", ["csv_records", "onix_terms", "onix_rows", "onix_message"]),
+}
+
+
+@dataclass(frozen=True)
+class Crate:
+    """A crate: its layer, counted from the highest, its column, the crates that it stands on and through no other
+    of them, and what it takes of the toolchain."""
+
+    name: str
+    layer: int
+    column: int
+    below: tuple[str, ...]
+    taken: tuple[str, ...]
+
+
+def read_lines(text: str) -> dict[str, list[str]]:
+    """What each crate of crates.txt stands on, lowest first."""
+    lines = [line.partition(":") for line in text.splitlines() if line and not line.startswith("#")]
+    return {name: rest.split() for name, _, rest in lines}
+
+
+def reach(stands_on: dict[str, list[str]], name: str) -> set[str]:
+    """All crates of the repository below that one."""
+    below = {other for other in stands_on[name] if other in stands_on}
+    return below.union(*(reach(stands_on, other) for other in below))
+
+
+def direct(stands_on: dict[str, list[str]], name: str) -> list[str]:
+    """The crates below that one that no other crate below it stands on."""
+    below = [other for other in stands_on[name] if other in stands_on]
+    further = set().union(*(reach(stands_on, other) for other in below))
+    return [other for other in below if other not in further]
+
+
+def families(names: list[str]) -> list[str]:
+    """The names without those that begin with another one: `sqlite` for `sqlite_disk` too."""
+    return [name for name in names if not any(name.startswith(f"{other}_") for other in names)]
+
+
+def layer_of(name: str) -> int:
+    """Its number, counted from the highest."""
+    found = [number for number, (_, names) in enumerate(LAYERS.values()) if name in names]
+    if len(found) != 1:
+        raise ValueError(f"{name} is in {len(found)} layers of tests/drawing/crates.py")
+    return found[0]
+
+
+def columns(stands_on: dict[str, list[str]]) -> Callable[[str], int]:
+    """How many crates of its own layer stand below each crate, one on the other."""
+
+    def column(name: str) -> int:
+        near = [other for other in direct(stands_on, name) if layer_of(other) == layer_of(name)]
+        return 1 + max(map(column, near), default=-1)
+
+    return column
+
+
+def read_crates(root: Path = ROOT) -> list[Crate]:
+    """The crates, lowest first."""
+    stands_on = read_lines((root / "crates.txt").read_text(encoding="utf-8"))
+    column = columns(stands_on)
+    crates = []
+    for name, below in stands_on.items():
+        taken = families([other for other in below if other not in stands_on])
+        crates.append(Crate(name, layer_of(name), column(name), tuple(direct(stands_on, name)), tuple(taken)))
+    return crates
+
+
+def upward(crates: list[Crate]) -> list[tuple[str, str]]:
+    """What stands on a crate of a higher layer, which nothing should."""
+    layers = {crate.name: crate.layer for crate in crates}
+    return [(crate.name, other) for crate in crates for other in crate.below if layers[other] < crate.layer]

@@ -1,0 +1,90 @@
+"""docs/ARCHITECTURE.md: its picture of the crates, and the calls that it tells of."""
+
+import re
+from functools import cache
+
+from drawing import picture
+from drawing.crates import LAYERS, ROOT, direct, families, read_crates, read_lines, upward
+from program.room import Group, Outcome
+
+PAGE = ROOT / "docs/ARCHITECTURE.md"
+
+# A call: how deep it is, the function, and the file, where it is another one than that of the call above.
+CALL = re.compile(r"^    ((?:  )*)(\w+)(?: +(\w+)/(src/\S+\.rt))?$")
+
+LINES = """\
+# A comment.
+low: csv
+other: sqlite sqlite_disk
+middle: low csv
+high: middle other low
+"""
+
+
+def current(room):
+    came = picture.PICTURE.read_text(encoding="utf-8").splitlines()
+    yield Outcome("docs/crates.svg is what tests/architecture writes", came, picture.svg().splitlines())
+    named = f"({picture.PICTURE.name})" in PAGE.read_text(encoding="utf-8")
+    yield Outcome("docs/ARCHITECTURE.md has the picture", named, True)
+
+
+def layers(room):
+    crates = read_crates()
+    told = [name for _, names in LAYERS.values() for name in names]
+    yield Outcome("each crate is in a layer", sorted(told), sorted(crate.name for crate in crates))
+    yield Outcome("no crate stands on one of a higher layer", upward(crates), [])
+
+
+def lines(room):
+    stands_on = read_lines(LINES)
+    yield Outcome("crates.txt: its crates", list(stands_on), ["low", "other", "middle", "high"])
+    yield Outcome("crates.txt: what is reached through another crate", direct(stands_on, "high"), ["middle", "other"])
+    yield Outcome("crates.txt: parts of a library", families(stands_on["other"]), ["sqlite"])
+
+
+@cache
+def bodies(path: str) -> dict[str, list[str]]:
+    """The bodies of the functions of a source file, by name; one that a file has twice has several."""
+    found: dict[str, list[str]] = {}
+    text = (ROOT / "crates" / path).read_text(encoding="utf-8")
+    for begun in re.finditer(r"^( *)(?:pub(?:\(crate\))? )?fn (\w+)", text, re.M):
+        end = re.compile(rf"^{begun[1]}}}$", re.M).search(text, begun.end())
+        body = text[begun.end() : end.start()] if end else ""
+        found.setdefault(begun[2], []).append(re.split(r"^ *\{$|\{$", body, maxsplit=1, flags=re.M)[-1])
+    return found
+
+
+def calls(text: str):
+    """Each call of the page: the function above it, or none, with its file, and the function with its own."""
+    above = []
+    for line in text.splitlines():
+        if not (found := CALL.match(line)):
+            above = []
+            continue
+        depth, name = len(found[1]) // 2, found[2]
+        # Without a name of its own, the file is that of the line before.
+        file = f"{found[3]}/{found[4]}" if found[3] else last
+        last = file
+        del above[depth:]
+        yield (above[-1] if above else None), (name, file)
+        above.append((name, file))
+
+
+def walks(room):
+    text = PAGE.read_text(encoding="utf-8")
+    count = 0
+    for above, (name, file) in calls(text):
+        count += 1
+        there = name in bodies(file)
+        called = above is None or any(re.search(rf"\b{name}\(", body) for body in bodies(above[1]).get(above[0], []))
+        caller = f"{above[0]} calls {name}" if above else name
+        yield Outcome(f"docs/ARCHITECTURE.md: {caller}", (there, called), (True, True))
+    yield Outcome("docs/ARCHITECTURE.md tells of calls", count > 0, True)
+
+
+GROUPS = [
+    Group("the picture of the crates", current),
+    Group("the layers of the crates", layers),
+    Group("the lines of crates.txt", lines),
+    Group("the calls that docs/ARCHITECTURE.md names", walks),
+]

@@ -100,6 +100,11 @@ class Places:
         stack = [other for other in self.layer_boxes(box.crate.layer) if other.crate.column == box.crate.column]
         return any(other.row > box.row for other in stack)
 
+    def has_above(self, box: Box) -> bool:
+        """Whether a box of its layer stands above that one."""
+        stack = [other for other in self.layer_boxes(box.crate.layer) if other.crate.column == box.crate.column]
+        return any(other.row < box.row for other in stack)
+
     def is_last(self, box: Box) -> bool:
         """Whether no box of its layer is further to the right."""
         return box.crate.column == max(other.crate.column for other in self.layer_boxes(box.crate.layer))
@@ -156,7 +161,15 @@ class Ways:
             height = self.channel(layer, end)
             points += [(points[-1][0], height), (self.gutter(across, end), height)]
         height = self.channel(end.crate.layer - 1, end)
-        return [*points, (points[-1][0], height), (end.middle[0], height), (end.middle[0], end.y)]
+        points.append((points[-1][0], height))
+        return points + self.into(end, height)
+
+    def into(self, end: Box, height: float) -> list[Point]:
+        """How an arrow from a higher layer comes into a box: from above, or from the left of the boxes above it."""
+        if not self.places.has_above(end):
+            return [(end.middle[0], height), (end.middle[0], end.y)]
+        aside = self.gutter(end.crate.column - 1, end)
+        return [(aside, height), (aside, end.middle[1]), (end.x, end.middle[1])]
 
     def way(self, start: Box, end: Box) -> list[Point]:
         return self.beside(start, end) if start.crate.layer == end.crate.layer else self.down(start, end)

@@ -1,3 +1,4 @@
 pub mod CleanFields
 pub mod Pairs
+pub mod PriceFields
 pub mod TenFields

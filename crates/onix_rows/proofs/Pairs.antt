@@ -18,16 +18,15 @@ one-more (Some more) ids id all e = ap Some (append_assoc ids (id ∷ []) more) 
 
 -- The rest are values that stand for texts, as f says.
 
-pub pairs-more : {X : Type 0} (f : X → List ℕ) (rest : List X) (ids new : List ProductIdentifier) (all : Option (List ProductIdentifier)) (kind value : X) (id : ProductIdentifier)
-    → 2 ≤ length rest → kind ≡ get_or rest 0 kind → value ≡ get_or rest 1 value → identifier_of (f kind) (f value) ≡ Some id → new ≡ ids ++ id ∷ []
+pub pairs-more : {X : Type 0} (f : X → List ℕ) (d : X) (rest : List X) (ids new : List ProductIdentifier) (all : Option (List ProductIdentifier)) (id : ProductIdentifier)
+    → 2 ≤ length rest → identifier_of (f (get_or rest 0 d)) (f (get_or rest 1 d)) ≡ Some id → new ≡ ids ++ id ∷ []
     → Completes (map f rest) ids all → Completes (map f (take (length rest - 2) (drop 2 rest))) new all
 unfolding pairs_of
-pairs-more f [] ids new all kind value id two k v reads last e = absurd (omega (arith, two))
-pairs-more f (x ∷ []) ids new all kind value id two k v reads last e = absurd (omega (arith, two))
-pairs-more f (x ∷ y ∷ more) ids new all kind value id two k v reads last e =
-    let named : identifier_of (f x) (f y) ≡ Some id = rw (← k, ← v) reads in
+pairs-more f d [] ids new all id two reads last e = absurd (omega (arith, two))
+pairs-more f d (x ∷ []) ids new all id two reads last e = absurd (omega (arith, two))
+pairs-more f d (x ∷ y ∷ more) ids new all id two reads last e =
     let left : length (x ∷ y ∷ more) - 2 ≡ length more = omega arith in
-    rw (last, left, take-length more) (one-more (pairs_of (map f more)) ids id all (rw named at e))
+    rw (last, left, take-length more) (one-more (pairs_of (map f more)) ids id all (rw reads at e))
 
 pub pairs-end : {X : Type 0} (f : X → List ℕ) (rest : List X) (ids : List ProductIdentifier) (all : Option (List ProductIdentifier)) → true ≡ (length rest == 0) → Completes (map f rest) ids all → all ≡ Some ids
 unfolding pairs_of

@@ -23,14 +23,14 @@ pub struct Header {
 }
 
 /// An identifier of a product, by its type of code list 5.
-#[derive(Drop, PartialEq, Eq)]
+#[derive(Clone, Drop, PartialEq, Eq)]
 pub struct ProductIdentifier {
     pub id_type: Code2,
     pub id_value: Text,
 }
 
 /// Who supplies a product, by an identifier, a name or both.
-#[derive(Drop, PartialEq, Eq)]
+#[derive(Clone, Drop, PartialEq, Eq)]
 pub struct Supplier {
     pub role: Code2,
     pub party: Option<Party>,
@@ -61,14 +61,14 @@ pub struct SupplyDetail {
 }
 
 /// The supply of a product to a market.
-#[derive(Drop, PartialEq, Eq)]
+#[derive(Clone, Drop, PartialEq, Eq)]
 pub struct ProductSupply {
     pub market: Territory,
     pub details: Items<SupplyDetail>,
 }
 
 /// One product of a message.
-#[derive(Drop, PartialEq, Eq)]
+#[derive(Clone, Drop, PartialEq, Eq)]
 pub struct Product {
     pub reference: Text,
     pub notification: Code2,

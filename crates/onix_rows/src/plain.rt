@@ -6,24 +6,12 @@ use crate::parts::{Price, Product, ProductIdentifier, ProductSupply, Supplier, S
 use onix_terms::plain::Plain;
 use std::alloc::AllocError;
 
-impl Clone for ProductIdentifier {
-    ghost is_clone = { λ x y. y ≡ x };
-
-    fn clone(&self) -> Result<ProductIdentifier, AllocError> {
-        let id_value = self.id_value.duplicate()?;
-        Ok(ProductIdentifier {
-            id_type: self.id_type,
-            id_value,
-        })
-    }
-}
-
 impl Plain for ProductIdentifier {
     ghost use Rattle.std.proofs.Common.{ap};
     ghost use Rattle.std.specs.Cmp.Lexicographic.{bytes_decides};
     ghost use Rattle.onix_terms.specs.Plain.{decides-both, decides-same};
 
-    ghost clone_is_same = { λ x y e. e };
+    ghost clone_is_same = { λ x y e. λ i. record { id_type = e.0 i; id_value = e.1 i } };
 
     ghost eq_decides = { λ x y. decides-same
         (λ e. λ i. record { id_type = e.0 i; id_value = e.1 i })
@@ -31,27 +19,17 @@ impl Plain for ProductIdentifier {
         (decides-both (bytes_decides x.id_type y.id_type) (bytes_decides x.id_value y.id_value)) };
 }
 
-impl Clone for Supplier {
-    ghost is_clone = { λ x y. y ≡ x };
-
-    fn clone(&self) -> Result<Supplier, AllocError> {
-        let name = self.name.duplicate()?;
-        let party = self.party.duplicate()?;
-        Ok(Supplier {
-            role: self.role,
-            party,
-            name,
-        })
-    }
-}
-
 impl Plain for Supplier {
     ghost use Rattle.std.proofs.Common.{ap};
     ghost use Rattle.std.specs.Cmp.Lexicographic.{bytes_decides};
-    ghost use Rattle.onix_terms.specs.Plain.{decides-both, decides-same, option-decides};
+    ghost use Rattle.onix_terms.specs.Plain.{decides-both, decides-same, option-clones-same, option-decides};
     ghost use Rattle.onix_terms.specs.contracts.plain.PartyPlain.TheImpl.Laws as party;
 
-    ghost clone_is_same = { λ x y e. e };
+    ghost clone_is_same = { λ x y e. λ i. record {
+      role = e.0 i;
+      party = option-clones-same party.clone_is_same-law x.party y.party e.1.0 i;
+      name = e.1.1 i;
+    } };
 
     ghost eq_decides = { λ x y. decides-same
         (λ e. λ i. record { role = e.0 i; party = e.1.0 i; name = e.1.1 i })
@@ -60,6 +38,8 @@ impl Plain for Supplier {
         (decides-both (option-decides party.eq_decides-law x.party y.party) (bytes_decides x.name y.name))) };
 }
 
+// A derived clone has a way out at each field. In a price and in a detail only what owns memory may
+// fail, and the other fields are copied: that is less to prove.
 impl Clone for Price {
     ghost is_clone = { λ x y. y ≡ x };
 
@@ -142,27 +122,17 @@ impl Plain for SupplyDetail {
         (decides-both (option-decides bytes_decides x.unpriced y.unpriced) (pointwise_decides price.eq_decides-law x.prices y.prices)))) };
 }
 
-impl Clone for ProductSupply {
-    ghost is_clone = { λ x y. y ≡ x };
-
-    fn clone(&self) -> Result<ProductSupply, AllocError> {
-        let market = self.market.duplicate()?;
-        let details = self.details.duplicate()?;
-        Ok(ProductSupply {
-            market,
-            details,
-        })
-    }
-}
-
 impl Plain for ProductSupply {
     ghost use Rattle.std.proofs.Common.{ap};
     ghost use Rattle.std.specs.Cmp.Lexicographic.{pointwise_decides};
-    ghost use Rattle.onix_terms.specs.Plain.{decides-both, decides-same};
+    ghost use Rattle.onix_terms.specs.Plain.{clones-same, decides-both, decides-same};
     ghost use Rattle.onix_terms.specs.contracts.plain.TerritoryPlain.TheImpl.Laws as territory;
     ghost use Rattle.onix_rows.specs.contracts.plain.SupplyDetailPlain.TheImpl.Laws as detail;
 
-    ghost clone_is_same = { λ x y e. e };
+    ghost clone_is_same = { λ x y e. λ i. record {
+      market = territory.clone_is_same-law x.market y.market e.0 i;
+      details = clones-same detail.clone_is_same-law x.details y.details e.1 i;
+    } };
 
     ghost eq_decides = { λ x y. decides-same
         (λ e. λ i. record { market = e.0 i; details = e.1 i })
@@ -170,30 +140,19 @@ impl Plain for ProductSupply {
         (decides-both (territory.eq_decides-law x.market y.market) (pointwise_decides detail.eq_decides-law x.details y.details)) };
 }
 
-impl Clone for Product {
-    ghost is_clone = { λ x y. y ≡ x };
-
-    fn clone(&self) -> Result<Product, AllocError> {
-        let reference = self.reference.duplicate()?;
-        let ids = self.ids.duplicate()?;
-        let supplies = self.supplies.duplicate()?;
-        Ok(Product {
-            reference,
-            notification: self.notification,
-            ids,
-            supplies,
-        })
-    }
-}
-
 impl Plain for Product {
     ghost use Rattle.std.proofs.Common.{ap};
     ghost use Rattle.std.specs.Cmp.Lexicographic.{bytes_decides, pointwise_decides};
-    ghost use Rattle.onix_terms.specs.Plain.{decides-both, decides-same};
+    ghost use Rattle.onix_terms.specs.Plain.{clones-same, decides-both, decides-same};
     ghost use Rattle.onix_rows.specs.contracts.plain.ProductIdentifierPlain.TheImpl.Laws as identifier;
     ghost use Rattle.onix_rows.specs.contracts.plain.ProductSupplyPlain.TheImpl.Laws as supply;
 
-    ghost clone_is_same = { λ x y e. e };
+    ghost clone_is_same = { λ x y e. λ i. record {
+      reference = e.0 i;
+      notification = e.1.0 i;
+      ids = clones-same identifier.clone_is_same-law x.ids y.ids e.1.1.0 i;
+      supplies = clones-same supply.clone_is_same-law x.supplies y.supplies e.1.1.1 i;
+    } };
 
     ghost eq_decides = { λ x y. decides-same
         (λ e. λ i. record {

@@ -1,12 +1,14 @@
 // The days on which the current prices of an offer may change.
 
 ghost use Rattle.std.specs.Prelude.{◌≡◌, ◌↔◌, ◌++◌, ◌∷◌, ◌+◌, ◌*◌, ◌≤◌, ◌≤ℤ◌, IfOk, OnOk, Err, length};
+ghost use Rattle.std.specs.List.{flat_map};
 ghost use Rattle.onix_terms.specs.Day.{IsDayNumber};
 ghost use Rattle.price_rules.specs.Breaks.{IsBreakDays, IsSteady, begins_within, breaks_of, ends_within, within};
 ghost use Rattle.price_rules.specs.Calendar.{IsBadRange};
 
 use crate::calendar::{CalendarFault, is_bad_range};
 use crate::offer::Offer;
+use onix_rows::parts::Price;
 use onix_terms::day::Day;
 use std::alloc::{AllocError, Global};
 
@@ -40,6 +42,20 @@ fn put_end(days: &mut Vec<Day>, until: Option<Day>, from: Day, to: Day) -> Resul
     }
 }
 
+// The first day, and each later day of the range on which one of the prices begins or the day before
+// which it ended, as the prices come.
+fn gather_days(alloc: Global, prices: &[Price], from: Day, to: Day) -> Result<Vec<Day>, AllocError>
+    ensures { IfOk result (λ days. days.items ≡ from ∷ flat_map (breaks_of from to) prices.now) }
+{
+    let mut days = Vec::new(alloc);
+    days.push(from)?;
+    for price in prices {
+        put_begin(&mut days, price.from, from, to)?;
+        put_end(&mut days, price.until, from, to)?;
+    }
+    Ok(days)
+}
+
 /// The break days of the offer from one day to another, both included: the first day, and each
 /// later day of the range on which a price begins or the day before which one ended, in order,
 /// without repeats. Between two of them no current price changes. `BadRange` comes exactly where
@@ -59,12 +75,9 @@ pub fn break_days(
     if is_bad_range(from, to) {
         return Err(CalendarFault::BadRange);
     }
-    let mut days = Vec::new(alloc);
-    days.push(from)?;
-    for price in offer.prices.as_slice() {
-        put_begin(&mut days, price.from, from, to)?;
-        put_end(&mut days, price.until, from, to)?;
-    }
+    let Ok(mut days) = gather_days(alloc, offer.prices.as_slice(), from, to) else {
+        return Err(CalendarFault::Memory);
+    };
     days.sort_unstable();
     days.dedup();
     Ok(days)

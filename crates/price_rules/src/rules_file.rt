@@ -17,9 +17,10 @@ use toml::{Table, Value};
 fn has_rule_keys(table: &Table) -> bool
     ensures { result ≡ keys_pass is_rule_key (table_view table.now) }
 {
-    table.keys().all(|key| key.as_str() == "series"
-        || key.as_str() == "codes"
-        || key.as_str() == "max")
+    table.keys().all(|key| {
+        let key = key.as_str();
+        key == "series" || key == "codes" || key == "max"
+    })
 }
 
 // Whether the table has no key but that of the top table.

@@ -1,29 +1,21 @@
-use Rattle.std.proofs.Common.{◌≡◌, ◌↔◌, ℤ, ◌<ℤ◌, ◌∷◌, length, take, Result, Err, IsTrue, false, true, refl, subst, sym, ap, arith, ◌∙◌}
+use Rattle.std.proofs.Common.{◌≡◌, ℤ, ◌<ℤ◌, ◌∷◌, length, true, refl, subst, sym, ap, arith, ◌∙◌}
 use Rattle.std.specs.List.{Contains, flat_map}
-use Rattle.std.proofs.lemmas.List.{take_all}
 use Rattle.std.proofs.lemmas.List.Filters.{dedup_is}
 use Rattle.std.proofs.lemmas.List.Kept.{Contains-dedup, Contains-from_dedup, IsStrictlySortedBy-dedup}
 use Rattle.std.proofs.lemmas.List.Sorted.{Contains-permutation, IsPermutation-sym}
 use Rattle.std.proofs.lemmas.Map.Keys.{Less-from_sorted}
 use Rattle.std.proofs.lemmas.Cmp.{int_cmp_total, eq_by_cmp_equiv}
 use Rattle.std.proofs.lemmas.Int.{ints}
-use Rattle.std.proofs.lemmas.Result.{IfOk-from_err, err_from_is_err_and}
-use Rattle.std.specs.Result.{IsErrAnd}
 use Rattle.std.specs.Ordering.{int_eq, int_cmp, MatchOrdering}
 use Rattle.std.specs.Cmp.{int_ranks}
 use Rattle.std.specs.List.Sorted.{IsStrictlySortedBy}
 use Rattle.std.specs.declared.cmp.Ordering.TheVariants.{Less}
 use Rattle.price_rules.specs.Breaks.{breaks_of}
-use Rattle.price_rules.specs.declared.calendar.CalendarFault.{CalendarFault}
-use Rattle.price_rules.specs.declared.calendar.CalendarFault.TheVariants as fault
 use Rattle.price_rules.proofs.BreakDays.{each_of, few_breaks, steady_of}
 use Rattle.price_rules.proofs.breaks.break_days.Goals as goal
 
-gathered : (c : goal.After-dedup) → c.loop-price.days.items ≡ c.args.from ∷ flat_map (breaks_of c.args.from c.args.to) c.args.offer.now.prices
-gathered c =
-    let all : take c.loop-price.price-index c.as_slice-price-items.result.now ≡ c.args.offer.now.prices =
-    take_all c.loop-price.price-index c.as_slice-price-items.result.now (omega arith) ∙ c.as_slice-price-items.ensures in
-    c.loop-price.invariant ∙ ap (λ ps. c.args.from ∷ flat_map (breaks_of c.args.from c.args.to) ps) all
+gathered : (c : goal.After-dedup) → c.in-Ok.days.items ≡ c.args.from ∷ flat_map (breaks_of c.args.from c.args.to) c.args.offer.now.prices
+gathered c = c.in-Ok.ensures ∙ ap (λ ps. c.args.from ∷ flat_map (breaks_of c.args.from c.args.to) ps) c.as_slice.ensures
 
 same_day : (x y : ℤ) → int_eq x y ≡ true → x ≡ y
 same_day x y e = grind (arith, ints)
@@ -57,54 +49,5 @@ returns-clause-few c =
 pub returns-clause-steady : goal.returns-clause-steady
 returns-clause-steady c = steady_of c.args.offer.now c.args.from c.args.to c.dedup.new.self.items (returns-clause-days c)
 
--- memory ran out, in a range that is not bad
-no_memory : {T : Type 0} (r : Result T CalendarFault) (Bad : Type 0) → IsErrAnd r (λ e. e ≡ fault.Memory) → (Bad → IsTrue false) → (r ≡ Err fault.BadRange) ↔ Bad
-no_memory r Bad failed good = (
-  λ e. let found = err_from_is_err_and r failed in let is = found.1 in let memory = found.2 in absurd (cc),
-  λ bad. let wrong = good bad in absurd (cc),
-)
-
-pub returns-in_err-push-clause-days : goal.returns-in_err-push-clause-days
-returns-in_err-push-clause-days c = IfOk-from_err c.from_residual.result _ c.from_residual.ensures.0
-
-pub returns-in_err-push-clause-few : goal.returns-in_err-push-clause-few
-returns-in_err-push-clause-few c = IfOk-from_err c.from_residual.result _ c.from_residual.ensures.0
-
-pub returns-in_err-push-clause-steady : goal.returns-in_err-push-clause-steady
-returns-in_err-push-clause-steady c = IfOk-from_err c.from_residual.result _ c.from_residual.ensures.0
-
-pub returns-in_err-push-clause-range : goal.returns-in_err-push-clause-range
-returns-in_err-push-clause-range c = IfOk-from_err c.from_residual.result _ c.from_residual.ensures.0
-
-pub returns-in_err-push-clause-bad_range : goal.returns-in_err-push-clause-bad_range
-returns-in_err-push-clause-bad_range c = no_memory c.from_residual.result _ c.from_residual.ensures.1 c.if-is_bad_range.ensures.meaning.1
-
-pub returns-in_err-put_begin-clause-days : goal.returns-in_err-put_begin-clause-days
-returns-in_err-put_begin-clause-days c = IfOk-from_err c.from_residual-in_err-put_begin.result _ c.from_residual-in_err-put_begin.ensures.0
-
-pub returns-in_err-put_begin-clause-few : goal.returns-in_err-put_begin-clause-few
-returns-in_err-put_begin-clause-few c = IfOk-from_err c.from_residual-in_err-put_begin.result _ c.from_residual-in_err-put_begin.ensures.0
-
-pub returns-in_err-put_begin-clause-steady : goal.returns-in_err-put_begin-clause-steady
-returns-in_err-put_begin-clause-steady c = IfOk-from_err c.from_residual-in_err-put_begin.result _ c.from_residual-in_err-put_begin.ensures.0
-
-pub returns-in_err-put_begin-clause-range : goal.returns-in_err-put_begin-clause-range
-returns-in_err-put_begin-clause-range c = IfOk-from_err c.from_residual-in_err-put_begin.result _ c.from_residual-in_err-put_begin.ensures.0
-
-pub returns-in_err-put_begin-clause-bad_range : goal.returns-in_err-put_begin-clause-bad_range
-returns-in_err-put_begin-clause-bad_range c = no_memory c.from_residual-in_err-put_begin.result _ c.from_residual-in_err-put_begin.ensures.1 c.if-is_bad_range.ensures.meaning.1
-
-pub returns-in_err-put_end-clause-days : goal.returns-in_err-put_end-clause-days
-returns-in_err-put_end-clause-days c = IfOk-from_err c.from_residual-in_err-put_end.result _ c.from_residual-in_err-put_end.ensures.0
-
-pub returns-in_err-put_end-clause-few : goal.returns-in_err-put_end-clause-few
-returns-in_err-put_end-clause-few c = IfOk-from_err c.from_residual-in_err-put_end.result _ c.from_residual-in_err-put_end.ensures.0
-
-pub returns-in_err-put_end-clause-steady : goal.returns-in_err-put_end-clause-steady
-returns-in_err-put_end-clause-steady c = IfOk-from_err c.from_residual-in_err-put_end.result _ c.from_residual-in_err-put_end.ensures.0
-
-pub returns-in_err-put_end-clause-range : goal.returns-in_err-put_end-clause-range
-returns-in_err-put_end-clause-range c = IfOk-from_err c.from_residual-in_err-put_end.result _ c.from_residual-in_err-put_end.ensures.0
-
-pub returns-in_err-put_end-clause-bad_range : goal.returns-in_err-put_end-clause-bad_range
-returns-in_err-put_end-clause-bad_range c = no_memory c.from_residual-in_err-put_end.result _ c.from_residual-in_err-put_end.ensures.1 c.if-is_bad_range.ensures.meaning.1
+pub returns-in_default-clause-bad_range : goal.returns-in_default-clause-bad_range
+returns-in_default-clause-bad_range c = (λ e. absurd (cc e), λ bad. let wrong = c.if-is_bad_range.ensures.meaning.1 bad in absurd (cc))

@@ -9,6 +9,7 @@ pub mod late;
 pub mod minimums;
 pub mod questions;
 pub mod steps;
+pub mod three;
 pub mod waivers;
 
 use crate::asking::{Asked, Asks, expect_asked};

@@ -1,8 +1,9 @@
 .PHONY: test page-test wrong-bodies build package package-test
 
 # The gate: every proof from nothing, the edits that the prover must refuse, the tests of the libraries,
-# and the program as two compilers build it: 'N passed, M failed'. The program that it built starts at
-# once from then on, and is tested from outside. The last line is 'program: N cases, M failed'.
+# and the program as two compilers build it: 'N passed, M failed'. Then memory is refused to the tests of the
+# desks: 'memory: N requests refused, M runs failed'. The program that it built starts at once from then on,
+# and is tested from outside. The last line is 'program: N cases, M failed'.
 test:
 	@tests/gate
 

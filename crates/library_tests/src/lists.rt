@@ -2,10 +2,15 @@
 // be refused once: then what is reported is what was reported before the request, or what is to be after
 // it, and made again it is answered as it is to be.
 
+pub mod changes;
 pub mod drain;
 pub mod exchanges;
+pub mod late;
+pub mod minimums;
 pub mod questions;
 pub mod steps;
+pub mod three;
+pub mod waivers;
 
 use crate::asking::{Asked, Asks, expect_asked};
 use crate::cases::{Step, steps_of};

@@ -1,10 +1,11 @@
 // The lists of requests, of the desk in memory and of the desk in tables over a store in memory.
-// `bench/refused_memory` refuses each request for memory of these tests in turn.
+// `tests/refused-memory` and `bench/refused_memory` refuse each request for memory of these tests in turn.
 
 use crate::lists::drain::{drain, waiting};
 use crate::lists::exchanges::EXCHANGES;
 use crate::lists::questions::QUESTIONS;
 use crate::lists::steps::STEPS;
+use crate::lists::three::THREE;
 use crate::lists::{List, expect_list};
 use crate::refusals::{Refusals, are_chosen};
 use desk_memory::desk::MemoryDesk;
@@ -59,7 +60,7 @@ fn tables_in_memory(rt: HostRuntime) {
     let mut met = Refusals::of(&rt);
     let drained = met.own(&rt, waiting(alloc));
     let mut are_asked = false;
-    for list in [STEPS, QUESTIONS, EXCHANGES, drain(drained.as_str())] {
+    for list in [STEPS, THREE, QUESTIONS, EXCHANGES, drain(drained.as_str())] {
         if are_chosen(&rt, list.name) {
             over_tables(alloc, &rt, &mut met, list);
             are_asked = true;

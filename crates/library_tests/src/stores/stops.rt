@@ -6,7 +6,11 @@ use crate::cases::{Step, steps_of};
 use crate::disks::{TestFiles, copied, new_files, stop_machine};
 use crate::files::{Call, make};
 use crate::lists::List;
+use crate::lists::changes::CHANGES;
+use crate::lists::late::LATE;
+use crate::lists::minimums::MINIMUMS;
 use crate::lists::steps::STEPS;
+use crate::lists::waivers::WAIVERS;
 use price_rules::precedence::Precedence;
 use std::alloc::{AllocError, Global};
 use std::process::Abort;
@@ -100,9 +104,9 @@ fn expect_goes_on(
         }
         None => batch.begins_after(output, 0),
     };
-    assert!(stop; is_left, "what stands after a stop");
+    assert!(stop; is_left, "{}: what stands after a stop", batch.list.name);
     let is_done = matches!(asked.ended, End::Done) && batch.ends_at_last(output);
-    assert!(stop; is_done, "the requests made again");
+    assert!(stop; is_done, "{}: the requests made again", batch.list.name);
 }
 
 // Asks files of which one fails; then the program stops, and the machine: whether a file had failed.
@@ -148,12 +152,20 @@ fn expect_stops(
     stop.panic("each run had too few calls")
 }
 
+// Does so with each of the lists, since each function that names them takes seconds to prove.
+fn expect_stops_of_lists(alloc: Global, stop: &impl Abort, is_log: bool) -> Result<(), Fail> {
+    for list in [STEPS, LATE, CHANGES, WAIVERS, MINIMUMS] {
+        expect_stops(alloc, stop, list, is_log)?;
+    }
+    Ok(())
+}
+
 #[test]
 fn stops_of_the_log(rt: HostRuntime) -> Result<(), Fail> {
-    expect_stops(rt.alloc(), &rt, STEPS, true)
+    expect_stops_of_lists(rt.alloc(), &rt, true)
 }
 
 #[test]
 fn stops_of_the_database(rt: HostRuntime) -> Result<(), Fail> {
-    expect_stops(rt.alloc(), &rt, STEPS, false)
+    expect_stops_of_lists(rt.alloc(), &rt, false)
 }

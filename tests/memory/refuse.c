@@ -1,0 +1,72 @@
+/* Loaded before the C library into a program of tests. The program counts its requests for memory, each
+   `malloc` and `realloc`. At request START and each STEPth from there it forks: the copy is refused this
+   one request, and goes on to its end; the program waits for the copy, and goes on with the memory. A line
+   "REQUEST STATUS FROM TO" on the descriptor TOLD tells of each copy: how it ended, as `waitpid` says it,
+   and which bytes of the file of its standard error are its own. START, STEP and TOLD stand in the
+   environment. */
+#define _GNU_SOURCE
+#include <dlfcn.h>
+#include <stdio.h>
+#include <stdlib.h>
+#include <sys/types.h>
+#include <sys/wait.h>
+#include <unistd.h>
+
+/* A copy that runs for so many seconds is ended. */
+enum { SECONDS = 60 };
+
+static long requests, start = -1, step;
+static int told, is_copy;
+
+static void give_up(const char *what) {
+    perror(what);
+    _exit(70);
+}
+
+static long of_environment(const char *name) {
+    const char *word = getenv(name);
+    return word ? atol(word) : 0;
+}
+
+static void read_environment(void) {
+    start = of_environment("START");
+    step = of_environment("STEP");
+    told = (int)of_environment("TOLD");
+}
+
+static void tell(int status, off_t from) {
+    char line[96];
+    off_t to = lseek(2, 0, SEEK_END);
+    int length = snprintf(line, sizeof line, "%ld %d %lld %lld\n", requests, status, (long long)from, (long long)to);
+    if (write(told, line, length) != length) give_up("telling of a copy");
+}
+
+/* Whether this process is a copy that is refused its request. */
+static int refuses(void) {
+    if (start < 0) read_environment();
+    if (is_copy || start == 0 || ++requests < start || (requests - start) % step) return 0;
+    off_t from = lseek(2, 0, SEEK_END);
+    pid_t copy = fork();
+    if (copy < 0) give_up("fork");
+    if (copy == 0) {
+        is_copy = 1;
+        alarm(SECONDS);
+        return 1;
+    }
+    int status;
+    if (waitpid(copy, &status, 0) != copy) give_up("waitpid");
+    tell(status, from);
+    return 0;
+}
+
+void *malloc(size_t size) {
+    static void *(*next)(size_t);
+    if (!next) next = dlsym(RTLD_NEXT, "malloc");
+    return refuses() ? NULL : next(size);
+}
+
+void *realloc(void *old, size_t size) {
+    static void *(*next)(void *, size_t);
+    if (!next) next = dlsym(RTLD_NEXT, "realloc");
+    return refuses() ? NULL : next(old, size);
+}

@@ -1,0 +1,37 @@
+"""The help of the program and of each command, compared whole with the texts in tests/help, which are
+written by hand: clap's layout, and sentences that say what docs/FORMATS.md and docs/HTTP.md say."""
+
+import os
+from pathlib import Path
+
+from program.room import Group, Outcome, Ran
+
+FILE = Path(__file__).resolve().parent.parent / "help/commands.txt"
+
+
+def texts() -> list[tuple[list[str], bytes]]:
+    """The words of each command line of the file, and what it is to write. Behind a heading each begins
+    with a line `== ` and its words."""
+    _, *cases = FILE.read_text(encoding="utf-8").split("\n== ")
+    found = []
+    for number, case in enumerate(cases, 1):
+        line, _, text = case.partition("\n")
+        # The line end before the next case was taken off.
+        found.append((line.split(), (text if number == len(cases) else f"{text}\n").encode()))
+    return found
+
+
+def helps(room):
+    """Each text, and the same where the word `help` asks for it. The program is called as its file is."""
+    commands = []
+    for words, text in texts():
+        *command, _ = words
+        commands += command
+        text = text.replace(b"Usage: onixdesk", b"Usage: " + os.fsencode(room.program.name))
+        for asked in (words, ["help", *command]):
+            yield Outcome(f"help: {' '.join(asked)}", room.run(*asked), Ran(0, text))
+    wanted = ["batch", "deliver", "gaps", "migrate", "serve"]
+    yield Outcome("help: the commands whose help is compared", commands, wanted)
+
+
+GROUPS = [Group("help of each command", helps)]

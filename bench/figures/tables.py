@@ -29,7 +29,12 @@ def compare(one: Path, other: Path):
         for table in TABLES:
             for a, b in zip_longest(rows_of(left, table), rows_of(right, table)):
                 if a != b:
-                    raise BenchmarkFault(f"{table}: the row {a} in {one}, and {b} in {other}")
+                    raise BenchmarkFault(f"{table}: {shown(a)} in {one}, and {shown(b)} in {other}")
+
+
+def shown(row: tuple | None) -> str:
+    """The beginning of a row: one of a message has its whole text."""
+    return str(row)[:200]
 
 
 def opened(file: Path) -> sqlite3.Connection:

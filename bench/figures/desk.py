@@ -44,5 +44,9 @@ class Desk:
 
     def new_file(self):
         """Removes the file, so that it is made anew."""
-        for path in (self.file, self.file.with_name(self.file.name + "-wal")):
+        for path in (self.file, self.log()):
             path.unlink(missing_ok=True)
+
+    def log(self) -> Path:
+        """The log beside the file."""
+        return self.file.with_name(self.file.name + "-wal")

@@ -1,0 +1,193 @@
+"""A desk that `serve` keeps open and that grows by messages, beside the same rows put by SQLite alone.
+
+Both stand in a folder, and each message is given to the one and then to the other, so that other work on the
+machine meets both alike. What was measured stands there too: a run that was stopped is continued.
+"""
+
+import json
+import os
+import sys
+from collections.abc import Callable, Iterator
+from statistics import mean, median
+from typing import NamedTuple
+
+from figures import articles, tables, texts
+from figures.desk import Desk
+from figures.kept import Kept, Message, Size
+from figures.runs import BenchmarkFault
+from figures.served import Served, free_port
+from figures.taken import Taken
+from figures.tools import SOURCES
+from figures.twin import Twin, tests_of
+
+GAPS = f"/series/{articles.SERIES}/gaps"
+CATALOGUE = f"/series/{articles.SERIES}/catalogue"
+
+# A catalogue of more articles is not asked for: the desk makes the whole answer in memory.
+MOST_OF_CATALOGUE = 110_000
+
+
+class Plan(NamedTuple):
+    """How many articles a message has, at which numbers of messages is measured, and how many questions about
+    prices are asked then."""
+
+    articles: int
+    messages: list[int]
+    questions: int
+
+
+class Asked(NamedTuple):
+    """What opening a desk after a kill took; what a price took of the desk and of SQLite, of the processor and by
+    the clock; their memories; and what the catalogue took of the processor, the bytes of its answer and the greatest
+    memory then, or zeros."""
+
+    reopening: Taken
+    prices: list[int]
+    memories: list[int]
+    catalogue: list[int]
+
+
+def planned(each: int, start: int, step: float, end: int, questions: int) -> Plan:
+    """Sizes from `start` to `end` articles, each `step` times the one before, in whole messages."""
+    messages, size = set(), float(start)
+    while round(size) <= end:
+        messages.add(max(1, round(size / each)))
+        size *= step
+    return Plan(each, sorted(messages), questions)
+
+
+class Growing:
+    """A desk and its twin in a folder, as they grow by a plan."""
+
+    def __init__(self, desk: Desk, plan: Plan):
+        self.desk = desk
+        self.plan = plan
+        self.twin_file = desk.folder / "sqlite.db"
+        self.messages = Kept(desk.folder / "messages.csv", Message)
+        self.sizes = Kept(desk.folder / "sizes.csv", Size)
+        self.open_desk: Served | None = None
+
+    def measured(self) -> Iterator[Size]:
+        """Each size of the plan, as it was kept or is measured now."""
+        known = {size.articles: size for size in self.sizes.all()}
+        if not self.desk.file.exists():
+            self.desk.answer([texts.AGREEMENT])
+        before = 0
+        try:
+            for count in self.plan.messages:
+                size = known.get(count * self.plan.articles)
+                if size is None:
+                    size = self.measure(before, count)
+                    self.sizes.add(size)
+                before = count
+                yield size
+        finally:
+            if self.open_desk:
+                self.open_desk.kill()
+
+    def measure(self, before: int, count: int) -> Size:
+        """Measures a desk of so many messages, which has got those `before` or more of them."""
+        log, greatest = self.grow(count)
+        asked = self.ask(count * self.plan.articles)
+        tables.compare(self.desk.file, self.twin_file)
+        self.open_desk = self.serve()
+        tests = tests_of(self.twin_file)
+        return Size(
+            count * self.plan.articles,
+            round(os.getloadavg()[0] * 100),
+            *self.article_times(before, count),
+            *asked.prices,
+            self.desk.file.stat().st_size,
+            self.twin_file.stat().st_size,
+            log,
+            greatest,
+            *asked.memories,
+            *self.open_desk.opening,
+            *asked.reopening,
+            *tests,
+            *asked.catalogue,
+        )
+
+    def serve(self, connections: int | None = None) -> Served:
+        """Opens the desk for so many connections, or until it is killed."""
+        port = free_port()
+        ending = [] if connections is None else ["--requests", str(connections)]
+        words = [self.desk.program, "--db", self.desk.file, "--existing", "serve", "--port", str(port), *ending]
+        return Served(words, port)
+
+    def grow(self, count: int) -> tuple[int, int]:
+        """Gives both the messages up to `count`, and kills the desk. The bytes of its log and its greatest
+        memory."""
+        served, self.open_desk = self.open_desk or self.serve(), None
+        twin = Twin(self.twin_file, self.plan.articles)
+        try:
+            self.deliver(served, twin, count)
+            return self.desk.log().stat().st_size, served.greatest_memory()
+        finally:
+            served.kill()
+            twin.close()
+
+    def deliver(self, served: Served, twin: Twin, count: int):
+        """A message that the one has got and not the other, after a stop, is not measured."""
+        body, _ = served.ask(GAPS)
+        has = json.loads(body)["next"] - 1, twin.applied()
+        for number in range(min(has) + 1, count + 1):
+            desk = self.post(served, number) if number > has[0] else None
+            sqlite = twin.apply(number) if number > has[1] else None
+            if desk and sqlite:
+                self.messages.add(Message(number, *desk, *sqlite))
+
+    def post(self, served: Served, number: int) -> Taken:
+        body, taken = served.post("/messages", articles.message(number, self.plan.articles))
+        answer = json.loads(body)
+        if (answer["answer"], answer["number"], answer["replaced"]) != ("applied", number, self.plan.articles):
+            raise BenchmarkFault(f"message {number} was answered {body}")
+        return taken
+
+    def article_times(self, before: int, count: int) -> list[int]:
+        """What an article took of the messages behind `before`: of the desk and of SQLite, and by the clock."""
+        rows = [row for row in self.messages.all() if before < row.number <= count]
+        if not rows:
+            raise BenchmarkFault(f"no message up to {count} was measured since {before}")
+        pairs = [row.pair() for row in rows]
+        return [round(time / self.plan.articles) for time in of_both(pairs, mean, mean)]
+
+    def ask(self, stored: int) -> Asked:
+        """Opens the desk after the kill, and asks it and SQLite for prices in turn, and then the desk for its
+        catalogue. It then ends by itself, and copies its log."""
+        is_catalogue_asked = stored <= MOST_OF_CATALOGUE
+        served = self.serve(self.plan.questions + is_catalogue_asked + 1)
+        port = free_port()
+        sqlite = Served([sys.executable, SOURCES / "sqlite_prices", self.twin_file, str(port)], port)
+        try:
+            targets = articles.price_targets(stored, self.plan.questions)
+            prices = of_both([price_times(served, sqlite, target) for target in targets], median, min)
+            memories = [served.memory(), sqlite.memory()]
+            catalogue = catalogue_of(served) if is_catalogue_asked else [0, 0, 0]
+            served.ask(GAPS)
+            served.end()
+        finally:
+            served.kill()
+            sqlite.kill()
+        return Asked(served.opening, prices, memories, catalogue)
+
+
+def catalogue_of(served: Served) -> list[int]:
+    """What the catalogue took of the processor, the bytes of its answer, and the greatest memory then."""
+    body, taken = served.ask(CATALOGUE)
+    return [taken.processor, len(body), served.greatest_memory()]
+
+
+def of_both(pairs: list[tuple[Taken, Taken]], of_processor: Callable, of_clock: Callable) -> list[int]:
+    """One number for the times of the desk and of SQLite: of the processor, and then by the clock."""
+    both = list(zip(*pairs))
+    processor = [round(of_processor(it.processor for it in times)) for times in both]
+    return processor + [round(of_clock(it.clock for it in times)) for times in both]
+
+
+def price_times(served: Served, sqlite: Served, target: str) -> tuple[Taken, Taken]:
+    """What a question took of both. BenchmarkFault where their answers differ or have no price."""
+    (one, desk), (other, twin) = served.ask(target), sqlite.ask(target)
+    if one != other or b'"amount":"12.990"' not in one:
+        raise BenchmarkFault(f"{target} was answered {one}, and by SQLite {other}")
+    return desk, twin

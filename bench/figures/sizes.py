@@ -1,0 +1,36 @@
+"""The figures of a desk that grows, at one size of it."""
+
+from collections.abc import Iterator
+
+from figures.figure import Figure
+from figures.kept import Size
+
+PROCESSOR = "nanoseconds of the processor"
+CLOCK = "nanoseconds by the clock"
+
+
+def figures(size: Size) -> Iterator[Figure]:
+    """What the desk took to what SQLite alone took of the same."""
+    article = "an article of a message, to its rows by SQLite alone"
+    yield Figure(article, size.desk_article, size.sqlite_article, PROCESSOR)
+    yield Figure(article, size.desk_article_clock, size.sqlite_article_clock, CLOCK)
+    price = "a price over HTTP, to the same by SQLite"
+    yield Figure(price, size.desk_price, size.sqlite_price, PROCESSOR)
+    yield Figure(price, size.desk_price_clock, size.sqlite_price_clock, CLOCK)
+    yield Figure("the file, to SQLite's", size.desk_file_bytes, size.sqlite_file_bytes, "bytes")
+    yield Figure("the log while it is open, to the file", size.desk_log_bytes, size.desk_file_bytes, "bytes")
+    memory = size.sqlite_memory_bytes
+    yield Figure("the memory after the questions, to that of SQLite's program", size.desk_memory_bytes, memory, "bytes")
+    yield Figure("the greatest memory while it grew, to the same", size.desk_greatest_bytes, memory, "bytes")
+    tests, by_clock = size.sqlite_tests, size.sqlite_tests_clock
+    opening = "opening a file that was closed, to SQLite's tests of it"
+    yield Figure(opening, size.desk_opening, tests, PROCESSOR)
+    yield Figure(opening, size.desk_opening_clock, by_clock, CLOCK)
+    reopening = "opening one whose desk was killed, to the same"
+    yield Figure(reopening, size.desk_reopening, tests, PROCESSOR)
+    yield Figure(reopening, size.desk_reopening_clock, by_clock, CLOCK)
+    if size.catalogue:
+        one = "an article of a catalogue that is asked for, to one of a message"
+        yield Figure(one, size.catalogue // size.articles, size.desk_article, PROCESSOR)
+        memory = "the greatest memory at that question, to the bytes of its answer"
+        yield Figure(memory, size.catalogue_greatest_bytes, size.catalogue_bytes, "bytes")

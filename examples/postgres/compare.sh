@@ -1,0 +1,27 @@
+#!/usr/bin/env bash
+# Compares the tables of a desk's file with their copy in a database of PostgreSQL, row by row, and writes for
+# each how many rows it has and whether they are the same.
+#     compare.sh FILE SCHEMA
+# FILE is a copy of the desk's file that nobody else has open, with its log beside it as FILE-wal where there is
+# one. SCHEMA has the tables; which database it is, psql's environment says (PGHOST, PGDATABASE, PGUSER ..).
+# Status 0; 1 where rows differ, or sqlite3 or psql fails; 2 where it cannot begin. It needs both.
+set -euo pipefail
+. "$(dirname "$(readlink -f "${BASH_SOURCE[0]}")")/tables.sh"
+[ $# -eq 2 ] && [ -f "$1" ] || { echo "compare.sh: it is called as compare.sh FILE SCHEMA" >&2; exit 2; }
+file=$1 schema=$2
+room=$(mktemp -d)
+trap 'rm -rf "$room"' EXIT
+
+status=0
+for table in $(tables); do
+    count=$(sqlite "SELECT count(*) FROM $table")
+    rows_of_desk "$table" >"$room/desk"
+    rows_of_postgres "$table" >"$room/postgres"
+    if cmp -s "$room/desk" "$room/postgres"; then
+        echo "$table: $count rows, the same in both"
+    else
+        echo "$table: $count rows, which are not those in $schema" >&2
+        status=1
+    fi
+done
+exit $status

@@ -1,0 +1,48 @@
+"""A database file of more than 50,000,000 bytes, which takes a while to be checked: on a terminal a line says so."""
+
+import os
+import pty
+import subprocess
+
+from program.room import SECONDS, Group, Outcome
+
+WORDS = ["--db", "large.db", "--existing", "gaps", "north"]
+
+UNUSABLE = "onixdesk: storage: unusable"
+
+# How many bytes a file has, and what is said on a terminal before the fault: the file is no database.
+FILES = [(50_000_000, []), (50_000_001, ["onixdesk: checking large.db, 50 MB"])]
+
+
+def make_file(room, size: int):
+    """A file of zeros, of which the disk keeps none."""
+    room.write("large.db", b"")
+    os.truncate(room.path("large.db"), size)
+
+
+def said_on_terminal(room) -> list[str]:
+    """The lines on standard error, where that is a terminal."""
+    ours, theirs = pty.openpty()
+    with os.fdopen(ours, "rb", buffering=0) as terminal:
+        words = [room.program, *WORDS]
+        subprocess.run(words, cwd=room.folder, stdout=subprocess.DEVNULL, stderr=theirs, timeout=SECONDS)
+        os.close(theirs)
+        return terminal.read(65_536).decode().splitlines()
+
+
+def on_a_terminal(room):
+    for size, told in FILES:
+        make_file(room, size)
+        yield Outcome(f"a file of {size} bytes on a terminal", said_on_terminal(room), [*told, UNUSABLE])
+
+
+def elsewhere(room):
+    make_file(room, 100_000_000)
+    came = room.run(*WORDS).errors.decode().splitlines()
+    yield Outcome("a large file where standard error is no terminal", came, [UNUSABLE])
+
+
+GROUPS = [
+    Group("large files on a terminal", on_a_terminal),
+    Group("a large file elsewhere", elsewhere),
+]

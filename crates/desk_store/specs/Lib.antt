@@ -4,6 +4,7 @@ pub mod Texts
 pub mod Stands
 pub mod Changes
 pub mod Desks
+pub mod Leaves
 pub mod ContentLemmas
 pub mod LeftLemmas
 pub mod FirstForm

@@ -1,6 +1,6 @@
 // The desk in a SQLite file.
 
-ghost use Rattle.std.specs.Prelude.{◌≡◌, ◌↔◌, [], List, IfOk, IfErr, IfSome, IsTrue, None, Ok, Err};
+ghost use Rattle.std.specs.Prelude.{◌≡◌, ◌↔◌, ◌∷◌, [], List, IfOk, IfErr, IfSome, IsTrue, None, Ok, OnOk, Err};
 ghost use Rattle.sqlite.specs.Files.{file_state, image_of, IsCleanLeft, IsClosed};
 ghost use Rattle.sqlite.specs.Held.{state};
 ghost use Rattle.sqlite.specs.State.{HasCleanDisk};
@@ -9,9 +9,10 @@ ghost use Rattle.sqlite_trees.specs.Tree.{Trees};
 ghost use Rattle.sqlite_wal.specs.Files.{image_at};
 ghost use Rattle.sqlite_wal.specs.Reads.{AreClean};
 ghost use Rattle.desk_store.specs.Desks.{AreRowsOf, IsAsked, IsQuestioned, KeepsRequests};
+ghost use Rattle.desk_store.specs.Leaves.{MayLeave};
 ghost use Rattle.desk_store.specs.Openings.{AreFilesOf, HasNoMeta, HoldRowsOf, IsFaultFor, IsOther, IsReady, LeavesOne, ShowsOnly, TellsFiles, TellsFound, left_in};
 ghost use Rattle.series_rules.specs.Answers.{agree_answer, catalogue_answer, delivery_answer, gaps_answer, waive_answer};
-ghost use Rattle.series_rules.specs.Leaves.{LeavesOnly};
+ghost use Rattle.series_rules.specs.Leaves.{LeavesNoMore, LeavesOneMore, LeavesOnly};
 ghost use Rattle.series_rules.specs.Offers.{offers_after};
 ghost use Rattle.series_rules.specs.declared.requests.Request.{Request};
 
@@ -185,14 +186,15 @@ impl<S: Alter> Desk for DeskStore<S> {
     ghost use Rattle.std.specs.Prelude.{⊤};
     ghost use Rattle.sqlite.specs.Held.{state};
     ghost use Rattle.sqlite.specs.State.{HasCleanDisk};
-    ghost use Rattle.desk_store.specs.Desks.{AreRowsOf, KeepsRequests, LeftIn};
+    ghost use Rattle.desk_store.specs.Desks.{KeepsRequests};
+    ghost use Rattle.desk_store.specs.Leaves.{MayLeave};
     ghost use Rattle.desk_store.specs.ContentLemmas.{keeps_by_content};
 
     ghost is_sound = { λ d. HasCleanDisk (state S.Store d.tables.connection) };
 
     ghost stands_for = { λ d L. KeepsRequests (state S.Store d.tables.connection) L };
 
-    ghost may_leave = { λ d M. LeftIn AreRowsOf (state S.Store d.tables.connection).may_leave M };
+    ghost may_leave = { λ d M. MayLeave (state S.Store d.tables.connection) M };
 
     ghost may_give = { λ f. ⊤ };
 
@@ -201,6 +203,8 @@ impl<S: Alter> Desk for DeskStore<S> {
     fn agree(&mut self, agreement: &Agreement) -> Result<AgreeAnswer, StoreFault>
         ensures asked { IsAsked (Request.Agree agreement.now) (λ L. agree_answer L agreement.now)
             (state S.Store self.old.tables.connection) (state S.Store self.new.tables.connection) result }
+        ensures crash { (L : List Request) → KeepsRequests (state S.Store self.old.tables.connection) L → HasCleanDisk (state S.Store self.new.tables.connection) → LeavesOneMore (MayLeave (state S.Store self.old.tables.connection)) (MayLeave (state S.Store self.new.tables.connection)) (Request.Agree agreement.now ∷ L) }
+        ensures alone { (L : List Request) → KeepsRequests (state S.Store self.old.tables.connection) L → HasCleanDisk (state S.Store self.new.tables.connection) → LeavesOnly (MayLeave (state S.Store self.old.tables.connection)) L → OnOk result (LeavesOnly (MayLeave (state S.Store self.new.tables.connection)) (Request.Agree agreement.now ∷ L)) }
     {
         ask_agree(&mut self.tables, agreement)
     }
@@ -208,6 +212,8 @@ impl<S: Alter> Desk for DeskStore<S> {
     fn deliver(&mut self, records: &Records<'_>) -> Result<DeliveryAnswer, StoreFault>
         ensures asked { IsAsked (Request.Deliver records.now) (λ L. delivery_answer L records.now)
             (state S.Store self.old.tables.connection) (state S.Store self.new.tables.connection) result }
+        ensures crash { (L : List Request) → KeepsRequests (state S.Store self.old.tables.connection) L → HasCleanDisk (state S.Store self.new.tables.connection) → LeavesOneMore (MayLeave (state S.Store self.old.tables.connection)) (MayLeave (state S.Store self.new.tables.connection)) (Request.Deliver records.now ∷ L) }
+        ensures alone { (L : List Request) → KeepsRequests (state S.Store self.old.tables.connection) L → HasCleanDisk (state S.Store self.new.tables.connection) → LeavesOnly (MayLeave (state S.Store self.old.tables.connection)) L → OnOk result (LeavesOnly (MayLeave (state S.Store self.new.tables.connection)) (Request.Deliver records.now ∷ L)) }
     {
         ask_deliver(self.alloc, &mut self.tables, records)
     }
@@ -215,12 +221,15 @@ impl<S: Alter> Desk for DeskStore<S> {
     fn waive(&mut self, series: &SeriesName, number: Number) -> Result<WaiveAnswer, StoreFault>
         ensures asked { IsAsked (Request.Waive series.now number) (λ L. waive_answer L series.now number)
             (state S.Store self.old.tables.connection) (state S.Store self.new.tables.connection) result }
+        ensures crash { (L : List Request) → KeepsRequests (state S.Store self.old.tables.connection) L → HasCleanDisk (state S.Store self.new.tables.connection) → LeavesOneMore (MayLeave (state S.Store self.old.tables.connection)) (MayLeave (state S.Store self.new.tables.connection)) (Request.Waive series.now number ∷ L) }
+        ensures alone { (L : List Request) → KeepsRequests (state S.Store self.old.tables.connection) L → HasCleanDisk (state S.Store self.new.tables.connection) → LeavesOnly (MayLeave (state S.Store self.old.tables.connection)) L → OnOk result (LeavesOnly (MayLeave (state S.Store self.new.tables.connection)) (Request.Waive series.now number ∷ L)) }
     {
         ask_waive(self.alloc, &mut self.tables, series, number)
     }
 
     fn offers_of(&mut self, isbn: &Isbn13) -> Result<Items<Offer>, StoreFault>
         ensures left { (L : List Request) → KeepsRequests (state S.Store self.old.tables.connection) L → HasCleanDisk (state S.Store self.new.tables.connection) → KeepsRequests (state S.Store self.new.tables.connection) L }
+        ensures crash { (L : List Request) → KeepsRequests (state S.Store self.old.tables.connection) L → HasCleanDisk (state S.Store self.new.tables.connection) → LeavesNoMore (MayLeave (state S.Store self.old.tables.connection)) (MayLeave (state S.Store self.new.tables.connection)) }
         ensures questioned { IsQuestioned (λ L. offers_after L isbn.now)
             (state S.Store self.old.tables.connection) (state S.Store self.new.tables.connection) result }
     {
@@ -229,6 +238,7 @@ impl<S: Alter> Desk for DeskStore<S> {
 
     fn gaps(&mut self, series: &SeriesName) -> Result<Option<GapReport>, StoreFault>
         ensures left { (L : List Request) → KeepsRequests (state S.Store self.old.tables.connection) L → HasCleanDisk (state S.Store self.new.tables.connection) → KeepsRequests (state S.Store self.new.tables.connection) L }
+        ensures crash { (L : List Request) → KeepsRequests (state S.Store self.old.tables.connection) L → HasCleanDisk (state S.Store self.new.tables.connection) → LeavesNoMore (MayLeave (state S.Store self.old.tables.connection)) (MayLeave (state S.Store self.new.tables.connection)) }
         ensures questioned { IsQuestioned (λ L. gaps_answer L series.now)
             (state S.Store self.old.tables.connection) (state S.Store self.new.tables.connection) result }
     {
@@ -237,6 +247,7 @@ impl<S: Alter> Desk for DeskStore<S> {
 
     fn catalogue(&mut self, series: &SeriesName) -> Result<Option<Catalogue>, StoreFault>
         ensures left { (L : List Request) → KeepsRequests (state S.Store self.old.tables.connection) L → HasCleanDisk (state S.Store self.new.tables.connection) → KeepsRequests (state S.Store self.new.tables.connection) L }
+        ensures crash { (L : List Request) → KeepsRequests (state S.Store self.old.tables.connection) L → HasCleanDisk (state S.Store self.new.tables.connection) → LeavesNoMore (MayLeave (state S.Store self.old.tables.connection)) (MayLeave (state S.Store self.new.tables.connection)) }
         ensures questioned { IsQuestioned (λ L. catalogue_answer L series.now)
             (state S.Store self.old.tables.connection) (state S.Store self.new.tables.connection) result }
     {

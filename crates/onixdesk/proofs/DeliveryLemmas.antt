@@ -1,5 +1,5 @@
 -- One more file of those that were delivered, and the file at which a fault ended it.
-use Rattle.std.proofs.Common.{◌≡◌, ◌+◌, ◌<◌, ℕ, Bool, true, false, Option, List, [], ◌∷◌, ◌++◌, Err, refl, sym, ap, subst, ◌∙◌, arith, length, cond, nat_eq, not, add-zero, append-nil, inl, inr, ◌⊎◌}
+use Rattle.std.proofs.Common.{◌≡◌, ◌+◌, ◌<◌, ℕ, Bool, true, false, Option, List, [], ◌∷◌, ◌++◌, Err, refl, sym, ap, subst, ◌∙◌, arith, length, cond, nat_eq, not, add-zero, append-nil, inl, inr}
 use Rattle.std.specs.Prelude.{◌||◌, if◌then◌else◌}
 use Rattle.std.specs.Io.KnownBytes.{Appends}
 use Rattle.std.proofs.KnownBytes.{Appends-nil, Appends-trans}
@@ -7,13 +7,12 @@ use Rattle.std.proofs.lemmas.Bool.Decides.{nat_tests}
 use Rattle.std.proofs.lemmas.List.{map-append}
 use Rattle.price_rules.specs.declared.precedence.Rule.{Rule}
 use Rattle.series_rules.specs.Answers.{answer_to, followed_by}
-use Rattle.series_rules.specs.Content.{SameContent}
 use Rattle.series_rules.specs.declared.requests.Request.{Request}
 use Rattle.desk_text.specs.AnswerText.{is_refused, text_of}
 use Rattle.desk_batch.specs.Batch.{output, refusals}
 use Rattle.desk_batch.specs.RunLemmas.{one_more}
 use Rattle.desk_batch.specs.declared.batch.RequestFault.TheVariants as request_fault
-use Rattle.onixdesk.specs.Deliveries.{AreStopped, DeliveriesLeave, DeliveryFits, DeliveryLeaves, IsUnasked, HaveRecords, deliveries, delivery_of}
+use Rattle.onixdesk.specs.Deliveries.{AreStopped, DeliveryFits, IsUnasked, HaveRecords, deliveries, delivery_of}
 use Rattle.onixdesk.specs.Ends.{HasRecords}
 use Rattle.onixdesk.specs.declared.deliver.DeliveryFault.{DeliveryFault}
 use Rattle.onixdesk.specs.declared.deliver.DeliveryFault.TheVariants as fault
@@ -131,22 +130,6 @@ stopped_by rules L count texts text was before holds stands (fault.Request reque
   answers_are = Appends-trans was before holds _ _ so_far fits.1.0;
   stands_after = fits.1.1;
 }
-
--- and what a crash leaves then
-pub stopped_leaves : (L : List Request) (texts : List (List ℕ)) (text : List ℕ) (left : List Request → Type 0) (f : DeliveryFault)
-    → DeliveryLeaves (followed_by L (deliveries texts)) text left (Err f) → DeliveriesLeave L texts (last_of f text) left
-stopped_leaves L texts text left fault.Unreadable leaves = λ M may. inl (leaves M may)
-stopped_leaves L texts text left (fault.Records f) leaves = λ M may. inl (leaves M may)
-stopped_leaves L texts text left (fault.Request request_fault.Write) leaves = λ M may. inl (leaves M may)
-stopped_leaves L texts text left (fault.Request request_fault.Memory) leaves = λ M may. inl (leaves M may)
-stopped_leaves L texts text left (fault.Request (request_fault.Store f)) leaves = λ M may. go M (leaves M may)
-  where
-    now : List Request
-    now = followed_by L (deliveries texts)
-
-    go : (M : List Request) → SameContent M now ⊎ SameContent M (delivery_of text ∷ now) → SameContent M now ⊎ ((one : List ℕ) × SameContent M (delivery_of one ∷ now))
-    go M (inl same) = inl same
-    go M (inr same) = inr (text, same)
 
 -- a file that could not be opened changes nothing
 pub unasked_fits : (rules : List Rule) (L : List Request) (known : Option (List ℕ)) (stands : List Request → Type 0) (f : DeliveryFault)

@@ -4,12 +4,9 @@ use Rattle.csv_records.specs.RecordTexts.{records_of}
 use Rattle.csv_records.specs.declared.reading.RecordFault.TheVariants as record_fault
 use Rattle.price_rules.specs.declared.precedence.Rule.{Rule}
 use Rattle.series_rules.specs.Answers.{followed_by}
-use Rattle.series_rules.specs.Content.{SameContent}
-use Rattle.series_rules.specs.Leaves.{LeavesOnly}
 use Rattle.series_rules.specs.declared.requests.Request.{Request}
 use Rattle.series_rules.specs.declared.requests.Request.TheVariants.{Deliver}
 use Rattle.desk_batch.specs.Batch.{RecordsFit, output, refusals}
-use Rattle.desk_batch.specs.Leaves.{RequestLeaves}
 use Rattle.desk_batch.specs.OneRequest.{RequestFits}
 use Rattle.onixdesk.specs.Ends.{HasRecords}
 use Rattle.onixdesk.specs.declared.deliver.DeliveryFault.{DeliveryFault}
@@ -36,13 +33,6 @@ DeliveryFits rules L text written stands (Ok b) = HasRecords text × RequestFits
 DeliveryFits rules L text written stands (Err (fault.Request f)) = HasRecords text × RequestFits rules L (delivery_of text) written stands (Err f)
 DeliveryFits rules L text written stands (Err (fault.Records f)) = RecordsFit text f × written [] × stands L
 DeliveryFits rules L text written stands (Err fault.Unreadable) = written [] × stands L
-
--- what a crash leaves once the delivery of a text after L has ended so, where it left only L
-abbrev pub DeliveryLeaves : List Request → List ℕ → (List Request → Type 0) → Result Bool DeliveryFault → Type 0
-DeliveryLeaves L text left (Ok b) = RequestLeaves L (delivery_of text) left (Ok b)
-DeliveryLeaves L text left (Err (fault.Request f)) = RequestLeaves L (delivery_of text) left (Err f)
-DeliveryLeaves L text left (Err (fault.Records f)) = LeavesOnly left L
-DeliveryLeaves L text left (Err fault.Unreadable) = LeavesOnly left L
 
 -- each of these texts has records
 abbrev pub HaveRecords : List (List ℕ) → Type 0
@@ -81,9 +71,3 @@ pub record AreStopped (rules : List Rule) (L : List Request) (count : ℕ) (text
 abbrev pub DeliveriesEnd : List Rule → List Request → ℕ → List (List ℕ) → List (List ℕ) → (List ℕ → Type 0) → (List Request → Type 0) → ℕ → Type 0
 DeliveriesEnd rules L count texts last written stands status =
     (AreDelivered rules L count texts written stands status × (last ≡ [])) ⊎ AreStopped rules L count texts last written stands status
-
--- a crash leaves L with the deliveries of these texts and of the last, or that with one delivery more
-abbrev pub DeliveriesLeave : List Request → List (List ℕ) → List (List ℕ) → (List Request → Type 0) → Type 0
-DeliveriesLeave L texts last left =
-    (M : List Request) → left M → SameContent M (followed_by (followed_by L (deliveries texts)) (deliveries last))
-    ⊎ ((text : List ℕ) × SameContent M (delivery_of text ∷ followed_by (followed_by L (deliveries texts)) (deliveries last)))

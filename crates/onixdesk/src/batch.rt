@@ -3,10 +3,7 @@
 ghost use Rattle.std.specs.Prelude.{◌≤◌, ℕ, List};
 ghost use Rattle.std.specs.Io.KnownBytes.{Appends};
 ghost use Rattle.csv_records.specs.Streams.{IsTold};
-ghost use Rattle.desk_batch.specs.Batch.{requests_of};
-ghost use Rattle.desk_batch.specs.Leaves.{KeepsAnswered};
 ghost use Rattle.onixdesk.specs.Ends.{Ends};
-ghost use Rattle.series_rules.specs.Leaves.{LeavesOnly};
 ghost use Rattle.series_rules.specs.declared.requests.Request.{Request};
 
 use crate::fault::{Fault, report};
@@ -43,10 +40,8 @@ pub fn run<D: Desk, R: Read, W: Write, E: Write>(
     // There is a text, that of the input where it tells its bytes, of which this is the status. All
     // its requests have taken effect, and all answers are written; or the first of them have, and
     // all answers to these are written, but perhaps a part of the last or the whole of it; or none.
-    // Whatever is written is of requests that a crash leaves, where it left only what stood.
     ensures end { (text : List ℕ) × IsTold (R.remaining input.old) text × ((L : List Request) → D.stands_for desk.old L → D.is_sound desk.new →
-        Ends precedence.now L text (Appends (W.contents output.old) (W.contents output.new)) (D.stands_for desk.new) result
-        × (LeavesOnly (D.may_leave desk.old) L → KeepsAnswered precedence.now L (requests_of text) (Appends (W.contents output.old) (W.contents output.new)) (D.may_leave desk.new))) }
+        Ends precedence.now L text (Appends (W.contents output.old) (W.contents output.new)) (D.stands_for desk.new) result) }
 {
     match run_batch(alloc, desk, precedence, input, output) {
         Ok(0) => 0,

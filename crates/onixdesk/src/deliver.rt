@@ -3,8 +3,7 @@
 ghost use Rattle.std.specs.Prelude.{◌≡◌, ◌≤◌, ℕ, List, length, if◌then◌else◌};
 ghost use Rattle.std.specs.Io.KnownBytes.{Appends};
 ghost use Rattle.csv_records.specs.Streams.{IsTold};
-ghost use Rattle.onixdesk.specs.Deliveries.{DeliveriesEnd, DeliveriesLeave, DeliveryFits, DeliveryLeaves, IsUnasked, ReadFits};
-ghost use Rattle.series_rules.specs.Leaves.{LeavesOnly};
+ghost use Rattle.onixdesk.specs.Deliveries.{DeliveriesEnd, DeliveryFits, IsUnasked, ReadFits};
 ghost use Rattle.series_rules.specs.declared.requests.Request.{Request};
 
 use crate::fault::{Fault, report, report_file};
@@ -63,8 +62,7 @@ pub fn deliver_one<D: Desk, R: Read, W: Write>(
     ensures premise { D.is_sound desk.new → D.is_sound desk.old }
     // There is a text, that of the reader where it tells its bytes, whose delivery ends as the definitions have it.
     ensures run { (text : List ℕ) × IsTold (R.remaining reader.old) text × ((L : List Request) → D.stands_for desk.old L → D.is_sound desk.new →
-        DeliveryFits precedence.now L text (Appends (W.contents writer.old) (W.contents writer.new)) (D.stands_for desk.new) result
-        × (LeavesOnly (D.may_leave desk.old) L → DeliveryLeaves L text (D.may_leave desk.new) result)) }
+        DeliveryFits precedence.now L text (Appends (W.contents writer.old) (W.contents writer.new)) (D.stands_for desk.new) result) }
 {
     let request = match read_delivery(alloc, reader) {
         Ok(request) => request,
@@ -99,8 +97,7 @@ fn deliver_file<D: Desk, W: Write>(
     ensures premise { D.is_sound desk.new → D.is_sound desk.old }
     // Of some text: no clause can say what a file holds.
     ensures run { (text : List ℕ) × ((L : List Request) → D.stands_for desk.old L → D.is_sound desk.new →
-        DeliveryFits precedence.now L text (Appends (W.contents writer.old) (W.contents writer.new)) (D.stands_for desk.new) result
-        × (LeavesOnly (D.may_leave desk.old) L → DeliveryLeaves L text (D.may_leave desk.new) result)) }
+        DeliveryFits precedence.now L text (Appends (W.contents writer.old) (W.contents writer.new)) (D.stands_for desk.new) result) }
 {
     match File::open(rt, name) {
         Ok(mut file) => deliver_one(rt.alloc(), desk, precedence, &mut file, writer),
@@ -119,8 +116,7 @@ fn deliver_named<D: Desk, R: Read, W: Write>(
 ) -> Result<bool, DeliveryFault>
     ensures premise { D.is_sound desk.new → D.is_sound desk.old }
     ensures run { (text : List ℕ) × ((L : List Request) → D.stands_for desk.old L → D.is_sound desk.new →
-        DeliveryFits precedence.now L text (Appends (W.contents writer.old) (W.contents writer.new)) (D.stands_for desk.new) result
-        × (LeavesOnly (D.may_leave desk.old) L → DeliveryLeaves L text (D.may_leave desk.new) result)) }
+        DeliveryFits precedence.now L text (Appends (W.contents writer.old) (W.contents writer.new)) (D.stands_for desk.new) result) }
 {
     if name == "-" {
         deliver_one(rt.alloc(), desk, precedence, input, writer)
@@ -164,11 +160,9 @@ pub fn run<D: Desk, R: Read, W: Write, E: Write>(
 ) -> u8
     ensures status { result ≤ 3 }
     ensures premise { D.is_sound desk.new → D.is_sound desk.old }
-    // There are texts, one for each file that was delivered: no clause can say what a file holds. A
-    // crash leaves all that is written of, where it left only what stood.
+    // There are texts, one for each file that was delivered: no clause can say what a file holds.
     ensures end { (texts last : List (List ℕ)) × ((L : List Request) → D.stands_for desk.old L → D.is_sound desk.new →
-        DeliveriesEnd precedence.now L (length names.now) texts last (Appends (W.contents output.old) (W.contents output.new)) (D.stands_for desk.new) result
-        × (LeavesOnly (D.may_leave desk.old) L → DeliveriesLeave L texts last (D.may_leave desk.new))) }
+        DeliveriesEnd precedence.now L (length names.now) texts last (Appends (W.contents output.old) (W.contents output.new)) (D.stands_for desk.new) result) }
 {
     let mut has_refusal = false;
     for name in names {

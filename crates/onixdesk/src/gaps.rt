@@ -4,7 +4,6 @@ ghost use Rattle.std.specs.Prelude.{◌≤◌, List, None};
 ghost use Rattle.std.specs.Io.KnownBytes.{Appends};
 ghost use Rattle.onix_terms.specs.SeriesName.{series_name_of};
 ghost use Rattle.onixdesk.specs.GapsEnd.{GapsEnd, QuestionFits, UnknownFits};
-ghost use Rattle.series_rules.specs.Leaves.{LeavesOnly};
 ghost use Rattle.series_rules.specs.declared.requests.Request.{Request};
 
 use crate::fault::{Fault, report};
@@ -43,7 +42,6 @@ fn ask<D: Desk, W: Write>(
     ensures premise { D.is_sound desk.new → D.is_sound desk.old }
     ensures run { (L : List Request) → D.stands_for desk.old L → D.is_sound desk.new →
         QuestionFits L (series_name_of name.now) (Appends (W.contents writer.old) (W.contents writer.new)) (D.stands_for desk.new) result }
-    ensures left { (L : List Request) → D.stands_for desk.old L → D.is_sound desk.new → LeavesOnly (D.may_leave desk.old) L → LeavesOnly (D.may_leave desk.new) L }
 {
     match SeriesName::read(name) {
         Some(series) => run_request(alloc, desk, precedence, &Request::AskGaps(series), writer),
@@ -65,8 +63,7 @@ pub fn run<D: Desk, W: Write, E: Write>(
     ensures status { result ≤ 3 }
     ensures premise { D.is_sound desk.new → D.is_sound desk.old }
     ensures end { (L : List Request) → D.stands_for desk.old L → D.is_sound desk.new →
-        GapsEnd L (series_name_of name.now) (Appends (W.contents output.old) (W.contents output.new)) (D.stands_for desk.new) result
-        × (LeavesOnly (D.may_leave desk.old) L → LeavesOnly (D.may_leave desk.new) L) }
+        GapsEnd L (series_name_of name.now) (Appends (W.contents output.old) (W.contents output.new)) (D.stands_for desk.new) result }
 {
     match ask(alloc, desk, precedence, name, output) {
         Ok(false) => 0,

@@ -1,12 +1,8 @@
 // The program run on its words: the command line, the rules file, the desk, and then the command.
 
-ghost use Rattle.std.specs.Prelude.{◌≡◌, ◌≤◌, ◌⊎◌, ℕ, List, []};
+ghost use Rattle.std.specs.Prelude.{◌≡◌, ◌≤◌, ◌⊎◌, ℕ, []};
 ghost use Rattle.std.specs.Io.KnownBytes.{Appends};
 ghost use Rattle.onixdesk.specs.TaskEnds.{TaskEnds};
-ghost use Rattle.sqlite_wal.specs.Files.{image_at};
-ghost use Rattle.desk_store.specs.Openings.{AreFilesOf};
-ghost use Rattle.series_rules.specs.Leaves.{LeavesOnly};
-ghost use Rattle.series_rules.specs.declared.requests.Request.{Request};
 ghost use Rattle.desk_memory.specs.declared.desk.MemoryDesk.{MemoryDesk};
 
 use crate::command_line::{self, Action, Database, Invocation, Reading, Task};
@@ -19,7 +15,7 @@ use desk_store::desk::DeskStore;
 use onix_message::agreement::StoreFault;
 use price_rules::precedence::Precedence;
 use series_rules::desk::Desk;
-use sqlite::{FileFrom, FileStore, Start, Unknown};
+use sqlite::{FileStore, Start, Unknown};
 use sqlite_disk::Disk;
 use std::io::{Read, Write};
 use std::rt::HostRuntime;
@@ -37,7 +33,7 @@ fn run_task<D: Desk, R: Read, W: Write, E: Write>(
     ensures status { result ≤ 3 }
     ensures premise { D.is_sound desk.new → D.is_sound desk.old }
     ensures end { TaskEnds precedence.now task.now (R.remaining input.old) (D.stands_for desk.old) (D.is_sound desk.new)
-        (Appends (W.contents output.old) (W.contents output.new)) (D.stands_for desk.new) (D.may_leave desk.old) (D.may_leave desk.new) result }
+        (Appends (W.contents output.old) (W.contents output.new)) (D.stands_for desk.new) result }
 {
     match task {
         Task::Batch => batch::run(rt.alloc(), desk, precedence, input, output, errors),
@@ -72,7 +68,7 @@ fn run_in_memory<R: Read, W: Write, E: Write>(
     // Over a desk that has seen no request, and whose store is sound.
     ensures end { (new left : MemoryDesk) × ⟦<MemoryDesk as Desk>⟧.stands_for new [] × ⟦<MemoryDesk as Desk>⟧.is_sound left
         × TaskEnds precedence.now task.now (R.remaining input.old) (⟦<MemoryDesk as Desk>⟧.stands_for new) (⟦<MemoryDesk as Desk>⟧.is_sound left)
-        (Appends (W.contents output.old) (W.contents output.new)) (⟦<MemoryDesk as Desk>⟧.stands_for left) (⟦<MemoryDesk as Desk>⟧.may_leave new) (⟦<MemoryDesk as Desk>⟧.may_leave left) result }
+        (Appends (W.contents output.old) (W.contents output.new)) (⟦<MemoryDesk as Desk>⟧.stands_for left) result }
 {
     let mut desk = MemoryDesk::new(rt.alloc());
     let status = run_task(rt, &mut desk, precedence, task, input, output, errors);
@@ -110,7 +106,7 @@ fn run_and_close<D: Disk + Drop, R: Read, W: Write, E: Write>(
     // disk is not clean it binds nothing; that of `run_task` names it.
     ensures end { (left : _) × (status : ℕ) × ((result ≡ status) ⊎ (result ≡ 3)) × (⟦<DeskStore<FileStore<D>> as Desk>⟧.is_sound left → ⟦<DeskStore<FileStore<D>> as Desk>⟧.is_sound desk)
         × TaskEnds precedence.now task.now (R.remaining input.old) (⟦<DeskStore<FileStore<D>> as Desk>⟧.stands_for desk) (⟦<DeskStore<FileStore<D>> as Desk>⟧.is_sound left)
-        (Appends (W.contents output.old) (W.contents output.new)) (⟦<DeskStore<FileStore<D>> as Desk>⟧.stands_for left) (⟦<DeskStore<FileStore<D>> as Desk>⟧.may_leave desk) (⟦<DeskStore<FileStore<D>> as Desk>⟧.may_leave left) status }
+        (Appends (W.contents output.old) (W.contents output.new)) (⟦<DeskStore<FileStore<D>> as Desk>⟧.stands_for left) status }
 {
     let status = run_task(rt, &mut desk, precedence, task, input, output, errors);
     match close(desk) {
@@ -130,22 +126,13 @@ fn run_in_file<S: Start, R: Read, W: Write, E: Write>(
     output: &mut W,
     errors: &mut E,
 ) -> u8
-    ensures status { result ≤ 3 }
-    // Without a desk the status is 3. Else there is a desk that stands for what the files held, of which
-    // a crash leaves only that, and the command ends as over any desk.
-    ensures end { (result ≡ 3) ⊎ ((desk left : _) × (status : ℕ) × ((result ≡ status) ⊎ (result ≡ 3))
-        × ((L : List Request) → AreFilesOf (image_at S.Start) L → ⟦<DeskStore<FileStore<FileFrom<S>>> as Desk>⟧.is_sound left → ⟦<DeskStore<FileStore<FileFrom<S>>> as Desk>⟧.stands_for desk L × LeavesOnly (⟦<DeskStore<FileStore<FileFrom<S>>> as Desk>⟧.may_leave desk) L)
-        × TaskEnds precedence.now task.now (R.remaining input.old) (⟦<DeskStore<FileStore<FileFrom<S>>> as Desk>⟧.stands_for desk) (⟦<DeskStore<FileStore<FileFrom<S>>> as Desk>⟧.is_sound left)
-        (Appends (W.contents output.old) (W.contents output.new)) (⟦<DeskStore<FileStore<FileFrom<S>>> as Desk>⟧.stands_for left) (⟦<DeskStore<FileStore<FileFrom<S>>> as Desk>⟧.may_leave desk) (⟦<DeskStore<FileStore<FileFrom<S>>> as Desk>⟧.may_leave left) status) }
+    ensures { result ≤ 3 }
 {
     if let Err(fault) = look_at(rt, db, errors) {
         return report(&fault, errors);
     }
     match DeskStore::open(rt, db.name, start) {
-        Ok(desk) => {
-            desk.is_by_its_tables();
-            run_and_close(rt, desk, precedence, task, input, output, errors)
-        }
+        Ok(desk) => run_and_close(rt, desk, precedence, task, input, output, errors),
         Err((fault, _)) => report(&Fault::from(fault), errors),
     }
 }

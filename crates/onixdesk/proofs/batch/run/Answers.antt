@@ -8,10 +8,7 @@ returns-in-Err-clause-end g c =
       ran.0,
       ran.1,
       λ L stands sound.
-          let ended = ran.2 L stands sound in (
-            ends-by c.args.precedence.now L ran.0
-                (Appends (g.W.Write.contents c.args.output.now) (g.W.Write.contents c.run_batch.new.writer))
-                (g.D.Desk.stands_for c.run_batch.new.desk) c.in-Err.fault c.report.result c.report.ensures ended.0,
-            λ only. (ended.1 only).1,
-          ),
+          ends-by c.args.precedence.now L ran.0
+          (Appends (g.W.Write.contents c.args.output.now) (g.W.Write.contents c.run_batch.new.writer))
+          (g.D.Desk.stands_for c.run_batch.new.desk) c.in-Err.fault c.report.result c.report.ensures (ran.2 L stands sound).0,
     )

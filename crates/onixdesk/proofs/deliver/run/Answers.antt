@@ -2,7 +2,7 @@ use Rattle.std.proofs.Common.{◌++◌, ◌∷◌, [], length, length-append, ar
 use Rattle.std.proofs.KnownBytes.{Appends-nil, Appends-trans}
 use Rattle.series_rules.specs.Answers.{followed_by}
 use Rattle.onixdesk.specs.Deliveries.{deliveries}
-use Rattle.onixdesk.proofs.DeliveryLemmas.{all_more, last_of, one_more_file, refused_more, status_by, stopped_by, stopped_leaves}
+use Rattle.onixdesk.proofs.DeliveryLemmas.{all_more, last_of, one_more_file, refused_more, status_by, stopped_by}
 use Rattle.onixdesk.proofs.deliver.run.Goals as goal
 
 pub loop-name-init : goal.loop-name-init
@@ -11,7 +11,6 @@ loop-name-init g c = record {
   texts = [];
   counted = refl;
   so_far = λ L stands sound. (refl, tt, Appends-nil (g.W.Write.contents c.args.output.now), stands);
-  leaves = λ L stands sound only. only;
 }
 
 pub loop-name-preserved : goal.loop-name-preserved
@@ -25,17 +24,13 @@ loop-name-preserved g c =
       counted = omega (arith, inv.counted, longer);
       so_far = λ L stands sound.
           let before = inv.so_far L stands (c.deliver_named.ensures.premise sound) in
-          let one = (ran.1 (followed_by L (deliveries inv.texts)) before.3 sound).0 in
+          let one = ran.1 (followed_by L (deliveries inv.texts)) before.3 sound in
           let more = one_more_file c.args.precedence.now L inv.texts ran.0 in (
             rw (more.refused, one.1.0) (refused_more _ _ _ before.0),
             all_more inv.texts ran.0 before.1 one.0,
             rw more.written (Appends-trans _ _ _ _ _ before.2 one.1.1),
             rw more.stood one.1.2,
           );
-      leaves = λ L stands sound only.
-          let still = c.deliver_named.ensures.premise sound in
-          let more = one_more_file c.args.precedence.now L inv.texts ran.0 in
-          rw more.stood ((ran.1 (followed_by L (deliveries inv.texts)) (inv.so_far L stands still).3 sound).1 (inv.leaves L stands still only));
     }
 
 pub returns-in-Err-clause-premise : goal.returns-in-Err-clause-premise
@@ -48,15 +43,11 @@ returns-in-Err-clause-end g c =
       inv.texts,
       last_of c.in-Err.fault ran.0,
       λ L stands sound.
-          let still = c.in-Err.ensures.premise sound in
-          let before = inv.so_far L stands still in
-          let one = ran.1 (followed_by L (deliveries inv.texts)) before.3 sound in (
-            inr (stopped_by c.args.precedence.now L (length c.args.names.now) inv.texts ran.0
-                (g.W.Write.contents c.args.output.now) (g.W.Write.contents c.loop-name.output) (g.W.Write.contents c.deliver_named.new.writer)
-                (g.D.Desk.stands_for c.deliver_named.new.desk) c.in-Err.fault c.report_delivery.result c.report_delivery.ensures
-                (omega (arith, inv.counted)) before.1 before.2 one.0),
-            λ only. stopped_leaves L inv.texts ran.0 (g.D.Desk.may_leave c.deliver_named.new.desk) c.in-Err.fault (one.1 (inv.leaves L stands still only)),
-          ),
+          let before = inv.so_far L stands (c.in-Err.ensures.premise sound) in
+          inr (stopped_by c.args.precedence.now L (length c.args.names.now) inv.texts ran.0
+          (g.W.Write.contents c.args.output.now) (g.W.Write.contents c.loop-name.output) (g.W.Write.contents c.deliver_named.new.writer)
+          (g.D.Desk.stands_for c.deliver_named.new.desk) c.in-Err.fault c.report_delivery.result c.report_delivery.ensures
+          (omega (arith, inv.counted)) before.1 before.2 (ran.1 (followed_by L (deliveries inv.texts)) before.3 sound)),
     )
 
 pub returns-clause-end : goal.returns-clause-end
@@ -65,17 +56,15 @@ returns-clause-end g c =
       inv.texts,
       [],
       λ L stands sound.
-          let before = inv.so_far L stands sound in (
-            inl (
-              record {
-                all = omega (arith, inv.counted);
-                status_is = status_by _ _ _ c.refusal_status.ensures.is before.0;
-                have_records = before.1;
-                answers_are = before.2;
-                stands_after = before.3;
-              },
-              refl,
-            ),
-            λ only M may. inl (inv.leaves L stands sound only M may),
+          let before = inv.so_far L stands sound in
+          inl (
+            record {
+              all = omega (arith, inv.counted);
+              status_is = status_by _ _ _ c.refusal_status.ensures.is before.0;
+              have_records = before.1;
+              answers_are = before.2;
+              stands_after = before.3;
+            },
+            refl,
           ),
     )

@@ -1,9 +1,10 @@
 -- What the steps of an exchange come to.
-use Rattle.std.proofs.Common.{◌≡◌, ℕ, Bool, true, false, List, [], ◌∷◌, arith, Option, None, Result, Ok, Err, refl}
+use Rattle.std.proofs.Common.{◌≡◌, ℕ, Bool, true, false, List, [], ◌∷◌, arith, Option, None, Result, Ok, Err, refl, ◌⊎◌, inl, inr}
 use Rattle.std.specs.Prelude.{IfSome}
 use Rattle.onix_message.specs.declared.agreement.StoreFault.{StoreFault}
 use Rattle.price_rules.specs.declared.precedence.Rule.{Rule}
 use Rattle.series_rules.specs.declared.answers.Answer.{Answer}
+use Rattle.series_rules.specs.Leaves.{LeavesOnly}
 use Rattle.series_rules.specs.declared.requests.Request.{Request}
 use Rattle.desk_http.specs.declared.exchange.HttpFault.{HttpFault}
 use Rattle.desk_http.specs.declared.exchange.HttpFault.TheVariants as fault
@@ -11,10 +12,9 @@ use Rattle.desk_http.specs.declared.exchange.ReplyText.{ReplyText}
 use Rattle.http_requests.specs.declared.refusal.Refusal.{Refusal}
 use Rattle.desk_http.specs.AnswerReply.{reply_of_answer}
 use Rattle.desk_http.specs.Asks.{Asks}
-use Rattle.desk_http.specs.Exchange.{AtMostOneMore, Exchanges, Served, Unsent, answers, faults, refuses}
-use Rattle.desk_http.specs.ExchangeSteps.{AskFits, IsAnswered, IfMemory, IfWrite, IsReplied, IsUnreplied, reply_view}
+use Rattle.desk_http.specs.Exchange.{AtMostOneMore, Exchanges, LeavesAfter, LeavesAtMostOneMore, Served, Unsent, answers, faults, refuses}
+use Rattle.desk_http.specs.ExchangeSteps.{AskFits, AskLeaves, AskedLeaves, IsAnswered, IfMemory, IfWrite, IsReplied, IsUnreplied, reply_view}
 use Rattle.desk_http.specs.Reply.{Reply, reply_text}
-use Rattle.desk_http.proofs.KnownLemmas.{IfSome-map}
 
 -- a status and a body are those of an answer
 pub reply_is : (a : Answer) (status : ℕ) (body : List ℕ) → status ≡ (reply_of_answer a).status → body ≡ (reply_of_answer a).body
@@ -23,19 +23,21 @@ unfolding reply_of_answer
 reply_is a status body s b = rw (s, b) refl
 
 exchanged : (rules : List Rule) (may_give : StoreFault → Type 0) (L : List Request) (wanted : Result Request Refusal)
-    (stands : List Request → Type 0) (reply : Reply) (taken : Bool) → IsReplied rules may_give L wanted stands reply taken
-    → (after : List Request) × Exchanges rules may_give L wanted reply after × stands after
-exchanged rules may_give L (Err why) stands reply taken is = (L, rw is.0 refuses, is.2)
-exchanged rules may_give L (Ok r) stands reply true is = (r ∷ L, rw is.0 answers, is.1)
-exchanged rules may_give L (Ok r) stands reply false is = (L, rw is.0.2 (faults is.0.1), is.1)
+    (stands left : List Request → Type 0) (reply : Reply) (taken : Bool) → IsReplied rules may_give L wanted stands reply taken
+    → (only : Type 0) → (only → AskedLeaves L wanted left taken)
+    → (after : List Request) × Exchanges rules may_give L wanted reply after × stands after × (only → LeavesAfter L wanted after left)
+exchanged rules may_give L (Err why) stands left reply taken is only leaves = (L, rw is.0 refuses, is.2, leaves)
+exchanged rules may_give L (Ok r) stands left reply true is only leaves = (r ∷ L, rw is.0 answers, is.1, λ alone M may. inl (leaves alone M may))
+exchanged rules may_give L (Ok r) stands left reply false is only leaves = (L, rw is.0.2 (faults is.0.1), is.1, leaves)
 
--- a reply to what an input asks for was written so
+-- a reply to what was asked for was written so
 pub served : (rules : List Rule) (may_give : StoreFault → Type 0) (L : List Request) (wanted : Result Request Refusal)
-    (stands : List Request → Type 0) (reply : Reply) (taken : Bool) → IsReplied rules may_give L wanted stands reply taken
-    → (written : List ℕ → Type 0) → written (reply_text reply) → (input : List ℕ) → Asks input wanted
-    → Served rules may_give L input stands written reply.status
-served rules may_give L wanted stands reply taken is written text input asks =
-    let e = exchanged rules may_give L wanted stands reply taken is in
+    (stands was left : List Request → Type 0) (reply : Reply) (taken : Bool) → IsReplied rules may_give L wanted stands reply taken
+    → (LeavesOnly was L → AskedLeaves L wanted left taken)
+    → (written : List ℕ → Type 0) → written (reply_text reply) → (sent : Option (List ℕ)) → IfSome sent (λ input. Asks input wanted)
+    → Served rules may_give L sent stands was left written reply.status
+served rules may_give L wanted stands was left reply taken is leaves written text sent asks =
+    let e = exchanged rules may_give L wanted stands left reply taken is (LeavesOnly was L) leaves in
     record {
       wanted = wanted;
       reply = reply;
@@ -43,21 +45,22 @@ served rules may_give L wanted stands reply taken is written text input asks =
       asks = asks;
       exchanges = e.1;
       stands_after = e.2;
+      left_after = e.3;
       status_is = refl;
       text = text;
     }
 
 -- the same where a write failed
 pub served_in_part : (rules : List Rule) (may_give : StoreFault → Type 0) (L : List Request) (wanted : Result Request Refusal)
-    (stands : List Request → Type 0) (reply : Reply) (taken : Bool) → IsReplied rules may_give L wanted stands reply taken
+    (stands was left : List Request → Type 0) (reply : Reply) (taken : Bool) → IsReplied rules may_give L wanted stands reply taken
+    → (LeavesOnly was L → AskedLeaves L wanted left taken)
     → (written : List ℕ → Type 0) (f : HttpFault) → IfWrite {T = Unit {0}} (Err f) (λ status. (status ≡ reply.status) × written (reply_text reply))
-    → (known : Option (List ℕ)) → IfSome known (λ input. Asks input wanted)
-    → IfWrite {T = ℕ} (Err f) (λ status. IfSome known (λ input. Served rules may_give L input stands written status))
-served_in_part rules may_give L wanted stands reply taken is written fault.Read front known asks = tt
-served_in_part rules may_give L wanted stands reply taken is written (fault.Write status) front known asks =
-    rw front.0 (IfSome-map known (λ input. Asks input wanted) (λ input. Served rules may_give L input stands written reply.status)
-    (served rules may_give L wanted stands reply taken is written front.1) asks)
-served_in_part rules may_give L wanted stands reply taken is written (fault.Memory taken') front known asks = tt
+    → (sent : Option (List ℕ)) → IfSome sent (λ input. Asks input wanted)
+    → IfWrite {T = ℕ} (Err f) (Served rules may_give L sent stands was left written)
+served_in_part rules may_give L wanted stands was left reply taken is leaves written fault.Read front sent asks = tt
+served_in_part rules may_give L wanted stands was left reply taken is leaves written (fault.Write status) front sent asks =
+    rw front.0 (served rules may_give L wanted stands was left reply taken is leaves written front.1 sent asks)
+served_in_part rules may_give L wanted stands was left reply taken is leaves written (fault.Memory taken') front sent asks = tt
 
 -- memory ran out before the desk was asked
 pub fault_before : (f : HttpFault) (known : Option (List ℕ)) (L : List Request) (stands : List Request → Type 0) → stands L
@@ -110,3 +113,15 @@ asked_once rules may_give L wanted stands (Err (fault.Write status)) fits = absu
 asked_once rules may_give L (Ok r) stands (Err (fault.Memory true)) fits = (r ∷ [], omega arith, fits)
 asked_once rules may_give L (Err why) stands (Err (fault.Memory true)) fits = absurd fits
 asked_once rules may_give L wanted stands (Err (fault.Memory false)) fits = ([], omega arith, fits)
+
+-- so it is with what a crash may leave
+asked_leaves : (L : List Request) (wanted : Result Request Refusal) (left : List Request → Type 0) (taken : Bool) → AskedLeaves L wanted left taken → LeavesAtMostOneMore L left
+asked_leaves L (Ok r) left true leaves = (r ∷ [], omega arith, λ M may. inr (leaves M may))
+asked_leaves L (Ok r) left false leaves = (r ∷ [], omega arith, leaves)
+asked_leaves L (Err why) left taken leaves = ([], omega arith, λ M may. inl (leaves M may))
+
+pub ask_leaves : (L : List Request) (wanted : Result Request Refusal) (left : List Request → Type 0) (result : Result ReplyText HttpFault) → AskLeaves L wanted left result → LeavesAtMostOneMore L left
+ask_leaves L wanted left (Ok reply) leaves = asked_leaves L wanted left reply.taken leaves
+ask_leaves L wanted left (Err fault.Read) leaves = absurd leaves
+ask_leaves L wanted left (Err (fault.Write status)) leaves = absurd leaves
+ask_leaves L wanted left (Err (fault.Memory taken)) leaves = asked_leaves L wanted left taken leaves

@@ -3,6 +3,7 @@ use Rattle.std.specs.Prelude.{◌≡◌, ◌≤◌, ◌++◌, ℕ, Bool, true, f
 use Rattle.onix_message.specs.declared.agreement.StoreFault.{StoreFault}
 use Rattle.price_rules.specs.declared.precedence.Rule.{Rule}
 use Rattle.series_rules.specs.Answers.{answer_to}
+use Rattle.series_rules.specs.Leaves.{LeavesEither, LeavesOnly}
 use Rattle.series_rules.specs.declared.requests.Request.{Request}
 use Rattle.http_requests.specs.declared.refusal.Refusal.{Refusal}
 use Rattle.desk_http.specs.AnswerReply.{reply_of_answer, reply_of_fault}
@@ -17,15 +18,21 @@ pub data Exchanges (rules : List Rule) (may_give : StoreFault → Type 0) (L : L
   answers : {r : Request} → Exchanges rules may_give L (Ok r) (reply_of_answer (answer_to rules L r)) (r ∷ L)
   faults : {r : Request} {f : StoreFault} → may_give f → Exchanges rules may_give L (Ok r) (reply_of_fault f) L
 
--- an input was replied to: to what it asks for, as the desk makes it (`Exchanges`). Stands: the desk stands for that list. Written: this text was written
-pub record Served (rules : List Rule) (may_give : StoreFault → Type 0) (L : List Request) (input : List ℕ)
-    (stands : List Request → Type 0) (written : List ℕ → Type 0) (status : ℕ) : Type 0 where
+-- What a crash may leave then of a desk of which it left only L: what the desk stands for. After a fault it may leave the request too
+abbrev pub LeavesAfter : List Request → Result Request Refusal → List Request → (List Request → Type 0) → Type 0
+LeavesAfter L (Ok r) after left = LeavesEither left after (r ∷ L)
+LeavesAfter L (Err why) after left = LeavesOnly left after
+
+-- a client was replied to: to what it asked for, as the desk makes it (`Exchanges`). Sent: what the client sent, where that is known. Stands: the desk stands for that list. Was: a crash could leave what that list comes to. Left: it may leave that now. Written: this text was written
+pub record Served (rules : List Rule) (may_give : StoreFault → Type 0) (L : List Request) (sent : Option (List ℕ))
+    (stands was left : List Request → Type 0) (written : List ℕ → Type 0) (status : ℕ) : Type 0 where
   pub wanted : Result Request Refusal
   pub reply : Reply
   pub after : List Request
-  pub asks : Asks input wanted
+  pub asks : IfSome sent (λ input. Asks input wanted)
   pub exchanges : Exchanges rules may_give L wanted reply after
   pub stands_after : stands after
+  pub left_after : LeavesOnly was L → LeavesAfter L wanted after left
   pub status_is : status ≡ reply.status
   pub text : written (reply_text reply)
 
@@ -37,3 +44,7 @@ Unsent L sent stands true = (r : Request) × IfSome sent (λ input. Asks input (
 -- what stands is L, or L and one request more
 abbrev pub AtMostOneMore : List Request → (List Request → Type 0) → Type 0
 AtMostOneMore L stands = (more : List Request) × (length more ≤ 1) × stands (more ++ L)
+
+-- a crash may leave L, or L and one request more
+abbrev pub LeavesAtMostOneMore : List Request → (List Request → Type 0) → Type 0
+LeavesAtMostOneMore L left = (more : List Request) × (length more ≤ 1) × LeavesEither left L (more ++ L)

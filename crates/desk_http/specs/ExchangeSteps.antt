@@ -4,6 +4,7 @@ use Rattle.std.specs.String.{string_bytes}
 use Rattle.onix_message.specs.declared.agreement.StoreFault.{StoreFault}
 use Rattle.price_rules.specs.declared.precedence.Rule.{Rule}
 use Rattle.series_rules.specs.Answers.{answer_to}
+use Rattle.series_rules.specs.Leaves.{LeavesEither, LeavesOnly}
 use Rattle.series_rules.specs.declared.requests.Request.{Request}
 use Rattle.desk_http.specs.declared.exchange.HttpFault.{HttpFault}
 use Rattle.desk_http.specs.declared.exchange.HttpFault.TheVariants as fault
@@ -39,6 +40,19 @@ AskFits rules may_give L wanted stands (Ok reply) = IsReplied rules may_give L w
 AskFits rules may_give L wanted stands (Err fault.Read) = ⊥
 AskFits rules may_give L wanted stands (Err (fault.Write status)) = ⊥
 AskFits rules may_give L wanted stands (Err (fault.Memory taken)) = IsUnreplied L wanted stands taken
+
+-- what a crash may leave, where it left only L: the request once it is taken, or after a fault that or L
+abbrev pub AskedLeaves : List Request → Result Request Refusal → (List Request → Type 0) → Bool → Type 0
+AskedLeaves L (Ok r) left true = LeavesOnly left (r ∷ L)
+AskedLeaves L (Ok r) left false = LeavesEither left L (r ∷ L)
+AskedLeaves L (Err why) left taken = LeavesOnly left L
+
+-- the same, however asking ended
+abbrev pub AskLeaves : List Request → Result Request Refusal → (List Request → Type 0) → Result ReplyText HttpFault → Type 0
+AskLeaves L wanted left (Ok reply) = AskedLeaves L wanted left reply.taken
+AskLeaves L wanted left (Err fault.Read) = ⊥
+AskLeaves L wanted left (Err (fault.Write status)) = ⊥
+AskLeaves L wanted left (Err (fault.Memory taken)) = AskedLeaves L wanted left taken
 
 -- what is said after a failed read
 abbrev pub OnRead : {T : Type 0} → Result T HttpFault → Type 0 → Type 0

@@ -4,10 +4,11 @@ ghost use Rattle.std.specs.Prelude.{◌≡◌, ◌∷◌, ℕ, List, Ok, Err, If
 ghost use Rattle.std.specs.Io.KnownBytes.{Appends, Keeps};
 ghost use Rattle.serde_json.specs.Written.{compact_text};
 ghost use Rattle.series_rules.specs.Faults.{IsFaultOf};
+ghost use Rattle.series_rules.specs.Leaves.{LeavesOnly};
 ghost use Rattle.series_rules.specs.declared.requests.Request.{Request};
 ghost use Rattle.desk_http.specs.Asks.{Asks};
-ghost use Rattle.desk_http.specs.Exchange.{AtMostOneMore, Served, Unsent};
-ghost use Rattle.desk_http.specs.ExchangeSteps.{AskFits, IfMemory, IfWrite, OnRead, reply_view};
+ghost use Rattle.desk_http.specs.Exchange.{AtMostOneMore, LeavesAtMostOneMore, Served, Unsent};
+ghost use Rattle.desk_http.specs.ExchangeSteps.{AskFits, AskLeaves, IfMemory, IfWrite, OnRead, reply_view};
 ghost use Rattle.desk_json.specs.Json.{refused};
 ghost use Rattle.desk_http.specs.AnswerReply.{reply_of_fault};
 ghost use Rattle.desk_http.specs.Refusals.{reply_of_refusal};
@@ -109,6 +110,7 @@ fn ask<D: Desk>(
     ensures premise { D.is_sound desk.new → D.is_sound desk.old }
     ensures asked { (L : List Request) → D.stands_for desk.old L → D.is_sound desk.new →
         AskFits precedence.now (IsFaultOf D.may_give) L (Ok request.now) (D.stands_for desk.new) result }
+    ensures left { (L : List Request) → D.stands_for desk.old L → D.is_sound desk.new → LeavesOnly (D.may_leave desk.old) L → AskLeaves L (Ok request.now) (D.may_leave desk.new) result }
 {
     match answer(alloc, desk, precedence, request) {
         Ok(answer) => match reply_of(alloc, &answer) {
@@ -137,6 +139,7 @@ fn perform<D: Desk>(
     ensures premise { D.is_sound desk.new → D.is_sound desk.old }
     ensures asked { (L : List Request) → D.stands_for desk.old L → D.is_sound desk.new →
         AskFits precedence.now (IsFaultOf D.may_give) L wanted.now (D.stands_for desk.new) result }
+    ensures left { (L : List Request) → D.stands_for desk.old L → D.is_sound desk.new → LeavesOnly (D.may_leave desk.old) L → AskLeaves L wanted.now (D.may_leave desk.new) result }
 {
     match wanted {
         Ok(request) => ask(alloc, desk, precedence, request),
@@ -169,7 +172,8 @@ fn send<W: Write>(alloc: Global, writer: &mut W, reply: &ReplyText) -> Result<()
 /// Serves one connection: reads a request, asks the desk under a precedence table, writes one
 /// reply, and gives its status. A refusal that the bytes decide is replied before the desk is
 /// asked; a fault of the desk's store is replied with status 503 and leaves what the desk stands
-/// for. Bytes behind the request are not looked at, and the writer is not flushed.
+/// for. Where a crash left only what the desk stood for, it leaves each request that is answered.
+/// Bytes behind the request are not looked at, and the writer is not flushed.
 pub fn serve_one<D: Desk, R: Read, W: Write>(
     alloc: Global,
     desk: &mut D,
@@ -178,19 +182,17 @@ pub fn serve_one<D: Desk, R: Read, W: Write>(
     writer: &mut W,
 ) -> Result<u16, HttpFault>
     ensures premise { D.is_sound desk.new → D.is_sound desk.old }
-    ensures ok { (L : List Request) → D.stands_for desk.old L → D.is_sound desk.new →
-        IfOk result (λ status. IfSome (R.remaining reader.old) (λ input.
-        Served precedence.now (IsFaultOf D.may_give) L input (D.stands_for desk.new) (Appends (W.contents writer.old) (W.contents writer.new)) status)) }
-    ensures write { (L : List Request) → D.stands_for desk.old L → D.is_sound desk.new →
-        IfWrite result (λ status. IfSome (R.remaining reader.old) (λ input.
-        Served precedence.now (IsFaultOf D.may_give) L input (D.stands_for desk.new) (AppendsFront (W.contents writer.old) (W.contents writer.new)) status)) }
+    ensures ok { (L : List Request) → D.stands_for desk.old L → D.is_sound desk.new → IfOk result
+        (Served precedence.now (IsFaultOf D.may_give) L (R.remaining reader.old) (D.stands_for desk.new) (D.may_leave desk.old) (D.may_leave desk.new) (Appends (W.contents writer.old) (W.contents writer.new))) }
+    ensures write { (L : List Request) → D.stands_for desk.old L → D.is_sound desk.new → IfWrite result
+        (Served precedence.now (IsFaultOf D.may_give) L (R.remaining reader.old) (D.stands_for desk.new) (D.may_leave desk.old) (D.may_leave desk.new) (AppendsFront (W.contents writer.old) (W.contents writer.new))) }
     ensures read { (L : List Request) → D.stands_for desk.old L → D.is_sound desk.new → OnRead result (D.stands_for desk.new L) }
     ensures unread { OnRead result (Keeps (W.contents writer.old) (W.contents writer.new)) }
     ensures memory { (L : List Request) → D.stands_for desk.old L → D.is_sound desk.new →
         IfMemory result (Unsent L (R.remaining reader.old) (D.stands_for desk.new)) }
     ensures unsent { IfMemory result (λ _. Keeps (W.contents writer.old) (W.contents writer.new)) }
-    // This holds too where the reader does not tell its bytes, as a socket.
     ensures one { (L : List Request) → D.stands_for desk.old L → D.is_sound desk.new → AtMostOneMore L (D.stands_for desk.new) }
+    ensures left { (L : List Request) → D.stands_for desk.old L → D.is_sound desk.new → LeavesOnly (D.may_leave desk.old) L → LeavesAtMostOneMore L (D.may_leave desk.new) }
 {
     let wanted = match read_wanted(alloc, reader) {
         Ok(wanted) => wanted,

@@ -1,5 +1,5 @@
 -- How connections are served.
-use Rattle.std.specs.Prelude.{◌≤◌, ◌++◌, ◌∷◌, ℕ, List, [], Option, Result, Ok, Err, IfSome, codes, length}
+use Rattle.std.specs.Prelude.{◌≤◌, ◌++◌, ◌∷◌, ℕ, List, [], Option, Result, Ok, Err, codes, length}
 use Rattle.std.specs.Fmt.{decimal}
 use Rattle.std.specs.Io.KnownBytes.{Appends, Keeps}
 use Rattle.std.specs.List.{flat_map}
@@ -12,15 +12,13 @@ use Rattle.desk_http.specs.declared.exchange.HttpFault.{HttpFault}
 use Rattle.desk_http.specs.declared.exchange.HttpFault.TheVariants as fault
 
 -- how the exchange of a connection can end after L. Sent: what the client sends, where that is known. Stands: the
--- desk stands for that list. What the client was sent went from `was` to `holds`
-abbrev pub ExchangeEnds : List Rule → (StoreFault → Type 0) → List Request → Option (List ℕ) → (List Request → Type 0) → Option (List ℕ) → Option (List ℕ) → Result ℕ HttpFault → Type 0
-ExchangeEnds rules may_give L sent stands was holds (Ok status) =
-    IfSome sent (λ input. Served rules may_give L input stands (Appends was holds) status)
-ExchangeEnds rules may_give L sent stands was holds (Err (fault.Write status)) =
-    IfSome sent (λ input. Served rules may_give L input stands (AppendsFront was holds) status)
-ExchangeEnds rules may_give L sent stands was holds (Err fault.Read) = stands L × Keeps was holds
-ExchangeEnds rules may_give L sent stands was holds (Err (fault.Memory taken)) =
-    Unsent L sent stands taken × Keeps was holds
+-- desk stands for that list. Was: a crash could leave what that list comes to. Left: it may leave that now. What the client was
+-- sent went from `held` to `holds`
+abbrev pub ExchangeEnds : List Rule → (StoreFault → Type 0) → List Request → Option (List ℕ) → (List Request → Type 0) → (List Request → Type 0) → (List Request → Type 0) → Option (List ℕ) → Option (List ℕ) → Result ℕ HttpFault → Type 0
+ExchangeEnds rules may_give L sent stands was left held holds (Ok status) = Served rules may_give L sent stands was left (Appends held holds) status
+ExchangeEnds rules may_give L sent stands was left held holds (Err (fault.Write status)) = Served rules may_give L sent stands was left (AppendsFront held holds) status
+ExchangeEnds rules may_give L sent stands was left held holds (Err fault.Read) = stands L × Keeps held holds
+ExchangeEnds rules may_give L sent stands was left held holds (Err (fault.Memory taken)) = Unsent L sent stands taken × Keeps held holds
 
 -- the line of a connection: the status of its reply, or that none was sent whole
 abbrev pub line_of : Result ℕ HttpFault → List ℕ

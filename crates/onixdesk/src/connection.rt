@@ -54,7 +54,7 @@ pub fn serve_connection<D: Desk, R: Read, W: Write, O: Write>(
     // There is an outcome of the exchange whose line is written.
     ensures line { (outcome : Result ℕ HttpFault)
         × ((L : List Request) → D.stands_for desk.old L → D.is_sound desk.new →
-        ExchangeEnds precedence.now (IsFaultOf D.may_give) L (R.remaining reader.old) (D.stands_for desk.new) (W.contents writer.old) (W.contents writer.new) outcome)
+        ExchangeEnds precedence.now (IsFaultOf D.may_give) L (R.remaining reader.old) (D.stands_for desk.new) (D.may_leave desk.old) (D.may_leave desk.new) (W.contents writer.old) (W.contents writer.new) outcome)
         × OnOk result (Appends (O.contents output.old) (O.contents output.new) (line_of outcome)) }
 {
     let outcome = serve_one(alloc, desk, precedence, reader, writer);

@@ -1,12 +1,9 @@
-use Rattle.std.proofs.Common.{[], arith, Ok, Err}
+use Rattle.std.proofs.Common.{[], arith, inl, Ok, Err}
 use Rattle.std.specs.Io.KnownBytes.{Appends}
 use Rattle.series_rules.specs.Faults.{IsFaultOf}
-use Rattle.desk_http.specs.Asks.{Asks}
-use Rattle.desk_http.specs.Exchange.{Served}
 use Rattle.desk_http.specs.ExchangeSteps.{reply_view}
 use Rattle.desk_http.specs.Writing.{AppendsFront}
-use Rattle.desk_http.proofs.ExchangeLemmas.{asked_once, fault_after, fault_before, fault_between, served, served_in_part}
-use Rattle.desk_http.proofs.KnownLemmas.{IfSome-map}
+use Rattle.desk_http.proofs.ExchangeLemmas.{ask_leaves, asked_once, fault_after, fault_before, fault_between, served, served_in_part}
 use Rattle.desk_http.proofs.serve.serve_one.Goals as goal
 
 pub returns-in-Err-clause-memory : goal.returns-in-Err-clause-memory
@@ -28,18 +25,16 @@ returns-clause-memory g c L stands sound =
 pub returns-in-Ok-send-clause-ok : goal.returns-in-Ok-send-clause-ok
 returns-in-Ok-send-clause-ok g c L stands sound =
     let reply = c.in-Ok-perform.reply in
-    let written = Appends (g.W.Write.contents c.args.writer.now) (g.W.Write.contents c.send.new.writer) in
-    IfSome-map (g.R.Read.remaining c.args.reader.now) (λ input. Asks input c.in-Ok.wanted)
-    (λ input. Served c.args.precedence.now (IsFaultOf g.D.Desk.may_give) L input (g.D.Desk.stands_for c.perform.new.desk) written reply.status)
-    (served c.args.precedence.now (IsFaultOf g.D.Desk.may_give) L c.in-Ok.wanted (g.D.Desk.stands_for c.perform.new.desk) (reply_view reply) reply.taken
-    (c.in-Ok-perform.ensures.asked L stands sound) written c.in-Ok-send.ensures.ok)
-    c.in-Ok.ensures.asks
+    served c.args.precedence.now (IsFaultOf g.D.Desk.may_give) L c.in-Ok.wanted (g.D.Desk.stands_for c.perform.new.desk) (g.D.Desk.may_leave c.args.desk.now) (g.D.Desk.may_leave c.perform.new.desk) (reply_view reply) reply.taken
+    (c.in-Ok-perform.ensures.asked L stands sound) (c.in-Ok-perform.ensures.left L stands sound)
+    (Appends (g.W.Write.contents c.args.writer.now) (g.W.Write.contents c.send.new.writer)) c.in-Ok-send.ensures.ok
+    (g.R.Read.remaining c.args.reader.now) c.in-Ok.ensures.asks
 
 pub returns-clause-write : goal.returns-clause-write
 returns-clause-write g c L stands sound =
     let reply = c.in-Ok-perform.reply in
-    served_in_part c.args.precedence.now (IsFaultOf g.D.Desk.may_give) L c.in-Ok.wanted (g.D.Desk.stands_for c.perform.new.desk) (reply_view reply) reply.taken
-    (c.in-Ok-perform.ensures.asked L stands sound)
+    served_in_part c.args.precedence.now (IsFaultOf g.D.Desk.may_give) L c.in-Ok.wanted (g.D.Desk.stands_for c.perform.new.desk) (g.D.Desk.may_leave c.args.desk.now) (g.D.Desk.may_leave c.perform.new.desk) (reply_view reply) reply.taken
+    (c.in-Ok-perform.ensures.asked L stands sound) (c.in-Ok-perform.ensures.left L stands sound)
     (AppendsFront (g.W.Write.contents c.args.writer.now) (g.W.Write.contents c.send.new.writer)) c.in-Err-send.fault c.in-Err-send.ensures.write
     (g.R.Read.remaining c.args.reader.now) c.in-Ok.ensures.asks
 
@@ -57,3 +52,18 @@ returns-in-Ok-send-clause-one g c L stands sound =
 pub returns-clause-one : goal.returns-clause-one
 returns-clause-one g c L stands sound =
     asked_once c.args.precedence.now (IsFaultOf g.D.Desk.may_give) L c.in-Ok.wanted (g.D.Desk.stands_for c.perform.new.desk) (Ok c.in-Ok-perform.reply) (c.in-Ok-perform.ensures.asked L stands sound)
+
+pub returns-in-Err-clause-left : goal.returns-in-Err-clause-left
+returns-in-Err-clause-left g c L stands sound only = ([], omega arith, λ M may. inl (only M may))
+
+pub returns-in-Err-perform-clause-left : goal.returns-in-Err-perform-clause-left
+returns-in-Err-perform-clause-left g c L stands sound only =
+    ask_leaves L c.in-Ok.wanted (g.D.Desk.may_leave c.perform.new.desk) (Err c.in-Err-perform.fault) (c.in-Err-perform.ensures.left L stands sound only)
+
+pub returns-in-Ok-send-clause-left : goal.returns-in-Ok-send-clause-left
+returns-in-Ok-send-clause-left g c L stands sound only =
+    ask_leaves L c.in-Ok.wanted (g.D.Desk.may_leave c.perform.new.desk) (Ok c.in-Ok-perform.reply) (c.in-Ok-perform.ensures.left L stands sound only)
+
+pub returns-clause-left : goal.returns-clause-left
+returns-clause-left g c L stands sound only =
+    ask_leaves L c.in-Ok.wanted (g.D.Desk.may_leave c.perform.new.desk) (Ok c.in-Ok-perform.reply) (c.in-Ok-perform.ensures.left L stands sound only)

@@ -1,6 +1,6 @@
 // What a query gives, beside what the words of a transcript name. What is compared takes no memory.
 
-use crate::tables::words::{Words, is_whole, words_of};
+use crate::tables::words::{is_whole, word};
 use desk_tables::rows::applied::EffectRow;
 use desk_tables::rows::row_types::{ArticleRow, OfferRow, PriceRow, RecordRow};
 use desk_tables::rows::series::SeriesRow;
@@ -14,18 +14,18 @@ use price_rules::offer::Offer;
 
 /// What a query gives one of, or a list.
 pub trait Answer {
-    /// Whether it is the one that these words name.
-    fn is(&self, words: Words<'_>) -> bool;
+    /// Whether it is the one that the words of a line name.
+    fn is(&self, line: &str) -> bool;
 }
 
 // Whether these are what a text names, each followed by `;`.
 fn are<T: Answer>(rows: &[T], wanted: &str) -> bool {
     let mut rest = wanted;
     for row in rows {
-        let Some((words, others)) = rest.split_once(';') else {
+        let Some((line, others)) = rest.split_once(';') else {
             return false;
         };
-        if !row.is(words_of(words)) {
+        if !row.is(line) {
             return false;
         }
         rest = others;
@@ -50,7 +50,7 @@ pub fn is_found<T: Answer + Drop>(
     wanted: &str,
 ) -> Result<bool, StoreFault> {
     match found {
-        Ok(Some(one)) => Ok(wanted != " none" && one.is(words_of(wanted))),
+        Ok(Some(one)) => Ok(wanted != " none" && one.is(wanted)),
         Ok(None) => Ok(wanted == " none"),
         Err(fault) => Err(fault),
     }
@@ -75,8 +75,9 @@ fn is_agreement(agreement: &Agreement, series: &str, sender: &str) -> bool {
 }
 
 impl Answer for SeriesRow {
-    fn is(&self, words: Words<'_>) -> bool {
-        is_agreement(&self.agreement, words[0], words[1]) && is_whole(words[2], self.next)
+    fn is(&self, line: &str) -> bool {
+        is_agreement(&self.agreement, word(line, 0), word(line, 1))
+            && is_whole(word(line, 2), self.next)
     }
 }
 
@@ -87,41 +88,41 @@ fn is_text(text: &Text, word: &str) -> bool {
 }
 
 impl Answer for Text {
-    fn is(&self, words: Words<'_>) -> bool {
-        is_text(self, words[0])
+    fn is(&self, line: &str) -> bool {
+        is_text(self, word(line, 0))
     }
 }
 
 impl Answer for (Text, EffectRow) {
-    fn is(&self, words: Words<'_>) -> bool {
+    fn is(&self, line: &str) -> bool {
         let (contents, counts) = self;
-        is_text(contents, words[0])
-            && is_whole(words[1], counts.replaced)
-            && is_whole(words[2], counts.updated)
-            && is_whole(words[3], counts.deleted)
-            && is_whole(words[4], counts.unknown)
-            && is_whole(words[5], counts.ignored)
+        is_text(contents, word(line, 0))
+            && is_whole(word(line, 1), counts.replaced)
+            && is_whole(word(line, 2), counts.updated)
+            && is_whole(word(line, 3), counts.deleted)
+            && is_whole(word(line, 4), counts.unknown)
+            && is_whole(word(line, 5), counts.ignored)
     }
 }
 
 impl Answer for Number {
-    fn is(&self, words: Words<'_>) -> bool {
-        is_whole(words[0], self.value())
+    fn is(&self, line: &str) -> bool {
+        is_whole(word(line, 0), self.value())
     }
 }
 
 impl Answer for RecordRow {
-    fn is(&self, words: Words<'_>) -> bool {
-        self.series.as_str() == "north" && self.reference.as_str() == words[0]
+    fn is(&self, line: &str) -> bool {
+        self.series.as_str() == "north" && self.reference.as_str() == word(line, 0)
     }
 }
 
 impl Answer for ArticleRow {
-    fn is(&self, words: Words<'_>) -> bool {
+    fn is(&self, line: &str) -> bool {
         self.series.as_str() == "north"
-            && self.reference.as_str() == words[0]
-            && is_whole(words[1], self.id_place)
-            && self.id_type.as_str() == words[2]
+            && self.reference.as_str() == word(line, 0)
+            && is_whole(word(line, 1), self.id_place)
+            && self.id_type.as_str() == word(line, 2)
             && self.id_value.as_str() == "9781234567897"
     }
 }
@@ -150,10 +151,10 @@ fn is_supplier(supplier: &Supplier) -> bool {
 }
 
 impl Answer for OfferRow {
-    fn is(&self, words: Words<'_>) -> bool {
+    fn is(&self, line: &str) -> bool {
         self.series.as_str() == "north"
-            && self.reference.as_str() == words[0]
-            && is_whole(words[1], self.place)
+            && self.reference.as_str() == word(line, 0)
+            && is_whole(word(line, 1), self.place)
             && self.supply == 1
             && is_market(&self.market)
             && is_supplier(&self.supplier)
@@ -163,45 +164,45 @@ impl Answer for OfferRow {
 }
 
 impl Answer for Price {
-    fn is(&self, words: Words<'_>) -> bool {
+    fn is(&self, line: &str) -> bool {
         self.price_type.as_str() == "02"
             && self.amount.thousandths() == 12_990
             && self.currency.as_str() == "GBP"
             && is_world(&self.territory)
-            && is_whole(words[0], self.minimum.value())
+            && is_whole(word(line, 0), self.minimum.value())
             && self.from.is_none()
             && self.until.is_none()
     }
 }
 
 impl Answer for PriceRow {
-    fn is(&self, words: Words<'_>) -> bool {
+    fn is(&self, line: &str) -> bool {
         self.series.as_str() == "north"
             && self.reference.as_str() == "R1"
-            && is_whole(words[0], self.place)
-            && is_whole(words[1], self.price_place)
-            && self.price.is(words_of(words[2]))
+            && is_whole(word(line, 0), self.place)
+            && is_whole(word(line, 1), self.price_place)
+            && self.price.is(word(line, 2))
     }
 }
 
 // The words are its reference, its place and, of each of its prices, from how many copies on.
 impl Answer for Offer {
-    fn is(&self, words: Words<'_>) -> bool {
+    fn is(&self, line: &str) -> bool {
         self.series.as_str() == "north"
-            && self.reference.as_str() == words[0]
-            && is_whole(words[1], self.place)
+            && self.reference.as_str() == word(line, 0)
+            && is_whole(word(line, 1), self.place)
             && self.availability.as_str() == "21"
             && is_market(&self.market)
             && is_supplier(&self.supplier)
-            && are_from(self.prices.as_slice(), words[2], words[3])
+            && are_from(self.prices.as_slice(), word(line, 2), word(line, 3))
     }
 }
 
 // Whether there is one price, or two, from so many copies on.
 fn are_from(prices: &[Price], first: &str, second: &str) -> bool {
     match prices {
-        [one] => one.is(words_of(first)) && second == "",
-        [one, two] => one.is(words_of(first)) && two.is(words_of(second)),
+        [one] => one.is(first) && second == "",
+        [one, two] => one.is(first) && two.is(second),
         _ => false,
     }
 }

@@ -1,7 +1,7 @@
 // The calls that change rows, each by its name and what its line gives it.
 
 use crate::tables::sample::{agreement, article, effect, offer, price_row};
-use crate::tables::words::{Words, name, number, whole};
+use crate::tables::words::{name, number, whole, word};
 use desk_tables::work::Work;
 use onix_message::agreement::StoreFault;
 use sqlite::Alter;
@@ -13,9 +13,9 @@ use std::alloc::Global;
 fn put_series<S: Alter>(
     alloc: Global,
     work: &mut Work<'_, S>,
-    words: Words<'_>,
+    line: &str,
 ) -> Result<(), StoreFault> {
-    let row = agreement(alloc, words[1], words[2])?;
+    let row = agreement(alloc, word(line, 1), word(line, 2))?;
     let put = work.put_series(&row);
     drop(row);
     put
@@ -24,9 +24,9 @@ fn put_series<S: Alter>(
 fn put_article<S: Alter>(
     alloc: Global,
     work: &mut Work<'_, S>,
-    words: Words<'_>,
+    line: &str,
 ) -> Result<(), StoreFault> {
-    let row = article(alloc, words[1], words[2], words[3])?;
+    let row = article(alloc, word(line, 1), word(line, 2), word(line, 3))?;
     let put = work.put_article(&row);
     drop(row);
     put
@@ -35,9 +35,9 @@ fn put_article<S: Alter>(
 fn put_offer<S: Alter>(
     alloc: Global,
     work: &mut Work<'_, S>,
-    words: Words<'_>,
+    line: &str,
 ) -> Result<(), StoreFault> {
-    let row = offer(alloc, words[1], words[2])?;
+    let row = offer(alloc, word(line, 1), word(line, 2))?;
     let put = work.put_offer(&row);
     drop(row);
     put
@@ -46,41 +46,40 @@ fn put_offer<S: Alter>(
 fn put_price<S: Alter>(
     alloc: Global,
     work: &mut Work<'_, S>,
-    words: Words<'_>,
+    line: &str,
 ) -> Result<(), StoreFault> {
-    let row = price_row(alloc, words[1], words[2], words[3])?;
+    let row = price_row(alloc, word(line, 1), word(line, 2), word(line, 3))?;
     let put = work.put_price(&row);
     drop(row);
     put
 }
 
-fn put_held<S: Alter>(work: &mut Work<'_, S>, words: Words<'_>) -> Result<(), StoreFault> {
-    let series = name(words[1])?;
-    work.put_held(&series, number(words[2])?, words[3])
+fn put_held<S: Alter>(work: &mut Work<'_, S>, line: &str) -> Result<(), StoreFault> {
+    let series = name(word(line, 1))?;
+    work.put_held(&series, number(word(line, 2))?, word(line, 3))
 }
 
-fn put_applied<S: Alter>(work: &mut Work<'_, S>, words: Words<'_>) -> Result<(), StoreFault> {
-    let [_, series, at, replaced, updated, deleted, unknown, ignored] = words;
-    let counts = effect([replaced, updated, deleted, unknown, ignored])?;
-    let series = name(series)?;
-    work.put_applied(&series, number(at)?, "first", &counts)
+fn put_applied<S: Alter>(work: &mut Work<'_, S>, line: &str) -> Result<(), StoreFault> {
+    let counts = effect(line)?;
+    let series = name(word(line, 1))?;
+    work.put_applied(&series, number(word(line, 2))?, "first", &counts)
 }
 
-fn set_next<S: Alter>(work: &mut Work<'_, S>, words: Words<'_>) -> Result<(), StoreFault> {
-    let series = name(words[1])?;
-    work.set_next(&series, whole(words[2])?)
+fn set_next<S: Alter>(work: &mut Work<'_, S>, line: &str) -> Result<(), StoreFault> {
+    let series = name(word(line, 1))?;
+    work.set_next(&series, whole(word(line, 2))?)
 }
 
 // The calls that are given a series and a reference. A name that no call has is a fault that no call
 // gives.
-fn change_record<S: Alter>(work: &mut Work<'_, S>, words: Words<'_>) -> Result<(), StoreFault> {
-    let series = name(words[1])?;
-    match words[0] {
-        "add_record" => work.add_record(&series, words[2]),
-        "put_record" => work.put_record(&series, words[2]),
-        "delete_articles" => work.delete_articles(&series, words[2]),
-        "delete_offers" => work.delete_offers(&series, words[2]),
-        "delete_record" => work.delete_record(&series, words[2]),
+fn change_record<S: Alter>(work: &mut Work<'_, S>, line: &str) -> Result<(), StoreFault> {
+    let series = name(word(line, 1))?;
+    match word(line, 0) {
+        "add_record" => work.add_record(&series, word(line, 2)),
+        "put_record" => work.put_record(&series, word(line, 2)),
+        "delete_articles" => work.delete_articles(&series, word(line, 2)),
+        "delete_offers" => work.delete_offers(&series, word(line, 2)),
+        "delete_record" => work.delete_record(&series, word(line, 2)),
         _ => Err(StoreFault::Size),
     }
 }
@@ -89,18 +88,18 @@ fn change_record<S: Alter>(work: &mut Work<'_, S>, words: Words<'_>) -> Result<(
 pub fn change<S: Alter>(
     alloc: Global,
     work: &mut Work<'_, S>,
-    words: Words<'_>,
+    line: &str,
 ) -> Result<(), StoreFault> {
-    match words[0] {
+    match word(line, 0) {
         "create" => work.create(),
         "migrate" => work.migrate(),
-        "put_series" => put_series(alloc, work, words),
-        "put_article" => put_article(alloc, work, words),
-        "put_offer" => put_offer(alloc, work, words),
-        "put_price" => put_price(alloc, work, words),
-        "put_held" => put_held(work, words),
-        "put_applied" => put_applied(work, words),
-        "set_next" => set_next(work, words),
-        _ => change_record(work, words),
+        "put_series" => put_series(alloc, work, line),
+        "put_article" => put_article(alloc, work, line),
+        "put_offer" => put_offer(alloc, work, line),
+        "put_price" => put_price(alloc, work, line),
+        "put_held" => put_held(work, line),
+        "put_applied" => put_applied(work, line),
+        "set_next" => set_next(work, line),
+        _ => change_record(work, line),
     }
 }

@@ -2,7 +2,7 @@
 
 use crate::tables::answers::{are_all, is_found};
 use crate::tables::sample::{offer, party, record};
-use crate::tables::words::{Words, isbn, name, number};
+use crate::tables::words::{isbn, name, number, word};
 use desk_tables::work::Work;
 use onix_message::agreement::StoreFault;
 use onix_terms::series_name::SeriesName;
@@ -11,21 +11,21 @@ use std::alloc::Global;
 
 fn series_by_name<S: Alter>(
     work: &mut Work<'_, S>,
-    words: Words<'_>,
+    line: &str,
     wanted: &str,
 ) -> Result<bool, StoreFault> {
-    let series = name(words[1])?;
+    let series = name(word(line, 1))?;
     is_found(work.series_by_name(&series), wanted)
 }
 
 fn series_by_parties<S: Alter>(
     alloc: Global,
     work: &mut Work<'_, S>,
-    words: Words<'_>,
+    line: &str,
     wanted: &str,
 ) -> Result<bool, StoreFault> {
     let addressee = Some(party(alloc, "5012345678900")?);
-    match party(alloc, words[1]) {
+    match party(alloc, word(line, 1)) {
         Ok(sender) => is_found(work.series_by_parties(&sender, &addressee), wanted),
         Err(fault) => Err(fault),
     }
@@ -35,11 +35,11 @@ fn series_by_parties<S: Alter>(
 fn ask_number<S: Alter>(
     work: &mut Work<'_, S>,
     north: &SeriesName,
-    words: Words<'_>,
+    line: &str,
     wanted: &str,
 ) -> Result<bool, StoreFault> {
-    let at = number(words[1])?;
-    match words[0] {
+    let at = number(word(line, 1))?;
+    match word(line, 0) {
         "next_held" => is_found(work.next_held(north, at), wanted),
         "take_held" => is_found(work.take_held(north, at), wanted),
         _ => is_found(work.applied_at(north, at), wanted),
@@ -50,11 +50,11 @@ fn ask_number<S: Alter>(
 fn has_some<S: Alter>(
     work: &mut Work<'_, S>,
     north: &SeriesName,
-    words: Words<'_>,
+    line: &str,
     wanted: &str,
 ) -> Result<bool, StoreFault> {
-    let has = match words[0] {
-        "has_record" => work.has_record(north, words[1]),
+    let has = match word(line, 0) {
+        "has_record" => work.has_record(north, word(line, 1)),
         _ => work.has_minimums(north),
     };
     match has {
@@ -67,11 +67,11 @@ fn has_some<S: Alter>(
 fn ask_record<S: Alter>(
     alloc: Global,
     work: &mut Work<'_, S>,
-    words: Words<'_>,
+    line: &str,
     wanted: &str,
 ) -> Result<bool, StoreFault> {
-    let row = record(alloc, words[1])?;
-    match words[0] {
+    let row = record(alloc, word(line, 1))?;
+    match word(line, 0) {
         "record_articles" => are_all(work.record_articles(&row), wanted),
         _ => are_all(work.record_offers(&row), wanted),
     }
@@ -80,11 +80,11 @@ fn ask_record<S: Alter>(
 fn offer_prices<S: Alter>(
     alloc: Global,
     work: &mut Work<'_, S>,
-    words: Words<'_>,
+    line: &str,
     wanted: &str,
 ) -> Result<bool, StoreFault> {
-    let row = offer(alloc, words[1], words[2])?;
-    let prices = match words[0] {
+    let row = offer(alloc, word(line, 1), word(line, 2))?;
+    let prices = match word(line, 0) {
         "offer_prices" => work.offer_prices(&row),
         _ => work.offer_prices_without_minimums(&row),
     };
@@ -96,10 +96,10 @@ fn offer_prices<S: Alter>(
 
 fn offers_by_article<S: Alter>(
     work: &mut Work<'_, S>,
-    words: Words<'_>,
+    line: &str,
     wanted: &str,
 ) -> Result<bool, StoreFault> {
-    let article = isbn(words[1])?;
+    let article = isbn(word(line, 1))?;
     match work.offers_by_article(&article) {
         Ok(offers) => are_all(Ok(offers.into_vec()), wanted),
         Err(fault) => Err(fault),
@@ -121,10 +121,10 @@ fn version<S: Alter>(work: &mut Work<'_, S>, wanted: &str) -> Result<bool, Store
 fn ask_rows<S: Alter>(
     work: &mut Work<'_, S>,
     north: &SeriesName,
-    words: Words<'_>,
+    line: &str,
     wanted: &str,
 ) -> Option<Result<bool, StoreFault>> {
-    Some(match words[0] {
+    Some(match word(line, 0) {
         "gap_rows" => are_all(work.gap_rows(north), wanted),
         "record_rows" => are_all(work.record_rows(north), wanted),
         "article_rows" => are_all(work.article_rows(north), wanted),
@@ -138,13 +138,13 @@ fn ask_rows<S: Alter>(
 fn ask_series<S: Alter>(
     alloc: Global,
     work: &mut Work<'_, S>,
-    words: Words<'_>,
+    line: &str,
     wanted: &str,
 ) -> Option<Result<bool, StoreFault>> {
-    Some(match words[0] {
+    Some(match word(line, 0) {
         "version" => version(work, wanted),
-        "series_by_name" => series_by_name(work, words, wanted),
-        "series_by_parties" => series_by_parties(alloc, work, words, wanted),
+        "series_by_name" => series_by_name(work, line, wanted),
+        "series_by_parties" => series_by_parties(alloc, work, line, wanted),
         "series_rows" => are_all(work.series_rows(), wanted),
         _ => return None,
     })
@@ -156,20 +156,20 @@ pub fn ask<S: Alter>(
     alloc: Global,
     work: &mut Work<'_, S>,
     north: &SeriesName,
-    words: Words<'_>,
+    line: &str,
     wanted: &str,
 ) -> Option<Result<bool, StoreFault>> {
-    Some(match words[0] {
-        "next_held" | "take_held" | "applied_at" => ask_number(work, north, words, wanted),
-        "has_record" | "has_minimums" => has_some(work, north, words, wanted),
-        "record_articles" | "record_offers" => ask_record(alloc, work, words, wanted),
+    Some(match word(line, 0) {
+        "next_held" | "take_held" | "applied_at" => ask_number(work, north, line, wanted),
+        "has_record" | "has_minimums" => has_some(work, north, line, wanted),
+        "record_articles" | "record_offers" => ask_record(alloc, work, line, wanted),
         "offer_prices" | "offer_prices_without_minimums" => {
-            offer_prices(alloc, work, words, wanted)
+            offer_prices(alloc, work, line, wanted)
         }
-        "offers_by_article" => offers_by_article(work, words, wanted),
-        _ => match ask_rows(work, north, words, wanted) {
+        "offers_by_article" => offers_by_article(work, line, wanted),
+        _ => match ask_rows(work, north, line, wanted) {
             Some(answer) => answer,
-            None => return ask_series(alloc, work, words, wanted),
+            None => return ask_series(alloc, work, line, wanted),
         },
     })
 }

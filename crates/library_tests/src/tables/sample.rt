@@ -1,7 +1,7 @@
 // The rows that transcripts name by few words. What they do not name is the same in all rows: the
 // market GB and IE, the supplier North Books, the price 12.99 GBP of the world.
 
-use crate::tables::words::{code, name, number, term, whole};
+use crate::tables::words::{code, name, number, term, whole, word};
 use desk_tables::rows::applied::EffectRow;
 use desk_tables::rows::row_types::{ArticleRow, OfferRow, PriceRow, RecordRow};
 use onix_message::agreement::{Agreement, StoreFault};
@@ -56,15 +56,14 @@ pub fn agreement(alloc: Global, series: &str, sender: &str) -> Result<Agreement,
     }
 }
 
-/// The five counts of an effect.
-pub fn effect(counts: [&str; 5]) -> Result<EffectRow, StoreFault> {
-    let [replaced, updated, deleted, unknown, ignored] = counts;
+/// The five counts of an effect, behind the name of the call, the series and the number.
+pub fn effect(line: &str) -> Result<EffectRow, StoreFault> {
     Ok(EffectRow {
-        replaced: whole(replaced)?,
-        updated: whole(updated)?,
-        deleted: whole(deleted)?,
-        unknown: whole(unknown)?,
-        ignored: whole(ignored)?,
+        replaced: whole(word(line, 3))?,
+        updated: whole(word(line, 4))?,
+        deleted: whole(word(line, 5))?,
+        unknown: whole(word(line, 6))?,
+        ignored: whole(word(line, 7))?,
     })
 }
 

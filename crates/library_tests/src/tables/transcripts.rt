@@ -2,7 +2,7 @@
 
 use crate::tables::changes::change;
 use crate::tables::queries::ask;
-use crate::tables::words::{name, words_of};
+use crate::tables::words::name;
 use desk_tables::tables::Tables;
 use desk_tables::work::Work;
 use onix_message::agreement::StoreFault;
@@ -17,11 +17,10 @@ fn has_answer<S: Alter>(
     call: &str,
     wanted: &str,
 ) -> Result<bool, StoreFault> {
-    let words = words_of(call);
     let north = name("north")?;
-    match ask(alloc, work, &north, words, wanted) {
+    match ask(alloc, work, &north, call, wanted) {
         Some(answer) => answer,
-        None => match change(alloc, work, words) {
+        None => match change(alloc, work, call) {
             Ok(()) => Ok(wanted.is_empty()),
             Err(fault) => Err(fault),
         },

@@ -6,18 +6,10 @@ use onix_terms::isbn13::Isbn13;
 use onix_terms::number::Number;
 use onix_terms::series_name::SeriesName;
 
-/// The words of a line, and empty ones for those that it does not have.
-pub type Words<'a> = [&'a str; 8];
-
-/// The words of a text, up to eight.
-pub fn words_of<'a>(text: &'a str) -> Words<'a> {
-    let mut words = [""; 8];
-    for (place, word) in text.split_whitespace().enumerate() {
-        if let Some(slot) = words.get_mut(place) {
-            *slot = word;
-        }
-    }
-    words
+/// The word at this place of a line, from 0, or an empty text. A line is handed on whole, since an
+/// array of its words is dear to prove in each function that takes one.
+pub fn word(line: &str, place: usize) -> &str {
+    line.split_whitespace().nth(place).unwrap_or("")
 }
 
 /// A term that stands in a transcript. Where its text is none the fault is `Size`, which no call

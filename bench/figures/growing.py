@@ -37,9 +37,9 @@ class Plan(NamedTuple):
 
 
 class Asked(NamedTuple):
-    """What opening a desk after a kill took; what a price took of the desk and of SQLite, of the processor and by
-    the clock; their memories; and what the catalogue took of the processor, the bytes of its answer and the greatest
-    memory then, or zeros."""
+    """What opening a desk after a kill took; what a price took of the desk and of SQLite, of the processor and
+    by the clock; their memories; and what the catalogue took of the processor, the bytes of its answer and the
+    greatest memory then, or zeros."""
 
     reopening: Taken
     prices: list[int]

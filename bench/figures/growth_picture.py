@@ -9,7 +9,7 @@ from figures.kept import Size
 
 
 class Line(NamedTuple):
-    """A line: what it shows, its colour, and its value at a size, in seconds or bytes. One of SQLite is broken."""
+    """What a line shows, its colour, and its value at a size, in seconds or bytes. SQLite's are broken."""
 
     words: str
     colour: str
@@ -65,7 +65,7 @@ SIZES = Panel(
 
 WIDTH, HEIGHT = 1_000, 520
 # A panel's place of drawing, from its left and from the top.
-LEFT, TOP, WIDE, HIGH = 80, 50, 390, 320
+LEFT, TOP, WIDE, HIGH = 80, 50, 375, 320
 PANEL = WIDTH // 2
 
 # How many decades a value may lie outside of the axes.
@@ -128,7 +128,7 @@ def broken(line: Line) -> str:
 def legend(lines: list[Line]) -> Iterator[str]:
     """A row for each two lines, below the axis."""
     for place, line in enumerate(lines):
-        x, y = place % 2 * 215 - 40, HIGH + 72 + place // 2 * 24
+        x, y = place % 2 * 222 - 40, HIGH + 72 + place // 2 * 24
         yield stroke(x, y - 5, x + 30, y - 5, line.colour, f' stroke-width="2.5"{broken(line)}')
         yield text(x + 36, y, line.words, "start", ' font-size="12.5"')
 
@@ -146,8 +146,9 @@ def drawn(panel: Panel, left: int, sizes: list[Size]) -> Iterator[str]:
 
 def svg(sizes: list[Size]) -> str:
     """The picture of these sizes."""
-    head = f'<svg xmlns="http://www.w3.org/2000/svg" viewBox="0 0 {WIDTH} {HEIGHT}" font-family="sans-serif" font-size="13">'
-    pieces = [head, f'<rect width="{WIDTH}" height="{HEIGHT}" fill="white"/>']
+    box, font = f'viewBox="0 0 {WIDTH} {HEIGHT}"', 'font-family="sans-serif" font-size="13"'
+    pieces = [f'<svg xmlns="http://www.w3.org/2000/svg" {box} {font}>']
+    pieces.append(f'<rect width="{WIDTH}" height="{HEIGHT}" fill="white"/>')
     pieces += drawn(TIMES, LEFT, sizes)
     pieces += drawn(SIZES, PANEL + LEFT, sizes)
     return "\n".join([*pieces, "</svg>", ""])

@@ -29,9 +29,9 @@ class Size(NamedTuple):
     An article is the mean of those since the size before. A price is the median of the questions of the
     processor, and their least by the clock. The log and the greatest memory are those of the desk that took the
     messages, the memories those after the questions. An opening is that of a file that was closed, a reopening
-    that of one whose desk was killed, and the tests are SQLite's own of the file and its foreign keys. What the
-    series' catalogue took of the processor, the bytes of its answer and the desk's greatest memory are 0 where it
-    was not asked for."""
+    that of one whose desk was killed, and the tests are SQLite's own of the file and its foreign keys. What
+    the series' catalogue took of the processor, the bytes of its answer and the desk's greatest memory are 0
+    where it was not asked for."""
 
     articles: int
     load_hundredths: int

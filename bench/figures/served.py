@@ -70,7 +70,8 @@ class Served:
         return self.exchange(f"GET {target} HTTP/1.1\r\n\r\n".encode("ascii"))
 
     def post(self, target: str, body: bytes) -> tuple[bytes, Taken]:
-        return self.exchange(f"POST {target} HTTP/1.1\r\nContent-Length: {len(body)}\r\n\r\n".encode("ascii") + body)
+        head = f"POST {target} HTTP/1.1\r\nContent-Length: {len(body)}\r\n\r\n"
+        return self.exchange(head.encode("ascii") + body)
 
     def kill(self):
         """Ends the program at once, as `kill -9` does; one that has ended stays so."""

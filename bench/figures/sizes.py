@@ -19,9 +19,10 @@ def figures(size: Size) -> Iterator[Figure]:
     yield Figure(price, size.desk_price_clock, size.sqlite_price_clock, CLOCK)
     yield Figure("the file, to SQLite's", size.desk_file_bytes, size.sqlite_file_bytes, "bytes")
     yield Figure("the log while it is open, to the file", size.desk_log_bytes, size.desk_file_bytes, "bytes")
-    memory = size.sqlite_memory_bytes
-    yield Figure("the memory after the questions, to that of SQLite's program", size.desk_memory_bytes, memory, "bytes")
-    yield Figure("the greatest memory while it grew, to the same", size.desk_greatest_bytes, memory, "bytes")
+    memory = "the memory after the questions, to that of SQLite's program"
+    yield Figure(memory, size.desk_memory_bytes, size.sqlite_memory_bytes, "bytes")
+    greatest = "the greatest memory while it grew, to the same"
+    yield Figure(greatest, size.desk_greatest_bytes, size.sqlite_memory_bytes, "bytes")
     tests, by_clock = size.sqlite_tests, size.sqlite_tests_clock
     opening = "opening a file that was closed, to SQLite's tests of it"
     yield Figure(opening, size.desk_opening, tests, PROCESSOR)

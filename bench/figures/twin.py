@@ -11,7 +11,12 @@ from figures.runs import BenchmarkFault
 from figures.taken import Taken
 
 # As a desk keeps its own: a log that is synced at each commit, 2,000 pages in memory, foreign keys.
-SETTINGS = "PRAGMA journal_mode = WAL; PRAGMA synchronous = FULL; PRAGMA cache_size = 2000; PRAGMA foreign_keys = ON"
+SETTINGS = """
+PRAGMA journal_mode = WAL;
+PRAGMA synchronous = FULL;
+PRAGMA cache_size = 2000;
+PRAGMA foreign_keys = ON;
+"""
 
 
 class Twin:

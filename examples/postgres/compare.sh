@@ -7,7 +7,10 @@
 # Status 0; 1 where rows differ, or sqlite3 or psql fails; 2 where it cannot begin. It needs both.
 set -euo pipefail
 . "$(dirname "$(readlink -f "${BASH_SOURCE[0]}")")/tables.sh"
-[ $# -eq 2 ] && [ -f "$1" ] || { echo "compare.sh: it is called as compare.sh FILE SCHEMA" >&2; exit 2; }
+if [ $# -ne 2 ] || [ ! -f "$1" ]; then
+    echo "compare.sh: it is called as compare.sh FILE SCHEMA" >&2
+    exit 2
+fi
 file=$1 schema=$2
 room=$(mktemp -d)
 trap 'rm -rf "$room"' EXIT

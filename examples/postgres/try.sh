@@ -2,16 +2,20 @@
 # Tries copy.sh and compare.sh on a new cluster of PostgreSQL, in a folder of its own and with a socket there
 # alone, which is removed at the end.
 #     try.sh [FILE]
-# Without a FILE, a copy of a desk's file as for copy.sh, a small desk is made whose texts need care. The copy has
-# to have the same rows; then one price of it is changed, which compare.sh has to tell, and a copy is made again.
-# ONIXDESK names the program where it is not onixdesk. Status 0; another one where something is not so. It needs
-# sqlite3, psql and Debian's postgresql-15, and runs as a user that is not root, as PostgreSQL does:
+# Without a FILE, a copy of a desk's file as for copy.sh, a small desk is made whose texts need care. The copy
+# has to have the same rows; then one price of it is changed, which compare.sh has to tell, and a copy is made
+# again. ONIXDESK names the program where it is not onixdesk. Status 0; another one where something is not so.
+# It needs sqlite3, psql and Debian's postgresql-15, and runs as a user that is not root, as PostgreSQL does:
 #     runuser -u nobody -- examples/postgres/try.sh
 set -euo pipefail
 folder=$(dirname "$(readlink -f "${BASH_SOURCE[0]}")")
 programs=${POSTGRES_BIN:-/usr/lib/postgresql/15/bin}
 room=$(mktemp -d)
-trap '"$programs/pg_ctl" --pgdata "$room/data" --mode immediate stop >/dev/null 2>&1 || true; rm -rf "$room"' EXIT
+end() {
+    "$programs/pg_ctl" --pgdata "$room/data" --mode immediate stop >/dev/null 2>&1 || true
+    rm -rf "$room"
+}
+trap end EXIT
 cd "$room"
 
 "$programs/initdb" --pgdata data --auth trust --encoding UTF8 --no-locale --username desk >initdb.log

@@ -1,5 +1,5 @@
-"""`bench/scale`: a small desk grows beside the same rows put by SQLite, is measured at each size, and goes on where
-a run was stopped."""
+"""`bench/scale`: a small desk grows beside the same rows put by SQLite, is measured at each size, and goes on
+where a run was stopped."""
 
 import subprocess
 import sys

@@ -1,4 +1,4 @@
-"""A database file of more than 50,000,000 bytes, which takes a while to be checked: on a terminal a line says so."""
+"""A database file of more than 50,000,000 bytes takes a while to be checked: on a terminal a line says so."""
 
 import os
 import pty

@@ -1,2 +1,1 @@
 pub mod PieceLists
-pub mod Answered

@@ -28,11 +28,23 @@ def amount(random: Random) -> str:
     return whole if random.random() < 0.3 else f"{whole}.{random.randint(0, 99):02}"
 
 
+def days(random: Random) -> str:
+    """The first and the last day of a price. Most have none."""
+    if random.random() < 0.3:
+        return f"{day(random)},"
+    return f",{day(random)}" if random.random() < 0.2 else ","
+
+
+def minimum(random: Random, form: int) -> str:
+    """The last field of a price, where it has one."""
+    has_one = form == 2 and random.random() < 0.6
+    return f",{random.choice(['', 5, 10, 100])}" if has_one else ""
+
+
 def price(random: Random, form: int) -> str:
-    first, last = (day(random), "") if random.random() < 0.3 else ("", day(random) if random.random() < 0.2 else "")
-    minimum = f",{random.choice(['', 5, 10, 100])}" if form == 2 and random.random() < 0.6 else ""
+    bounds, least = days(random), minimum(random, form)
     territory = random.choice([",,"] * 3 + TERRITORIES)
-    return f"Price,{random.choice(['', '02', '01'])},{amount(random)},,{territory},{first},{last}{minimum}"
+    return f"Price,{random.choice(['', '02', '01'])},{amount(random)},,{territory},{bounds}{least}"
 
 
 def supplies(random: Random, form: int) -> list[str]:
@@ -68,6 +80,7 @@ class Series:
         self.coming: list[int] = []
         self.beyond = self.first
         self.left_out: list[int] = []
+        self.waived: list[int] = []
         self.sent: dict[int, str] = {}
 
     def agreement(self) -> str:
@@ -104,7 +117,7 @@ class Series:
         return self.sent[number]
 
     def had(self) -> int:
-        """A number that was sent or waived, or the first one."""
+        """A number that was sent, or the first one."""
         return self.random.choice(list(self.sent) or [self.first])
 
     def again(self) -> str:
@@ -114,7 +127,8 @@ class Series:
         return self.message(self.had())
 
     def broken(self) -> str:
-        """A message that is cut off or miscounted, unnumbered, before the first, or of nobody's series."""
+        """A message that is cut off or miscounted, unnumbered, before the first, of nobody's series, or of a
+        number that was waived."""
         whole = self.message(self.beyond)
         return self.random.choice(
             [
@@ -123,6 +137,7 @@ class Series:
                 self.message(""),
                 self.message(self.first - 1) if self.first > 1 else self.message(0),
                 self.message(1, parties="06,4999999999999,,"),
+                self.message(self.random.choice(self.waived or [self.first])),
             ]
         )
 
@@ -131,7 +146,8 @@ class Series:
         chance = self.random.random()
         if chance < 0.6 and self.left_out:
             number = self.left_out.pop(self.random.randrange(len(self.left_out)))
-            self.sent[number] = ""
+            self.waived.append(number)
         else:
-            number = self.had() if chance < 0.9 else max(self.first - 1, 1)
+            had = self.had() if chance < 0.75 or not self.waived else self.random.choice(self.waived)
+            number = had if chance < 0.9 else max(self.first - 1, 1)
         return f"Waive,{self.name},{number}\n"

@@ -58,7 +58,8 @@ SIZES = Panel(
     [
         Line("the file", "#5b2c83", lambda it: it.desk_file_bytes),
         Line("SQLite's file of the same rows", "#d39bea", lambda it: it.sqlite_file_bytes, True),
-        Line("the desk's greatest memory", "#333333", lambda it: it.desk_greatest_bytes),
+        Line("memory of a growing desk", "#333333", lambda it: it.desk_greatest_bytes),
+        Line("of one opened anew", "#d0342c", lambda it: it.desk_memory_bytes),
         Line("the log beside the file", "#a07a00", lambda it: it.desk_log_bytes),
     ],
 )

@@ -55,7 +55,7 @@ def picture(room):
     measured(room, 12)
     drawn = ElementTree.fromstring(room.path("growth.svg").read_bytes())
     points = [len(line.get("points").split()) for line in drawn.iter(f"{SVG}polyline")]
-    yield Outcome("bench/scale: the points of its lines", points, [2] * 10)
+    yield Outcome("bench/scale: the points of its lines", points, [2] * 11)
 
 
 def twin_file(room, name: str, articles: int) -> Path:

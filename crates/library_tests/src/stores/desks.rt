@@ -16,6 +16,11 @@ use sqlite::MemStore;
 use std::alloc::Global;
 use std::process::Abort;
 
+// Asks a new desk in memory, which this function owns alone.
+fn over_memory(alloc: Global, stop: &impl Abort, met: &mut Refusals, list: List<'_>) {
+    expect_list(alloc, stop, met, &mut MemoryDesk::new(alloc), list);
+}
+
 #[test]
 fn desk_in_memory(rt: HostRuntime) {
     let alloc = rt.alloc();
@@ -24,7 +29,7 @@ fn desk_in_memory(rt: HostRuntime) {
     let mut are_asked = false;
     for list in [STEPS, QUESTIONS, EXCHANGES, drain(drained.as_str())] {
         if are_chosen(&rt, list.name) {
-            expect_list(alloc, &rt, &mut met, &mut MemoryDesk::new(alloc), list);
+            over_memory(alloc, &rt, &mut met, list);
             are_asked = true;
         }
     }

@@ -162,20 +162,28 @@ fn stops_of_the_database(rt: HostRuntime) -> Result<(), Fail> {
     expect_stops(rt.alloc(), &rt, STEPS, false)
 }
 
-// The same of the shorter lists, in tests of their own, since a test has a minute.
-fn expect_stops_of_lists(alloc: Global, stop: &impl Abort, is_log: bool) -> Result<(), Fail> {
-    for list in [LATE, CHANGES, WAIVERS, MINIMUMS] {
-        expect_stops(alloc, stop, list, is_log)?;
-    }
-    Ok(())
+// The same of both files. Each of the shorter lists has a test of its own, since a test has a minute.
+fn expect_stops_of_both(alloc: Global, stop: &impl Abort, list: List<'_>) -> Result<(), Fail> {
+    expect_stops(alloc, stop, list, true)?;
+    expect_stops(alloc, stop, list, false)
 }
 
 #[test]
-fn stops_of_the_log_by_subject(rt: HostRuntime) -> Result<(), Fail> {
-    expect_stops_of_lists(rt.alloc(), &rt, true)
+fn late_messages(rt: HostRuntime) -> Result<(), Fail> {
+    expect_stops_of_both(rt.alloc(), &rt, LATE)
 }
 
 #[test]
-fn stops_of_the_database_by_subject(rt: HostRuntime) -> Result<(), Fail> {
-    expect_stops_of_lists(rt.alloc(), &rt, false)
+fn updates_and_deletions(rt: HostRuntime) -> Result<(), Fail> {
+    expect_stops_of_both(rt.alloc(), &rt, CHANGES)
+}
+
+#[test]
+fn waivers(rt: HostRuntime) -> Result<(), Fail> {
+    expect_stops_of_both(rt.alloc(), &rt, WAIVERS)
+}
+
+#[test]
+fn minimum_order_quantities(rt: HostRuntime) -> Result<(), Fail> {
+    expect_stops_of_both(rt.alloc(), &rt, MINIMUMS)
 }

@@ -115,14 +115,14 @@ fn expect_part(
     Ok(())
 }
 
-// The whole batch, after it was cut at each byte.
-fn cut_at_each_byte(alloc: Global, stop: &impl Abort) -> Result<Vec<u8>, Fail> {
-    let mut begun = Vec::new(alloc);
+// Cuts the batch at each byte, and leaves it whole in a buffer that is lent, so that no way out lets go
+// of it.
+fn cut_at_each_byte(alloc: Global, stop: &impl Abort, batch: &mut Vec<u8>) -> Result<(), Fail> {
     for text in PARTS.split('>') {
         let (part, answers) = text.split_once('<').ok_or("a part without answers")?;
-        expect_part(alloc, stop, &mut begun, part, answers)?;
+        expect_part(alloc, stop, batch, part, answers)?;
     }
-    Ok(begun)
+    Ok(())
 }
 
 // How many answers are written in part or whole where so many bytes are taken: one a line.
@@ -155,19 +155,25 @@ fn expect_written(alloc: Global, stop: &impl Abort, batch: &[u8], taken: &[u8], 
     expect_answers(alloc, stop, &mut desk, GAPS.as_bytes(), held);
 }
 
-// Cut off after each byte, with a failed read after each, and with outputs that take part of the answers.
-#[test]
-fn batches_at_their_ends(rt: HostRuntime) -> Result<(), Fail> {
-    let batch = cut_at_each_byte(rt.alloc(), &rt)?;
+// With outputs that take each part of the answers.
+fn expect_written_in_parts(alloc: Global, stop: &impl Abort, batch: &[u8]) -> Result<(), Fail> {
     let (_, answers) = PARTS
         .rsplit_once('<')
         .ok_or("the answers of the last part")?;
     for at in 0..answers.len() {
         let taken = answers.as_bytes().get(..at).ok_or("a part of the answers")?;
-        expect_written(rt.alloc(), &rt, batch.as_slice(), taken, true);
-        expect_written(rt.alloc(), &rt, batch.as_slice(), taken, false);
+        expect_written(alloc, stop, batch, taken, true);
+        expect_written(alloc, stop, batch, taken, false);
     }
     Ok(())
+}
+
+// Cut off after each byte, with a failed read after each, and with outputs that take part of the answers.
+#[test]
+fn batches_at_their_ends(rt: HostRuntime) -> Result<(), Fail> {
+    let mut batch = Vec::new(rt.alloc());
+    cut_at_each_byte(rt.alloc(), &rt, &mut batch)?;
+    expect_written_in_parts(rt.alloc(), &rt, batch.as_slice())
 }
 
 // A text of one byte more than a batch may have is read to its end, one byte a read, and to no more.

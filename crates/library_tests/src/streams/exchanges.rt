@@ -241,25 +241,39 @@ fn expect_fault(alloc: Global, stop: &impl Abort, number: usize, input: &str, re
     expect_reply(stop, served, written.as_slice(), (503, reply));
 }
 
-fn fault(alloc: Global, kind: &str) -> Result<String, AllocError> {
-    let length = kind.len().saturating_add(30);
-    format!(in alloc;
-        "HTTP/1.1 503 Service Unavailable\r\nContent-Type: application/json\r\nContent-Length: {length}\r\nConnection: close\r\n\r\n{{\"answer\":\"fault\",\"reason\":\"{kind}\"}}"
-    )
-}
+// The replies to the faults, by their numbers, each behind a `|` but the first.
+const FAULTS: &str = "HTTP/1.1 503 Service Unavailable\r
+Content-Type: application/json\r
+Content-Length: 36\r
+Connection: close\r
+\r
+{\"answer\":\"fault\",\"reason\":\"memory\"}|HTTP/1.1 503 Service Unavailable\r
+Content-Type: application/json\r
+Content-Length: 34\r
+Connection: close\r
+\r
+{\"answer\":\"fault\",\"reason\":\"size\"}|HTTP/1.1 503 Service Unavailable\r
+Content-Type: application/json\r
+Content-Length: 34\r
+Connection: close\r
+\r
+{\"answer\":\"fault\",\"reason\":\"disk\"}|HTTP/1.1 503 Service Unavailable\r
+Content-Type: application/json\r
+Content-Length: 38\r
+Connection: close\r
+\r
+{\"answer\":\"fault\",\"reason\":\"unusable\"}";
 
 // Each fault of storage, asked by a delivery and by a question.
 #[test]
-fn faults_of_storage(rt: HostRuntime) -> Result<(), Fail> {
-    for (number, kind) in ["memory", "size", "disk", "unusable"]
-        .into_iter()
-        .enumerate()
-    {
-        let reply = fault(rt.alloc(), kind)?;
-        expect_fault(rt.alloc(), &rt, number, DELIVERY, reply.as_str());
-        expect_fault(rt.alloc(), &rt, number, GAPS, reply.as_str());
+fn faults_of_storage(rt: HostRuntime) {
+    let mut number = 0;
+    for reply in FAULTS.split('|') {
+        expect_fault(rt.alloc(), &rt, number, DELIVERY, reply);
+        expect_fault(rt.alloc(), &rt, number, GAPS, reply);
+        number = number.saturating_add(1);
     }
-    Ok(())
+    assert_eq!(rt; number, 4, "each fault");
 }
 
 // A delivery of which the read after these bytes fails has no reply.

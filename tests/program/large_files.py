@@ -1,5 +1,6 @@
 """A database file of more than 50,000,000 bytes takes a while to be checked: on a terminal a line says so."""
 
+import errno
 import os
 import pty
 import subprocess
@@ -20,6 +21,18 @@ def make_file(room, size: int):
     os.truncate(room.path("large.db"), size)
 
 
+def read_to_end(terminal) -> bytes:
+    """All that was written to a terminal whose other side is closed, which Linux tells by an error."""
+    text = b""
+    try:
+        while piece := terminal.read(65_536):
+            text += piece
+    except OSError as fault:
+        if fault.errno != errno.EIO:
+            raise
+    return text
+
+
 def said_on_terminal(room) -> list[str]:
     """The lines on standard error, where that is a terminal."""
     ours, theirs = pty.openpty()
@@ -27,7 +40,7 @@ def said_on_terminal(room) -> list[str]:
         words = [room.program, *WORDS]
         subprocess.run(words, cwd=room.folder, stdout=subprocess.DEVNULL, stderr=theirs, timeout=SECONDS)
         os.close(theirs)
-        return terminal.read(65_536).decode().splitlines()
+        return read_to_end(terminal).decode().splitlines()
 
 
 def on_a_terminal(room):

@@ -13,8 +13,8 @@ LAYERS = {
         ["desk_text", "desk_requests", "desk_batch", "desk_json", "http_requests", "desk_http", "onixdesk", "library_tests"],
     ),
     "Tables": ("a desk in a file", ["desk_tables", "catalogue_store", "desk_store", "desk_stops"]),
-    "Rules": ("what is answered", ["price_rules", "catalogue_rules", "series_rules", "desk_memory"]),
-    "Words": ("what a message says", ["csv_records", "onix_terms", "onix_rows", "onix_message"]),
+    "Rules": ("what is answered", ["desk_terms", "price_rules", "catalogue_rules", "series_rules", "desk_memory"]),
+    "Words": ("what a message says", ["csv_records", "onix_terms", "onix_records", "onix_message"]),
 }
 
 

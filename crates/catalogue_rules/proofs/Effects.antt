@@ -1,7 +1,7 @@
 -- Products one after the other.
 use Rattle.std.proofs.Common.{◌≡◌, ◌+◌, List, [], ◌∷◌, ◌++◌, Option, Some, None, length, refl, arith}
 use Rattle.std.specs.FinMap as map
-use Rattle.onix_rows.specs.declared.parts.Product.{Product}
+use Rattle.onix_records.specs.declared.parts.Product.{Product}
 use Rattle.catalogue_rules.specs.Records.{ByReference}
 use Rattle.catalogue_rules.specs.Effects.{after, after_product, change_of, counted, effect_from}
 use Rattle.catalogue_rules.specs.Plans.{total}

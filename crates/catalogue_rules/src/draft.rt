@@ -1,3 +1,5 @@
+//! What is to become of the records that a message names.
+
 ghost use Rattle.std.specs.Prelude.{◌≡◌, ◌<◌, IfSome, IfNone, OnOk, Some, None, ℕ, List};
 ghost use Rattle.std.specs.Option.{option_copied};
 ghost use Rattle.std.specs.FinMap as map;

@@ -1,3 +1,5 @@
+//! What the products of a message did, and what each asks for.
+
 ghost use Rattle.std.specs.Prelude.{◌≡◌, ◌+◌, ◌<◌, ◌^◌, Option, is_some};
 
 use onix_terms::code::Code2;

@@ -1,6 +1,8 @@
+//! What a catalogue keeps of a record.
+
 ghost use Rattle.std.specs.Prelude.{◌≡◌, IfOk};
 
-use onix_rows::parts::{ProductIdentifier, ProductSupply};
+use onix_records::parts::{ProductIdentifier, ProductSupply};
 use onix_terms::items::Items;
 use onix_terms::plain::Plain;
 use std::alloc::AllocError;

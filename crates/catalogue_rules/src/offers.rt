@@ -1,4 +1,4 @@
-// The offers that the records of a catalogue make of an article.
+//! The offers that the records of a catalogue make of an article.
 
 ghost use Rattle.std.specs.Prelude.{◌≡◌, ◌+◌, ◌<◌, ◌^◌, ◌++◌, IfOk, OnOk, length};
 ghost use Rattle.onix_message.specs.DetailCount.{detail_count};
@@ -6,7 +6,7 @@ ghost use Rattle.catalogue_rules.specs.Records.{HasFewDetails};
 ghost use Rattle.catalogue_rules.specs.Offers.{entry_offers, has_article, is_article, offer_of, offers_from, record_offers, supply_details};
 
 use crate::entry::Entry;
-use onix_rows::parts::{ProductIdentifier, ProductSupply, SupplyDetail};
+use onix_records::parts::{ProductIdentifier, ProductSupply, SupplyDetail};
 use onix_terms::isbn13::Isbn13;
 use onix_terms::items::Items;
 use onix_terms::plain::Plain;

@@ -1,3 +1,5 @@
+//! The changes of a message, planned before the catalogue is touched.
+
 ghost use Rattle.std.specs.Prelude.{◌≡◌, ◌↔◌, ◌+◌, ◌<◌, ◌^◌, [], IfOk, OnOk, IsTrue, IsSome, Some, None, Option, length};
 ghost use Rattle.std.specs.Option.{option_copied};
 ghost use Rattle.std.specs.FinMap as map;
@@ -9,7 +11,7 @@ use crate::catalogue::Catalogue;
 use crate::draft::Draft;
 use crate::effect::{Change, Effect};
 use crate::entry::Entry;
-use onix_rows::parts::Product;
+use onix_records::parts::Product;
 use std::alloc::{AllocError, Global};
 
 /// What products are to change of a catalogue, which stays as it is while the plan is made. The

@@ -2,9 +2,9 @@
 use Rattle.std.proofs.Common.{◌≡◌, ◌≢◌, ℕ, ◌+◌, ◌<◌, Bool, true, false, List, [], ◌∷◌, length, get_or, take, Option, Some, None, refl, sym, ap, subst, ◌∙◌}
 use Rattle.std.specs.FinMap as fin
 use Rattle.std.specs.Option.{is_some}
-use Rattle.onix_rows.specs.declared.parts.Product.{Product}
-use Rattle.onix_rows.specs.declared.parts.ProductSupply.{ProductSupply}
-use Rattle.onix_rows.specs.declared.parts.ProductIdentifier.{ProductIdentifier}
+use Rattle.onix_records.specs.declared.parts.Product.{Product}
+use Rattle.onix_records.specs.declared.parts.ProductSupply.{ProductSupply}
+use Rattle.onix_records.specs.declared.parts.ProductIdentifier.{ProductIdentifier}
 use Rattle.catalogue_rules.specs.Effects.{after as after_all, change_of, counted, no_effect, entry_after, updated}
 use Rattle.catalogue_rules.specs.Records.{ByReference}
 use Rattle.catalogue_rules.specs.declared.effect.Change.{Change}

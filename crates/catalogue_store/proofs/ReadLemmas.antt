@@ -2,10 +2,10 @@
 use Rattle.std.proofs.Common.{◌≡◌, ℕ, ◌+◌, ◌<◌, List, [], ◌∷◌, ◌++◌, length, get_or, take, map, Option, Some, None, Result, Ok, Err, IfOk, IsTrue, Bool, true, refl, sym, ap, subst, ◌∙◌, false}
 use Rattle.std.specs.List.{AllZip, enumerate_from, flat_map, All}
 use Rattle.std.proofs.lemmas.Option.{same_Some}
-use Rattle.onix_message.specs.declared.agreement.StoreFault.{StoreFault}
-use Rattle.onix_rows.specs.declared.parts.Price.{Price}
-use Rattle.onix_rows.specs.declared.parts.ProductIdentifier.{ProductIdentifier}
-use Rattle.onix_rows.specs.declared.parts.ProductSupply.{ProductSupply}
+use Rattle.desk_terms.specs.declared.faults.StoreFault.{StoreFault}
+use Rattle.onix_records.specs.declared.parts.Price.{Price}
+use Rattle.onix_records.specs.declared.parts.ProductIdentifier.{ProductIdentifier}
+use Rattle.onix_records.specs.declared.parts.ProductSupply.{ProductSupply}
 use Rattle.catalogue_rules.specs.declared.entry.Entry.{Entry}
 use Rattle.desk_tables.specs.ArticleAnswers.{AreArticlesOf, AreOfferRowsOf}
 use Rattle.desk_tables.specs.Rows.{DeskRows}

@@ -1,7 +1,7 @@
 -- What one product does to the rows of a catalogue.
 use Rattle.std.specs.Prelude.{◌≡◌, ℕ, Bool, List, Option, false}
 use Rattle.std.specs.FinMap as map
-use Rattle.onix_rows.specs.declared.parts.Product.{Product}
+use Rattle.onix_records.specs.declared.parts.Product.{Product}
 use Rattle.catalogue_rules.specs.Effects.{after_product, change_of, counted, entry_after}
 use Rattle.catalogue_rules.specs.Records.{ByReference, EachHas}
 use Rattle.catalogue_rules.specs.declared.effect.Change.{Change}

@@ -10,10 +10,10 @@ use Rattle.std.proofs.Common.{ap, inl, inr, nat_lt, refl, subst, sym, zero, â—Œâ
 use Rattle.std.proofs.lemmas.Bool.{cases_Bool}
 use Rattle.std.proofs.lemmas.List.Folds.{list_any-append}
 use Rattle.std.proofs.lemmas.List.Sorted.{list_any-IsPermutation}
-use Rattle.onix_rows.specs.declared.parts.Price.{Price}
-use Rattle.onix_rows.specs.declared.parts.Product.{Product}
-use Rattle.onix_rows.specs.declared.parts.ProductSupply.{ProductSupply}
-use Rattle.onix_rows.specs.declared.parts.SupplyDetail.{SupplyDetail}
+use Rattle.onix_records.specs.declared.parts.Price.{Price}
+use Rattle.onix_records.specs.declared.parts.Product.{Product}
+use Rattle.onix_records.specs.declared.parts.ProductSupply.{ProductSupply}
+use Rattle.onix_records.specs.declared.parts.SupplyDetail.{SupplyDetail}
 use Rattle.onix_terms.specs.declared.territory.Territory.{Territory}
 use Rattle.catalogue_rules.proofs.Bounds.{each-changed}
 use Rattle.catalogue_rules.proofs.Plans.{changes_at-with_entry}

@@ -1,9 +1,9 @@
 -- What is read of one record.
 use Rattle.std.specs.Prelude.{◌≡◌, Bool, IsTrue, List, Option, Some, false, true}
 use Rattle.std.specs.Option.{is_some}
-use Rattle.onix_rows.specs.declared.parts.Price.{Price}
-use Rattle.onix_rows.specs.declared.parts.ProductIdentifier.{ProductIdentifier}
-use Rattle.onix_rows.specs.declared.parts.ProductSupply.{ProductSupply}
+use Rattle.onix_records.specs.declared.parts.Price.{Price}
+use Rattle.onix_records.specs.declared.parts.ProductIdentifier.{ProductIdentifier}
+use Rattle.onix_records.specs.declared.parts.ProductSupply.{ProductSupply}
 use Rattle.catalogue_rules.specs.declared.entry.Entry.{Entry}
 use Rattle.desk_tables.specs.ArticleAnswers.{ArePricesAt}
 use Rattle.desk_tables.specs.RecordChanges.{has_minimums_of}

@@ -1,4 +1,4 @@
-// The catalogue of a series, read.
+//! The catalogue of a series, read.
 
 ghost use Rattle.std.specs.Prelude.{◌≡◌};
 ghost use Rattle.sqlite.specs.Held.{state};
@@ -11,7 +11,7 @@ use crate::reading::read_record;
 use catalogue_rules::catalogue::Catalogue;
 use desk_tables::rows::row_types::RecordRow;
 use desk_tables::work::Work;
-use onix_message::agreement::StoreFault;
+use desk_terms::StoreFault;
 use onix_terms::series_name::SeriesName;
 use sqlite::Alter;
 use std::alloc::Global;

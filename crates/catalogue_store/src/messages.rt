@@ -1,4 +1,4 @@
-// A message applied to the rows of a catalogue.
+//! A message applied to the rows of a catalogue.
 
 ghost use Rattle.std.specs.Prelude.{◌≡◌, ◌≢◌, ◌+◌, ◌<◌, ◌^◌, [], false, IfOk, Option, Some};
 ghost use Rattle.std.specs.Option.{is_some};
@@ -22,9 +22,9 @@ use crate::records::{remove_record, replace_supplies, write_record};
 use catalogue_rules::effect::{Change, Effect};
 use desk_tables::rows::row_types::RecordRow;
 use desk_tables::work::Work;
-use onix_message::agreement::StoreFault;
+use desk_terms::StoreFault;
 use onix_message::contents::Contents;
-use onix_rows::parts::{Product, ProductIdentifier, ProductSupply};
+use onix_records::parts::{Product, ProductIdentifier, ProductSupply};
 use onix_terms::code::Code2;
 use onix_terms::series_name::SeriesName;
 use sqlite::Alter;

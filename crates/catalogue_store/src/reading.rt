@@ -1,4 +1,4 @@
-// The rows of one record, read and compared.
+//! The rows of one record, read and compared.
 
 ghost use Rattle.std.specs.Prelude.{◌≡◌, false, IfOk, Some};
 ghost use Rattle.std.specs.List.{AllZip};
@@ -16,8 +16,8 @@ use crate::same::{same_articles, same_detail_prices, same_details};
 use catalogue_rules::entry::Entry;
 use desk_tables::rows::row_types::{OfferRow, RecordRow};
 use desk_tables::work::Work;
-use onix_message::agreement::StoreFault;
-use onix_rows::parts::{Price, ProductIdentifier, ProductSupply};
+use desk_terms::StoreFault;
+use onix_records::parts::{Price, ProductIdentifier, ProductSupply};
 use onix_terms::items::Items;
 use sqlite::Alter;
 use std::alloc::Global;

@@ -1,4 +1,4 @@
-// The rows of one record, written.
+//! The rows of one record, written.
 
 ghost use Rattle.std.specs.Prelude.{◌≡◌, ◌≢◌, [], Some, None};
 ghost use Rattle.sqlite.specs.Held.{state};
@@ -11,8 +11,8 @@ ghost use Rattle.catalogue_store.specs.WrittenRows.{with_articles, with_details,
 use crate::build::{article_rows, detail_rows, price_rows};
 use desk_tables::rows::row_types::{ArticleRow, OfferRow, PriceRow, RecordRow};
 use desk_tables::work::Work;
-use onix_message::agreement::StoreFault;
-use onix_rows::parts::{ProductIdentifier, ProductSupply};
+use desk_terms::StoreFault;
+use onix_records::parts::{ProductIdentifier, ProductSupply};
 use sqlite::Alter;
 use std::alloc::Global;
 

@@ -1,4 +1,4 @@
-// Records in one buffer.
+//! Records in one buffer.
 
 ghost use Rattle.std.specs.Prelude.{◌≡◌, ◌≤◌, ◌<◌, ◌-◌, ◌++◌, ◌∷◌, ◌↔◌, [], IsTrue, IfOk, OnOk, OnErr, Some, length, take, drop, map, slice_get};
 ghost use Rattle.std.specs.List.{flat_map};

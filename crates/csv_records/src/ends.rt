@@ -1,4 +1,4 @@
-// Where the parts of a buffer end.
+//! Where the parts of a buffer end.
 
 ghost use Rattle.std.specs.Prelude.{◌≡◌, ◌≤◌, ◌<◌, ◌+◌, ◌-◌, ◌^◌, ◌++◌, OnOk, OnErr, All, length, map};
 ghost use Rattle.csv_records.specs.Cuts.{end_before};

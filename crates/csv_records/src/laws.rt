@@ -1,4 +1,4 @@
-// Laws: facts about the definitions alone. Each is the contract of a function that does nothing.
+//! Laws: facts about the definitions alone. Each is the contract of a function that does nothing.
 
 ghost use Rattle.std.specs.Prelude.{◌≡◌, ℕ, List};
 ghost use Rattle.csv.specs.Reading.{strip_bom};

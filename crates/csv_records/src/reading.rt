@@ -1,4 +1,4 @@
-// The reading of a text's records.
+//! The reading of a text's records.
 
 ghost use Rattle.std.specs.Prelude.{◌≡◌, ◌≤◌, ◌<◌, ◌++◌, ◌∷◌, [], IfOk, OnOk, OnErr, IsErrOf, IsUtf8, ℕ, List, length, true, false};
 ghost use Rattle.csv.specs.Records.{fields_of};

@@ -1,4 +1,4 @@
-// Records that are lent.
+//! Records that are lent.
 
 ghost use Rattle.std.specs.Prelude.{◌≡◌, ◌≤◌, ◌<◌, ◌-◌, ◌∷◌, [], ◌↔◌, IfSome, IfNone, IsTrue, Some, length, take, drop, slice_get};
 ghost use Rattle.std.specs.List.{flat_map};

@@ -1,4 +1,4 @@
-// The text of records.
+//! The text of records.
 
 ghost use Rattle.std.specs.Prelude.{◌≡◌, [], IfOk, OnOk, map};
 ghost use Rattle.std.specs.String.{string_bytes};

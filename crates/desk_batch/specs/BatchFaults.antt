@@ -1,6 +1,6 @@
 -- The faults of a batch.
 use Rattle.std.specs.Prelude.{⊤}
-use Rattle.onix_message.specs.declared.agreement.StoreFault.{StoreFault}
+use Rattle.desk_terms.specs.declared.faults.StoreFault.{StoreFault}
 use Rattle.series_rules.specs.Faults.{IsFaultOf}
 use Rattle.desk_batch.specs.declared.batch.BatchFault.{BatchFault}
 use Rattle.desk_batch.specs.declared.batch.BatchFault.TheVariants as batch_fault

@@ -1,4 +1,4 @@
-// Batches: the requests of a text, answered one after the other.
+//! Batches: the requests of a text, answered one after the other.
 
 ghost use Rattle.std.specs.Prelude.{◌≡◌, ◌≤◌, ℕ, List, IfErr, if◌then◌else◌};
 ghost use Rattle.std.specs.Io.KnownBytes.{Appends};
@@ -14,8 +14,8 @@ ghost use Rattle.series_rules.specs.declared.requests.Request.{Request};
 use csv_records::reading::{LIMIT, RecordFault, RecordReader};
 use csv_records::streams::{InputFault, WriteFault, read_input, write_whole};
 use desk_requests::request_rows::read_requests;
+use desk_terms::StoreFault;
 use desk_text::answer_text::{is_refusal, write_answer};
-use onix_message::agreement::StoreFault;
 use onix_terms::items::Items;
 use price_rules::precedence::Precedence;
 use series_rules::answering::answer;

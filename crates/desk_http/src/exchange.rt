@@ -1,4 +1,4 @@
-// The reply of an exchange, and why there is none.
+//! The reply of an exchange, and why there is none.
 
 use thiserror::Error;
 

@@ -1,4 +1,4 @@
-// Laws of the definitions.
+//! Laws of the definitions.
 
 ghost use Rattle.desk_http.specs.Laws.{AsksOnce, AsksSomething, RefusalsAreErrors};
 

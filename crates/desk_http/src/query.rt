@@ -1,4 +1,4 @@
-// The query of a request, as a web form.
+//! The query of a request, as a web form.
 
 ghost use Rattle.std.specs.Prelude.{◌≡◌, IfOk, codes, option_map};
 ghost use Rattle.std.specs.Cow.{cow_str_bytes};

@@ -1,4 +1,4 @@
-// What the path and the query of a GET ask.
+//! What the path and the query of a GET ask.
 
 ghost use Rattle.desk_http.specs.Questions.{calendar_asked, prices_asked, prices_on, series_asked};
 ghost use Rattle.http_requests.specs.Steps.{Gives};

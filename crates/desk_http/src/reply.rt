@@ -1,4 +1,4 @@
-// The text of a reply, as RFC 9112 has messages of HTTP/1.1.
+//! The text of a reply, as RFC 9112 has messages of HTTP/1.1.
 
 ghost use Rattle.std.specs.Prelude.{◌≡◌, IfOk, option_copied};
 ghost use Rattle.std.specs.String.{string_bytes};

@@ -1,4 +1,4 @@
-// The request that an input asks for.
+//! The request that an input asks for.
 
 ghost use Rattle.std.specs.Prelude.{◌≡◌, ◌++◌, ℕ, List, IfSome};
 ghost use Rattle.httparse.specs.Grammar.{RequestHead};

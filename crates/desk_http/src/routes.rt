@@ -1,4 +1,4 @@
-// The routes of the desk.
+//! The routes of the desk.
 
 ghost use Rattle.std.specs.Prelude.{◌≡◌, ◌<◌, ◌==◌, [], ℕ, List, Some, IfOk, OnOk};
 ghost use Rattle.std.specs.List.{after_first, before_first};

@@ -1,4 +1,4 @@
-// The route that a head asks for.
+//! The route that a head asks for.
 
 ghost use Rattle.std.specs.Prelude.{◌≡◌};
 ghost use Rattle.httparse.specs.Grammar.{RequestHead};

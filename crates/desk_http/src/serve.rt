@@ -1,4 +1,4 @@
-// One request, one reply.
+//! One request, one reply.
 
 ghost use Rattle.std.specs.Prelude.{◌≡◌, ◌∷◌, ℕ, List, Ok, Err, IfOk, IfSome, OnOk, false, option_map};
 ghost use Rattle.std.specs.Io.KnownBytes.{Appends, Keeps};
@@ -22,9 +22,9 @@ use crate::request::read_request;
 use crate::routing::method_name;
 use csv_records::streams::{WriteFault, write_whole};
 use desk_json::bodies::{fault_body, refused_body};
+use desk_terms::StoreFault;
 use http_requests::fault::InputFault;
 use http_requests::refusal::Refusal;
-use onix_message::agreement::StoreFault;
 use price_rules::precedence::Precedence;
 use series_rules::answering::answer;
 use series_rules::desk::Desk;

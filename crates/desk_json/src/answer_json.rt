@@ -1,4 +1,4 @@
-// The JSON of answers.
+//! The JSON of answers.
 
 ghost use Rattle.std.specs.Prelude.{◌≡◌, IfOk, Some};
 ghost use Rattle.std.specs.String.{string_bytes};

@@ -1,4 +1,4 @@
-// The bodies that need no answer of the desk.
+//! The bodies that need no answer of the desk.
 
 ghost use Rattle.std.specs.Prelude.{◌≡◌, IfOk};
 ghost use Rattle.std.specs.String.{string_bytes};

@@ -1,4 +1,4 @@
-// The JSON of a catalogue.
+//! The JSON of a catalogue.
 
 ghost use Rattle.std.specs.Prelude.{◌≡◌, IfOk, map};
 ghost use Rattle.serde_json.specs.View.{view};
@@ -10,7 +10,7 @@ use crate::members::{object_of, object_with};
 use crate::to_json::{ToJson, array_of};
 use catalogue_rules::catalogue::Catalogue;
 use catalogue_rules::entry::Entry;
-use onix_rows::parts::{Price, ProductSupply, SupplyDetail};
+use onix_records::parts::{Price, ProductSupply, SupplyDetail};
 use onix_terms::series_name::SeriesName;
 use onix_terms::territory::Territory;
 use serde_json::{Value, json};

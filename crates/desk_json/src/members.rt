@@ -1,6 +1,6 @@
-// Objects, written from lists of members. A member borrows its term, so a function that writes an
-// object owns no value of a member while others are written, and has no way out where one would
-// have to be let go.
+//! Objects, written from lists of members. A member borrows its term, so a function that writes an
+//! object owns no value of a member while others are written, and has no way out where one would
+//! have to be let go.
 
 ghost use Rattle.std.specs.Prelude.{◌≡◌, IfOk};
 ghost use Rattle.serde_json.specs.Data.{no_members, object, put};

@@ -1,4 +1,4 @@
-// The JSON of answers about the offers of an article.
+//! The JSON of answers about the offers of an article.
 
 ghost use Rattle.std.specs.Prelude.{◌≡◌, IfOk};
 ghost use Rattle.serde_json.specs.View.{view};

@@ -1,4 +1,4 @@
-// What has JSON of its own, and arrays of it.
+//! What has JSON of its own, and arrays of it.
 
 ghost use Rattle.std.specs.Prelude.{◌≡◌, IfOk};
 ghost use Rattle.serde_json.specs.Data.{Data};

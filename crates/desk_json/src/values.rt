@@ -1,4 +1,4 @@
-// The JSON of terms, and of those that may be missing.
+//! The JSON of terms, and of those that may be missing.
 
 ghost use Rattle.std.specs.Prelude.{◌≡◌, IfOk, option_map};
 ghost use Rattle.serde_json.specs.Data.{string};
@@ -9,7 +9,7 @@ ghost use Rattle.desk_json.specs.CatalogueJson.{identifier, party_or_null as par
 ghost use Rattle.desk_json.specs.Json as json;
 
 use crate::to_json::ToJson;
-use onix_rows::parts::ProductIdentifier;
+use onix_records::parts::ProductIdentifier;
 use onix_terms::amount::Amount;
 use onix_terms::code::{Code2, Country};
 use onix_terms::day::Day;

@@ -1,4 +1,4 @@
-// A desk in memory.
+//! A desk in memory.
 
 ghost use Rattle.std.specs.Prelude.{◌≡◌, ◌++◌, ◌∷◌, [], ℕ, List, IfErr, IfOk, OnErr, OnOk, Option, Some, None, option_copied, position};
 ghost use Rattle.std.specs.FinMap as map;
@@ -17,7 +17,7 @@ ghost use Rattle.series_rules.specs.Series.{IsFront, after_all};
 use crate::series::Series;
 use catalogue_rules::catalogue::Catalogue;
 use csv_records::records::Records;
-use onix_message::agreement::{Agreement, StoreFault};
+use desk_terms::{Agreement, StoreFault};
 use onix_message::message::MessageFault;
 use onix_terms::isbn13::Isbn13;
 use onix_terms::items::Items;
@@ -249,7 +249,7 @@ fn offers_of(alloc: Global, kept: &[Series], isbn: &Isbn13) -> Result<Items<Offe
 }
 
 impl Desk for MemoryDesk {
-    ghost use Rattle.onix_message.specs.declared.agreement.StoreFault.TheVariants.{Memory};
+    ghost use Rattle.desk_terms.specs.declared.faults.StoreFault.TheVariants.{Memory};
     ghost use Rattle.desk_memory.specs.Stands.{StandsFor, stands_by_content};
 
     ghost is_sound = { λ d. Unit {0} };

@@ -1,4 +1,4 @@
-// The fold of one series of the desk in memory: what its first numbers come to.
+//! The fold of one series of the desk in memory: what its first numbers come to.
 
 ghost use Rattle.std.specs.Prelude.{◌≡◌, ◌≤◌, ◌+◌, ◌-◌, ◌++◌, ◌∷◌, [], ℕ, List, IfOk, IsTrue, OnOk, OnErr, option_copied, slice_get};
 ghost use Rattle.std.specs.BTreeMap.{get};

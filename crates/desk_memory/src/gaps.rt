@@ -1,4 +1,4 @@
-// The numbers of one series that are held.
+//! The numbers of one series that are held.
 
 ghost use Rattle.std.specs.Prelude.{◌≤◌, IfOk};
 ghost use Rattle.std.specs.BTreeMap.{get};

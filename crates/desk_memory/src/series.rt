@@ -1,4 +1,4 @@
-// One series of the desk in memory.
+//! One series of the desk in memory.
 
 ghost use Rattle.std.specs.Prelude.{◌≡◌, ◌≤◌, ◌+◌, ℕ, List, IfOk, OnOk, OnErr, Option, None, [], length, nat_eq, if◌then◌else◌};
 ghost use Rattle.std.specs.BTreeMap.{get};
@@ -16,7 +16,7 @@ ghost use Rattle.series_rules.specs.Series.{IsFront, after_all};
 use crate::fold::Fold;
 use crate::gaps::held_numbers;
 use catalogue_rules::catalogue::Catalogue;
-use onix_message::agreement::Agreement;
+use desk_terms::Agreement;
 use onix_message::contents::Contents;
 use onix_terms::isbn13::Isbn13;
 use onix_terms::items::Items;

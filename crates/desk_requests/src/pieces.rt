@@ -1,4 +1,4 @@
-// The pieces of a batch.
+//! The pieces of a batch.
 
 ghost use Rattle.std.specs.Prelude.{◌≡◌, ◌++◌, [], IfOk, OnOk};
 ghost use Rattle.csv.specs.Records.{fields_of};

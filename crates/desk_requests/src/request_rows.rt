@@ -1,17 +1,17 @@
-// Requests, read from the pieces of a batch.
+//! Requests, read from the pieces of a batch.
 
 ghost use Rattle.std.specs.Prelude.{◌≡◌, [], IfOk, OnOk, map};
 ghost use Rattle.desk_requests.specs.Pieces.{pieces};
-ghost use Rattle.onix_rows.specs.Gives.{Gives};
+ghost use Rattle.onix_records.specs.Gives.{Gives};
 ghost use Rattle.desk_requests.specs.RequestRows.{agreement_from, agreement_of, begins_message, calendar_query_from, calendar_question_of, named_request, price_question_of, quantity_asked, question_of, query_from, request_of, row_request, series_of, waiver_of};
 
 use crate::pieces::read_pieces;
 use csv_records::buffer::RecordBuffer;
 use csv_records::reading::RecordReader;
 use csv_records::record::Record;
-use onix_message::agreement::Agreement;
-use onix_rows::fields::{read_fields, read_optional_party, read_party};
-use onix_rows::row::RowFault;
+use desk_terms::Agreement;
+use onix_records::fields::{read_fields, read_optional_party, read_party};
+use onix_records::row::RowFault;
 use onix_terms::code::{Code2, Country, Currency};
 use onix_terms::day::Day;
 use onix_terms::isbn13::Isbn13;

@@ -15,8 +15,8 @@ use Rattle.sqlite_trees.specs.Tree.{Trees}
 use Rattle.sqlite_trees.specs.declared.store.Store.{Ghosts}
 use Rattle.sqlite_wal.specs.Reads.{AreClean}
 use Rattle.sqlite_wal.specs.Recovery.{Image}
-use Rattle.onix_message.specs.declared.agreement.Agreement.{Agreement}
-use Rattle.onix_message.specs.declared.agreement.StoreFault.{StoreFault}
+use Rattle.desk_terms.specs.declared.agreements.Agreement.{Agreement}
+use Rattle.desk_terms.specs.declared.faults.StoreFault.{StoreFault}
 use Rattle.price_rules.specs.declared.offer.CalendarQuery.{CalendarQuery}
 use Rattle.price_rules.specs.declared.offer.Offer.{Offer}
 use Rattle.price_rules.specs.declared.offer.PriceQuery.{PriceQuery}

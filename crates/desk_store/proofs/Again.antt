@@ -7,8 +7,8 @@ use Rattle.std.proofs.lemmas.Slice.Eq.{bytes_eq-Decides}
 use Rattle.desk_tables.specs.Rows.{DeskRows}
 use Rattle.onix_message.specs.ContentsText.{contents_text}
 use Rattle.onix_message.specs.SameContents.{same_contents, same_product-Decides}
-use Rattle.onix_message.specs.declared.agreement.Agreement.{Agreement}
-use Rattle.onix_rows.specs.declared.parts.Product.{Product}
+use Rattle.desk_terms.specs.declared.agreements.Agreement.{Agreement}
+use Rattle.onix_records.specs.declared.parts.Product.{Product}
 use Rattle.series_rules.specs.Agreements.{named}
 use Rattle.series_rules.specs.Answers.{answer_against, placed_answer, waived_by}
 use Rattle.series_rules.specs.FirstLemmas.{first_again, first_other}

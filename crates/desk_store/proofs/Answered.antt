@@ -6,8 +6,8 @@ use Rattle.catalogue_rules.specs.declared.effect.Effect.{Effect}
 use Rattle.desk_tables.specs.Rows.{DeskRows, applied_at, held_at, series_at}
 use Rattle.desk_tables.specs.declared.rows.applied.EffectRow.{EffectRow}
 use Rattle.onix_message.specs.ContentsText.{contents_text}
-use Rattle.onix_message.specs.declared.agreement.Agreement.{Agreement}
-use Rattle.onix_rows.specs.declared.parts.Product.{Product}
+use Rattle.desk_terms.specs.declared.agreements.Agreement.{Agreement}
+use Rattle.onix_records.specs.declared.parts.Product.{Product}
 use Rattle.series_rules.specs.Agreements.{agreements_of, named}
 use Rattle.series_rules.specs.Answers.{placed_answer, waived_by}
 use Rattle.series_rules.specs.Firsts.{first_at}

@@ -5,7 +5,7 @@ use Rattle.catalogue_rules.specs.declared.effect.Effect.{Effect}
 use Rattle.catalogue_store.specs.Holding.{HoldsCatalogue, IsApplied}
 use Rattle.desk_tables.specs.Rows.{DeskRows, held_at, series_at, with_held, without_held}
 use Rattle.desk_tables.specs.declared.rows.applied.EffectRow.{EffectRow}
-use Rattle.onix_rows.specs.declared.parts.Product.{Product}
+use Rattle.onix_records.specs.declared.parts.Product.{Product}
 use Rattle.series_rules.specs.Firsts.{first_at}
 use Rattle.series_rules.specs.declared.requests.Standing.{Standing}
 use Rattle.series_rules.specs.declared.requests.Standing.TheVariants.{Message}

@@ -8,7 +8,7 @@ use Rattle.catalogue_rules.specs.Records.{ByReference}
 use Rattle.catalogue_store.specs.Holding.{HoldsCatalogue}
 use Rattle.desk_tables.specs.Rows.{DeskRows, held_at, without_held}
 use Rattle.desk_tables.specs.declared.rows.applied.EffectRow.{EffectRow}
-use Rattle.onix_message.specs.declared.agreement.Agreement.{Agreement}
+use Rattle.desk_terms.specs.declared.agreements.Agreement.{Agreement}
 use Rattle.series_rules.specs.Series.{after_all}
 use Rattle.series_rules.specs.declared.requests.Standing.{Standing}
 use Rattle.desk_store.specs.Stands.{SeriesStands, SameElsewhere, CutAt, IsAppliedAt}

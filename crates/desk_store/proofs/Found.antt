@@ -6,9 +6,9 @@ use Rattle.desk_tables.specs.Rows.{DeskRows, series_at, series_between}
 use Rattle.desk_tables.specs.declared.rows.series.SeriesRow.{SeriesRow}
 use Rattle.onix_message.specs.ContentsText.{IsContents}
 use Rattle.onix_message.specs.Message.{message_of, bad_row}
-use Rattle.onix_message.specs.declared.agreement.Agreement.{Agreement}
-use Rattle.onix_rows.specs.declared.parts.Header.{Header}
-use Rattle.onix_rows.specs.declared.parts.Product.{Product}
+use Rattle.desk_terms.specs.declared.agreements.Agreement.{Agreement}
+use Rattle.onix_records.specs.declared.parts.Header.{Header}
+use Rattle.onix_records.specs.declared.parts.Product.{Product}
 use Rattle.onix_terms.specs.declared.party.Party.{Party}
 use Rattle.series_rules.specs.AgreementLemmas.{agreements_are_distinct, named_has_name}
 use Rattle.series_rules.specs.Agreements.{agreements_of, between, named}

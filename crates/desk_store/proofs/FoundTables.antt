@@ -15,7 +15,7 @@ use Rattle.catalogue_store.specs.Holding.{HoldsCatalogue, HoldsEntry}
 use Rattle.desk_tables.specs.Rows.{DeskRows, Holds, first_rows, version_in}
 use Rattle.desk_tables.specs.Schema.{is_meta, schema_0}
 use Rattle.desk_tables.specs.Transactions.{IsEmptied}
-use Rattle.onix_message.specs.declared.agreement.StoreFault.{StoreFault}
+use Rattle.desk_terms.specs.declared.faults.StoreFault.{StoreFault}
 use Rattle.series_rules.specs.declared.requests.Request.{Request}
 use Rattle.desk_store.specs.Desks.{AreRowsOf, HoldsRequests, KeepsRequests}
 use Rattle.desk_store.specs.Openings.{HasNoMeta, IsCreated, IsFaultFor, IsFoundFor, IsKnown, IsReady, IsVersionRead, LeavesOne, ShowsOnly, StaysShown, TellsFound}

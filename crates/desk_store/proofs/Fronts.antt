@@ -6,7 +6,7 @@ use Rattle.std.proofs.lemmas.Bool.Decides.{nat_tests}
 use Rattle.catalogue_rules.specs.declared.effect.Effect.{Effect}
 use Rattle.desk_tables.specs.Rows.{DeskRows, series_at, applied_at}
 use Rattle.desk_tables.specs.declared.rows.applied.EffectRow.{EffectRow}
-use Rattle.onix_message.specs.declared.agreement.Agreement.{Agreement}
+use Rattle.desk_terms.specs.declared.agreements.Agreement.{Agreement}
 use Rattle.series_rules.specs.Agreements.{agreements_of, named}
 use Rattle.series_rules.specs.Answers.{placed_answer}
 use Rattle.series_rules.specs.Firsts.{first_at}

@@ -8,7 +8,7 @@ use Rattle.std.proofs.lemmas.Bool.Decides.{nat_tests}
 use Rattle.desk_tables.specs.Rows.{DeskRows, HeldRow, AppliedRow, applied_part, has_parties, is_named, is_held, is_applied, series_at, series_between, held_at, applied_at, next_set, with_held, without_held, with_applied, with_next}
 use Rattle.desk_tables.specs.declared.rows.applied.EffectRow.{EffectRow}
 use Rattle.desk_tables.specs.declared.rows.series.SeriesRow.{SeriesRow}
-use Rattle.onix_message.specs.declared.agreement.Agreement.{Agreement}
+use Rattle.desk_terms.specs.declared.agreements.Agreement.{Agreement}
 use Rattle.onix_terms.specs.declared.party.Party.{Party}
 use Rattle.desk_store.specs.Stands.{series_of}
 

@@ -7,9 +7,9 @@ use Rattle.std.specs.Option.{option_or}
 use Rattle.onix_message.proofs.RowParts.{message-meant}
 use Rattle.onix_message.specs.Message.{message_of}
 use Rattle.onix_message.specs.PartRows.{content_rows}
-use Rattle.onix_message.specs.declared.agreement.Agreement.{Agreement}
-use Rattle.onix_rows.specs.declared.parts.Header.{Header}
-use Rattle.onix_rows.specs.declared.parts.Product.{Product}
+use Rattle.desk_terms.specs.declared.agreements.Agreement.{Agreement}
+use Rattle.onix_records.specs.declared.parts.Header.{Header}
+use Rattle.onix_records.specs.declared.parts.Product.{Product}
 use Rattle.catalogue_store.specs.MinimumLemmas.{none_at_start, records_without_minimums}
 use Rattle.desk_tables.specs.RecordChanges.{has_minimums_of, is_minimum_of}
 use Rattle.desk_tables.specs.declared.rows.row_types.MinimumRow.{MinimumRow}

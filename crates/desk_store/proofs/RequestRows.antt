@@ -9,7 +9,7 @@ use Rattle.catalogue_store.specs.Holding.{HoldsCatalogue}
 use Rattle.desk_tables.specs.Rows.{DeskRows, series_at, held_at, with_held}
 use Rattle.desk_tables.specs.declared.rows.applied.EffectRow.{EffectRow}
 use Rattle.desk_tables.specs.declared.rows.series.SeriesRow.{SeriesRow}
-use Rattle.onix_message.specs.declared.agreement.Agreement.{Agreement}
+use Rattle.desk_terms.specs.declared.agreements.Agreement.{Agreement}
 use Rattle.series_rules.specs.Agreements.{agreements_of, named, between}
 use Rattle.series_rules.specs.FirstLemmas.{first_left, first_other, first_there}
 use Rattle.series_rules.specs.Firsts.{Placement, admitted, first_at}

@@ -6,7 +6,7 @@ use Rattle.std.proofs.lemmas.Bool.{cases_eq}
 use Rattle.catalogue_store.specs.Holding.{HoldsCatalogue, other_catalogues}
 use Rattle.desk_tables.specs.Rows.{DeskRows, HeldRow, applied_part, series_at, held_at, applied_at, is_named, is_held, is_applied, with_applied, with_next}
 use Rattle.desk_tables.specs.declared.rows.applied.EffectRow.{EffectRow}
-use Rattle.onix_message.specs.declared.agreement.Agreement.{Agreement}
+use Rattle.desk_terms.specs.declared.agreements.Agreement.{Agreement}
 use Rattle.series_rules.specs.FrontLemmas.{after_all_append, slice_get_front}
 use Rattle.series_rules.specs.Series.{after_all}
 use Rattle.series_rules.specs.declared.requests.Standing.{Standing}

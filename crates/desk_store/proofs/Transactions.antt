@@ -7,7 +7,7 @@ use Rattle.catalogue_store.specs.Achieves.{Achieves}
 use Rattle.desk_tables.specs.Rows.{DeskRows, Holds}
 use Rattle.desk_tables.specs.Schema.{desk_schema}
 use Rattle.desk_tables.specs.Transactions.{BeginsWork, EndsWork, HasOtherSchema, IsUndone, LeavesOnly, NoTrees}
-use Rattle.onix_message.specs.declared.agreement.StoreFault.{StoreFault}
+use Rattle.desk_terms.specs.declared.faults.StoreFault.{StoreFault}
 use Rattle.series_rules.specs.declared.requests.Request.{Request}
 use Rattle.desk_store.specs.Desks.{Answers, AreRowsOf, HoldsRequests, IsAsked, IsQuestioned, KeepsRequests, Tells, changes}
 use Rattle.desk_store.specs.Stands.{StandsFor}

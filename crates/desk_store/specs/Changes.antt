@@ -4,9 +4,9 @@ use Rattle.catalogue_rules.specs.Records.{ByReference}
 use Rattle.catalogue_store.specs.Holding.{HoldsCatalogue}
 use Rattle.desk_tables.specs.Rows.{DeskRows, series_at, with_applied, with_next}
 use Rattle.desk_tables.specs.declared.rows.applied.EffectRow.{EffectRow}
-use Rattle.onix_message.specs.declared.agreement.Agreement.{Agreement}
+use Rattle.desk_terms.specs.declared.agreements.Agreement.{Agreement}
 use Rattle.onix_message.specs.ContentsText.{contents_text}
-use Rattle.onix_rows.specs.declared.parts.Product.{Product}
+use Rattle.onix_records.specs.declared.parts.Product.{Product}
 use Rattle.series_rules.specs.Agreements.{agreements_of, named}
 use Rattle.series_rules.specs.Answers.{answer_against, placed_answer, waived_by}
 use Rattle.series_rules.specs.Firsts.{first_at}

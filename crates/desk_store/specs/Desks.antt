@@ -4,7 +4,7 @@ use Rattle.sqlite.specs.Effect.{Database}
 use Rattle.sqlite.specs.State.{State, HasCleanDisk}
 use Rattle.sqlite_trees.specs.Tree.{Trees}
 use Rattle.desk_tables.specs.Rows.{DeskRows, Holds}
-use Rattle.onix_message.specs.declared.agreement.StoreFault.{StoreFault}
+use Rattle.desk_terms.specs.declared.faults.StoreFault.{StoreFault}
 use Rattle.series_rules.specs.Agreements.{agreements_of, clashes}
 use Rattle.series_rules.specs.Content.{SameContent}
 use Rattle.series_rules.specs.Firsts.{Placement, admitted, first_at}

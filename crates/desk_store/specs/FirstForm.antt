@@ -3,9 +3,9 @@ use Rattle.std.specs.Prelude.{◌≡◌, List, [], Some, ⊤}
 use Rattle.std.specs.List.{AllByRecursion}
 use Rattle.desk_tables.specs.Rows.{DeskRows, version_in, with_version}
 use Rattle.onix_message.specs.Grammar.{IsMessage}
-use Rattle.onix_rows.specs.declared.parts.Header.{Header}
-use Rattle.onix_rows.specs.declared.parts.Product.{Product}
-use Rattle.onix_rows.specs.declared.row.Form.TheVariants.{One}
+use Rattle.onix_records.specs.declared.parts.Header.{Header}
+use Rattle.onix_records.specs.declared.parts.Product.{Product}
+use Rattle.onix_records.specs.declared.row.Form.TheVariants.{One}
 use Rattle.series_rules.specs.declared.requests.Request.{Request}
 use Rattle.series_rules.specs.declared.requests.Request.TheVariants.{Deliver}
 

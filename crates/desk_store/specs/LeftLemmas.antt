@@ -1,7 +1,7 @@
 -- Lemmas on what a crash may leave of the tables, told of things that come to lists of requests, and on requests that change nothing.
 use Rattle.std.specs.Prelude.{is_none, not}
 use Rattle.std.proofs.Common.{◌≡◌, ℕ, Bool, true, false, List, ◌∷◌, ◌++◌, [], Option, Some, None, ◌⊎◌, inl, inr, Result, Ok, Err, OnOk, refl, sym, ap, ◌∙◌, cond}
-use Rattle.onix_message.specs.declared.agreement.Agreement.{Agreement}
+use Rattle.desk_terms.specs.declared.agreements.Agreement.{Agreement}
 use Rattle.series_rules.proofs.Questions.{content_left}
 use Rattle.series_rules.specs.Agreements.{agreements_of, clashes, with_agreement}
 use Rattle.series_rules.specs.Content.{SameContent}

@@ -12,7 +12,7 @@ use Rattle.sqlite_wal.specs.Recovery.{Image}
 use Rattle.desk_tables.specs.Rows.{DeskRows, Holds, HoldsFirst, first_rows, version_in}
 use Rattle.desk_tables.specs.Schema.{is_meta, schema_0}
 use Rattle.desk_tables.specs.Transactions.{IsEmptied, LeavesOnly}
-use Rattle.onix_message.specs.declared.agreement.StoreFault.{StoreFault}
+use Rattle.desk_terms.specs.declared.faults.StoreFault.{StoreFault}
 use Rattle.series_rules.specs.declared.requests.Request.{Request}
 use Rattle.desk_store.specs.Desks.{AreRowsOf, HoldsRequests, KeepsRequests}
 use Rattle.desk_store.specs.declared.opening.OpenFault.{OpenFault}

@@ -7,7 +7,7 @@ use Rattle.catalogue_store.specs.Holding.{HoldsCatalogue, other_catalogues}
 use Rattle.desk_tables.specs.Rows.{DeskRows, applied_at, held_at, series_at, series_between}
 use Rattle.desk_tables.specs.declared.rows.applied.EffectRow.{EffectRow}
 use Rattle.desk_tables.specs.declared.rows.series.SeriesRow.{SeriesRow}
-use Rattle.onix_message.specs.declared.agreement.Agreement.{Agreement}
+use Rattle.desk_terms.specs.declared.agreements.Agreement.{Agreement}
 use Rattle.onix_terms.specs.declared.party.Party.{Party}
 use Rattle.series_rules.specs.Agreements.{agreements_of, between, named}
 use Rattle.series_rules.specs.Firsts.{admitted, first_at}

@@ -1,4 +1,4 @@
-// The desk in a SQLite file.
+//! The desk in a SQLite file.
 
 ghost use Rattle.std.specs.Prelude.{◌≡◌, ◌↔◌, ◌∷◌, [], List, IfOk, IfErr, IfSome, IsTrue, None, Ok, OnOk, Err};
 ghost use Rattle.sqlite.specs.Files.{file_state, image_of, IsCleanLeft, IsClosed};
@@ -16,7 +16,7 @@ ghost use Rattle.series_rules.specs.Leaves.{LeavesNoMore, LeavesOneMore, LeavesO
 ghost use Rattle.series_rules.specs.Offers.{offers_after};
 ghost use Rattle.series_rules.specs.declared.requests.Request.{Request};
 
-use crate::asking::{ask_agree, ask_deliver, ask_waive};
+use crate::committing::{ask_agree, ask_deliver, ask_waive};
 use crate::opening::{OpenFault, prepare};
 use crate::questions::{ask_catalogue, ask_gaps, ask_offers};
 use catalogue_rules::catalogue::Catalogue;
@@ -24,7 +24,7 @@ use csv_records::records::Records;
 use desk_tables::rows::fault::fault_of;
 use desk_tables::rows::laws::same_trees_hold_the_same_rows;
 use desk_tables::tables::Tables;
-use onix_message::agreement::{Agreement, StoreFault};
+use desk_terms::{Agreement, StoreFault};
 use onix_terms::isbn13::Isbn13;
 use onix_terms::items::Items;
 use onix_terms::number::Number;

@@ -1,4 +1,4 @@
-// What the texts of the tables obey and what requests come to, as laws without code.
+//! What the texts of the tables obey and what requests come to, as laws without code.
 
 ghost use Rattle.std.specs.Prelude.{List};
 ghost use Rattle.desk_tables.specs.Rows.{DeskRows};

@@ -11,19 +11,19 @@
 //! the tables keep into what stands and what it did, and back; `laws` has what these definitions come
 //! to.
 //!
-//! The calls: `drain` applies what stands at a number and what is held from there on; `numbers`
-//! answers what comes at a number of a series; `requests` does a request in a transaction, and
-//! `asking` begins and ends it; `questions` asks; `opening`, `migrating` and `desk` are the desk.
+//! The calls: `applying` applies what stands at a number and what is held from there on; `answers_at`
+//! answers what comes at a number of a series; `decisions` does a request in a transaction, and
+//! `committing` begins and ends it; `questions` asks; `opening`, `migrating` and `desk` are the desk.
 #![tactic(auto)]
 
-mod asking;
+mod answers_at;
+mod applying;
+mod committing;
+mod decisions;
 pub mod desk;
-mod drain;
 pub mod effects;
 pub mod laws;
 pub mod migrating;
-mod numbers;
 pub mod opening;
 mod questions;
-mod requests;
 pub mod standings;

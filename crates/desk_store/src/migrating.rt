@@ -1,4 +1,4 @@
-// A desk's tables brought from version 1 to version 2.
+//! A desk's tables brought from version 1 to version 2.
 
 ghost use Rattle.std.specs.Prelude.{◌≡◌, List, Err, IfErr, IfOk, IfSome, IsTrue, None, Ok};
 ghost use Rattle.sqlite.specs.Effect.{Database};
@@ -18,7 +18,7 @@ use crate::opening::{OpenFault, create_tables, read_version};
 use desk_tables::rows::fault::fault_of;
 use desk_tables::rows::laws::same_trees_hold_the_same_rows;
 use desk_tables::tables::Tables;
-use onix_message::agreement::StoreFault;
+use desk_terms::StoreFault;
 use sqlite::{Alter, Connection, FileFrom, FileStore, Files, Leftover, Options, Start};
 use sqlite_disk::Disk;
 use std::alloc::Global;

@@ -1,4 +1,4 @@
-// Questions, each in a transaction that is let go.
+//! Questions, each in a transaction that is let go.
 
 ghost use Rattle.std.specs.Prelude.{◌≡◌, IfOk, IsTrue};
 ghost use Rattle.sqlite.specs.Held.{state};
@@ -13,7 +13,7 @@ use catalogue_store::catalogues::read_catalogue;
 use desk_tables::rows::series::SeriesRow;
 use desk_tables::tables::Tables;
 use desk_tables::work::Work;
-use onix_message::agreement::StoreFault;
+use desk_terms::StoreFault;
 use onix_terms::isbn13::Isbn13;
 use onix_terms::items::Items;
 use onix_terms::number::Number;

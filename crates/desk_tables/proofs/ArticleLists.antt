@@ -19,7 +19,7 @@ use Rattle.sqlite_rules.specs.Lists.{Has}
 use Rattle.sqlite_rules.proofs.ListLemmas.{all_has, all_from, has_filtered}
 use Rattle.sqlite.specs.Effect.{Database, IsDatabase}
 use Rattle.sqlite.specs.State.{State, Shown}
-use Rattle.onix_rows.specs.declared.parts.Price.{Price}
+use Rattle.onix_records.specs.declared.parts.Price.{Price}
 use Rattle.desk_tables.specs.ArticleAnswers.{is_minimum_at_offer, is_minimum_for, is_price_at, minimum_in, price_in, price_part, read_shown, AreArticlesOf, AreMinimumsAt, AreOfferRowsOf, ArePricesAt, ArePricesUnder}
 use Rattle.desk_tables.specs.RecordAnswers.{five_columns, is_minimum_at, minimum_at, AreRising}
 use Rattle.desk_tables.specs.RecordChanges.{is_article_of, is_offer_of, is_minimum_of, has_minimums_of}

@@ -10,8 +10,8 @@ use Rattle.sqlite.specs.Effect.{Database}
 use Rattle.sqlite.specs.State.{State, HasCleanDisk, Executes, CommitsBy, Runs, Writes, Shows}
 use Rattle.sqlite.proofs.Callers.{IsPlain, command_of, runs_as}
 use Rattle.sqlite.proofs.StateLemmas.{survives_weaker, survives_then}
-use Rattle.onix_message.specs.declared.agreement.StoreFault.{StoreFault}
-use Rattle.onix_message.specs.declared.agreement.StoreFault.TheVariants.{Unusable}
+use Rattle.desk_terms.specs.declared.faults.StoreFault.{StoreFault}
+use Rattle.desk_terms.specs.declared.faults.StoreFault.TheVariants.{Unusable}
 use Rattle.desk_tables.proofs.Control.{kept_itself, survives_itself}
 use Rattle.desk_tables.proofs.Calls.{unchanged_in}
 use Rattle.desk_tables.specs.Transactions.{ReadsIn, RunsIn, Makes, Works, NoAnswer, HasOtherSchema, NoTrees}

@@ -10,8 +10,8 @@ use Rattle.sqlite_schema.specs.declared.command.Command.TheVariants.{Select}
 use Rattle.sqlite.specs.Listing.{understood, reads_listing}
 use Rattle.sqlite.specs.State.{State, Executes, Shown}
 use Rattle.sqlite.proofs.Callers.{IsPlain, command_of}
-use Rattle.onix_message.specs.declared.agreement.StoreFault.{StoreFault}
-use Rattle.onix_message.specs.declared.agreement.StoreFault.TheVariants.{Unusable}
+use Rattle.desk_terms.specs.declared.faults.StoreFault.{StoreFault}
+use Rattle.desk_terms.specs.declared.faults.StoreFault.TheVariants.{Unusable}
 use Rattle.desk_tables.specs.Schema.{first_schema, desk_schema, meta_table, is_meta}
 use Rattle.desk_tables.specs.Statements.{program, put_version_text, version_text, version_query}
 use Rattle.desk_tables.specs.Rows.{MetaRow, DeskRows, Holds, HoldsFirst, Stands, meta_columns, is_version, no_rows, first_rows}

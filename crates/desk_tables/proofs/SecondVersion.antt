@@ -8,8 +8,8 @@ use Rattle.sqlite.specs.Effect.{Database}
 use Rattle.sqlite.specs.Listing.{understood}
 use Rattle.sqlite.specs.State.{State, CommitsBy, Executes, ExecutesIn}
 use Rattle.sqlite.proofs.StateLemmas.{survives_weaker}
-use Rattle.onix_message.specs.declared.agreement.StoreFault.{StoreFault}
-use Rattle.onix_message.specs.declared.agreement.StoreFault.TheVariants.{Unusable}
+use Rattle.desk_terms.specs.declared.faults.StoreFault.{StoreFault}
+use Rattle.desk_terms.specs.declared.faults.StoreFault.TheVariants.{Unusable}
 use Rattle.desk_tables.specs.Schema.{desk_schema, price_minimum_definition}
 use Rattle.desk_tables.specs.Rows.{DeskRows}
 use Rattle.desk_tables.specs.Transactions.{Makes, RunsIn, Works}

@@ -7,7 +7,7 @@ use Rattle.sqlite_trees.proofs.ListLemmas.{all-append}
 use Rattle.sqlite_rules.specs.declared.error.Rowids.TheVariants.{Chosen}
 use Rattle.sqlite_rules.specs.Edit.{edit_of, edited, next_rowid}
 use Rattle.sqlite.specs.State.{State, Executes}
-use Rattle.onix_message.specs.declared.agreement.Agreement.{Agreement}
+use Rattle.desk_terms.specs.declared.agreements.Agreement.{Agreement}
 use Rattle.desk_tables.specs.declared.rows.series.SeriesRow.{SeriesRow}
 use Rattle.desk_tables.specs.Schema.{series_table, applied_table}
 use Rattle.desk_tables.specs.Statements.{put_series_text, put_applied_text}

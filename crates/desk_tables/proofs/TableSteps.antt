@@ -2,8 +2,8 @@
 use Rattle.std.proofs.Common.{◌≡◌, ℕ, [], Bool, is_err, IsTrue, Err, Result}
 use Rattle.sqlite_schema.specs.declared.command.Command.TheVariants.{CreateTable, CreateIndex}
 use Rattle.sqlite.specs.State.{State}
-use Rattle.onix_message.specs.declared.agreement.StoreFault.{StoreFault}
-use Rattle.onix_message.specs.declared.agreement.StoreFault.TheVariants.{Unusable}
+use Rattle.desk_terms.specs.declared.faults.StoreFault.{StoreFault}
+use Rattle.desk_terms.specs.declared.faults.StoreFault.TheVariants.{Unusable}
 use Rattle.desk_tables.specs.Schema.{meta_definition, series_definition, held_definition, applied_definition, record_definition, article_definition, offer_definition, price_definition, price_minimum_definition, article_index_definition, schema_0, schema_1, schema_2, schema_3, schema_4, schema_5, schema_6, schema_7, schema_8, schema_9}
 use Rattle.desk_tables.specs.Rows.{DeskRows, Holds, HoldsFirst}
 use Rattle.desk_tables.specs.Transactions.{RunsIn, Makes, IsEmptied, HasNoRows}

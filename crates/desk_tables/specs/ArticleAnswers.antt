@@ -7,7 +7,7 @@ use Rattle.std.specs.Ordering.{nat_cmp, on, then_cmp}
 use Rattle.std.specs.Str.{bytes_eq}
 use Rattle.std.specs.declared.cmp.Ordering.{Ordering}
 use Rattle.sqlite_value.specs.Order.{Row, column}
-use Rattle.onix_rows.specs.declared.parts.Price.{Price}
+use Rattle.onix_records.specs.declared.parts.Price.{Price}
 use Rattle.price_rules.specs.declared.offer.Offer.{Offer}
 use Rattle.desk_tables.specs.RecordRows.{RecordRow, ArticleRow, OfferRow, PriceRow, MinimumRow, offer_columns, price_columns}
 use Rattle.desk_tables.specs.RecordReadings.{read_offer, read_price, text_in}

@@ -1,8 +1,8 @@
 -- What a beginning inside a transaction leaves.
 use Rattle.std.specs.Prelude.{◌≡◌, true, IfErr, IsTrue, Result}
 use Rattle.sqlite.specs.State.{State, HasCleanDisk, Shows}
-use Rattle.onix_message.specs.declared.agreement.StoreFault.{StoreFault}
-use Rattle.onix_message.specs.declared.agreement.StoreFault.TheVariants.{Unusable}
+use Rattle.desk_terms.specs.declared.faults.StoreFault.{StoreFault}
+use Rattle.desk_terms.specs.declared.faults.StoreFault.TheVariants.{Unusable}
 
 -- refused as unusable inside a transaction, it leaves that transaction as it was
 abbrev pub FailsInside : {A : Type 0} → State → State → Result A StoreFault → Type 0

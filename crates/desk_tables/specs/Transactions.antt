@@ -12,8 +12,8 @@ use Rattle.sqlite.specs.Effect.{Database, IsDatabase}
 use Rattle.sqlite.specs.State.{State, HasCleanDisk, Survives, KeepsCommit, Shows, Shown, Executes, CommitsBy}
 use Rattle.desk_tables.specs.Schema.{desk_schema}
 use Rattle.desk_tables.specs.Rows.{DeskRows, Holds}
-use Rattle.onix_message.specs.declared.agreement.StoreFault.{StoreFault}
-use Rattle.onix_message.specs.declared.agreement.StoreFault.TheVariants.{Memory, Size, Disk, Unusable}
+use Rattle.desk_terms.specs.declared.faults.StoreFault.{StoreFault}
+use Rattle.desk_terms.specs.declared.faults.StoreFault.TheVariants.{Memory, Size, Disk, Unusable}
 
 abbrev pub begin_text : List ℕ
 begin_text = codes "BEGIN"

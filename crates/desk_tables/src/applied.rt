@@ -1,4 +1,4 @@
-// The table `applied`: what stands at each number that is applied, with the counts of its effect.
+//! The table `applied`: what stands at each number that is applied, with the counts of its effect.
 
 ghost use Rattle.std.specs.Prelude.{◌≡◌, Err, IsTrue};
 ghost use Rattle.sqlite.specs.Held.{state};
@@ -7,7 +7,7 @@ ghost use Rattle.desk_tables.specs.Rows.{with_applied, applied_at, unchanged};
 
 use crate::rows::applied::{EffectRow, first_applied};
 use crate::work::Work;
-use onix_message::agreement::StoreFault;
+use desk_terms::StoreFault;
 use onix_terms::number::Number;
 use onix_terms::series_name::SeriesName;
 use onix_terms::text::Text;

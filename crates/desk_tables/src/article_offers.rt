@@ -1,4 +1,4 @@
-// The offers of an article, over all series.
+//! The offers of an article, over all series.
 
 ghost use Rattle.std.specs.Prelude.{◌≡◌, ◌++◌, false, Err, IsTrue, List};
 ghost use Rattle.sqlite.specs.Held.{state};
@@ -13,8 +13,8 @@ use crate::rows::offers::all_offers;
 use crate::rows::prices::all_minimums;
 use crate::rows::row_types::{MinimumRow, OfferRow, RecordRow};
 use crate::work::Work;
-use onix_message::agreement::StoreFault;
-use onix_rows::parts::Price;
+use desk_terms::StoreFault;
+use onix_records::parts::Price;
 use onix_terms::isbn13::Isbn13;
 use onix_terms::items::Items;
 use price_rules::offer::Offer;

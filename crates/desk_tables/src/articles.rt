@@ -1,4 +1,4 @@
-// The table `article`: the identifiers of each record.
+//! The table `article`: the identifiers of each record.
 
 ghost use Rattle.std.specs.Prelude.{◌≡◌, Err, IsTrue};
 ghost use Rattle.sqlite.specs.Held.{state};
@@ -11,7 +11,7 @@ ghost use Rattle.desk_tables.specs.RecordChanges.{with_article, without_articles
 use crate::rows::articles::all_articles;
 use crate::rows::row_types::{ArticleRow, RecordRow};
 use crate::work::Work;
-use onix_message::agreement::StoreFault;
+use desk_terms::StoreFault;
 use onix_terms::series_name::SeriesName;
 use sqlite::{Alter, params};
 

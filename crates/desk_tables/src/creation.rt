@@ -1,4 +1,4 @@
-// How the tables are made, and the version of their schema.
+//! How the tables are made, and the version of their schema.
 
 ghost use Rattle.std.specs.Prelude.{◌≡◌, true, false, Err, None, Some, IsTrue, IfOk, IsSome};
 ghost use Rattle.std.specs.List.{list_any};
@@ -10,7 +10,7 @@ ghost use Rattle.desk_tables.specs.Transactions.{HasNoRows, IsEmptied, Makes, Wo
 
 use crate::rows::schemas::{has_desk_table, has_meta, version_of};
 use crate::work::Work;
-use onix_message::agreement::StoreFault;
+use desk_terms::StoreFault;
 use sqlite::Alter;
 
 impl<S: Alter> Work<'_, S> {

@@ -1,4 +1,4 @@
-// The table `held`: what was delivered first at a number that is not applied.
+//! The table `held`: what was delivered first at a number that is not applied.
 
 ghost use Rattle.std.specs.Prelude.{◌≡◌, Err, IsTrue};
 ghost use Rattle.sqlite.specs.Held.{state};
@@ -7,7 +7,7 @@ ghost use Rattle.desk_tables.specs.Rows.{with_held, without_held, held_at, uncha
 
 use crate::rows::columns::{first_text, numbers};
 use crate::work::Work;
-use onix_message::agreement::StoreFault;
+use desk_terms::StoreFault;
 use onix_terms::number::Number;
 use onix_terms::series_name::SeriesName;
 use onix_terms::text::Text;

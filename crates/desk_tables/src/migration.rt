@@ -1,4 +1,4 @@
-// From version 1 of the tables to version 2.
+//! From version 1 of the tables to version 2.
 
 ghost use Rattle.std.specs.Prelude.{◌≡◌, false, Err, IsTrue, OnOk, Some};
 ghost use Rattle.std.specs.List.{list_any};
@@ -9,7 +9,7 @@ ghost use Rattle.desk_tables.specs.Rows.{DeskRows, Holds, HoldsFirst, version_in
 ghost use Rattle.desk_tables.specs.Transactions.{Makes, NoAnswer, Works};
 
 use crate::work::Work;
-use onix_message::agreement::StoreFault;
+use desk_terms::StoreFault;
 use sqlite::Alter;
 
 impl<S: Alter> Work<'_, S> {

@@ -1,4 +1,4 @@
-// The table `offer`: the SupplyDetails of each record.
+//! The table `offer`: the SupplyDetails of each record.
 
 ghost use Rattle.std.specs.Prelude.{◌≡◌, Err, IsTrue};
 ghost use Rattle.sqlite.specs.Held.{state};
@@ -12,7 +12,7 @@ use crate::rows::offers::all_offers;
 use crate::rows::row_types::OfferRow;
 use crate::rows::written::{code_or_empty, party_type, party_value, territory_texts};
 use crate::work::Work;
-use onix_message::agreement::StoreFault;
+use desk_terms::StoreFault;
 use onix_terms::series_name::SeriesName;
 use sqlite::{Alter, params};
 

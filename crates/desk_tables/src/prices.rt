@@ -1,4 +1,4 @@
-// The tables `price` and `price_minimum`: the prices of each offer, and the minimums above 1.
+//! The tables `price` and `price_minimum`: the prices of each offer, and the minimums above 1.
 
 ghost use Rattle.std.specs.Prelude.{◌≡◌, ◌<◌, Err, IsTrue};
 ghost use Rattle.sqlite.specs.Held.{state};
@@ -13,7 +13,7 @@ use crate::rows::records::has_row;
 use crate::rows::row_types::{MinimumRow, PriceRow};
 use crate::rows::written::{DayNumber, Thousandths, territory_texts};
 use crate::work::Work;
-use onix_message::agreement::StoreFault;
+use desk_terms::StoreFault;
 use onix_terms::series_name::SeriesName;
 use sqlite::{Alter, params};
 

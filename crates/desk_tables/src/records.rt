@@ -1,4 +1,4 @@
-// The table `record`: which records the catalogue of each series has.
+//! The table `record`: which records the catalogue of each series has.
 
 ghost use Rattle.std.specs.Prelude.{◌≡◌, Err, IsTrue};
 ghost use Rattle.sqlite.specs.Held.{state};
@@ -10,7 +10,7 @@ ghost use Rattle.desk_tables.specs.RecordChanges.{has_record, with_new_record, w
 use crate::rows::records::{all_records, has_row};
 use crate::rows::row_types::RecordRow;
 use crate::work::Work;
-use onix_message::agreement::StoreFault;
+use desk_terms::StoreFault;
 use onix_terms::series_name::SeriesName;
 use sqlite::{Alter, params};
 

@@ -1,4 +1,4 @@
-// The table `series`: the agreements, each with the number that is applied next.
+//! The table `series`: the agreements, each with the number that is applied next.
 
 ghost use Rattle.std.specs.Prelude.{◌≡◌, Err, IsTrue};
 ghost use Rattle.sqlite.specs.Held.{state};
@@ -8,7 +8,7 @@ ghost use Rattle.desk_tables.specs.Rows.{party_type, party_value, with_series, w
 use crate::rows::series::{SeriesRow, all_series, first_series};
 use crate::rows::written::{party_type, party_value};
 use crate::work::Work;
-use onix_message::agreement::{Agreement, StoreFault};
+use desk_terms::{Agreement, StoreFault};
 use onix_terms::party::Party;
 use onix_terms::series_name::SeriesName;
 use sqlite::{Alter, params};

@@ -1,4 +1,4 @@
-// The tables, and how a transaction on them begins and ends.
+//! The tables, and how a transaction on them begins and ends.
 
 ghost use Rattle.std.specs.Prelude.{◌≡◌, false, Err, IfOk, IsTrue, OnOk};
 ghost use Rattle.std.specs.Borrow.{sem, RestsIfErr};
@@ -11,7 +11,7 @@ ghost use Rattle.desk_tables.specs.Inside.{FailsInside};
 
 use crate::rows::fault::fault_of;
 use crate::work::Work;
-use onix_message::agreement::StoreFault;
+use desk_terms::StoreFault;
 use sqlite::{Alter, Connection};
 
 /// The tables of a desk, over a store of `sqlite`.

@@ -1,4 +1,4 @@
-// One transaction on the tables, and its statements.
+//! One transaction on the tables, and its statements.
 
 ghost use Rattle.std.specs.Prelude.{◌≡◌, OnOk, Err, IsTrue, is_err};
 ghost use Rattle.sqlite.specs.Values.{bound};
@@ -8,7 +8,7 @@ ghost use Rattle.desk_tables.specs.Transactions.{EndsWork, RunsIn, ReadsIn, IsUn
 
 use crate::rows::fault::fault_of;
 use crate::tables::Tables;
-use onix_message::agreement::StoreFault;
+use desk_terms::StoreFault;
 use sqlite::types::ValueRef;
 use sqlite::{Alter, Row};
 

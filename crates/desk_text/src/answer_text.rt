@@ -1,4 +1,4 @@
-// Answers as records and as text.
+//! Answers as records and as text.
 
 ghost use Rattle.std.specs.Prelude.{◌≡◌, ◌++◌, ◌∷◌, [], IfOk, OnOk, codes, map};
 ghost use Rattle.std.specs.Fmt.{decimal};

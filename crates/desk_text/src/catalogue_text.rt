@@ -1,19 +1,19 @@
-// The records of a catalogue, in the answer that lists them.
+//! The records of a catalogue, in the answer that lists them.
 
 ghost use Rattle.std.specs.Prelude.{◌≡◌, ◌++◌, ◌∷◌, [], OnOk, codes};
 ghost use Rattle.std.specs.Fmt.{decimal};
 ghost use Rattle.std.specs.List.{flat_map};
 ghost use Rattle.desk_text.specs.CatalogueText.{catalogue_records, entry_records};
-ghost use Rattle.onix_rows.specs.Product.{identifier_fields};
+ghost use Rattle.onix_records.specs.Product.{identifier_fields};
 
 use crate::text_rows::{fill, push_count};
 use catalogue_rules::catalogue::Catalogue;
 use catalogue_rules::entry::Entry;
 use csv_records::buffer::RecordBuffer;
 use csv_records::fields::FieldBuffer;
-use onix_rows::parts::ProductIdentifier;
-use onix_rows::product::push_identifiers;
-use onix_rows::supply::append_supplies;
+use onix_records::parts::ProductIdentifier;
+use onix_records::product::push_identifiers;
+use onix_records::supply::append_supplies;
 use onix_terms::series_name::SeriesName;
 use std::alloc::{AllocError, Global};
 

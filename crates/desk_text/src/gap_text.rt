@@ -1,4 +1,4 @@
-// The records of a report on the gaps of a series.
+//! The records of a report on the gaps of a series.
 
 ghost use Rattle.std.specs.Prelude.{◌≡◌, ◌++◌, ◌∷◌, [], OnOk, codes};
 ghost use Rattle.desk_text.specs.GapText.{gap_fields, gap_records, missing_fields, optional_decimal};

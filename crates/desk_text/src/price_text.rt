@@ -1,4 +1,4 @@
-// The records of answers about the offers of an article.
+//! The records of answers about the offers of an article.
 
 ghost use Rattle.std.specs.Prelude.{◌≡◌, ◌++◌, ◌∷◌, [], IfOk, OnOk, map};
 ghost use Rattle.std.specs.String.{string_bytes};

@@ -1,4 +1,4 @@
-// The body of a request.
+//! The body of a request.
 
 ghost use Rattle.std.specs.Prelude.{◌≡◌, ◌≤◌, ◌++◌, length, take, IfOk, IfSome};
 ghost use Rattle.httparse.specs.Grammar.{RequestHead};

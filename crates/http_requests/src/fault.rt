@@ -1,4 +1,4 @@
-// Why an input has no request that can be asked.
+//! Why an input has no request that can be asked.
 
 ghost use Rattle.std.specs.Prelude.{◌≡◌};
 ghost use Rattle.http_requests.specs.declared.fault.InputFault.TheVariants.{Memory, Read, Refused};

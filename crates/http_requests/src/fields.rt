@@ -1,4 +1,4 @@
-// Fields of a head, by name, and the length that they give of the body.
+//! Fields of a head, by name, and the length that they give of the body.
 
 ghost use Rattle.std.specs.Prelude.{◌≡◌, nat_lt, if◌then◌else◌, true, map, All, length, Some, None, Ok, Err, IfOk, IfSome, ◌≤◌, OnErr, option_map, IsTrue};
 ghost use Rattle.std.specs.List.{list_all};

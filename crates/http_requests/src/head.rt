@@ -1,4 +1,4 @@
-// The head of a request.
+//! The head of a request.
 
 ghost use Rattle.std.specs.Prelude.{◌≡◌, ◌≤◌, ℕ, nat_lt, List, ◌++◌, true, length, vec_len, take, Ok, Err, IfOk, IfSome, IfNone, IfErr, OnErr, OnOk, option_map};
 ghost use Rattle.std.specs.Io.KnownBytes.{Consumes};

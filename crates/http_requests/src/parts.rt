@@ -1,4 +1,4 @@
-// A head that was read, or why there is none.
+//! A head that was read, or why there is none.
 
 ghost use Rattle.std.specs.Prelude.{◌≤◌, length, take};
 ghost use Rattle.httparse.specs.Spans.{IsRequestWithin};

@@ -1,4 +1,4 @@
-// Reads into a buffer, each of which gives at least a byte, the end or a fault.
+//! Reads into a buffer, each of which gives at least a byte, the end or a fault.
 
 ghost use Rattle.std.specs.Prelude.{◌≡◌, ◌<◌, ◌≤◌, ℕ, List, ◌++◌, length, take, IfOk, OnErr};
 ghost use Rattle.std.specs.Io.KnownBytes.{Consumes, IsAtEnd, Keeps};

@@ -1,4 +1,4 @@
-// Why a request is refused before the desk is asked.
+//! Why a request is refused before the desk is asked.
 
 /// The method that a path takes.
 #[derive(Clone, Copy, PartialEq, Eq)]

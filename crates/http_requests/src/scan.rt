@@ -1,4 +1,4 @@
-// Line ends in the bytes of a head.
+//! Line ends in the bytes of a head.
 
 ghost use Rattle.std.specs.Prelude.{◌≡◌, ◌==◌, length};
 ghost use Rattle.std.specs.List.{list_any};

@@ -1,5 +1,5 @@
-// What answers requests, a desk or files that are opened for each, and how it ended. A request is a batch,
-// or an exchange over HTTP.
+//! What answers requests, a desk or files that are opened for each, and how it ended. A request is a batch,
+//! or an exchange over HTTP.
 
 use csv_records::reading::RecordFault;
 use desk_batch::batch::{BatchFault, run_batch};
@@ -7,7 +7,7 @@ use desk_http::exchange::HttpFault;
 use desk_http::serve::serve_one;
 use desk_memory::desk::MemoryDesk;
 use desk_store::desk::DeskStore;
-use onix_message::agreement::StoreFault;
+use desk_terms::StoreFault;
 use price_rules::precedence::Precedence;
 use series_rules::desk::Desk;
 use sqlite::Alter;

@@ -1,5 +1,5 @@
-// What a test says of each of its cases, and cases that stand in one text: a function that names a table
-// of many texts takes as many seconds to prove as one that names the text takes tenths.
+//! What a test says of each of its cases, and cases that stand in one text: a function that names a table
+//! of many texts takes as many seconds to prove as one that names the text takes tenths.
 
 use std::alloc::{AllocError, Global};
 use std::process::Abort;

@@ -1,4 +1,4 @@
-// Files on disks in memory, of which one may fail from some call on.
+//! Files on disks in memory, of which one may fail from some call on.
 
 use sqlite::{Files, Options};
 use sqlite_disk::{Crash, Disk, Fuse, Memory};

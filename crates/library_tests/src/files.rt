@@ -1,5 +1,5 @@
-// Files that are opened for a call and closed behind it: a request to the desk in them, its way to
-// version 2, calls of the tables, statements of the test's own.
+//! Files that are opened for a call and closed behind it: a request to the desk in them, its way to
+//! version 2, calls of the tables, statements of the test's own.
 
 ghost use Rattle.std.specs.Prelude.{IsTrue};
 

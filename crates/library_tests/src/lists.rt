@@ -1,6 +1,6 @@
-// Lists of requests with their answers and what is reported between them, of any desk, where memory may
-// be refused once: then what is reported is what was reported before the request, or what is to be after
-// it, and made again it is answered as it is to be.
+//! Lists of requests with their answers and what is reported between them, of any desk, where memory may
+//! be refused once: then what is reported is what was reported before the request, or what is to be after
+//! it, and made again it is answered as it is to be.
 
 pub mod changes;
 pub mod drain;

@@ -1,4 +1,4 @@
-// The one text of contents.
+//! The one text of contents.
 
 ghost use Rattle.std.specs.Prelude.{◌≡◌, [], IfOk, IsErrOf, List, OnOk};
 ghost use Rattle.std.specs.Str.{bytes_eq};
@@ -6,9 +6,9 @@ ghost use Rattle.std.specs.String.{string_bytes};
 ghost use Rattle.csv_records.specs.RecordTexts.{records_of};
 ghost use Rattle.onix_message.specs.ContentsText.{IsContents, contents_text, framed};
 ghost use Rattle.onix_message.specs.Grammar.{IsMessage};
-ghost use Rattle.onix_rows.specs.Product.{content_records};
-ghost use Rattle.onix_rows.specs.declared.parts.Header.{Header};
-ghost use Rattle.onix_rows.specs.declared.parts.Product.{Product};
+ghost use Rattle.onix_records.specs.Product.{content_records};
+ghost use Rattle.onix_records.specs.declared.parts.Header.{Header};
+ghost use Rattle.onix_records.specs.declared.parts.Product.{Product};
 
 use crate::laws::equal_contents;
 use crate::message::{MessageFault, read_message};
@@ -18,8 +18,8 @@ use csv_records::laws::one_text;
 use csv_records::reading::{RecordReader, append_records};
 use csv_records::writing::write_records;
 use itoa::Buffer;
-use onix_rows::parts::Product;
-use onix_rows::product::append_product;
+use onix_records::parts::Product;
+use onix_records::product::append_product;
 use onix_terms::items::Items;
 use std::alloc::{AllocError, Global};
 use std::marker::Model;
@@ -46,7 +46,7 @@ impl From<AllocError> for ContentsFault {
     }
 }
 
-#[tactic(auto, unfolding(onix_rows::specs::Product::content_records))]
+#[tactic(auto, unfolding(onix_records::specs::Product::content_records))]
 fn records_of_contents(alloc: Global, products: &[Product]) -> Result<RecordBuffer, AllocError>
     ensures { IfOk result (λ records. records ≡ content_records products.now) }
 {
@@ -155,7 +155,7 @@ pub struct Contents {
 impl Model for Contents {
     ghost use Rattle.std.specs.Prelude.{List};
     ghost use Rattle.onix_message.specs.ContentsText.{IsContents};
-    ghost use Rattle.onix_rows.specs.declared.parts.Product.{Product};
+    ghost use Rattle.onix_records.specs.declared.parts.Product.{Product};
 
     ghost Value = { List Product };
 

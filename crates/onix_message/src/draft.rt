@@ -1,15 +1,15 @@
-// A message that is being read, row by row. What is left over where a row is refused is dropped by a
-// call, and not where it goes out of scope: docs/DECISIONS.md says why.
+//! A message that is being read, row by row. What is left over where a row is refused is dropped by a
+//! call, and not where it goes out of scope: docs/DECISIONS.md says why.
 
 ghost use Rattle.std.specs.Prelude.{◌≡◌, ◌≢◌, ◌++◌, [], IfOk, IfErr, OnOk, Some, true};
 ghost use Rattle.std.specs.List.{AllByRecursion, flat_map};
 ghost use Rattle.onix_message.specs.private.Draft.{Adds, AllowsProduct, DraftHasDetails, PartHasDetails, Refuses, RefusesProduct, RefusesSupply, allows, open_rows, part_rows};
 ghost use Rattle.onix_message.specs.PartRows.{SuppliesHaveDetails, detail_rows, product_rows, supply_rows};
-ghost use Rattle.onix_rows.specs.declared.parts.ProductSupply.{ProductSupply};
+ghost use Rattle.onix_records.specs.declared.parts.ProductSupply.{ProductSupply};
 ghost use Rattle.onix_message.specs.declared.draft.Part.TheVariants.{InSupply};
-ghost use Rattle.onix_rows.specs.declared.row.Row.TheVariants as row;
+ghost use Rattle.onix_records.specs.declared.row.Row.TheVariants as row;
 
-use onix_rows::parts::{Price, Product, ProductSupply, SupplyDetail};
+use onix_records::parts::{Price, Product, ProductSupply, SupplyDetail};
 use onix_terms::items::Items;
 use std::alloc::AllocError;
 use std::mem;

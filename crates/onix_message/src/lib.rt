@@ -1,5 +1,5 @@
 //! ONIX messages as CSV: the message that records are, and the one text of contents. It stands on
-//! `onix_rows`, which says what each record is by itself.
+//! `onix_records`, which says what each record is by itself.
 //!
 //! `specs/Grammar.antt` says which records are a message, over `specs/PartRows.antt`, which rows
 //! contents have. `specs/Message.antt` computes the same, and `laws` ties both.
@@ -7,7 +7,6 @@
 //! to one another.
 #![tactic(auto)]
 
-pub mod agreement;
 pub mod contents;
 mod draft;
 pub mod laws;

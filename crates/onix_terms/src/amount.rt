@@ -1,3 +1,5 @@
+//! Amounts of money.
+
 ghost use Rattle.std.specs.Prelude.{◌≡◌, ◌<◌, ◌++◌, ◌∷◌, IfOk, IfSome, OnOk, OnErr};
 ghost use Rattle.std.specs.String.{string_bytes};
 ghost use Rattle.onix_terms.specs.Amount.{amount_from, amount_of, amount_text, thousandths_of, three_digits};

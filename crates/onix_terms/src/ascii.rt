@@ -1,4 +1,4 @@
-// Texts of ASCII bytes.
+//! Texts of ASCII bytes.
 
 ghost use Rattle.std.specs.Prelude.{◌≡◌};
 ghost use Rattle.std.specs.List.{list_all};

@@ -1,4 +1,4 @@
-// Codes of fixed length.
+//! Codes of fixed length.
 
 ghost use Rattle.std.specs.Prelude.{◌≡◌, Some};
 ghost use Rattle.onix_terms.specs.Code.{code2_of, country_of, currency_of};

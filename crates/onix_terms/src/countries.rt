@@ -1,4 +1,4 @@
-// The fields of a territory.
+//! The fields of a territory.
 
 ghost use Rattle.std.specs.Prelude.{◌≡◌, ℕ, List, IfOk, fold, option_map};
 ghost use Rattle.onix_terms.specs.CodeText.{BeginsWith};

@@ -1,3 +1,5 @@
+//! Days of the calendar.
+
 ghost use Rattle.std.specs.Prelude.{◌≡◌, ◌↔◌, ◌<◌, ◌++◌, ◌+ℤ◌, ◌≤ℤ◌, ◌<ℤ◌, IsTrue, IsSome, IsOk, IfOk, IfSome, OnOk, OnErr, pos};
 ghost use Rattle.std.specs.String.{string_bytes};
 ghost use Rattle.onix_terms.specs.Day.{IsDayNumber, date_of, day_at, day_of, day_text, eight_digits};

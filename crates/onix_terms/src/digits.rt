@@ -1,4 +1,4 @@
-// Decimal digits.
+//! Decimal digits.
 
 ghost use Rattle.std.specs.Prelude.{◌≡◌, ◌<◌, ◌^◌, IfSome, length};
 ghost use Rattle.onix_terms.specs.Digits.{digits_of, two_digits};

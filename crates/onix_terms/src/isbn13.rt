@@ -1,3 +1,5 @@
+//! The number of an article.
+
 ghost use Rattle.std.specs.Prelude.{◌≡◌, Some};
 ghost use Rattle.onix_terms.specs.Code.{isbn13_of};
 

@@ -1,3 +1,5 @@
+//! Message numbers.
+
 ghost use Rattle.std.specs.Prelude.{◌≡◌, ◌<◌, ℕ};
 ghost use Rattle.onix_terms.specs.Number.{number_from, number_of};
 

@@ -1,3 +1,5 @@
+//! Identifiers of a sender, an addressee or a supplier.
+
 use crate::code::Code2;
 use crate::text::Text;
 

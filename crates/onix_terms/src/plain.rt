@@ -1,3 +1,5 @@
+//! Plain data, which contracts compare by one equation.
+
 ghost use Rattle.std.specs.Prelude.{◌≡◌, ◌↔◌, IsTrue, IfOk};
 ghost use Rattle.std.specs.Bool.{Decides};
 

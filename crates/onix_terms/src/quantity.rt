@@ -1,3 +1,5 @@
+//! Numbers of copies.
+
 ghost use Rattle.std.specs.Prelude.{◌≡◌, ◌<◌};
 ghost use Rattle.onix_terms.specs.Quantity.{quantity_from, quantity_of};
 

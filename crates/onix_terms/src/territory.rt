@@ -1,3 +1,5 @@
+//! Territories, of a market or a price.
+
 ghost use Rattle.std.specs.Prelude.{◌≡◌, ◌↔◌, IsTrue, Contains};
 
 use crate::code::Country;

@@ -1,4 +1,4 @@
-// The command `batch`: standard input to standard output.
+//! The command `batch`: standard input to standard output.
 
 ghost use Rattle.std.specs.Prelude.{◌≤◌, ℕ, List};
 ghost use Rattle.std.specs.Io.KnownBytes.{Appends};

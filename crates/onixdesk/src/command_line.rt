@@ -1,4 +1,4 @@
-// What the words of the command line ask for, read by clap.
+//! What the words of the command line ask for, read by clap.
 
 ghost use Rattle.std.specs.Prelude.{◌≤◌, ◌≡◌};
 

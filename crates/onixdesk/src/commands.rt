@@ -1,4 +1,4 @@
-// The commands of the program and their options, as clap takes them, with their help.
+//! The commands of the program and their options, as clap takes them, with their help.
 
 use clap::builder::ValueParser;
 use clap::{Arg, ArgAction, Command};

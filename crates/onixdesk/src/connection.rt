@@ -1,4 +1,4 @@
-// One connection of the command `serve`.
+//! One connection of the command `serve`.
 
 ghost use Rattle.std.specs.Prelude.{ℕ, List, OnOk, Result};
 ghost use Rattle.std.specs.Io.KnownBytes.{Appends};

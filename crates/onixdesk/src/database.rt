@@ -1,4 +1,4 @@
-// The database file, looked at before it is opened.
+//! The database file, looked at before it is opened.
 
 ghost use Rattle.std.specs.Prelude.{◌≡◌, IfErr, IsTrue};
 ghost use Rattle.onixdesk.specs.declared.fault.Fault.{Fault};

@@ -1,4 +1,4 @@
-// The command `deliver`: one message a file.
+//! The command `deliver`: one message a file.
 
 ghost use Rattle.std.specs.Prelude.{◌≡◌, ◌≤◌, ℕ, List, length, if◌then◌else◌};
 ghost use Rattle.std.specs.Io.KnownBytes.{Appends};

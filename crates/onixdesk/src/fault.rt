@@ -1,11 +1,11 @@
-// What can go wrong while the program runs, and the line that says so.
+//! What can go wrong while the program runs, and the line that says so.
 
 ghost use Rattle.std.specs.Prelude.{◌≡◌};
 
 use csv_records::reading::RecordFault;
 use desk_batch::batch::RequestFault;
 use desk_store::opening::OpenFault;
-use onix_message::agreement::StoreFault;
+use desk_terms::StoreFault;
 use std::io::Write;
 use thiserror::Error;
 

@@ -1,4 +1,4 @@
-// The command `gaps`: which numbers a series lacks.
+//! The command `gaps`: which numbers a series lacks.
 
 ghost use Rattle.std.specs.Prelude.{◌≤◌, List, None};
 ghost use Rattle.std.specs.Io.KnownBytes.{Appends};

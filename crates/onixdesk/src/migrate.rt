@@ -1,4 +1,4 @@
-// The command `migrate`: a database file of version 1 is brought to version 2.
+//! The command `migrate`: a database file of version 1 is brought to version 2.
 
 ghost use Rattle.std.specs.Prelude.{◌≡◌, ◌≤◌, List, Some};
 ghost use Rattle.std.specs.Io.KnownBytes.{Appends};

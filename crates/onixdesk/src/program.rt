@@ -1,4 +1,4 @@
-// The program run on its words: the command line, the rules file, the desk, and then the command.
+//! The program run on its words: the command line, the rules file, the desk, and then the command.
 
 ghost use Rattle.std.specs.Prelude.{◌≡◌, ◌≤◌, ◌⊎◌, ℕ, []};
 ghost use Rattle.std.specs.Io.KnownBytes.{Appends};
@@ -12,7 +12,7 @@ use crate::rules::{open_table, report_rules};
 use crate::{batch, deliver, gaps, migrate, serve};
 use desk_memory::desk::MemoryDesk;
 use desk_store::desk::DeskStore;
-use onix_message::agreement::StoreFault;
+use desk_terms::StoreFault;
 use price_rules::precedence::Precedence;
 use series_rules::desk::Desk;
 use sqlite::{FileStore, Start, Unknown};

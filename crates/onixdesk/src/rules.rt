@@ -1,4 +1,4 @@
-// The precedence table of the shop, from the file that `--rules` names.
+//! The precedence table of the shop, from the file that `--rules` names.
 
 ghost use Rattle.std.specs.Prelude.{◌≡◌, ◌≤◌, ℕ, List, Err, length};
 ghost use Rattle.csv_records.specs.RecordTexts.{limit};

@@ -1,4 +1,4 @@
-// The command `serve`: the desk over HTTP on a port of 127.0.0.1.
+//! The command `serve`: the desk over HTTP on a port of 127.0.0.1.
 
 ghost use Rattle.std.specs.Prelude.{◌≡◌, ◌≤◌, ℕ, List, OnOk, Result, length};
 ghost use Rattle.std.specs.Io.KnownBytes.{Appends};

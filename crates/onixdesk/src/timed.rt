@@ -1,4 +1,4 @@
-// A connection whose reads and writes are limited in time.
+//! A connection whose reads and writes are limited in time.
 
 use std::io::{Read, Result, Write};
 use std::net::TcpStream;

@@ -1,4 +1,4 @@
-// The days on which the current prices of an offer may change.
+//! The days on which the current prices of an offer may change.
 
 ghost use Rattle.std.specs.Prelude.{◌≡◌, ◌↔◌, ◌++◌, ◌∷◌, ◌+◌, ◌*◌, ◌≤◌, ◌≤ℤ◌, IfOk, OnOk, Err, length};
 ghost use Rattle.std.specs.List.{flat_map};
@@ -8,7 +8,7 @@ ghost use Rattle.price_rules.specs.Calendar.{IsBadRange};
 
 use crate::calendar::{CalendarFault, is_bad_range};
 use crate::offer::Offer;
-use onix_rows::parts::Price;
+use onix_records::parts::Price;
 use onix_terms::day::Day;
 use std::alloc::{AllocError, Global};
 

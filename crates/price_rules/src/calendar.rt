@@ -1,4 +1,4 @@
-// The calendar of an offer.
+//! The calendar of an offer.
 
 ghost use Rattle.std.specs.Prelude.{◌≡◌, ◌↔◌, ◌+◌, ◌+ℤ◌, ◌≤ℤ◌, ◌<ℤ◌, ◌<◌, ℤ, pos, length, slice_index_or, IsTrue, IfOk, Err};
 ghost use Rattle.std.specs.List.{AllPairs};

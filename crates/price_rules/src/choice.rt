@@ -1,4 +1,4 @@
-// The offer that the shop chooses.
+//! The offer that the shop chooses.
 
 ghost use Rattle.std.specs.Prelude.{◌≡◌, ◌↔◌, ◌<◌, ℕ, IsTrue, Contains, IfSome, IfNone, length};
 ghost use Rattle.price_rules.specs.Choice.{Admits, Fits, IsBefore, IsBeforeInSeries, IsCheaper, IsChoice, IsLeast, IsRuleCandidate, IsSeries, IsWithin};

@@ -1,4 +1,4 @@
-// The current price of an offer.
+//! The current price of an offer.
 
 ghost use Rattle.std.specs.Prelude.{◌≡◌, ◌↔◌, IsTrue};
 ghost use Rattle.std.specs.Option.{option_copied};
@@ -7,7 +7,7 @@ ghost use Rattle.price_rules.specs.Price.{HasBegun, HasNotEnded, Holds, IsCurren
 ghost use Rattle.price_rules.specs.Steps.{IsTurn};
 
 use crate::offer::{Offer, PriceQuery};
-use onix_rows::parts::Price;
+use onix_records::parts::Price;
 use onix_terms::amount::Amount;
 use onix_terms::day::Day;
 use onix_terms::territory::Territory;

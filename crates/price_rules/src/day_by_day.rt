@@ -1,5 +1,5 @@
-// The calendar of an offer, day by day: a plain program with the contract of `calendar`, which
-// tests run beside it.
+//! The calendar of an offer, day by day: a plain program with the contract of `calendar`, which
+//! tests run beside it.
 
 ghost use Rattle.std.specs.Prelude.{◌≡◌, ◌↔◌, ◌≤ℤ◌, IfOk, Err};
 ghost use Rattle.price_rules.specs.Calendar.{IsBadRange, IsCalendar};

@@ -1,4 +1,4 @@
-// Laws about the definitions, each the contract of a function with an empty body.
+//! Laws about the definitions, each the contract of a function with an empty body.
 
 ghost use Rattle.price_rules.specs.Laws.{BadRuleIsFirst, CalendarIsExact, CalendarIsUnique, ChoiceIsExact, CurrentIsExact};
 

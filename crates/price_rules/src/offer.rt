@@ -1,6 +1,6 @@
-// Offers, and what is asked of them.
+//! Offers, and what is asked of them.
 
-use onix_rows::parts::{Price, Supplier};
+use onix_records::parts::{Price, Supplier};
 use onix_terms::code::{Code2, Country, Currency};
 use onix_terms::day::Day;
 use onix_terms::items::Items;

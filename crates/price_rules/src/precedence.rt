@@ -1,4 +1,4 @@
-// The precedence table.
+//! The precedence table.
 
 ghost use Rattle.std.specs.Prelude.{◌≡◌, ◌≤◌, length, []};
 

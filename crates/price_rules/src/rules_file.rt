@@ -1,4 +1,4 @@
-// Reading the text of a precedence table.
+//! Reading the text of a precedence table.
 
 ghost use Rattle.std.specs.Prelude.{◌≡◌, ◌≤◌, IfOk, IfErr, Ok, codes, length, option_map};
 ghost use Rattle.price_rules.specs.RulesFile.{Explains, code_of, codes_at, codes_of, is_rule_key, is_top_key, keys_pass, max_at, precedence_of, rule_of, rules_from, rules_of, series_at, series_of, top_items};

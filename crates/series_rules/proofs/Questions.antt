@@ -1,7 +1,7 @@
 -- A question, and a piece that is no request, leave what the requests come to.
 use Rattle.std.proofs.Common.{◌≡◌, List, ◌∷◌, None, Result, Ok, Err, sym, ap}
 use Rattle.std.specs.Prelude.{IfOk, OnOk}
-use Rattle.onix_message.specs.declared.agreement.StoreFault.{StoreFault}
+use Rattle.desk_terms.specs.declared.faults.StoreFault.{StoreFault}
 use Rattle.price_rules.specs.declared.precedence.Rule.{Rule}
 use Rattle.series_rules.specs.Agreements.{agreements_of, named}
 use Rattle.series_rules.specs.Answers.{answer_to}

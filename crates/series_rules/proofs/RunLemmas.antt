@@ -1,6 +1,6 @@
 -- One more request of a run.
 use Rattle.std.proofs.Common.{◌≡◌, List, [], ◌∷◌, ◌++◌, Result, Ok, Err, refl, ◌⊎◌, inl, inr}
-use Rattle.onix_message.specs.declared.agreement.StoreFault.{StoreFault}
+use Rattle.desk_terms.specs.declared.faults.StoreFault.{StoreFault}
 use Rattle.price_rules.specs.declared.precedence.Rule.{Rule}
 use Rattle.series_rules.specs.Answers.{answer_to}
 use Rattle.series_rules.specs.Content.{SameContent}

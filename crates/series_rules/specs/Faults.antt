@@ -1,7 +1,7 @@
 -- The faults of an answer and of a run of requests.
 use Rattle.std.specs.Prelude.{◌≡◌, ◌⊎◌, List, All, Result, IfErr}
-use Rattle.onix_message.specs.declared.agreement.StoreFault.{StoreFault}
-use Rattle.onix_message.specs.declared.agreement.StoreFault.TheVariants as fault
+use Rattle.desk_terms.specs.declared.faults.StoreFault.{StoreFault}
+use Rattle.desk_terms.specs.declared.faults.StoreFault.TheVariants as fault
 use Rattle.series_rules.specs.declared.answers.Answer.{Answer}
 
 -- want of memory, or a fault that the desk may give

@@ -1,4 +1,4 @@
-// One request, asked of any desk.
+//! One request, asked of any desk.
 
 ghost use Rattle.std.specs.Prelude.{◌≡◌, ℕ, List, ◌∷◌, IfErr, IfOk, OnErr, OnOk, Option};
 ghost use Rattle.series_rules.specs.Answers.{answer_to, catalogue_answer, catalogue_or_unknown, gaps_answer, gaps_or_unknown};
@@ -12,7 +12,7 @@ use crate::answers::Answer;
 use crate::desk::Desk;
 use crate::price_answers::{choose_offer, date_offers, price_offers};
 use crate::requests::Request;
-use onix_message::agreement::StoreFault;
+use desk_terms::StoreFault;
 use onix_terms::isbn13::Isbn13;
 use onix_terms::series_name::SeriesName;
 use price_rules::calendar::is_bad_range;

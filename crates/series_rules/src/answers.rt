@@ -1,4 +1,4 @@
-// The answers of a desk.
+//! The answers of a desk.
 
 use catalogue_rules::catalogue::Catalogue;
 use catalogue_rules::effect::Effect;

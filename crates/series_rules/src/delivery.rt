@@ -1,4 +1,4 @@
-// The records of a delivery, read by what its answer computes of them.
+//! The records of a delivery, read by what its answer computes of them.
 
 ghost use Rattle.std.specs.Prelude.{◌≡◌, IfErr, IfOk, Some};
 ghost use Rattle.onix_message.specs.Message.{message_of};
@@ -8,7 +8,7 @@ use csv_records::records::Records;
 use onix_message::contents::Contents;
 use onix_message::laws::{bad_rows, messages};
 use onix_message::message::{MessageFault, read_message};
-use onix_rows::parts::Header;
+use onix_records::parts::Header;
 use std::alloc::Global;
 
 /// Reads a delivery: the message that its answer is by, or the row that its answer names.

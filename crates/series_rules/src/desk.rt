@@ -1,4 +1,4 @@
-// What every desk promises.
+//! What every desk promises.
 
 ghost use Rattle.std.specs.Prelude.{◌≡◌, ℕ, List, ◌∷◌, IfOk, IfErr, OnErr, OnOk, Option};
 ghost use Rattle.series_rules.specs.Answers.{agree_answer, delivery_answer, waive_answer, gaps_answer, catalogue_answer};
@@ -9,7 +9,7 @@ ghost use Rattle.series_rules.specs.Leaves.{LeavesNoMore, LeavesOneMore, LeavesO
 use crate::answers::{AgreeAnswer, DeliveryAnswer, GapReport, WaiveAnswer};
 use catalogue_rules::catalogue::Catalogue;
 use csv_records::records::Records;
-use onix_message::agreement::{Agreement, StoreFault};
+use desk_terms::{Agreement, StoreFault};
 use onix_terms::isbn13::Isbn13;
 use onix_terms::items::Items;
 use onix_terms::number::Number;
@@ -27,7 +27,7 @@ use price_rules::offer::Offer;
 /// answered, it leaves the list with the request, if it left nothing but the list before.
 pub trait Desk {
     ghost use Rattle.std.specs.Prelude.{List, ◌≡◌};
-    ghost use Rattle.onix_message.specs.declared.agreement.StoreFault.{StoreFault};
+    ghost use Rattle.desk_terms.specs.declared.faults.StoreFault.{StoreFault};
     ghost use Rattle.series_rules.specs.declared.requests.Request.{Request};
 
     /// The premise on its store.

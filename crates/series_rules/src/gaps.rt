@@ -1,4 +1,4 @@
-// The report on the gaps of a series.
+//! The report on the gaps of a series.
 
 ghost use Rattle.std.specs.Prelude.{◌≡◌, ◌<◌, ◌≤◌, ◌++◌, ℕ, IfOk, OnOk, Option};
 ghost use Rattle.series_rules.specs.Gaps.{AreHeldFrom, IsGreatest, NoneBelow, lacking, numbers_up_to, range_below, ranges_of, report_by};

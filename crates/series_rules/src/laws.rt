@@ -1,4 +1,4 @@
-// Laws of the definitions.
+//! Laws of the definitions.
 
 ghost use Rattle.series_rules.specs.Laws.{AgreementsAreDistinct, NextIsLeast, FrontIsExact, ByContentAlone, FrontOnlyGrows, GapsAreTrue};
 ghost use Rattle.series_rules.specs.PriceLaws.{CalendarsAreTrue, ChoiceIsTrue, PricesAreTrue};

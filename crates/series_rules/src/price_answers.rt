@@ -1,4 +1,4 @@
-// Answers about the offers of an article.
+//! Answers about the offers of an article.
 
 ghost use Rattle.std.specs.Prelude.{◌≡◌, IfOk, false, slice_get};
 ghost use Rattle.price_rules.specs.Calendar.{is_bad_range};

@@ -1,4 +1,4 @@
-// A run of requests.
+//! A run of requests.
 
 ghost use Rattle.std.specs.Prelude.{◌≡◌, ◌∷◌, List, IfOk, OnErr};
 ghost use Rattle.series_rules.specs.Faults.{HasFaultsOf};
@@ -9,7 +9,7 @@ use crate::answering::answer;
 use crate::answers::Answer;
 use crate::desk::Desk;
 use crate::requests::Request;
-use onix_message::agreement::StoreFault;
+use desk_terms::StoreFault;
 use onix_terms::items::Items;
 use price_rules::precedence::Precedence;
 use std::alloc::{AllocError, Global};

@@ -4,7 +4,7 @@ ghost use Rattle.std.specs.Prelude.{◌≡◌, IfOk, option_map, slice_get};
 ghost use Rattle.desk_tables.specs.Shown.{six_columns, applied_part_columns};
 
 use crate::rows::columns::{text_column, whole_column};
-use onix_message::agreement::StoreFault;
+use desk_terms::StoreFault;
 use onix_terms::text::Text;
 use sqlite::Row;
 

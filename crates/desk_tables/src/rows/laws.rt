@@ -4,7 +4,7 @@ ghost use Rattle.std.specs.Prelude.{◌≡◌, ℕ, List, false, true};
 ghost use Rattle.std.specs.List.{list_any};
 ghost use Rattle.sqlite.specs.Effect.{Database, IsDatabase};
 ghost use Rattle.sqlite_rules.specs.Lists.{Has};
-ghost use Rattle.onix_message.specs.declared.agreement.Agreement.{Agreement};
+ghost use Rattle.desk_terms.specs.declared.agreements.Agreement.{Agreement};
 ghost use Rattle.desk_tables.specs.AddedRows.{CanAgree, CanApply, CanHold, CanIdentify, CanOffer, CanPrice, CanRecord, has_series};
 ghost use Rattle.desk_tables.specs.RecordChanges.{has_record, is_article_of, is_offer_of, with_article, with_new_record, with_offer, with_price, without_articles, without_offers, without_record};
 ghost use Rattle.desk_tables.specs.RecordRows.{ArticleRow, OfferRow, PriceRow, RecordRow};

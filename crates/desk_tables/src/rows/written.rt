@@ -5,7 +5,7 @@ ghost use Rattle.onix_terms.specs.Territory.{countries_text};
 ghost use Rattle.desk_tables.specs.RecordRows.{party_type, party_value};
 ghost use Rattle.desk_tables.specs.Rows.{IsAddressee};
 
-use onix_message::agreement::StoreFault;
+use desk_terms::StoreFault;
 use onix_terms::amount::Amount;
 use onix_terms::code::Code2;
 use onix_terms::countries::countries_text;

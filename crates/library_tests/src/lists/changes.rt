@@ -1,5 +1,5 @@
-// Updates and deletions: an update that comes before what it updates, one of a record that is not there,
-// one that leaves the supplies, another type of notification, and a deletion.
+//! Updates and deletions: an update that comes before what it updates, one of a record that is not there,
+//! one that leaves the supplies, another type of notification, and a deletion.
 
 use crate::lists::List;
 

@@ -1,4 +1,4 @@
-// Forty messages that wait behind the first of their series, and the first, which lets all be applied.
+//! Forty messages that wait behind the first of their series, and the first, which lets all be applied.
 
 use crate::lists::List;
 use std::alloc::{AllocError, Global};

@@ -1,5 +1,5 @@
-// Exchanges over HTTP: a message that waits, one that lets it be applied, a price, a choice, a calendar.
-// What is replied is taken from the desk's written rules.
+//! Exchanges over HTTP: a message that waits, one that lets it be applied, a price, a choice, a calendar.
+//! What is replied is taken from the desk's written rules.
 
 use crate::lists::List;
 

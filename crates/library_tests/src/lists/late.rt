@@ -1,5 +1,5 @@
-// Late messages: two that wait for the first two, of which one comes again with other contents, and one
-// that goes on waiting behind a second gap.
+//! Late messages: two that wait for the first two, of which one comes again with other contents, and one
+//! that goes on waiting behind a second gap.
 
 use crate::lists::List;
 

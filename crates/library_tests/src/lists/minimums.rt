@@ -1,5 +1,5 @@
-// Minimum order quantities: prices with one that wait, that are applied, that an update changes and takes
-// away, and that go with their record.
+//! Minimum order quantities: prices with one that wait, that are applied, that an update changes and takes
+//! away, and that go with their record.
 
 use crate::lists::List;
 

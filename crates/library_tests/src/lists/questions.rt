@@ -1,4 +1,4 @@
-// Choices of a supplier under rules whose text is read within the test, and calendars.
+//! Choices of a supplier under rules whose text is read within the test, and calendars.
 
 use crate::lists::List;
 

@@ -1,7 +1,7 @@
-// Fifteen requests: messages that are late, two behind a gap and an update behind a second one, other
-// contents of a number that waits, waivers of a number that waits and of one that is a gap, a drain up to
-// the second gap and one that begins with a waiver, a deletion, updates, products that change nothing,
-// repeats of what was applied, and what is refused of a number that was waived or had.
+//! Fifteen requests: messages that are late, two behind a gap and an update behind a second one, other
+//! contents of a number that waits, waivers of a number that waits and of one that is a gap, a drain up to
+//! the second gap and one that begins with a waiver, a deletion, updates, products that change nothing,
+//! repeats of what was applied, and what is refused of a number that was waived or had.
 
 use crate::lists::List;
 

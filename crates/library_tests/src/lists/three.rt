@@ -1,5 +1,5 @@
-// Three requests, few enough that each of their requests for memory over the tables is refused in the gate:
-// an agreement, an update with a minimum that waits, and the message that lets it be applied.
+//! Three requests, few enough that each of their requests for memory over the tables is refused in the gate:
+//! an agreement, an update with a minimum that waits, and the message that lets it be applied.
 
 use crate::lists::List;
 

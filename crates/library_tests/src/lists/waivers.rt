@@ -1,5 +1,5 @@
-// Waivers: of a number that lets another be applied, twice, of one that waits, of one that was had, of a
-// series that is not agreed, and messages of waived numbers.
+//! Waivers: of a number that lets another be applied, twice, of one that waits, of one that was had, of a
+//! series that is not agreed, and messages of waived numbers.
 
 use crate::lists::List;
 

@@ -1,4 +1,4 @@
-// Calendars of one offer, by its break days and day by day, and the break days.
+//! Calendars of one offer, by its break days and day by day, and the break days.
 
 use crate::cases::{Step, expect_text, field, steps_of};
 use crate::rules::catalogues::offers_of;

@@ -1,4 +1,4 @@
-// Catalogues, and offers that are made by way of them.
+//! Catalogues, and offers that are made by way of them.
 
 use crate::cases::expect_text;
 use catalogue_rules::catalogue::Catalogue;

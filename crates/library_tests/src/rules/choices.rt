@@ -1,4 +1,4 @@
-// Choices among offers in orders that no question to a desk gives.
+//! Choices among offers in orders that no question to a desk gives.
 
 use crate::cases::{Step, field, steps_of};
 use crate::rules::catalogues::offers_of;

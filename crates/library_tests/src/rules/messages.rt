@@ -1,5 +1,5 @@
-// The texts of contents and of records. `bench/refused_memory` refuses each request for memory of
-// `contents_have_one_text` in turn.
+//! The texts of contents and of records. `bench/refused_memory` refuses each request for memory of
+//! `contents_have_one_text` in turn.
 
 use crate::cases::{Step, expect_text, steps_of};
 use crate::refusals::Refusals;

@@ -1,4 +1,4 @@
-// Worked values of each term.
+//! Worked values of each term.
 
 use crate::cases::{expect, expect_text, field};
 use onix_terms::Memory;

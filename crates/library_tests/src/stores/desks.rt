@@ -1,5 +1,5 @@
-// The lists of requests, of the desk in memory and of the desk in tables over a store in memory.
-// `tests/refused-memory` and `bench/refused_memory` refuse each request for memory of these tests in turn.
+//! The lists of requests, of the desk in memory and of the desk in tables over a store in memory.
+//! `tests/refused-memory` and `bench/refused_memory` refuse each request for memory of these tests in turn.
 
 use crate::lists::drain::{drain, waiting};
 use crate::lists::exchanges::EXCHANGES;
@@ -11,7 +11,7 @@ use crate::refusals::{Refusals, are_chosen};
 use desk_memory::desk::MemoryDesk;
 use desk_store::desk::DeskStore;
 use desk_store::opening::OpenFault;
-use onix_message::agreement::StoreFault;
+use desk_terms::StoreFault;
 use sqlite::MemStore;
 use std::alloc::Global;
 use std::process::Abort;

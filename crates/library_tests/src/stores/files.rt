@@ -1,6 +1,6 @@
-// The lists of requests of the desk in files that are opened for each, the calls of the tables over files,
-// and what the tables hold where memory is refused to the message that lets forty be applied.
-// `bench/refused_memory` refuses requests for memory of these tests one after the other.
+//! The lists of requests of the desk in files that are opened for each, the calls of the tables over files,
+//! and what the tables hold where memory is refused to the message that lets forty be applied.
+//! `bench/refused_memory` refuses requests for memory of these tests one after the other.
 
 use crate::asking::{Asks, End, expect_asked};
 use crate::cases::{Step, steps_of};

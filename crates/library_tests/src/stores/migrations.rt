@@ -1,6 +1,6 @@
-// Files of version 1, made by the test's own statements, are brought to version 2 where memory may be
-// refused once (by `bench/refused_memory`), and over disks that fail on the way: what is left is
-// migrated then, and the desk in it goes on. Empty files are migrated too, and other versions stay.
+//! Files of version 1, made by the test's own statements, are brought to version 2 where memory may be
+//! refused once (by `bench/refused_memory`), and over disks that fail on the way: what is left is
+//! migrated then, and the desk in it goes on. Empty files are migrated too, and other versions stay.
 
 use crate::asking::{Asks, End, expect_asked};
 use crate::disks::{TestFiles, stop_machine};

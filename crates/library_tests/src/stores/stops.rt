@@ -1,5 +1,5 @@
-// The desk over files of which one fails from some call on: what stands after the machine has stopped, or
-// the program alone, and that the requests can then be made again.
+//! The desk over files of which one fails from some call on: what stands after the machine has stopped, or
+//! the program alone, and that the requests can then be made again.
 
 use crate::asking::{Asked, End};
 use crate::cases::{Step, steps_of};

@@ -1,5 +1,5 @@
-// Batches over inputs that are cut off or cannot be read on, and over outputs that take part of an
-// answer. What is to be written is taken from the desk's written rules.
+//! Batches over inputs that are cut off or cannot be read on, and over outputs that take part of an
+//! answer. What is to be written is taken from the desk's written rules.
 
 use crate::streams::streams::{FailingReader, FailingWriter, OneByte};
 use csv_records::reading::RecordFault;

@@ -1,10 +1,10 @@
-// Desks that tests ask.
+//! Desks that tests ask.
 
 use catalogue_rules::catalogue::Catalogue;
 use csv_records::records::Records;
 use desk_batch::batch::run_batch;
 use desk_memory::desk::MemoryDesk;
-use onix_message::agreement::{Agreement, StoreFault};
+use desk_terms::{Agreement, StoreFault};
 use onix_terms::isbn13::Isbn13;
 use onix_terms::items::Items;
 use onix_terms::number::Number;

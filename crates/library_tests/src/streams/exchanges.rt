@@ -1,6 +1,6 @@
-// Exchanges over inputs that come one byte a read or cannot be read, and over outputs that take part of a
-// reply; and the replies to answers and faults that no request comes to. What is replied is taken from
-// the desk's written rules.
+//! Exchanges over inputs that come one byte a read or cannot be read, and over outputs that take part of a
+//! reply; and the replies to answers and faults that no request comes to. What is replied is taken from
+//! the desk's written rules.
 
 use crate::streams::desks::{BrokenDesk, agreed_desk};
 use crate::streams::streams::{FailingReader, FailingWriter, OneByte};

@@ -1,4 +1,4 @@
-// A list of requests that a desk is asked at once.
+//! A list of requests that a desk is asked at once.
 
 use crate::streams::desks::BrokenDesk;
 use csv_records::reading::RecordReader;

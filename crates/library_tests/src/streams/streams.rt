@@ -1,4 +1,4 @@
-// Readers and writers that do little at a time, and then fail.
+//! Readers and writers that do little at a time, and then fail.
 
 use std::alloc::Global;
 use std::io::{self, ErrorKind, Read, Write};

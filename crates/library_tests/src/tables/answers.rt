@@ -1,11 +1,11 @@
-// What a query gives, beside what the words of a transcript name. What is compared takes no memory.
+//! What a query gives, beside what the words of a transcript name. What is compared takes no memory.
 
 use crate::tables::words::{is_whole, word};
 use desk_tables::rows::applied::EffectRow;
 use desk_tables::rows::row_types::{ArticleRow, OfferRow, PriceRow, RecordRow};
 use desk_tables::rows::series::SeriesRow;
-use onix_message::agreement::{Agreement, StoreFault};
-use onix_rows::parts::{Price, Supplier};
+use desk_terms::{Agreement, StoreFault};
+use onix_records::parts::{Price, Supplier};
 use onix_terms::number::Number;
 use onix_terms::party::Party;
 use onix_terms::territory::Territory;

@@ -1,4 +1,4 @@
-// The calls over the store in memory, case by case.
+//! The calls over the store in memory, case by case.
 
 use crate::cases::expect;
 use crate::refusals::Refusals;
@@ -7,7 +7,7 @@ use crate::tables::refused::expect_refusals;
 use crate::tables::transcripts::{expect_answers, is_right};
 use crate::tables::version_1::{ROWS, TABLES};
 use desk_tables::tables::Tables;
-use onix_message::agreement::StoreFault;
+use desk_terms::StoreFault;
 use sqlite::{Alter, Connection};
 use std::alloc::Global;
 use std::process::Abort;

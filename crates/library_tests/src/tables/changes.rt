@@ -1,9 +1,9 @@
-// The calls that change rows, each by its name and what its line gives it.
+//! The calls that change rows, each by its name and what its line gives it.
 
 use crate::tables::sample::{agreement, article, effect, offer, price_row};
 use crate::tables::words::{name, number, whole, word};
 use desk_tables::work::Work;
-use onix_message::agreement::StoreFault;
+use desk_terms::StoreFault;
 use sqlite::Alter;
 use std::alloc::Global;
 

@@ -1,12 +1,12 @@
-// Each call where memory may be refused once: then it answers `Memory`, the rows are as before it,
-// and the same call, made again, does what it does with ample memory. `bench/refused_memory` refuses
-// each request for memory of these tests in turn.
+//! Each call where memory may be refused once: then it answers `Memory`, the rows are as before it,
+//! and the same call, made again, does what it does with ample memory. `bench/refused_memory` refuses
+//! each request for memory of these tests in turn.
 
 use crate::cases::{Step, expect, steps_of};
 use crate::refusals::Refusals;
 use crate::tables::transcripts::is_right;
 use desk_tables::tables::Tables;
-use onix_message::agreement::StoreFault;
+use desk_terms::StoreFault;
 use sqlite::Alter;
 use std::alloc::Global;
 use std::process::Abort;

@@ -1,10 +1,10 @@
-// The calls that give something, each with what its line says.
+//! The calls that give something, each with what its line says.
 
 use crate::tables::answers::{are_all, is_found};
 use crate::tables::sample::{offer, party, record};
 use crate::tables::words::{isbn, name, number, word};
 use desk_tables::work::Work;
-use onix_message::agreement::StoreFault;
+use desk_terms::StoreFault;
 use onix_terms::series_name::SeriesName;
 use sqlite::Alter;
 use std::alloc::Global;

@@ -1,10 +1,10 @@
-// What is refused, and that it changes nothing.
+//! What is refused, and that it changes nothing.
 
 use crate::cases::expect;
 use crate::tables::calls::{SAMPLE, fill};
 use crate::tables::transcripts::{expect_answers, first_wrong, is_right};
 use desk_tables::tables::Tables;
-use onix_message::agreement::StoreFault;
+use desk_terms::StoreFault;
 use sqlite::Alter;
 use std::alloc::Global;
 use std::process::Abort;

@@ -1,11 +1,11 @@
-// The rows that transcripts name by few words. What they do not name is the same in all rows: the
-// market GB and IE, the supplier North Books, the price 12.99 GBP of the world.
+//! The rows that transcripts name by few words. What they do not name is the same in all rows: the
+//! market GB and IE, the supplier North Books, the price 12.99 GBP of the world.
 
 use crate::tables::words::{code, name, number, term, whole, word};
 use desk_tables::rows::applied::EffectRow;
 use desk_tables::rows::row_types::{ArticleRow, OfferRow, PriceRow, RecordRow};
-use onix_message::agreement::{Agreement, StoreFault};
-use onix_rows::parts::{Price, Supplier};
+use desk_terms::{Agreement, StoreFault};
+use onix_records::parts::{Price, Supplier};
 use onix_terms::amount::Amount;
 use onix_terms::code::Currency;
 use onix_terms::party::Party;

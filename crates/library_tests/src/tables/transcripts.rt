@@ -1,11 +1,11 @@
-// Transcripts: texts of calls, each on a line of its own, and behind a colon what a query answers.
+//! Transcripts: texts of calls, each on a line of its own, and behind a colon what a query answers.
 
 use crate::tables::changes::change;
 use crate::tables::queries::ask;
 use crate::tables::words::name;
 use desk_tables::tables::Tables;
 use desk_tables::work::Work;
-use onix_message::agreement::StoreFault;
+use desk_terms::StoreFault;
 use sqlite::Alter;
 use std::alloc::Global;
 use std::process::Abort;

@@ -2,7 +2,7 @@ use Rattle.std.proofs.Common.{◌+◌, List, [], Ok, length, take, arith, rules,
 use Rattle.std.proofs.lemmas.List.{take_all}
 use Rattle.std.specs.List.{All}
 use Rattle.sqlite.specs.Held.{state}
-use Rattle.onix_rows.specs.declared.parts.Product.{Product}
+use Rattle.onix_records.specs.declared.parts.Product.{Product}
 use Rattle.catalogue_rules.specs.Plans.{total}
 use Rattle.catalogue_rules.specs.Records.{ByReference}
 use Rattle.catalogue_rules.specs.declared.effect.Effect.{Effect}

@@ -1,6 +1,6 @@
 use Rattle.std.proofs.Common.{◌≡◌, Bool, List, Option, Ok, ap, subst, sym, ◌∙◌}
 use Rattle.sqlite.specs.Held.{state}
-use Rattle.onix_rows.specs.declared.parts.ProductIdentifier.{ProductIdentifier}
+use Rattle.onix_records.specs.declared.parts.ProductIdentifier.{ProductIdentifier}
 use Rattle.desk_tables.specs.Rows.{DeskRows}
 use Rattle.desk_tables.specs.declared.rows.row_types.RecordRow.{RecordRow}
 use Rattle.catalogue_store.specs.EntryRows.{record_row}

@@ -1,8 +1,8 @@
 use Rattle.std.proofs.Common.{◌≡◌, ◌++◌, [], ◌∷◌, List, Vec, Ok, rules, subst, sym}
 use Rattle.std.specs.Vec.Iter.{into_iter_items}
 use Rattle.sqlite.specs.Held.{state}
-use Rattle.onix_message.specs.declared.agreement.StoreFault.TheVariants.{Memory}
-use Rattle.onix_rows.specs.declared.parts.Price.{Price}
+use Rattle.desk_terms.specs.declared.faults.StoreFault.TheVariants.{Memory}
+use Rattle.onix_records.specs.declared.parts.Price.{Price}
 use Rattle.price_rules.specs.declared.offer.Offer.{Offer}
 use Rattle.desk_tables.specs.ArticleAnswers.{offer_with, AreOfferRowsOf, ArePricesAt}
 use Rattle.desk_tables.specs.Rows.{DeskRows}

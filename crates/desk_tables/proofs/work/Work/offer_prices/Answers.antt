@@ -1,6 +1,6 @@
 use Rattle.std.proofs.Common.{List, Vec, subst}
 use Rattle.sqlite.specs.Held.{state}
-use Rattle.onix_rows.specs.declared.parts.Price.{Price}
+use Rattle.onix_records.specs.declared.parts.Price.{Price}
 use Rattle.desk_tables.specs.ArticleAnswers.{AreMinimumsAt, ArePricesAt, ArePricesUnder}
 use Rattle.desk_tables.specs.RecordAnswers.{AreRising}
 use Rattle.desk_tables.specs.declared.rows.row_types.MinimumRow.{MinimumRow}

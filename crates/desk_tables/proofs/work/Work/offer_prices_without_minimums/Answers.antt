@@ -1,6 +1,6 @@
 use Rattle.std.proofs.Common.{◌≡◌, [], false, List}
 use Rattle.sqlite.specs.Held.{state}
-use Rattle.onix_rows.specs.declared.parts.Price.{Price}
+use Rattle.onix_records.specs.declared.parts.Price.{Price}
 use Rattle.desk_tables.specs.ArticleAnswers.{ArePricesAt, ArePricesUnder}
 use Rattle.desk_tables.specs.RecordAnswers.{AreRising}
 use Rattle.desk_tables.specs.RecordChanges.{has_minimums_of}

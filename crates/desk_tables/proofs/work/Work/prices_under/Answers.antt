@@ -2,7 +2,7 @@ use Rattle.std.proofs.Common.{[], ◌∷◌, pos, true, refl, List}
 use Rattle.sqlite_value.specs.declared.value.Value.TheVariants.{Int, Text}
 use Rattle.sqlite_value.specs.Order.{Row}
 use Rattle.sqlite.specs.Held.{state}
-use Rattle.onix_rows.specs.declared.parts.Price.{Price}
+use Rattle.onix_records.specs.declared.parts.Price.{Price}
 use Rattle.desk_tables.specs.ArticleAnswers.{ArePricesUnder}
 use Rattle.desk_tables.specs.RecordAnswers.{AreRising}
 use Rattle.desk_tables.specs.RecordStatements.{offer_prices_text}

@@ -1,6 +1,6 @@
 use Rattle.std.proofs.Common.{refl}
 use Rattle.sqlite.specs.Held.{state}
-use Rattle.onix_message.specs.declared.agreement.Agreement.{Agreement}
+use Rattle.desk_terms.specs.declared.agreements.Agreement.{Agreement}
 use Rattle.desk_tables.specs.Rows.{with_series}
 use Rattle.desk_tables.specs.Statements.{put_series_text}
 use Rattle.desk_tables.specs.Transactions.{NoAnswer}

@@ -1,0 +1,121 @@
+//! Requests in one transaction.
+
+ghost use Rattle.std.specs.Prelude.{◌≡◌, List, Some, ℕ, if◌then◌else◌};
+ghost use Rattle.sqlite.specs.Held.{state};
+ghost use Rattle.catalogue_store.specs.Achieves.{Achieves};
+ghost use Rattle.desk_store.specs.Desks.{Answers};
+ghost use Rattle.onix_message.specs.Message.{message_of};
+ghost use Rattle.series_rules.specs.Answers.{agree_answer, delivery_answer, same_agreement, waive_answer};
+ghost use Rattle.series_rules.specs.declared.requests.Request.{Request};
+
+use crate::answers_at::{deliver_at, waive_at};
+use desk_tables::work::Work;
+use desk_terms::{Agreement, StoreFault};
+use onix_message::contents::Contents;
+use onix_records::parts::Header;
+use onix_terms::number::Number;
+use onix_terms::series_name::SeriesName;
+use series_rules::answers::{AgreeAnswer, DeliveryAnswer, WaiveAnswer};
+use sqlite::Alter;
+use std::alloc::Global;
+
+// What an agreement is answered whose name this one has.
+fn answer_named(agreed: &Agreement, agreement: &Agreement) -> AgreeAnswer
+    ensures { result ≡ (if same_agreement agreed.now agreement.now then AgreeAnswer.Agreed else AgreeAnswer.NameTaken) }
+{
+    if agreed == agreement {
+        AgreeAnswer::Agreed
+    } else {
+        AgreeAnswer::NameTaken
+    }
+}
+
+/// Takes an agreement.
+pub(crate) fn agree_in<S: Alter>(
+    work: &mut Work<'_, S>,
+    agreement: &Agreement,
+) -> Result<AgreeAnswer, StoreFault>
+    ensures same_reference { work.new.tables.ghost_name ≡ work.old.tables.ghost_name }
+    ensures achieves { Achieves (Answers (Request.Agree agreement.now) (λ L. agree_answer L agreement.now))
+        (state S.Store work.old.tables.now.connection) (state S.Store work.new.tables.now.connection) result }
+{
+    let named = match work.series_by_name(&agreement.name) {
+        Ok(named) => named,
+        Err(fault) => return Err(fault),
+    };
+    if let Some(row) = &named {
+        return Ok(answer_named(&row.agreement, agreement));
+    }
+    drop(named);
+    let taken = match work.series_by_parties(&agreement.sender, &agreement.addressee) {
+        Ok(taken) => taken,
+        Err(fault) => return Err(fault),
+    };
+    if let Some(row) = &taken {
+        return Ok(AgreeAnswer::SeriesTaken {
+            name: row.agreement.name,
+        });
+    }
+    drop(taken);
+    match work.put_series(agreement) {
+        Ok(()) => Ok(AgreeAnswer::Agreed),
+        Err(fault) => Err(fault),
+    }
+}
+
+/// Takes a message with a number.
+pub(crate) fn deliver_in<S: Alter>(
+    alloc: Global,
+    work: &mut Work<'_, S>,
+    header: &Header,
+    number: Number,
+    contents: Contents,
+) -> Result<DeliveryAnswer, StoreFault>
+    ensures same_reference { work.new.tables.ghost_name ≡ work.old.tables.ghost_name }
+    ensures achieves { (records : List (List (List ℕ))) → message_of records ≡ Some (header.now, contents) → header.now.number ≡ Some number → Achieves (Answers (Request.Deliver records) (λ L. delivery_answer L records))
+        (state S.Store work.old.tables.now.connection) (state S.Store work.new.tables.now.connection) result }
+{
+    let found = match work.series_by_parties(&header.sender, &header.addressee) {
+        Ok(found) => found,
+        Err(fault) => return Err(fault),
+    };
+    let Some(row) = &found else {
+        return Ok(DeliveryAnswer::UnknownSeries);
+    };
+    let series = row.agreement.name;
+    let first = row.agreement.first;
+    if number.value() < first.value() {
+        return Ok(DeliveryAnswer::BeforeFirst {
+            series,
+            number,
+            first,
+        });
+    }
+    contents.is_contents();
+    deliver_at(alloc, work, &series, row.next, number, contents)
+}
+
+/// Takes a waiver.
+pub(crate) fn waive_in<S: Alter>(
+    alloc: Global,
+    work: &mut Work<'_, S>,
+    series: &SeriesName,
+    number: Number,
+) -> Result<WaiveAnswer, StoreFault>
+    ensures same_reference { work.new.tables.ghost_name ≡ work.old.tables.ghost_name }
+    ensures achieves { Achieves (Answers (Request.Waive series.now number) (λ L. waive_answer L series.now number))
+        (state S.Store work.old.tables.now.connection) (state S.Store work.new.tables.now.connection) result }
+{
+    let found = match work.series_by_name(series) {
+        Ok(found) => found,
+        Err(fault) => return Err(fault),
+    };
+    let Some(row) = &found else {
+        return Ok(WaiveAnswer::UnknownSeries);
+    };
+    let first = row.agreement.first;
+    if number.value() < first.value() {
+        return Ok(WaiveAnswer::BeforeFirst { first });
+    }
+    waive_at(alloc, work, series, row.next, number)
+}

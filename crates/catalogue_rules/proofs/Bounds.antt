@@ -17,8 +17,8 @@ use Rattle.onix_records.specs.declared.parts.ProductSupply.{ProductSupply}
 use Rattle.catalogue_rules.specs.Records.{ByReference, EachHas, HasFewDetails, map_of}
 use Rattle.catalogue_rules.specs.Effects.{after, after_product, change_of, entry_after, updated}
 use Rattle.catalogue_rules.specs.Plans.{Changes, IsPlan, entry_now}
-use Rattle.catalogue_rules.specs.declared.effect.Change.{Change}
-use Rattle.catalogue_rules.specs.declared.effect.Change.TheVariants.{Replace, Update, Delete, Ignore}
+use Rattle.catalogue_rules.specs.declared.change.Change.{Change}
+use Rattle.catalogue_rules.specs.declared.change.Change.TheVariants.{Replace, Update, Delete, Ignore}
 use Rattle.catalogue_rules.specs.declared.entry.Entry.{Entry}
 use Rattle.catalogue_rules.proofs.Lookups.{ChangesAt, get-map_by, none_from_empty}
 use Rattle.catalogue_rules.proofs.Order.{entries-map_of}

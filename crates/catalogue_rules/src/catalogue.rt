@@ -9,10 +9,10 @@ ghost use Rattle.catalogue_rules.specs.Offers.{offers_in};
 ghost use Rattle.catalogue_rules.specs.Plans.{IsReady, all_bytes, entry_now};
 
 use crate::draft::Draft;
-use crate::effect::Effect;
 use crate::entry::Entry;
 use crate::offers::add_record;
 use crate::plan::Plan;
+use desk_terms::Effect;
 use onix_message::contents::Contents;
 use onix_terms::isbn13::Isbn13;
 use onix_terms::items::Items;

@@ -7,8 +7,8 @@
 #![tactic(auto)]
 
 pub mod catalogue;
+pub mod change;
 mod draft;
-pub mod effect;
 pub mod entry;
 mod offers;
 mod plan;

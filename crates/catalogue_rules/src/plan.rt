@@ -8,9 +8,10 @@ ghost use Rattle.catalogue_rules.specs.Effects.{after, after_product, change_of,
 ghost use Rattle.catalogue_rules.specs.Plans.{IsPlan, all_bytes, entry_now, total};
 
 use crate::catalogue::Catalogue;
+use crate::change::{Change, counted};
 use crate::draft::Draft;
-use crate::effect::{Change, Effect};
 use crate::entry::Entry;
+use desk_terms::Effect;
 use onix_records::parts::Product;
 use std::alloc::{AllocError, Global};
 
@@ -114,7 +115,7 @@ impl<'a> Plan<'a> {
         if let Some(now) = change_by(change, product, was)? {
             self.put(catalogue, reference, now)?;
         }
-        self.effect.count(change, is_known);
+        self.effect = counted(self.effect, change, is_known);
         Ok(())
     }
 

@@ -7,9 +7,9 @@ use Rattle.onix_records.specs.declared.parts.ProductSupply.{ProductSupply}
 use Rattle.onix_records.specs.declared.parts.ProductIdentifier.{ProductIdentifier}
 use Rattle.catalogue_rules.specs.Effects.{after as after_all, change_of, counted, no_effect, entry_after, updated}
 use Rattle.catalogue_rules.specs.Records.{ByReference}
-use Rattle.catalogue_rules.specs.declared.effect.Change.{Change}
-use Rattle.catalogue_rules.specs.declared.effect.Change.TheVariants.{Delete, Replace, Update}
-use Rattle.catalogue_rules.specs.declared.effect.Effect.{Effect}
+use Rattle.catalogue_rules.specs.declared.change.Change.{Change}
+use Rattle.catalogue_rules.specs.declared.change.Change.TheVariants.{Delete, Replace, Update}
+use Rattle.desk_terms.specs.declared.effects.Effect.{Effect}
 use Rattle.catalogue_rules.specs.declared.entry.Entry.{Entry}
 use Rattle.catalogue_rules.proofs.Effects.{after-push, effect_from-push}
 use Rattle.desk_tables.specs.Rows.{DeskRows}

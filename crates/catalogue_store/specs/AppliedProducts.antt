@@ -4,8 +4,8 @@ use Rattle.std.specs.FinMap as map
 use Rattle.onix_records.specs.declared.parts.Product.{Product}
 use Rattle.catalogue_rules.specs.Effects.{after_product, change_of, counted, entry_after}
 use Rattle.catalogue_rules.specs.Records.{ByReference, EachHas}
-use Rattle.catalogue_rules.specs.declared.effect.Change.{Change}
-use Rattle.catalogue_rules.specs.declared.effect.Effect.{Effect}
+use Rattle.catalogue_rules.specs.declared.change.Change.{Change}
+use Rattle.desk_terms.specs.declared.effects.Effect.{Effect}
 use Rattle.catalogue_rules.specs.declared.entry.Entry.{Entry}
 use Rattle.desk_tables.specs.Rows.{DeskRows}
 use Rattle.desk_tables.specs.declared.rows.row_types.RecordRow.{RecordRow}

@@ -19,8 +19,8 @@ use Rattle.catalogue_rules.proofs.Bounds.{each-changed}
 use Rattle.catalogue_rules.proofs.Plans.{changes_at-with_entry}
 use Rattle.catalogue_rules.specs.Effects.{after, after_product, change_of, entry_after, updated}
 use Rattle.catalogue_rules.specs.Records.{ByReference, EachHas}
-use Rattle.catalogue_rules.specs.declared.effect.Change.{Change}
-use Rattle.catalogue_rules.specs.declared.effect.Change.TheVariants.{Replace, Update, Delete, Ignore}
+use Rattle.catalogue_rules.specs.declared.change.Change.{Change}
+use Rattle.catalogue_rules.specs.declared.change.Change.TheVariants.{Replace, Update, Delete, Ignore}
 use Rattle.catalogue_rules.specs.declared.entry.Entry.{Entry}
 use Rattle.desk_tables.proofs.ArticleLists.{any_within}
 use Rattle.desk_tables.specs.RecordAnswers.{has_minimums, is_minimum_in}

@@ -6,7 +6,7 @@ ghost use Rattle.sqlite.specs.Held.{state};
 ghost use Rattle.catalogue_rules.specs.Effects.{change_of, counted};
 ghost use Rattle.catalogue_rules.specs.Plans.{total};
 ghost use Rattle.catalogue_rules.specs.Records.{ByReference};
-ghost use Rattle.catalogue_rules.specs.declared.effect.Change.TheVariants as asked;
+ghost use Rattle.catalogue_rules.specs.declared.change.Change.TheVariants as asked;
 ghost use Rattle.catalogue_rules.specs.declared.entry.Entry.{Entry};
 ghost use Rattle.catalogue_store.specs.Holding.{Became, HoldsCatalogue, HoldsEntry, IsApplied};
 ghost use Rattle.catalogue_store.specs.Storable.{AreStorable, IsStorableProduct};
@@ -19,46 +19,16 @@ ghost use Rattle.desk_tables.specs.RecordAnswers.{has_minimums};
 use crate::minimums::products_have_minimums;
 use crate::reading::{find_record, has_supplies};
 use crate::records::{remove_record, replace_supplies, write_record};
-use catalogue_rules::effect::{Change, Effect};
+use catalogue_rules::change::{Change, counted};
 use desk_tables::rows::row_types::RecordRow;
 use desk_tables::work::Work;
-use desk_terms::StoreFault;
+use desk_terms::{Effect, StoreFault};
 use onix_message::contents::Contents;
 use onix_records::parts::{Product, ProductIdentifier, ProductSupply};
 use onix_terms::code::Code2;
 use onix_terms::series_name::SeriesName;
 use sqlite::Alter;
 use std::alloc::Global;
-
-// What a NotificationType asks for.
-fn change_of(notification: Code2) -> Change
-    ensures { result ≡ change_of notification }
-{
-    match notification.as_str() {
-        "01" | "02" | "03" => Change::Replace,
-        "04" => Change::Update,
-        "05" => Change::Delete,
-        _ => Change::Ignore,
-    }
-}
-
-// The counts with one more product, whose reference had a record or not.
-fn counted(effect: Effect, change: Change, is_known: bool) -> Effect
-    requires { total effect + 1 < 2 ^ 32 }
-    ensures counts { (was : Option Entry) → is_some was ≡ is_known → result ≡ counted change was effect }
-    ensures one { total result ≡ total effect + 1 }
-{
-    let mut counts = effect;
-    match change {
-        Change::Replace => counts.replaced += 1,
-        Change::Update if is_known => counts.updated += 1,
-        Change::Update => counts.unknown += 1,
-        Change::Delete if is_known => counts.deleted += 1,
-        Change::Delete => counts.unknown += 1,
-        Change::Ignore => counts.ignored += 1,
-    }
-    counts
-}
 
 // Removes the rows of a record and writes those of one with these identifiers and supplies.
 fn rewrite_record<S: Alter>(
@@ -240,7 +210,7 @@ fn apply_product<S: Alter>(
         Ok(found) => found,
         Err(fault) => return Err(fault),
     };
-    let change = change_of(product.notification);
+    let change = Change::of(product.notification);
     match change_record(alloc, work, &row, product, change, found, with_minimums) {
         Ok(()) => Ok(counted(effect, change, found.is_some())),
         Err(fault) => Err(fault),

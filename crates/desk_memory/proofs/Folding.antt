@@ -8,7 +8,7 @@ use Rattle.std.proofs.lemmas.Bool.{cases_lt}
 use Rattle.std.proofs.lemmas.Bool.Decides.{nat_tests}
 use Rattle.std.proofs.lemmas.Option.{slice_get_within}
 use Rattle.onix_terms.specs.Number.{number_from}
-use Rattle.catalogue_rules.specs.declared.effect.Effect.{Effect}
+use Rattle.desk_terms.specs.declared.effects.Effect.{Effect}
 use Rattle.series_rules.specs.Answers.{placed_answer}
 use Rattle.desk_memory.specs.Folded.{IsFold, IsFolded}
 use Rattle.series_rules.specs.Series.{BeginsWith, IsFront, after_standing, effect_of_standing, kept_of}

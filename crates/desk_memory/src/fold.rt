@@ -9,7 +9,7 @@ ghost use Rattle.series_rules.specs.declared.requests.Standing.{Standing};
 ghost use Rattle.series_rules.specs.Series.{IsFront, after_standing, effect_of_standing};
 
 use catalogue_rules::catalogue::Catalogue;
-use catalogue_rules::effect::Effect;
+use desk_terms::Effect;
 use onix_terms::number::Number;
 use onix_terms::series_name::SeriesName;
 use series_rules::answers::DeliveryAnswer;

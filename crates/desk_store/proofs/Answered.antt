@@ -2,9 +2,9 @@
 use Rattle.std.proofs.Common.{◌≡◌, ◌<◌, ◌≤◌, ℕ, true, false, List, ◌∷◌, Option, Some, None, codes, sym, ap, ◌∙◌, subst}
 use Rattle.std.specs.Prelude.{bytes_eq, option_map}
 use Rattle.std.specs.Option.{option_or}
-use Rattle.catalogue_rules.specs.declared.effect.Effect.{Effect}
+use Rattle.desk_terms.specs.declared.effects.Effect.{Effect}
 use Rattle.desk_tables.specs.Rows.{DeskRows, applied_at, held_at, series_at}
-use Rattle.desk_tables.specs.declared.rows.applied.EffectRow.{EffectRow}
+use Rattle.desk_terms.specs.declared.effects.Effect.{Effect}
 use Rattle.onix_message.specs.ContentsText.{contents_text}
 use Rattle.desk_terms.specs.declared.agreements.Agreement.{Agreement}
 use Rattle.onix_records.specs.declared.parts.Product.{Product}
@@ -20,17 +20,17 @@ use Rattle.series_rules.specs.declared.requests.Standing.{Standing}
 use Rattle.series_rules.specs.declared.requests.Standing.TheVariants.{Message, Waived}
 use Rattle.desk_store.specs.Changes.{AnswersAgain, DeliversAt, Places, PutsAndPlaces, PutsNew, WaivesAt}
 use Rattle.desk_store.specs.Stands.{StandsFor, stored_text}
-use Rattle.desk_store.specs.Texts.{TextsTellApart, effect_row}
+use Rattle.desk_store.specs.Texts.{TextsTellApart}
 use Rattle.desk_store.proofs.Again.{again_other, again_same, again_waived, against_same, nothing_stored, waived_again, waived_too_late}
 use Rattle.desk_store.proofs.Fronts.{placed_applied, placed_held}
 use Rattle.desk_store.proofs.RequestRows.{new_there, now_agreed}
 
 -- ---- what is stored
 
-abbrev text_in : List ℕ × EffectRow → List ℕ
+abbrev text_in : List ℕ × Effect → List ℕ
 text_in p = p.0
 
-pub stored_applied : (s : List ℕ) (n : ℕ) (rows : DeskRows) (p : List ℕ × EffectRow) → Some p ≡ applied_at s n rows → Some p.0 ≡ stored_text s n rows
+pub stored_applied : (s : List ℕ) (n : ℕ) (rows : DeskRows) (p : List ℕ × Effect) → Some p ≡ applied_at s n rows → Some p.0 ≡ stored_text s n rows
 stored_applied s n rows p e = ap (λ o. option_or (option_map text_in o) (held_at s n rows)) e
 
 pub stored_held : (s : List ℕ) (n : ℕ) (rows : DeskRows) (text : Option (List ℕ)) → None ≡ applied_at s n rows → text ≡ held_at s n rows → text ≡ stored_text s n rows
@@ -46,7 +46,7 @@ IsPlaced s next n rows answer =
 pub answer_held : (s : List ℕ) (next n : ℕ) (rows : DeskRows) → next ≤ n → IsPlaced s next n rows (delivery.Held s n next)
 answer_held s next n rows le = λ L a stands found same row above. ap (λ x. delivery.Held x n next) same ∙ placed_held rows L a n next stands found row le
 
-pub answer_applied : (s : List ℕ) (next n : ℕ) (p : List ℕ × EffectRow) (x : Effect) (rows : DeskRows) → n < next → Some p ≡ applied_at s n rows → p.1 ≡ effect_row x → IsPlaced s next n rows (delivery.Applied s n x)
+pub answer_applied : (s : List ℕ) (next n : ℕ) (p : List ℕ × Effect) (x : Effect) (rows : DeskRows) → n < next → Some p ≡ applied_at s n rows → p.1 ≡ x → IsPlaced s next n rows (delivery.Applied s n x)
 answer_applied s next n p x rows lt is keeps = λ L a stands found same row above.
     ap (λ y. delivery.Applied y n x) same ∙ placed_applied rows L a n next p x stands found row above lt (is ∙ ap (λ y. applied_at y n rows) same) keeps
 

@@ -1,23 +1,23 @@
 -- What the statements that apply a number come to.
 use Rattle.std.proofs.Common.{◌≡◌, ◌+◌, ◌≤◌, ℕ, Bool, true, false, List, ◌∷◌, Some, None, refl, sym, ap, ◌∙◌, subst}
 use Rattle.catalogue_rules.specs.Records.{ByReference}
-use Rattle.catalogue_rules.specs.declared.effect.Effect.{Effect}
+use Rattle.desk_terms.specs.declared.effects.Effect.{Effect}
 use Rattle.catalogue_store.specs.Holding.{HoldsCatalogue, IsApplied}
 use Rattle.desk_tables.specs.Rows.{DeskRows, held_at, series_at, with_held, without_held}
-use Rattle.desk_tables.specs.declared.rows.applied.EffectRow.{EffectRow}
+use Rattle.desk_terms.specs.declared.effects.Effect.{Effect}
 use Rattle.onix_records.specs.declared.parts.Product.{Product}
 use Rattle.series_rules.specs.Firsts.{first_at}
 use Rattle.series_rules.specs.declared.requests.Standing.{Standing}
 use Rattle.series_rules.specs.declared.requests.Standing.TheVariants.{Message}
 use Rattle.desk_store.specs.Changes.{Applies, AppliesAt, AppliesText, Drains, DrainsOne, DrainsTo, PutsNew}
 use Rattle.desk_store.specs.Stands.{CutAt, StandsFor}
-use Rattle.desk_store.specs.Texts.{TextsTellApart, effect_row, standing_text}
+use Rattle.desk_store.specs.Texts.{TextsTellApart, standing_text}
 use Rattle.desk_store.proofs.Cuts.{step_moved, step_stopped}
 use Rattle.desk_store.proofs.RequestRows.{applied_cut, cut_stands, held_stands}
 
-pub message_applied : (s : List ℕ) (h : Standing) (c : List Product) (effect : Effect) (e : EffectRow) (rows now : DeskRows) → h ≡ Message c → e ≡ effect_row effect → ((m : ByReference) → HoldsCatalogue s m rows → IsApplied s m c rows effect now) → Applies s h rows e now
-message_applied s h c effect e rows now is same done =
-    subst (λ (x : Standing). Applies s x rows e now) (sym is) (λ m held. let d = done m held in record { catalogue = d.catalogue; counts = same ∙ ap effect_row d.counts; others = d.others })
+pub message_applied : (s : List ℕ) (h : Standing) (c : List Product) (e : Effect) (rows now : DeskRows) → h ≡ Message c → ((m : ByReference) → HoldsCatalogue s m rows → IsApplied s m c rows e now) → Applies s h rows e now
+message_applied s h c e rows now is done =
+    subst (λ (x : Standing). Applies s x rows e now) (sym is) (λ m held. let d = done m held in record { catalogue = d.catalogue; counts = d.counts; others = d.others })
 
 -- what is taken out of the held ones is applied
 pub moved_one : TextsTellApart → (s : List ℕ) (n : ℕ) (t : List ℕ) (rows between now : DeskRows) → Some t ≡ held_at s n rows → between ≡ without_held s n rows → AppliesText s n t between now → DrainsOne s n rows true now

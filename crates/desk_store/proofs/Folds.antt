@@ -4,12 +4,12 @@ use Rattle.std.specs.Prelude.{slice_get, option_map}
 use Rattle.std.specs.FinMap as fin
 use Rattle.std.proofs.Math.Seq.{take-append_seam}
 use Rattle.std.proofs.lemmas.Bool.{cases_lt}
-use Rattle.desk_tables.specs.declared.rows.applied.EffectRow.{EffectRow}
+use Rattle.desk_terms.specs.declared.effects.Effect.{Effect}
 use Rattle.series_rules.specs.FrontLemmas.{kept_front, slice_get_front}
 use Rattle.series_rules.specs.Series.{after_all, effect_of_standing, kept_of}
 use Rattle.series_rules.specs.declared.requests.Standing.{Standing}
 use Rattle.desk_store.specs.Stands.{applied_of}
-use Rattle.desk_store.specs.Texts.{effect_row, standing_text}
+use Rattle.desk_store.specs.Texts.{standing_text}
 
 pub get_last : (hs : List Standing) (h : Standing) → slice_get (hs ++ h ∷ []) (length hs) ≡ Some h
 get_last [] h = refl
@@ -29,21 +29,21 @@ get_some (h ∷ hs) (suc k) lt = get_some hs k (omega arith)
 kept_last : (hs : List Standing) (h : Standing) → kept_of (hs ++ h ∷ []) (length hs) ≡ effect_of_standing (after_all fin.empty hs) h
 kept_last hs h = rw (take-append_seam hs (h ∷ []), get_last hs h) refl
 
-abbrev row_of : Standing → EffectRow → List ℕ × EffectRow
+abbrev row_of : Standing → Effect → List ℕ × Effect
 row_of h e = (standing_text h, e)
 
-pub applied_last : (hs : List Standing) (h : Standing) → applied_of (hs ++ h ∷ []) (length hs) ≡ Some (standing_text h, effect_row (effect_of_standing (after_all fin.empty hs) h))
+pub applied_last : (hs : List Standing) (h : Standing) → applied_of (hs ++ h ∷ []) (length hs) ≡ Some (standing_text h, effect_of_standing (after_all fin.empty hs) h)
 applied_last hs h =
-    ap (option_map {U = List ℕ × EffectRow} (λ g. row_of g (effect_row (kept_of (hs ++ h ∷ []) (length hs))))) (get_last hs h) ∙ ap (λ e. Some (standing_text h, effect_row e)) (kept_last hs h)
+    ap (option_map {U = List ℕ × Effect} (λ g. row_of g (kept_of (hs ++ h ∷ []) (length hs)))) (get_last hs h) ∙ ap (λ e. Some (standing_text h, e)) (kept_last hs h)
 
 pub applied_front : (hs : List Standing) (h : Standing) (j : ℕ) → ¬ (j ≡ length hs) → applied_of (hs ++ h ∷ []) j ≡ applied_of hs j
 applied_front hs h j other = go (cases_lt j (length hs))
   where
     go : (j < length hs) ⊎ (length hs ≤ j) → applied_of (hs ++ h ∷ []) j ≡ applied_of hs j
     go (inl lt) =
-        ap (option_map {U = List ℕ × EffectRow} (λ g. row_of g (effect_row (kept_of (hs ++ h ∷ []) j)))) (slice_get_front hs (h ∷ []) j lt)
-        ∙ ap (λ e. option_map {U = List ℕ × EffectRow} (λ g. row_of g (effect_row e)) (slice_get hs j)) (kept_front hs (h ∷ []) j lt)
+        ap (option_map {U = List ℕ × Effect} (λ g. row_of g (kept_of (hs ++ h ∷ []) j))) (slice_get_front hs (h ∷ []) j lt)
+        ∙ ap (λ e. option_map {U = List ℕ × Effect} (λ g. row_of g e) (slice_get hs j)) (kept_front hs (h ∷ []) j lt)
     go (inr le) =
         let far : length (hs ++ h ∷ []) ≤ j = let n = length-append hs (h ∷ []) in omega (arith, other) in
-        ap (option_map {U = List ℕ × EffectRow} (λ g. row_of g (effect_row (kept_of (hs ++ h ∷ []) j)))) (get_beyond (hs ++ h ∷ []) j far)
-        ∙ sym (ap (option_map {U = List ℕ × EffectRow} (λ g. row_of g (effect_row (kept_of hs j)))) (get_beyond hs j le))
+        ap (option_map {U = List ℕ × Effect} (λ g. row_of g (kept_of (hs ++ h ∷ []) j))) (get_beyond (hs ++ h ∷ []) j far)
+        ∙ sym (ap (option_map {U = List ℕ × Effect} (λ g. row_of g (kept_of hs j))) (get_beyond hs j le))

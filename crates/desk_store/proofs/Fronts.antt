@@ -3,9 +3,9 @@ use Rattle.std.proofs.Common.{◌≡◌, ◌+◌, ◌-◌, ◌<◌, ◌≤◌, �
 use Rattle.std.specs.Prelude.{slice_get, option_map, nat_lt}
 use Rattle.std.proofs.lemmas.Bool.{cases_lt}
 use Rattle.std.proofs.lemmas.Bool.Decides.{nat_tests}
-use Rattle.catalogue_rules.specs.declared.effect.Effect.{Effect}
+use Rattle.desk_terms.specs.declared.effects.Effect.{Effect}
 use Rattle.desk_tables.specs.Rows.{DeskRows, series_at, applied_at}
-use Rattle.desk_tables.specs.declared.rows.applied.EffectRow.{EffectRow}
+use Rattle.desk_terms.specs.declared.effects.Effect.{Effect}
 use Rattle.desk_terms.specs.declared.agreements.Agreement.{Agreement}
 use Rattle.series_rules.specs.Agreements.{agreements_of, named}
 use Rattle.series_rules.specs.Answers.{placed_answer}
@@ -16,7 +16,7 @@ use Rattle.series_rules.specs.declared.answers.DeliveryAnswer.TheVariants.{Appli
 use Rattle.series_rules.specs.declared.requests.Request.{Request}
 use Rattle.series_rules.specs.declared.requests.Standing.{Standing}
 use Rattle.desk_store.specs.Stands.{SeriesStands, IsAppliedToGap, StandsFor, applied_of, stored_text}
-use Rattle.desk_store.specs.Texts.{effect_row, standing_text}
+use Rattle.desk_store.specs.Texts.{standing_text}
 use Rattle.desk_store.proofs.Folds.{get_beyond, get_some}
 use Rattle.desk_store.proofs.RequestRows.{same_next}
 
@@ -29,27 +29,19 @@ stands_front rows L a stands found = let w = stands.series a found in subst (λ 
 pub next_is : (rows : DeskRows) (L : List Request) (a : Agreement) (k : ℕ) → StandsFor rows L → named (agreements_of L) a.name ≡ Some a → series_at a.name rows ≡ Some (record { agreement = a; next = k }) → k ≡ next_of L a
 next_is rows L a k stands found row = sym (same_next a k (next_of L a) _ row (stands_front rows L a stands found).row)
 
-effect_in : EffectRow → Effect
-effect_in e = record { replaced = e.replaced; updated = e.updated; deleted = e.deleted; unknown = e.unknown; ignored = e.ignored }
-
--- the counts of a row are those of the one effect that it keeps
-pub one_effect : (x y : Effect) → effect_row x ≡ effect_row y → x ≡ y
-unfolding effect_in
-one_effect x y e = ap effect_in e
-
-counts_there : (hs : List Standing) (j : ℕ) (t : List ℕ) (e : EffectRow) → applied_of hs j ≡ Some (t, e) → e ≡ effect_row (kept_of hs j)
+counts_there : (hs : List Standing) (j : ℕ) (t : List ℕ) (e : Effect) → applied_of hs j ≡ Some (t, e) → e ≡ kept_of hs j
 counts_there hs j t e is = go (slice_get hs j) is
   where
-    counts_in : Option (List ℕ × EffectRow) → EffectRow
-    counts_in None = effect_row (kept_of hs j)
+    counts_in : Option (List ℕ × Effect) → Effect
+    counts_in None = kept_of hs j
     counts_in (Some p) = p.1
 
-    go : (o : Option Standing) → option_map {U = List ℕ × EffectRow} (λ h. (standing_text h, effect_row (kept_of hs j))) o ≡ Some (t, e) → e ≡ effect_row (kept_of hs j)
+    go : (o : Option Standing) → option_map {U = List ℕ × Effect} (λ h. (standing_text h, kept_of hs j)) o ≡ Some (t, e) → e ≡ kept_of hs j
     go None i = absurd cc
     go (Some h) i = sym (ap counts_in i)
 
 -- a number below the next is answered as applied, with what its row keeps
-pub placed_applied : (rows : DeskRows) (L : List Request) (a : Agreement) (n k : ℕ) (p : List ℕ × EffectRow) (x : Effect) → StandsFor rows L → named (agreements_of L) a.name ≡ Some a → series_at a.name rows ≡ Some (record { agreement = a; next = k }) → a.first ≤ n → n < k → Some p ≡ applied_at a.name n rows → p.1 ≡ effect_row x
+pub placed_applied : (rows : DeskRows) (L : List Request) (a : Agreement) (n k : ℕ) (p : List ℕ × Effect) (x : Effect) → StandsFor rows L → named (agreements_of L) a.name ≡ Some a → series_at a.name rows ≡ Some (record { agreement = a; next = k }) → a.first ≤ n → n < k → Some p ≡ applied_at a.name n rows → p.1 ≡ x
     → Applied a.name n x ≡ placed_answer (front_of L a) a.name a.first n
 placed_applied rows L a n k p x stands found row above below is keeps =
     let s = stands_front rows L a stands found in
@@ -57,7 +49,7 @@ placed_applied rows L a n k p x stands found row above below is keeps =
     let lt : nat_lt n (a.first + length (front_of L a)) ≡ true = grind (arith, nat_tests) in
     let at : a.first + (n - a.first) ≡ n = omega arith in
     let counts = counts_there (front_of L a) (n - a.first) p.0 p.1 (sym (s.applied (n - a.first)) ∙ ap (λ i. applied_at a.name i rows) at ∙ sym is) in
-    rw lt (ap (Applied a.name n) (one_effect x (kept_of (front_of L a) (n - a.first)) (sym keeps ∙ counts)))
+    rw lt (ap (Applied a.name n) (sym keeps ∙ counts))
 
 -- any other is held until the next comes
 pub placed_held : (rows : DeskRows) (L : List Request) (a : Agreement) (n k : ℕ) → StandsFor rows L → named (agreements_of L) a.name ≡ Some a → series_at a.name rows ≡ Some (record { agreement = a; next = k }) → k ≤ n → Held a.name n k ≡ placed_answer (front_of L a) a.name a.first n

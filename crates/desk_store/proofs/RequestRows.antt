@@ -7,7 +7,7 @@ use Rattle.std.proofs.lemmas.Slice.Eq.{bytes_eq-Decides}
 use Rattle.catalogue_rules.specs.Records.{ByReference}
 use Rattle.catalogue_store.specs.Holding.{HoldsCatalogue}
 use Rattle.desk_tables.specs.Rows.{DeskRows, series_at, held_at, with_held}
-use Rattle.desk_tables.specs.declared.rows.applied.EffectRow.{EffectRow}
+use Rattle.desk_terms.specs.declared.effects.Effect.{Effect}
 use Rattle.desk_tables.specs.declared.rows.series.SeriesRow.{SeriesRow}
 use Rattle.desk_terms.specs.declared.agreements.Agreement.{Agreement}
 use Rattle.series_rules.specs.Agreements.{agreements_of, named, between}
@@ -197,7 +197,7 @@ held_stands rows L r a n k h stands new row other =
     (apart (a.first + length w.0) (λ i. other (sym i ∙ sym at)) ∙ w.1)
 
 -- it is applied at the next number
-pub applied_cut : (rows mid : DeskRows) (L : List Request) (r : Request) (a : Agreement) (k : ℕ) (h : Standing) (e : EffectRow) → StandsFor rows L → IsNew L r a k h → series_at a.name rows ≡ Some (record { agreement = a; next = k })
+pub applied_cut : (rows mid : DeskRows) (L : List Request) (r : Request) (a : Agreement) (k : ℕ) (h : Standing) (e : Effect) → StandsFor rows L → IsNew L r a k h → series_at a.name rows ≡ Some (record { agreement = a; next = k })
     → ((m : ByReference) → HoldsCatalogue a.name m rows → IsAppliedAt a.name m h rows e mid) → CutAt (first_at (r ∷ L) a.name) a rows (k + 1) (stepped a.name k (standing_text h) e mid)
 applied_cut rows mid L r a k h e stands new row applies =
     let w = stands.series a new.0.agreed in

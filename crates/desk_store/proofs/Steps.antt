@@ -5,7 +5,7 @@ use Rattle.std.specs.FinMap as fin
 use Rattle.std.proofs.lemmas.Bool.{cases_eq}
 use Rattle.catalogue_store.specs.Holding.{HoldsCatalogue, other_catalogues}
 use Rattle.desk_tables.specs.Rows.{DeskRows, HeldRow, applied_part, series_at, held_at, applied_at, is_named, is_held, is_applied, with_applied, with_next}
-use Rattle.desk_tables.specs.declared.rows.applied.EffectRow.{EffectRow}
+use Rattle.desk_terms.specs.declared.effects.Effect.{Effect}
 use Rattle.desk_terms.specs.declared.agreements.Agreement.{Agreement}
 use Rattle.series_rules.specs.FrontLemmas.{after_all_append, slice_get_front}
 use Rattle.series_rules.specs.Series.{after_all}
@@ -17,7 +17,7 @@ use Rattle.desk_store.proofs.Folds.{get_last, get_beyond, applied_last, applied_
 use Rattle.desk_store.proofs.Lookups.{applied_put, applied_other, series_set, series_other, parties_kept, parties_set}
 
 -- the row of what was applied, and the series at its next number
-abbrev pub stepped : List ℕ → ℕ → List ℕ → EffectRow → DeskRows → DeskRows
+abbrev pub stepped : List ℕ → ℕ → List ℕ → Effect → DeskRows → DeskRows
 stepped s k t e mid = with_next s (k + 1) (with_applied (record { series = s; number = k; contents = t; effect = e }) mid)
 
 -- the change of a catalogue leaves the other tables
@@ -31,11 +31,11 @@ held_mid s t n rows mid same = ap (λ (d : DeskRows). option_map (λ (r : HeldRo
 applied_mid : (s t : List ℕ) (n : ℕ) (rows mid : DeskRows) → other_catalogues s mid ≡ other_catalogues s rows → applied_at t n mid ≡ applied_at t n rows
 applied_mid s t n rows mid same = ap (λ (d : DeskRows). option_map applied_part (find (is_applied t n) d.applied)) same
 
-stepped_keeps : (s : List ℕ) (k : ℕ) (t : List ℕ) (e : EffectRow) (mid : DeskRows) → KeepsCatalogues mid (stepped s k t e mid)
+stepped_keeps : (s : List ℕ) (k : ℕ) (t : List ℕ) (e : Effect) (mid : DeskRows) → KeepsCatalogues mid (stepped s k t e mid)
 stepped_keeps s k t e mid = record { records = refl; articles = refl; offers = refl; prices = refl; minimums = refl }
 
 -- f is what stands, and g has h at the number k too, where nothing stood and which is applied next
-module _ (f g : ℕ → Option Standing) (a : Agreement) (hs : List Standing) (k : ℕ) (h : Standing) (e : EffectRow) (base mid : DeskRows) (ends : k ≡ a.first + length hs)
+module _ (f g : ℕ → Option Standing) (a : Agreement) (hs : List Standing) (k : ℕ) (h : Standing) (e : Effect) (base mid : DeskRows) (ends : k ≡ a.first + length hs)
     (was : SeriesStands f a hs base) (free : f k ≡ None) (there : g k ≡ Some h) (same : (n : ℕ) → ¬ (n ≡ k) → g n ≡ f n) (kept : CanBeKept g) (done : IsAppliedAt a.name (after_all fin.empty hs) h base e mid) where
   length_more : length (hs ++ h ∷ []) ≡ length hs + 1
   length_more = length-append hs (h ∷ [])
@@ -54,7 +54,7 @@ module _ (f g : ℕ → Option Standing) (a : Agreement) (hs : List Standing) (k
   step_applied j = go (cases_eq j (length hs))
     where
       none : applied_at a.name k mid ≡ None
-      none = applied_mid a.name a.name k base mid done.others ∙ ap (λ n. applied_at a.name n base) ends ∙ was.applied (length hs) ∙ ap (option_map {U = List ℕ × EffectRow} _) (get_beyond hs (length hs) (omega arith))
+      none = applied_mid a.name a.name k base mid done.others ∙ ap (λ n. applied_at a.name n base) ends ∙ was.applied (length hs) ∙ ap (option_map {U = List ℕ × Effect} _) (get_beyond hs (length hs) (omega arith))
 
       go : (j ≡ length hs) ⊎ (¬ (j ≡ length hs)) → applied_at a.name (a.first + j) after ≡ applied_of (hs ++ h ∷ []) j
       go (inl last) =

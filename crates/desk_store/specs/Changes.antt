@@ -3,7 +3,7 @@ use Rattle.std.specs.Prelude.{◌≡◌, ◌≤◌, ◌+◌, ℕ, Bool, true, fa
 use Rattle.catalogue_rules.specs.Records.{ByReference}
 use Rattle.catalogue_store.specs.Holding.{HoldsCatalogue}
 use Rattle.desk_tables.specs.Rows.{DeskRows, series_at, with_applied, with_next}
-use Rattle.desk_tables.specs.declared.rows.applied.EffectRow.{EffectRow}
+use Rattle.desk_terms.specs.declared.effects.Effect.{Effect}
 use Rattle.desk_terms.specs.declared.agreements.Agreement.{Agreement}
 use Rattle.onix_message.specs.ContentsText.{contents_text}
 use Rattle.onix_records.specs.declared.parts.Product.{Product}
@@ -20,13 +20,13 @@ use Rattle.desk_store.specs.Stands.{CutAt, IsAppliedAt, IsFor, IsNew, StandsFor,
 use Rattle.desk_store.specs.Texts.{IsReadable, standing_text}
 
 -- the catalogue of the series is that after h
-abbrev pub Applies : List ℕ → Standing → DeskRows → EffectRow → DeskRows → Type 0
+abbrev pub Applies : List ℕ → Standing → DeskRows → Effect → DeskRows → Type 0
 Applies name h rows e now = (m : ByReference) → HoldsCatalogue name m rows → IsAppliedAt name m h rows e now
 
 -- h is applied at the number n, with its text and its counts, and the series is at the number after it
 abbrev pub AppliesAt : List ℕ → ℕ → Standing → List ℕ → DeskRows → DeskRows → Type 0
 AppliesAt name n h text rows now =
-    (mid : DeskRows) × (e : EffectRow) × Applies name h rows e mid × (now ≡ with_next name (n + 1) (with_applied (record { series = name; number = n; contents = text; effect = e }) mid))
+    (mid : DeskRows) × (e : Effect) × Applies name h rows e mid × (now ≡ with_next name (n + 1) (with_applied (record { series = name; number = n; contents = text; effect = e }) mid))
 
 -- so is what the text is read as
 abbrev pub AppliesText : List ℕ → ℕ → List ℕ → DeskRows → DeskRows → Type 0

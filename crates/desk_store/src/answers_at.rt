@@ -7,7 +7,6 @@ ghost use Rattle.desk_store.specs.Changes.{AnswersAgain, DeliversAt, Places, Put
 ghost use Rattle.desk_store.specs.Stands.{stored_text};
 
 use crate::applying::put_new;
-use crate::effects::effect_of;
 use crate::laws::one_standing_text;
 use crate::standings::is_waived;
 use desk_tables::work::Work;
@@ -68,7 +67,7 @@ fn place<S: Alter>(
         Some(applied) => Ok(DeliveryAnswer::Applied {
             series: *series,
             number,
-            effect: effect_of(&applied.1),
+            effect: applied.1,
         }),
         None => Err(StoreFault::Unusable),
     }

@@ -5,14 +5,11 @@ ghost use Rattle.sqlite.specs.Held.{state};
 ghost use Rattle.catalogue_store.specs.Achieves.{Achieves};
 ghost use Rattle.desk_store.specs.Changes.{Applies, AppliesAt, AppliesText, Drains, DrainsOne, PutsNew};
 
-use crate::effects::row_of;
 use crate::laws::one_standing_text;
 use crate::standings::read_standing;
-use catalogue_rules::effect::Effect;
 use catalogue_store::messages::apply_message;
-use desk_tables::rows::applied::EffectRow;
 use desk_tables::work::Work;
-use desk_terms::StoreFault;
+use desk_terms::{Effect, Effect, StoreFault};
 use onix_terms::number::Number;
 use onix_terms::series_name::SeriesName;
 use series_rules::requests::Standing;
@@ -25,17 +22,14 @@ fn apply_standing<S: Alter>(
     work: &mut Work<'_, S>,
     series: &SeriesName,
     standing: &Standing,
-) -> Result<EffectRow, StoreFault>
+) -> Result<Effect, StoreFault>
     ensures same_reference { work.new.tables.ghost_name ≡ work.old.tables.ghost_name }
     ensures achieves { Achieves (Applies series.now standing.now)
         (state S.Store work.old.tables.now.connection) (state S.Store work.new.tables.now.connection) result }
 {
     match standing {
-        Standing::Message(contents) => match apply_message(alloc, work, series, contents) {
-            Ok(effect) => Ok(row_of(&effect)),
-            Err(fault) => Err(fault),
-        },
-        Standing::Waived => Ok(row_of(&Effect::none())),
+        Standing::Message(contents) => apply_message(alloc, work, series, contents),
+        Standing::Waived => Ok(Effect::none()),
     }
 }
 

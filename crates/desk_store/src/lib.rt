@@ -7,9 +7,8 @@
 //! number; `Stands` what it is for the tables to be what a list of requests comes to; `Changes` what
 //! the statements of a request come to; `Desks` what a desk in tables promises, and what a crash may
 //! leave of it; `FirstForm` which tables lists of messages of form 1 come to; `Openings` what comes of
-//! opening files, and `Migrations` of bringing them to version 2. `effects` and `standings` turn what
-//! the tables keep into what stands and what it did, and back; `laws` has what these definitions come
-//! to.
+//! opening files, and `Migrations` of bringing them to version 2. `standings` turns a text that the
+//! tables keep into what stands; `laws` has what these definitions come to.
 //!
 //! The calls: `applying` applies what stands at a number and what is held from there on; `answers_at`
 //! answers what comes at a number of a series; `decisions` does a request in a transaction, and
@@ -21,7 +20,6 @@ mod applying;
 mod committing;
 mod decisions;
 pub mod desk;
-pub mod effects;
 pub mod laws;
 pub mod migrating;
 pub mod opening;

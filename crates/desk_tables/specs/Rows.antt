@@ -14,7 +14,7 @@ use Rattle.sqlite.specs.Effect.{Database, IsDatabase}
 use Rattle.onix_terms.specs.declared.party.Party.{Party}
 use Rattle.onix_message.specs.SameContents.{same_party}
 use Rattle.desk_terms.specs.declared.agreements.Agreement.{Agreement}
-use Rattle.desk_tables.specs.declared.rows.applied.EffectRow.{EffectRow}
+use Rattle.desk_terms.specs.declared.effects.Effect.{Effect}
 use Rattle.desk_tables.specs.declared.rows.series.SeriesRow.{SeriesRow}
 use Rattle.desk_tables.specs.Schema.{first_schema, desk_schema}
 use Rattle.desk_tables.specs.RecordRows.{RecordRow, ArticleRow, OfferRow, PriceRow, MinimumRow, record_columns, article_columns, offer_columns, price_columns, minimum_columns}
@@ -35,7 +35,7 @@ pub record AppliedRow : Type 0 where
   pub series : List ℕ
   pub number : ℕ
   pub contents : List ℕ
-  pub effect : EffectRow
+  pub effect : Effect
 
 -- ---- each row as its columns
 
@@ -197,9 +197,9 @@ with_applied row rows = record rows { applied = rows.applied ++ row ∷ [] }
 abbrev pub is_applied : List ℕ → ℕ → AppliedRow → Bool
 is_applied series number row = bytes_eq row.series series && (row.number == number)
 
-abbrev pub applied_part : AppliedRow → List ℕ × EffectRow
+abbrev pub applied_part : AppliedRow → List ℕ × Effect
 applied_part row = (row.contents, row.effect)
 
 -- the contents that are applied at a number of a series, with their counts
-abbrev pub applied_at : List ℕ → ℕ → DeskRows → Option (List ℕ × EffectRow)
+abbrev pub applied_at : List ℕ → ℕ → DeskRows → Option (List ℕ × Effect)
 applied_at series number rows = option_map applied_part (find (is_applied series number) rows.applied)

@@ -5,7 +5,7 @@ ghost use Rattle.sqlite.specs.Held.{state};
 ghost use Rattle.desk_tables.specs.Transactions.{Works, NoAnswer};
 ghost use Rattle.desk_tables.specs.Rows.{with_applied, applied_at, unchanged};
 
-use crate::rows::applied::{EffectRow, first_applied};
+use crate::rows::applied::{Effect, first_applied};
 use crate::work::Work;
 use desk_terms::StoreFault;
 use onix_terms::number::Number;
@@ -20,7 +20,7 @@ impl<S: Alter> Work<'_, S> {
         series: &SeriesName,
         number: Number,
         contents: &str,
-        effect: &EffectRow,
+        effect: &Effect,
     ) -> Result<(), StoreFault>
         ensures same_reference { self.new.tables.ghost_name ≡ self.old.tables.ghost_name }
         ensures untouched { IsTrue self.old.spent → (result ≡ Err StoreFault.Unusable) × (self.new.tables.now ≡ self.old.tables.now) }
@@ -50,7 +50,7 @@ impl<S: Alter> Work<'_, S> {
         &mut self,
         series: &SeriesName,
         number: Number,
-    ) -> Result<Option<(Text, EffectRow)>, StoreFault>
+    ) -> Result<Option<(Text, Effect)>, StoreFault>
         ensures same_reference { self.new.tables.ghost_name ≡ self.old.tables.ghost_name }
         ensures untouched { IsTrue self.old.spent → (result ≡ Err StoreFault.Unusable) × (self.new.tables.now ≡ self.old.tables.now) }
         ensures works { Works (λ rows applied. applied ≡ applied_at series.now number rows) unchanged

@@ -10,7 +10,7 @@ use sqlite::Row;
 
 /// How many products of a message did what.
 #[derive(Clone, Copy, PartialEq, Eq)]
-pub struct EffectRow {
+pub struct Effect {
     /// Records added or replaced whole.
     pub replaced: u32,
     /// Known records whose update was taken.
@@ -24,10 +24,10 @@ pub struct EffectRow {
 }
 
 // The contents text and the counts of a row that a query shows.
-fn applied_row(row: &Row) -> Result<(Text, EffectRow), StoreFault>
+fn applied_row(row: &Row) -> Result<(Text, Effect), StoreFault>
     ensures { IfOk result (λ applied. applied_part_columns applied ≡ six_columns row.now) }
 {
-    let effect = EffectRow {
+    let effect = Effect {
         replaced: whole_column(row, 1)?,
         updated: whole_column(row, 2)?,
         deleted: whole_column(row, 3)?,
@@ -39,7 +39,7 @@ fn applied_row(row: &Row) -> Result<(Text, EffectRow), StoreFault>
 }
 
 /// The contents text and the counts of the first row that a query shows, or `None` where it shows none.
-pub fn first_applied(rows: &Vec<Row>) -> Result<Option<(Text, EffectRow)>, StoreFault>
+pub fn first_applied(rows: &Vec<Row>) -> Result<Option<(Text, Effect)>, StoreFault>
     ensures { IfOk result (λ applied. option_map applied_part_columns applied ≡ option_map six_columns (slice_get rows.now.items 0)) }
 {
     match rows.first() {

@@ -1,10 +1,9 @@
 //! What a query gives, beside what the words of a transcript name. What is compared takes no memory.
 
 use crate::tables::words::{is_whole, word};
-use desk_tables::rows::applied::EffectRow;
 use desk_tables::rows::row_types::{ArticleRow, OfferRow, PriceRow, RecordRow};
 use desk_tables::rows::series::SeriesRow;
-use desk_terms::{Agreement, StoreFault};
+use desk_terms::{Agreement, Effect, StoreFault};
 use onix_records::parts::{Price, Supplier};
 use onix_terms::number::Number;
 use onix_terms::party::Party;
@@ -93,7 +92,7 @@ impl Answer for Text {
     }
 }
 
-impl Answer for (Text, EffectRow) {
+impl Answer for (Text, Effect) {
     fn is(&self, line: &str) -> bool {
         let (contents, counts) = self;
         is_text(contents, word(line, 0))

@@ -2,9 +2,8 @@
 //! market GB and IE, the supplier North Books, the price 12.99 GBP of the world.
 
 use crate::tables::words::{code, name, number, term, whole, word};
-use desk_tables::rows::applied::EffectRow;
 use desk_tables::rows::row_types::{ArticleRow, OfferRow, PriceRow, RecordRow};
-use desk_terms::{Agreement, StoreFault};
+use desk_terms::{Agreement, Effect, StoreFault};
 use onix_records::parts::{Price, Supplier};
 use onix_terms::amount::Amount;
 use onix_terms::code::Currency;
@@ -57,8 +56,8 @@ pub fn agreement(alloc: Global, series: &str, sender: &str) -> Result<Agreement,
 }
 
 /// The five counts of an effect, behind the name of the call, the series and the number.
-pub fn effect(line: &str) -> Result<EffectRow, StoreFault> {
-    Ok(EffectRow {
+pub fn effect(line: &str) -> Result<Effect, StoreFault> {
+    Ok(Effect {
         replaced: whole(word(line, 3))?,
         updated: whole(word(line, 4))?,
         deleted: whole(word(line, 5))?,

@@ -5,7 +5,7 @@ use Rattle.sqlite.specs.Held.{state}
 use Rattle.onix_records.specs.declared.parts.Product.{Product}
 use Rattle.catalogue_rules.specs.Plans.{total}
 use Rattle.catalogue_rules.specs.Records.{ByReference}
-use Rattle.catalogue_rules.specs.declared.effect.Effect.{Effect}
+use Rattle.desk_terms.specs.declared.effects.Effect.{Effect}
 use Rattle.desk_tables.specs.Rows.{DeskRows}
 use Rattle.catalogue_store.specs.Holding.{HoldsCatalogue, IsApplied}
 use Rattle.catalogue_store.specs.Storable.{IsStorableProduct}

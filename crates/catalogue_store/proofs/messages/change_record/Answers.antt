@@ -1,8 +1,8 @@
 use Rattle.std.proofs.Common.{subst, sym}
 use Rattle.sqlite.specs.Held.{state}
 use Rattle.desk_tables.specs.Rows.{DeskRows}
-use Rattle.catalogue_rules.specs.declared.effect.Change.{Change}
-use Rattle.catalogue_rules.specs.declared.effect.Change.TheVariants.{Delete, Replace, Update}
+use Rattle.catalogue_rules.specs.declared.change.Change.{Change}
+use Rattle.catalogue_rules.specs.declared.change.Change.TheVariants.{Delete, Replace, Update}
 use Rattle.catalogue_store.specs.AchievesLemmas.{achieves_also, achieves_nothing}
 use Rattle.catalogue_store.specs.AppliedProducts.{IsChanged}
 use Rattle.catalogue_store.proofs.HoldingLemmas.{became_itself}

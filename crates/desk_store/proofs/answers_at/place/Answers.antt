@@ -2,7 +2,7 @@ use Rattle.std.proofs.Common.{◌≡◌, ◌<◌, ◌≤◌, ℕ, List, Option, 
 use Rattle.sqlite.specs.Held.{state}
 use Rattle.catalogue_store.specs.AchievesLemmas.{achieves_as, achieves_call, achieves_nothing}
 use Rattle.desk_tables.specs.Rows.{DeskRows, applied_at}
-use Rattle.desk_tables.specs.declared.rows.applied.EffectRow.{EffectRow}
+use Rattle.desk_terms.specs.declared.effects.Effect.{Effect}
 use Rattle.desk_store.proofs.Answered.{answer_applied, answer_held}
 use Rattle.desk_store.proofs.answers_at.place.Goals as goal
 
@@ -18,7 +18,7 @@ returns-in-Some-clause-achieves g c =
     let s = c.args.series.now in
     let n = c.args.number in
     let lt : n < c.args.next = omega arith in
-    let Found : DeskRows → Option (List ℕ × EffectRow) → Type 0 = λ rows applied. applied ≡ applied_at s n rows in
+    let Found : DeskRows → Option (List ℕ × Effect) → Type 0 = λ rows applied. applied ≡ applied_at s n rows in
     achieves_as (λ rows applied now. Found rows applied × (now ≡ rows)) _ old new c.in-Ok.applied _
     (achieves_call Found (λ rows. rows) old new c.args.work.now.spent c.applied_at.new.self.spent (Ok c.in-Ok.applied) c.in-Ok.ensures.works)
-    (λ rows now h m one. (one.1, answer_applied s c.args.next n c.in-Some.applied c.effect_of.result rows lt (sym c.in-Some.is ∙ one.0) c.effect_of.ensures))
+    (λ rows now h m one. (one.1, answer_applied s c.args.next n c.in-Some.applied c.in-Some.applied.1 rows lt (sym c.in-Some.is ∙ one.0) refl))

@@ -1,20 +1,20 @@
 use Rattle.std.proofs.Common.{List}
 use Rattle.sqlite.specs.Held.{state}
 use Rattle.catalogue_rules.specs.Records.{ByReference}
-use Rattle.catalogue_rules.specs.declared.effect.Effect.{Effect}
+use Rattle.desk_terms.specs.declared.effects.Effect.{Effect}
 use Rattle.catalogue_store.specs.Holding.{HoldsCatalogue, IsApplied}
-use Rattle.catalogue_store.specs.AchievesLemmas.{achieves_as}
+use Rattle.catalogue_store.specs.AchievesLemmas.{achieves_also}
 use Rattle.desk_tables.specs.Rows.{DeskRows}
 use Rattle.onix_records.specs.declared.parts.Product.{Product}
 use Rattle.desk_store.proofs.Applied.{message_applied}
 use Rattle.desk_store.proofs.applying.apply_standing.Goals as goal
 
-pub returns-in-Ok-clause-achieves : goal.returns-in-Ok-clause-achieves
-returns-in-Ok-clause-achieves g c =
+pub returns-in-Message-clause-achieves : goal.returns-in-Message-clause-achieves
+returns-in-Message-clause-achieves g c =
     let old = state g.S.Store c.args.work.now.tables.now.connection in
     let new = state g.S.Store c.apply_message.new.work.tables.now.connection in
     let s = c.args.series.now in
     let products : List Product = c.in-Message.contents in
     let Applied : DeskRows → Effect → DeskRows → Type 0 = λ rows effect now. (m : ByReference) → HoldsCatalogue s m rows → IsApplied s m products rows effect now in
-    achieves_as Applied _ old new c.in-Ok.effect c.row_of.result c.in-Ok.ensures.achieves
-    (λ rows now h n one. message_applied s c.args.standing.now products c.in-Ok.effect c.row_of.result rows now c.in-Message.is c.row_of.ensures one)
+    achieves_also Applied _ old new c.apply_message.result c.apply_message.ensures.achieves
+    (λ rows now effect h n one. message_applied s c.args.standing.now products effect rows now c.in-Message.is one)

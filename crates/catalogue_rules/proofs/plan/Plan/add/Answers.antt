@@ -5,7 +5,7 @@ use Rattle.std.proofs.lemmas.Result.{IfOk-from_err}
 use Rattle.catalogue_rules.specs.Records.{ByReference}
 use Rattle.catalogue_rules.specs.Effects.{after_product, with_entry, entry_after, change_of}
 use Rattle.catalogue_rules.specs.Plans.{IsPlan, all_bytes, entry_now}
-use Rattle.catalogue_rules.specs.declared.effect.Change.{Change}
+use Rattle.catalogue_rules.specs.declared.change.Change.{Change}
 use Rattle.catalogue_rules.specs.declared.plan.Plan.{Plan}
 use Rattle.catalogue_rules.proofs.Plans.{left_alone, had}
 use Rattle.catalogue_rules.proofs.plan.Plan.add.Goals as goal

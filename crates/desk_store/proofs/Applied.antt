@@ -4,16 +4,18 @@ use Rattle.catalogue_rules.specs.Records.{ByReference}
 use Rattle.desk_terms.specs.declared.effects.Effect.{Effect}
 use Rattle.catalogue_store.specs.Holding.{HoldsCatalogue, IsApplied}
 use Rattle.desk_tables.specs.Rows.{DeskRows, held_at, series_at, with_held, without_held}
-use Rattle.desk_terms.specs.declared.effects.Effect.{Effect}
 use Rattle.onix_records.specs.declared.parts.Product.{Product}
 use Rattle.series_rules.specs.Firsts.{first_at}
+use Rattle.series_rules.specs.declared.answers.DeliveryAnswer.{DeliveryAnswer}
+use Rattle.series_rules.specs.declared.answers.DeliveryAnswer.TheVariants.{Applied, Held}
 use Rattle.series_rules.specs.declared.requests.Standing.{Standing}
 use Rattle.series_rules.specs.declared.requests.Standing.TheVariants.{Message}
-use Rattle.desk_store.specs.Changes.{Applies, AppliesAt, AppliesText, Drains, DrainsOne, DrainsTo, PutsNew}
+use Rattle.desk_store.specs.Changes.{Applies, AppliesAt, AppliesText, Drains, DrainsOne, DrainsTo, PutsNew, placed_by}
 use Rattle.desk_store.specs.Stands.{CutAt, StandsFor}
 use Rattle.desk_store.specs.Texts.{TextsTellApart, standing_text}
 use Rattle.desk_store.proofs.Cuts.{step_moved, step_stopped}
-use Rattle.desk_store.proofs.RequestRows.{applied_cut, cut_stands, held_stands}
+use Rattle.desk_store.proofs.Fronts.{placed_held}
+use Rattle.desk_store.proofs.RequestRows.{applied_cut, cut_stands, held_stands, new_above, now_agreed, placed_new}
 
 pub message_applied : (s : List ℕ) (h : Standing) (c : List Product) (e : Effect) (rows now : DeskRows) → h ≡ Message c → ((m : ByReference) → HoldsCatalogue s m rows → IsApplied s m c rows e now) → Applies s h rows e now
 message_applied s h c e rows now is done =
@@ -23,8 +25,8 @@ message_applied s h c e rows now is done =
 pub moved_one : TextsTellApart → (s : List ℕ) (n : ℕ) (t : List ℕ) (rows between now : DeskRows) → Some t ≡ held_at s n rows → between ≡ without_held s n rows → AppliesText s n t between now → DrainsOne s n rows true now
 moved_one one s n t rows between now took left applied = λ f a base cut same.
     let ready : AppliesText s n t (without_held s n rows) now = subst (λ (d : DeskRows). AppliesText s n t d now) left applied in
-    subst (λ (d : DeskRows). ((true ≡ true) → CutAt f a base (n + 1) d) × ((true ≡ false) → CutAt f a base n d × (f n ≡ None))) (sym ready.3.3)
-    (step_moved one f a base n rows ready.3.0 s t ready.0 ready.3.1 cut same took ready.1 ready.2 ready.3.2)
+    subst (λ (d : DeskRows). ((true ≡ true) → CutAt f a base (n + 1) d) × ((true ≡ false) → CutAt f a base n d × (f n ≡ None))) (sym ready.4.2)
+    (step_moved one f a base n rows ready.4.0 s t ready.0 ready.3 cut same took ready.1 ready.2 ready.4.1)
 
 -- nothing is held
 pub moved_none : (s : List ℕ) (n : ℕ) (rows now : DeskRows) → None ≡ held_at s n rows → now ≡ without_held s n rows → DrainsOne s n rows false now
@@ -41,29 +43,34 @@ pub drained_more : (s : List ℕ) (from k : ℕ) (rows between now : DeskRows) �
 drained_more s from k rows between now before one = λ f a base cut same. (one f a base (before f a base cut same) same).0 refl
 
 -- no more, after all up to a number
-pub drained_up : (s : List ℕ) (from k : ℕ) (rows between now : DeskRows) → DrainsTo s from k rows between → DrainsOne s k between false now → Drains s from rows k now
-drained_up s from k rows between now before one = λ f a base cut same. (one f a base (before f a base cut same) same).1 refl
+pub drained_up : (s : List ℕ) (from k : ℕ) (rows between now : DeskRows) → DrainsTo s from k rows between → DrainsOne s k between false now → Drains s from rows now
+drained_up s from k rows between now before one = λ f a base cut same. (k, (one f a base (before f a base cut same) same).1 refl)
 
 -- up to the greatest number that there is
-pub drained_all : (s : List ℕ) (from k : ℕ) (rows now : DeskRows) → 1000000000 ≤ k → DrainsTo s from k rows now → Drains s from rows k now
-drained_all s from k rows now le before = λ f a base cut same. let end = before f a base cut same in (end, end.stands.can_be_kept.small k le)
+pub drained_all : (s : List ℕ) (from k : ℕ) (rows now : DeskRows) → 1000000000 ≤ k → DrainsTo s from k rows now → Drains s from rows now
+drained_all s from k rows now le before = λ f a base cut same. let end = before f a base cut same in (k, end, end.stands.can_be_kept.small k le)
 
 -- put above the next number
-pub put_above : (s : List ℕ) (next n : ℕ) (h : Standing) (t : List ℕ) (rows now : DeskRows) → ¬ (n ≡ next) → now ≡ with_held (record { series = s; number = n; contents = t }) rows → PutsNew s next n h t rows next now
-put_above s next n h t rows now other put = λ L r a stands new same text row.
+pub put_above : (s : List ℕ) (next n : ℕ) (h : Standing) (t : List ℕ) (rows now : DeskRows) (answer : DeliveryAnswer) → ¬ (n ≡ next) → answer ≡ placed_by s next n None → now ≡ with_held (record { series = s; number = n; contents = t }) rows → PutsNew s next n h t rows answer now
+put_above s next n h t rows now answer other is put = λ L r a stands new same text row.
     let after : now ≡ with_held (record { series = a.name; number = n; contents = standing_text h }) rows =
-    put ∙ ap (λ x. with_held (record { series = x; number = n; contents = t }) rows) same ∙ ap (λ x. with_held (record { series = a.name; number = n; contents = x }) rows) (sym text) in (
-      subst (λ (d : DeskRows). StandsFor d (r ∷ L)) (sym after) (held_stands rows L r a n next h stands new row other),
-      ap (series_at a.name) after ∙ row,
+    put ∙ ap (λ x. with_held (record { series = x; number = n; contents = t }) rows) same ∙ ap (λ x. with_held (record { series = a.name; number = n; contents = x }) rows) (sym text) in
+    let now_stands = subst (λ (d : DeskRows). StandsFor d (r ∷ L)) (sym after) (held_stands rows L r a n next h stands new row other) in (
+      now_stands,
+      is ∙ ap (λ x. Held x n next) same ∙ placed_held now (r ∷ L) a n next now_stands (now_agreed L r a n h new.0) (ap (series_at a.name) after ∙ row) (new_above rows L r a n next h stands new row),
     )
 
 -- applied at the next number, and then drained
-pub put_next : (s : List ℕ) (n to : ℕ) (h : Standing) (t : List ℕ) (rows between now : DeskRows) → AppliesAt s n h t rows between → Drains s (n + 1) between to now → PutsNew s n n h t rows to now
-put_next s n to h t rows between now applied drained = λ L r a stands new same text row.
-    let own : AppliesAt a.name n h (standing_text h) rows between = subst (λ x. AppliesAt a.name n h x rows between) (sym text) (subst (λ x. AppliesAt x n h t rows between) same applied) in
-    let cut = subst (CutAt (first_at (r ∷ L) a.name) a rows (n + 1)) (sym own.3) (applied_cut rows own.0 L r a n h own.1 stands new row own.2) in
-    let end = drained (first_at (r ∷ L) a.name) a rows cut same in
-    (cut_stands rows now L r a n to h stands new.0 end.0 end.1, end.0.stands.row ∙ ap (λ k. Some (record { agreement = a; next = k })) (sym end.0.ends))
+put_next : (s : List ℕ) (n : ℕ) (h : Standing) (t : List ℕ) (e : Effect) (rows between now : DeskRows) (answer : DeliveryAnswer) → answer ≡ placed_by s n n (Some e) → AppliesAt s n h t rows e between → Drains s (n + 1) between now → PutsNew s n n h t rows answer now
+put_next s n h t e rows between now answer is applied drained = λ L r a stands new same text row.
+    let own : AppliesAt a.name n h (standing_text h) rows e between = subst (λ x. AppliesAt a.name n h x rows e between) (sym text) (subst (λ x. AppliesAt x n h t rows e between) same applied) in
+    let cut = subst (CutAt (first_at (r ∷ L) a.name) a rows (n + 1)) (sym own.2) (applied_cut rows own.0 L r a n h e stands new row own.1) in
+    let end = drained (first_at (r ∷ L) a.name) a rows cut same in (
+      cut_stands rows now L r a n end.0 h stands new.0 end.1 end.2,
+      is ∙ ap (λ x. Applied x n e) same ∙ placed_new rows own.0 L r a n h e stands new row own.1,
+    )
 
-pub put_next_at : (s : List ℕ) (n next k to : ℕ) (h : Standing) (t : List ℕ) (rows between now : DeskRows) → n ≡ next → k ≡ n → AppliesAt s n h t rows between → Drains s (k + 1) between to now → PutsNew s next n h t rows to now
-put_next_at s n next k to h t rows between now is at applied drained = subst (λ j. PutsNew s j n h t rows to now) is (put_next s n to h t rows between now applied (subst (λ j. Drains s (j + 1) between to now) at drained))
+pub put_next_at : (s : List ℕ) (n next k : ℕ) (h : Standing) (t : List ℕ) (e : Effect) (rows between now : DeskRows) (answer : DeliveryAnswer) → n ≡ next → k ≡ n → answer ≡ placed_by s next n (Some e) → AppliesAt s n h t rows e between → Drains s (k + 1) between now
+    → PutsNew s next n h t rows answer now
+put_next_at s n next k h t e rows between now answer same at is applied drained =
+    subst (λ j. PutsNew s j n h t rows answer now) same (put_next s n h t e rows between now answer is applied (subst (λ j. Drains s (j + 1) between now) at drained))

@@ -3,6 +3,7 @@ pub mod Migrations
 pub mod Texts
 pub mod Stands
 pub mod Changes
+pub mod Answering
 pub mod Desks
 pub mod Leaves
 pub mod ContentLemmas

@@ -5,9 +5,9 @@ ghost use Rattle.sqlite.specs.Held.{state};
 ghost use Rattle.desk_tables.specs.Transactions.{Works, NoAnswer};
 ghost use Rattle.desk_tables.specs.Rows.{with_applied, applied_at, unchanged};
 
-use crate::rows::applied::{Effect, first_applied};
+use crate::rows::applied::first_applied;
 use crate::work::Work;
-use desk_terms::StoreFault;
+use desk_terms::{Effect, StoreFault};
 use onix_terms::number::Number;
 use onix_terms::series_name::SeriesName;
 use onix_terms::text::Text;

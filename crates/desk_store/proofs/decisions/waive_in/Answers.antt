@@ -5,7 +5,7 @@ use Rattle.desk_tables.specs.Rows.{DeskRows, series_at}
 use Rattle.desk_tables.specs.declared.rows.series.SeriesRow.{SeriesRow}
 use Rattle.series_rules.specs.declared.answers.WaiveAnswer.{WaiveAnswer}
 use Rattle.series_rules.specs.declared.answers.WaiveAnswer.TheVariants as waiver
-use Rattle.desk_store.specs.Changes.{WaivesAt}
+use Rattle.desk_store.specs.Answering.{WaivesAt}
 use Rattle.desk_store.proofs.Found.{waives_before, waives_named, waives_unknown}
 use Rattle.desk_store.proofs.decisions.waive_in.Goals as goal
 

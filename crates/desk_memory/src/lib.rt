@@ -10,3 +10,5 @@ pub mod desk;
 mod fold;
 mod gaps;
 mod series;
+
+pub use desk::MemoryDesk;

@@ -2,11 +2,10 @@
 //! or an exchange over HTTP.
 
 use csv_records::reading::RecordFault;
-use desk_batch::batch::{BatchFault, run_batch};
-use desk_http::exchange::HttpFault;
-use desk_http::serve::serve_one;
-use desk_memory::desk::MemoryDesk;
-use desk_store::desk::DeskStore;
+use desk_batch::{BatchFault, run_batch};
+use desk_http::{HttpFault, serve_one};
+use desk_memory::MemoryDesk;
+use desk_store::DeskStore;
 use desk_terms::StoreFault;
 use price_rules::precedence::Precedence;
 use series_rules::desk::Desk;

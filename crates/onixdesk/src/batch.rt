@@ -7,7 +7,7 @@ ghost use Rattle.onixdesk.specs.Ends.{Ends};
 ghost use Rattle.series_rules.specs.declared.requests.Request.{Request};
 
 use crate::fault::{Fault, report};
-use desk_batch::batch::{BatchFault, run_batch};
+use desk_batch::{BatchFault, run_batch};
 use price_rules::precedence::Precedence;
 use series_rules::desk::Desk;
 use std::alloc::Global;

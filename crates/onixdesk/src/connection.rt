@@ -9,8 +9,7 @@ ghost use Rattle.series_rules.specs.declared.requests.Request.{Request};
 ghost use Rattle.onixdesk.specs.Serving.{ExchangeEnds, line_of};
 
 use crate::fault::Fault;
-use desk_http::exchange::HttpFault;
-use desk_http::serve::serve_one;
+use desk_http::{HttpFault, serve_one};
 use price_rules::precedence::Precedence;
 use series_rules::desk::Desk;
 use std::alloc::Global;

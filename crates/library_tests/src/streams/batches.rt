@@ -3,8 +3,8 @@
 
 use crate::streams::streams::{FailingReader, FailingWriter, OneByte};
 use csv_records::reading::RecordFault;
-use desk_batch::batch::{BatchFault, run_batch};
-use desk_memory::desk::MemoryDesk;
+use desk_batch::{BatchFault, run_batch};
+use desk_memory::MemoryDesk;
 use price_rules::precedence::Precedence;
 use std::alloc::Global;
 use std::io::{Read, Write};

@@ -4,10 +4,8 @@
 
 use crate::streams::desks::{BrokenDesk, agreed_desk};
 use crate::streams::streams::{FailingReader, FailingWriter, OneByte};
-use desk_http::answer_reply::reply_of;
-use desk_http::exchange::HttpFault;
-use desk_http::serve::serve_one;
-use desk_memory::desk::MemoryDesk;
+use desk_http::{HttpFault, reply_of, serve_one};
+use desk_memory::MemoryDesk;
 use onix_terms::number::Number;
 use onix_terms::series_name::SeriesName;
 use price_rules::precedence::Precedence;

@@ -2,7 +2,7 @@
 
 use crate::streams::desks::BrokenDesk;
 use csv_records::reading::RecordReader;
-use desk_memory::desk::MemoryDesk;
+use desk_memory::MemoryDesk;
 use desk_requests::request_rows::read_requests;
 use desk_text::answer_text::write_answer;
 use price_rules::precedence::Precedence;

@@ -1,6 +1,7 @@
 //! The lists of requests, of the desk in memory and of the desk in tables over a store in memory.
 //! `tests/refused-memory` and `bench/refused_memory` refuse each request for memory of these tests in turn.
 
+use crate::cases::expect;
 use crate::lists::drain::{drain, waiting};
 use crate::lists::exchanges::EXCHANGES;
 use crate::lists::questions::QUESTIONS;
@@ -32,7 +33,7 @@ fn desk_in_memory(rt: HostRuntime) {
             are_asked = true;
         }
     }
-    assert!(rt; are_asked, "no cases of this name");
+    expect(&rt, are_asked, "no cases of this name");
 }
 
 // A desk in tables; where memory is refused it is opened once more.
@@ -70,5 +71,5 @@ fn tables_in_memory(rt: HostRuntime) {
             are_asked = true;
         }
     }
-    assert!(rt; are_asked, "no cases of this name");
+    expect(&rt, are_asked, "no cases of this name");
 }

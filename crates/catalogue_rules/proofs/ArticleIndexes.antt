@@ -21,8 +21,8 @@ use Rattle.catalogue_rules.specs.ArticleIndex.{ByArticle, ListsAll, ListsArticle
 use Rattle.catalogue_rules.specs.Effects.{after, after_product, change_of, entry_after, updated}
 use Rattle.catalogue_rules.specs.Offers.{entry_offers, has_article, has_article_type, is_article, offers_in}
 use Rattle.catalogue_rules.specs.Records.{ByReference, records_of}
-use Rattle.catalogue_rules.specs.declared.effect.Change.{Change}
-use Rattle.catalogue_rules.specs.declared.effect.Change.TheVariants.{Replace, Update, Delete, Ignore}
+use Rattle.catalogue_rules.specs.declared.change.Change.{Change}
+use Rattle.catalogue_rules.specs.declared.change.Change.TheVariants.{Replace, Update, Delete, Ignore}
 use Rattle.catalogue_rules.specs.declared.entry.Entry.{Entry}
 use Rattle.catalogue_rules.proofs.Listed.{walk_is_all}
 use Rattle.catalogue_rules.proofs.Lookups.{same_key}

@@ -7,9 +7,12 @@ from onix_to_csv.identifiers import PRODUCT, pair
 from onix_to_csv.lines import Record, line_of
 from onix_to_csv.notes import LeftOut
 from onix_to_csv.supplies import detail_lines, market_lines
-from onix_to_csv.terms import CODE, MOST_RECORDS, needed, term, too_large
+from onix_to_csv.terms import CODE, FIELD_BYTES, MOST_BYTES, MOST_RECORDS, needed, term, too_large
 
 DELETION = "05"
+
+# A record of so many fields has room in a message.
+SURE_FIELDS = MOST_BYTES // (2 * FIELD_BYTES)
 
 
 def product_lines(product: Values) -> tuple[list[bytes], list[LeftOut]]:
@@ -50,4 +53,7 @@ def product_record(product: Values) -> Record:
         raise Wrong(line, f"no {PRODUCT.name}")
     for identifier in product[PRODUCT.name]:
         record += pair(identifier, PRODUCT)
+    # Its line would be made in memory.
+    if len(record) > SURE_FIELDS and sum(len(text.encode()) for text in record) > MOST_BYTES:
+        raise too_large(line)
     return record

@@ -15,6 +15,7 @@ use Rattle.desk_store.specs.ContentLemmas.{stands_by_content}
 use Rattle.desk_store.specs.Desks.{AreRowsOf, changes}
 use Rattle.desk_store.specs.LeftLemmas.{unchanged}
 use Rattle.desk_stops.specs.Connections.{EmptyHoldsNoRows, is_question, storage}
+use Rattle.desk_stops.specs.Effective.{AreAlike}
 use Rattle.desk_stops.specs.Runs.{AreLawful}
 
 -- a question changes nothing
@@ -53,4 +54,14 @@ lawful g rules = record {
   by_content = rows_by_content;
   one_more = λ L M r same. (by_content_alone rules L M r same).1;
   unchanged = unchanged;
+}
+
+-- over every store the same tables are kept, and answered alike
+pub alike : {S T : Type 0} (g : Ghosts S) (h : Ghosts T) (rules : List Rule) → AreAlike (storage g rules) (storage h rules)
+alike g h rules = record {
+  rows = λ d L rows. rows;
+  empty = λ d none. none;
+  changes = λ L r. refl;
+  is_question = λ r. refl;
+  answer_to = λ L r. refl;
 }

@@ -2,3 +2,4 @@ pub mod RunLemmas
 pub mod WholeLists
 pub mod ConnectionLaws
 pub mod ClauseLemmas
+pub mod FileLemmas

@@ -1,9 +1,9 @@
 -- After every run with stops, what is there is that of an effective list.
-use Rattle.std.specs.Prelude.{◌≡◌, ◌⊎◌, Bool, true, false, List, [], ◌∷◌}
-use Rattle.std.proofs.Common.{refl, subst, sym, inl, inr}
+use Rattle.std.specs.Prelude.{◌≡◌, ◌⊎◌, Bool, true, false, List, [], ◌∷◌, ◌++◌}
+use Rattle.std.proofs.Common.{◌∙◌, refl, subst, sym, inl, inr}
 use Rattle.desk_stops.specs.Events.{Event, Answered, Faulted, StopInside, Stop, Closing, Opening, FailedOpening, Place, Open, Closed}
 use Rattle.desk_stops.specs.Runs.{Storage, Answers, Faults, IsFoundFor, Steps, Runs, AreLawful}
-use Rattle.desk_stops.specs.Effective.{IsInDoubt, IsEffective, Explains, WithDoubt, WhatIsOpenedIsEffective, WhatIsLeftIsEffective, AnswersAreExplained, AnsweredAsIfNeverStopped}
+use Rattle.desk_stops.specs.Effective.{AreAlike, IsInDoubt, IsEffective, Explains, RunsGoOn, WithDoubt, WhatIsOpenedIsEffective, WhatIsLeftIsEffective, AnswersAreExplained, AnsweredAsIfNeverStopped}
 
 module _ {R A D Desk : Type 0} (k : Storage R A D Desk) where
   with_doubt : (P Q : List R → Type 0) → ((L : List R) → P L → Q L) → (h : List (Event R A)) (M : List R) → WithDoubt k P h M → WithDoubt k Q h M
@@ -126,3 +126,74 @@ module _ {R A D Desk : Type 0} (k : Storage R A D Desk) (laws : AreLawful k) whe
   answered_as_if_never_stopped L0 found h desk at_first run =
       let it : StandsOpen k laws L0 h desk = stands k laws L0 found h (Open desk) at_first run in
       (it.L, explains_effective k L0 h it.L it.explains, it.stands, λ r a next step. (step.1.ok step.0 it.L it.stands).0)
+
+-- ---- a run over another kind of store
+
+module _ {R A D S T : Type 0} (k : Storage R A D S) (l : Storage R A D T) (alike : AreAlike k l) where
+  doubt_goes_on : (h next : List (Event R A)) (L : List R) (f : R) → IsInDoubt l next L f → IsInDoubt l (next ++ h) L f
+  doubt_goes_on h [] L f it = absurd it
+  doubt_goes_on h (Answered r a ∷ next) M f it = (it.0, it.1, it.2, doubt_goes_on h next it.0 f it.3)
+  doubt_goes_on h (Faulted r ∷ next) L f (inl is) = inl is
+  doubt_goes_on h (Faulted r ∷ next) L f (inr it) = inr (doubt_goes_on h next L f it)
+  doubt_goes_on h (StopInside r ∷ next) L f it = absurd it
+  doubt_goes_on h (Stop ∷ next) L f it = absurd it
+  doubt_goes_on h (Closing ∷ next) L f it = absurd it
+  doubt_goes_on h (Opening ∷ next) L f it = absurd it
+  doubt_goes_on h (FailedOpening ∷ next) L f it = absurd it
+
+  -- what is in doubt over one kind is in doubt over the other
+  doubt_moves : (h : List (Event R A)) (L : List R) (f : R) → IsInDoubt k h L f → IsInDoubt l h L f
+  doubt_moves [] L f it = absurd it
+  doubt_moves (Answered r a ∷ h) M f it = (it.0, it.1, alike.changes it.0 r ∙ it.2, doubt_moves h it.0 f it.3)
+  doubt_moves (Faulted r ∷ h) L f (inl is) = inl (is.0, alike.is_question r ∙ is.1)
+  doubt_moves (Faulted r ∷ h) L f (inr it) = inr (doubt_moves h L f it)
+  doubt_moves (StopInside r ∷ h) L f it = absurd it
+  doubt_moves (Stop ∷ h) L f it = absurd it
+  doubt_moves (Closing ∷ h) L f it = absurd it
+  doubt_moves (Opening ∷ h) L f it = absurd it
+  doubt_moves (FailedOpening ∷ h) L f it = absurd it
+
+  with_moved : (P Q : List R → Type 0) → ((L : List R) → P L → Q L) → (h : List (Event R A)) (M : List R) → WithDoubt k P h M → WithDoubt l Q h M
+  with_moved P Q so h M (inl it) = inl (so M it)
+  with_moved P Q so h M (inr it) = inr (it.0, it.1, it.2, doubt_moves h it.1 it.0 it.3, so it.1 it.4)
+
+  explains_moves : (L0 : List R) (h : List (Event R A)) (M : List R) → Explains k L0 h M → Explains l L0 h M
+  explains_moves L0 [] M it = it
+  explains_moves L0 (Answered r a ∷ h) M it = (it.0, it.1, it.2 ∙ sym (alike.answer_to it.0 r), explains_moves L0 h it.0 it.3)
+  explains_moves L0 (Faulted r ∷ h) M it = explains_moves L0 h M it
+  explains_moves L0 (StopInside r ∷ h) M it = with_moved (Explains k L0 h) (Explains l L0 h) (explains_moves L0 h) (Faulted r ∷ h) M it
+  explains_moves L0 (Stop ∷ h) M it = with_moved (Explains k L0 h) (Explains l L0 h) (explains_moves L0 h) h M it
+  explains_moves L0 (Closing ∷ h) M it = explains_moves L0 h M it
+  explains_moves L0 (Opening ∷ h) M it = explains_moves L0 h M it
+  explains_moves L0 (FailedOpening ∷ h) M it = explains_moves L0 h M it
+
+  with_more : (P Q : List R → Type 0) → ((L : List R) → P L → Q L) → (h next : List (Event R A)) (M : List R) → WithDoubt l P next M → WithDoubt l Q (next ++ h) M
+  with_more P Q so h next M (inl it) = inl (so M it)
+  with_more P Q so h next M (inr it) = inr (it.0, it.1, it.2, doubt_goes_on h next it.1 it.0 it.3, so it.1 it.4)
+
+  -- a list that explains what came next, from one that explains what was before, explains both
+  explains_both : (L0 L1 : List R) (h : List (Event R A)) → Explains l L0 h L1 → (next : List (Event R A)) (M : List R) → Explains l L1 next M → Explains l L0 (next ++ h) M
+  explains_both L0 L1 h before [] M it = subst (λ K. Explains l L0 h K) (sym it) before
+  explains_both L0 L1 h before (Answered r a ∷ next) M it = (it.0, it.1, it.2, explains_both L0 L1 h before next it.0 it.3)
+  explains_both L0 L1 h before (Faulted r ∷ next) M it = explains_both L0 L1 h before next M it
+  explains_both L0 L1 h before (StopInside r ∷ next) M it = with_more (Explains l L1 next) (Explains l L0 (next ++ h)) (explains_both L0 L1 h before next) h (Faulted r ∷ next) M it
+  explains_both L0 L1 h before (Stop ∷ next) M it = with_more (Explains l L1 next) (Explains l L0 (next ++ h)) (explains_both L0 L1 h before next) h next M it
+  explains_both L0 L1 h before (Closing ∷ next) M it = explains_both L0 L1 h before next M it
+  explains_both L0 L1 h before (Opening ∷ next) M it = explains_both L0 L1 h before next M it
+  explains_both L0 L1 h before (FailedOpening ∷ next) M it = explains_both L0 L1 h before next M it
+
+  found_moves : (d : D) (L : List R) → IsFoundFor k d L → IsFoundFor l d L
+  found_moves d L (inl rows) = inl (alike.rows d L rows)
+  found_moves d L (inr none) = inr (alike.empty d none.0, none.1)
+
+  pub runs_go_on : AreLawful l → RunsGoOn k l
+  runs_go_on laws L0 L1 h next found before at_first =
+      let moved = explains_moves L0 h L1 before in
+      let here = found_moves found L1 at_first in (
+        λ desk run.
+            let it : StandsOpen l laws L1 next desk = stands l laws L1 found next (Open desk) here run in
+            (it.L, explains_both L0 L1 h moved next it.L it.explains, it.stands),
+        λ left run.
+            let it : Stands l laws L1 next (Closed left) = stands l laws L1 found next (Closed left) here run in
+            (it.0, explains_both L0 L1 h moved next it.0 it.1, it.2),
+      )

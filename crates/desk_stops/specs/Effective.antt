@@ -54,6 +54,21 @@ module _ {R A D Desk : Type 0} (k : Storage R A D Desk) where
       (L0 : List R) (found : D) (h : List (Event R A)) (desk : Desk) → IsFoundFor k found L0 → Runs k found h (Open desk)
       → (L : List R) × IsEffective L0 h L × k.StandsFor desk L × ((r : R) (a : A) (next : Desk) → Steps k (Open desk) (Answered r a) (Open next) → a ≡ k.answer_to L r)
 
+-- two kinds of desk that keep the same tables in the same databases, and answer alike
+pub record AreAlike {R A D S T : Type 0} (k : Storage R A D S) (l : Storage R A D T) : Type 0 where
+  pub rows : (d : D) (L : List R) → k.HoldsRows d L → l.HoldsRows d L
+  pub empty : (d : D) → k.IsEmpty d → l.IsEmpty d
+  pub changes : (L : List R) (r : R) → l.changes L r ≡ k.changes L r
+  pub is_question : (r : R) → l.is_question r ≡ k.is_question r
+  pub answer_to : (L : List R) (r : R) → l.answer_to L r ≡ k.answer_to L r
+
+-- After events h over one kind of store, all explained by L1, for which the database is found that they left, a run over another kind of store begins at that database. One effective list explains the answers of both, and the open desk stands for it, or the database that is left is that of it. Each database may be opened by a store of another kind in turn, since what is left is as at the beginning.
+abbrev pub RunsGoOn : {R A D S T : Type 0} → Storage R A D S → Storage R A D T → Type 0
+RunsGoOn {R = R} {A = A} {D = D} {T = T} k l =
+    (L0 L1 : List R) (h next : List (Event R A)) (found : D) → Explains k L0 h L1 → IsFoundFor k found L1
+    → ((desk : T) → Runs l found next (Open desk) → (L : List R) × Explains l L0 (next ++ h) L × l.StandsFor desk L)
+    × ((left : D) → Runs l found next (Closed left) → (L : List R) × Explains l L0 (next ++ h) L × IsFoundFor l left L)
+
 -- the requests that were answered
 abbrev pub answered_in : {R A : Type 0} → List (Event R A) → List R
 answered_in [] = []

@@ -3,6 +3,7 @@
 
 ghost use Rattle.std.specs.Prelude.{List};
 ghost use Rattle.desk_stops.specs.Clauses.{ClosingsAreEvents, OpeningsAreEvents, QuestionsAreEvents, RequestsAreEvents, StopsAreEvents, UnaskedAreEvents};
+ghost use Rattle.desk_stops.specs.Files.{FileOpeningsAreEvents, FilesAreLeft};
 ghost use Rattle.price_rules.specs.declared.precedence.Rule.{Rule};
 
 use sqlite::Alter;
@@ -39,4 +40,16 @@ pub fn closings_are_events<D: Disk>()
 /// them finds one of the databases that the stop may leave.
 pub fn stops_are_events<D: Disk, E: Disk>()
     ensures { (rules : List Rule) → StopsAreEvents D.Disk E.Disk rules }
+{}
+
+/// At files that hold a database, or whose database has no byte yet, the clauses of an opening of
+/// them make it an event: with a desk `stands` and `alone`, with a fault `left`.
+pub fn file_openings_are_events<D: Disk>()
+    ensures { (rules : List Rule) → FileOpeningsAreEvents D.Disk rules }
+{}
+
+/// The files that a stop may leave, and those that a closing gives back, hold a database at which
+/// the next opening is an event.
+pub fn files_are_left<D: Disk>()
+    ensures { (rules : List Rule) → FilesAreLeft D.Disk rules }
 {}

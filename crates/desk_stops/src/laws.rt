@@ -2,7 +2,7 @@
 
 ghost use Rattle.std.specs.Prelude.{List};
 ghost use Rattle.desk_stops.specs.Connections.{EmptyHoldsNoRows, storage};
-ghost use Rattle.desk_stops.specs.Effective.{AnsweredAreWhole, AnsweredAsIfNeverStopped, AnswersAreExplained, DoubtEndsWithAChange, WhatIsLeftIsEffective, WhatIsOpenedIsEffective};
+ghost use Rattle.desk_stops.specs.Effective.{AnsweredAreWhole, AnsweredAsIfNeverStopped, AnswersAreExplained, DoubtEndsWithAChange, RunsGoOn, WhatIsLeftIsEffective, WhatIsOpenedIsEffective};
 ghost use Rattle.price_rules.specs.declared.precedence.Rule.{Rule};
 
 use sqlite::Alter;
@@ -34,6 +34,13 @@ pub fn answers_are_explained<S: Alter>()
 /// never stopped, after that list.
 pub fn answered_as_if_never_stopped<S: Alter>()
     ensures { (rules : List Rule) → AnsweredAsIfNeverStopped (storage S.Store rules) }
+{}
+
+/// A run goes on over another kind of store, as where a file is opened again by its path: it begins
+/// at the database that the events before it left, and one effective list explains the answers of
+/// both. The desk that is open then stands for that list, or what is left is its database.
+pub fn runs_go_on<S: Alter, T: Alter>()
+    ensures { (rules : List Rule) → RunsGoOn (storage S.Store rules) (storage T.Store rules) }
 {}
 
 /// An effective list is what was there at first and all that was answered, in order, with at most

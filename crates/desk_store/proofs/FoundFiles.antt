@@ -1,22 +1,28 @@
 -- What the files of a desk hold, against the lists of requests.
-use Rattle.std.proofs.Common.{◌≡◌, ◌≤◌, Bool, arith, inl, inr, List, [], Ok, refl, sym, ap, ◌∙◌, subst}
-use Rattle.std.specs.Prelude.{IsTrue}
+use Rattle.std.proofs.Common.{◌≡◌, ◌≤◌, ◌⊎◌, Bool, arith, inl, inr, List, [], Ok, refl, sym, ap, ◌∙◌, subst}
+use Rattle.std.specs.List.{list_any}
+use Rattle.std.specs.Prelude.{false, IfSome, IsTrue, None, Option, Some}
 use Rattle.std.proofs.Math.Logic.{∥∥₁_elim}
 use Rattle.sqlite.specs.Effect.{Database, IsDatabase}
-use Rattle.sqlite.specs.Files.{AreFoundIn, HoldsDatabase}
+use Rattle.sqlite.specs.Files.{AreFoundIn, HoldsDatabase, IsCleanLeft, LeavesFiles, image_of, over_files}
+use Rattle.sqlite.specs.declared.file.Leftover.{Leftover}
+use Rattle.sqlite.specs.declared.file.Leftover.TheVariants as leftover
+use Rattle.sqlite_disk.specs.declared.Disk as disk
+use Rattle.sqlite_disk.specs.declared.Files.{Files}
 use Rattle.sqlite.specs.State.{State, HasCleanDisk, IsLive, Opens}
 use Rattle.sqlite_trees.specs.Props.{Trees-set}
 use Rattle.sqlite_trees.proofs.Doubt.{no_doubt}
 use Rattle.sqlite_trees.specs.Tree.{Trees}
 use Rattle.sqlite_trees.specs.View.{doubt}
 use Rattle.sqlite_wal.specs.Recovery.{Image}
-use Rattle.desk_tables.specs.Rows.{DeskRows, Holds, HoldsFirst}
-use Rattle.desk_tables.specs.Schema.{schema_0}
+use Rattle.desk_tables.proofs.OneSchema.{emptied_again, no_meta_again}
+use Rattle.desk_tables.specs.Rows.{DeskRows, Holds, HoldsFirst, first_rows}
+use Rattle.desk_tables.specs.Schema.{is_meta, schema_0}
 use Rattle.desk_tables.specs.Transactions.{IsEmptied}
 use Rattle.series_rules.specs.declared.requests.Request.{Request}
 use Rattle.desk_store.specs.Desks.{AreRowsOf, KeepsRequests}
-use Rattle.desk_store.specs.Migrations.{AreFilesOfEither, IsOfRequests, IsTrueAnswer}
-use Rattle.desk_store.specs.Openings.{AreEmptyFiles, AreFilesOf, AreFilesWith, HasNoMeta, HoldRowsOf, HoldsAny, IsFoundFor, IsReady, LeavesOne, ShowsOnly, TellsFiles, TellsFound}
+use Rattle.desk_store.specs.Migrations.{AreFilesOfEither, IsOfRequests, IsTrueAnswer, MakesSecond}
+use Rattle.desk_store.specs.Openings.{AreEmptyFiles, AreFilesOf, AreFilesWith, AreFoundAs, AreItsTrees, AreTreesOf, HasNoMeta, HoldRowsOf, HoldSuch, HoldsAny, IsFoundFor, IsReady, KeepsFiles, KeepsStore, LeavesOne, MakesNothing, ShowsOnly, Spares, SparesFiles, TakesRows, TellNoVersion, TellsFiles, TellsFound}
 use Rattle.desk_store.specs.declared.migrating.MigrateAnswer.{MigrateAnswer}
 use Rattle.desk_store.specs.declared.opening.OpenFault.{OpenFault}
 use Rattle.desk_store.proofs.FoundTables.{no_meta}
@@ -44,8 +50,24 @@ module _ (image : Image) (s0 s1 : State) (opened : HasCleanDisk s0 → Opens s0 
   same_trees : HasCleanDisk s0 → (trees : Trees) → ∥ HoldsDatabase image trees ∥₁ → s0.now.trees ≡ trees
   same_trees clean trees both = ap (λ (db : Database). db.trees) (opened clean).0.clean ∙ ∥∥₁_elim both (Trees-set _ _) (holds clean trees)
 
+  -- what was found is the one database that they hold
+  found_such : (Is : Database → Type 0) → ((db : Database) → IsDatabase db → Is db → s0.now.trees ≡ db.trees → Is s0.now) → HasCleanDisk s0 → HoldSuch Is image → Is s0.now
+  found_such Is again clean (db, both, sound, is) = again db sound is (same_trees clean db.trees both)
+
   found_empty : HasCleanDisk s0 → AreEmptyFiles image → IsEmptied schema_0 s0.now
-  found_empty clean empty = empty s0.now (live clean) (subst (AreFoundIn image) (sym (ap (λ (db : Database). db.trees) (opened clean).0.clean)) (reads clean))
+  found_empty clean (inl empty) = empty s0.now (live clean) (subst (AreFoundIn image) (sym (ap (λ (db : Database). db.trees) (opened clean).0.clean)) (reads clean))
+  found_empty clean (inr bare) =
+      found_such (IsEmptied schema_0) (λ db sound none same. emptied_again db s0.now sound none (live clean) same) clean bare
+
+  found_none : HasCleanDisk s0 → TellNoVersion image → list_any is_meta s0.now.schema.tables ≡ false
+  found_none clean (inl empty) = no_meta s0.now (found_empty clean empty)
+  found_none clean (inr bare) =
+      found_such (λ db. list_any is_meta db.schema.tables ≡ false) (λ db sound none same. no_meta_again db s0.now sound none (live clean) same) clean bare
+
+  found_as : HasCleanDisk s0 → (d : Trees) → d ≡ s0.now.trees → AreFoundAs image d
+  found_as clean d is =
+      let trees : s0.committed.trees ≡ d = sym (ap (λ (db : Database). db.trees) (opened clean).0.clean) ∙ sym is in
+      subst (AreFoundAs image) trees (reads clean, holds clean)
 
   found_for : HasCleanDisk s0 → (L : List Request) → AreFilesOf image L → IsFoundFor s0.now L
   found_for clean L (inl (trees, both, rows)) = inl (rows.2.0, second rows.0 s0.now rows.2.0 rows.2.1 (live clean) (same_trees clean trees both ∙ sym rows.1), rows.2.2)
@@ -78,7 +100,7 @@ module _ (image : Image) (s0 s1 : State) (opened : HasCleanDisk s0 → Opens s0 
   files_tell IsTrueOf left fault clean of_open = record {
     version = λ db both rows any. tells.version s0.now only rows (found_any db both rows any);
     stays = λ db both rows any other d may. tells.stays s0.now only rows (found_any db both rows any) other d may ∙ same_trees clean db.trees both;
-    none = λ empty. tells.none (s0.now, only, no_meta s0.now (found_empty clean empty));
+    none = λ none. tells.none (s0.now, only, found_none clean none);
   }
     where
       only : ShowsOnly s0.now s0
@@ -90,11 +112,78 @@ module _ (image : Image) (s0 s1 : State) (opened : HasCleanDisk s0 → Opens s0 
       found_any : (db : Database) → ∥ HoldsDatabase image db.trees ∥₁ → (rows : DeskRows) → HoldsAny db rows → HoldsAny s0.now rows
       found_any db both rows any = found_with clean rows (db, both, any)
 
+  -- so is what a crash may leave
+  pub files_spare : (Made : Database → DeskRows → Database → Type 0) (left : Trees → Type 0) → ((db other : Database) (rows : DeskRows) (made : Database) → HoldsAny other rows → other.trees ≡ db.trees → Made db rows made → Made other rows made) → HasCleanDisk s0
+      → (IsTrue s0.is_open → Spares Made (λ db. ShowsOnly db s0) AreItsTrees left) → SparesFiles Made image left
+  files_spare Made left moves clean of_open = record {
+    rows = λ db both rows any d may. of_rows db both rows any d (spares.rows s0.now only rows (found_with clean rows (db, both, any)) d may);
+    none = λ empty d may. of_none d (spares.none s0.now only (found_empty clean empty) d may);
+  }
+    where
+      only : ShowsOnly s0.now s0
+      only = opened_shows s0 (opened clean).0
+
+      spares : Spares Made (λ db. ShowsOnly db s0) AreItsTrees left
+      spares = of_open (opened clean).0.is_open
+
+      of_rows : (db : Database) → ∥ HoldsDatabase image db.trees ∥₁ → (rows : DeskRows) → HoldsAny db rows → (d : Trees) → (d ≡ s0.now.trees) ⊎ AreTreesOf (Made s0.now rows) d → (d ≡ db.trees) ⊎ AreTreesOf (Made db rows) d
+      of_rows db both rows any d (inl is) = inl (is ∙ same_trees clean db.trees both)
+      of_rows db both rows any d (inr made) = inr (made.0, made.1, moves s0.now db rows made.0 any (sym (same_trees clean db.trees both)) made.2)
+
+      of_none : (d : Trees) → (d ≡ s0.now.trees) ⊎ AreTreesOf (λ made. Holds made first_rows) d → AreFoundAs image d ⊎ AreTreesOf (λ made. Holds made first_rows) d
+      of_none d (inl is) = inl (found_as clean d is)
+      of_none d (inr made) = inr made
+
+  -- rows are taken only where they tell version 2
+  pub files_take : IsReady s0 s1 (Ok tt) → HasCleanDisk s1 → TakesRows image s1
+  files_take ready clean db both rows any =
+      let clean0 = ready.premise clean in
+      let it = ready.taken clean s0.now (opened_shows s0 (opened clean0).0) rows (found_with clean0 rows (db, both, any)) in
+      (it.0, it.1, λ d may. it.2 d may ∙ same_trees clean0 db.trees both)
+
   pub files_stand : IsReady s0 s1 (Ok tt) → HasCleanDisk s1 → (L : List Request) → AreFilesOf image L → KeepsRequests s1 L
   files_stand ready clean L are = let clean0 = ready.premise clean in ready.ok clean s0.now (opened_shows s0 (opened clean0).0) L (found_for clean0 L are)
 
   pub files_alone : IsReady s0 s1 (Ok tt) → HasCleanDisk s1 → (L : List Request) → AreFilesOf image L → (d : Trees) → s1.may_leave d → AreRowsOf d L
   files_alone ready clean L are = let clean0 = ready.premise clean in ready.alone clean s0.now (opened_shows s0 (opened clean0).0) L (found_for clean0 L are)
+
+-- ---- what is left of files
+
+-- of a store that was made of them
+pub store_kept : {D : Type 0} {g : disk.Ghosts D} (IsStart : Files D → Type 0) (Made : Database → DeskRows → Database → Type 0) (image : Image) (left : Leftover D g) (Leaves : (Trees → Type 0) → Type 0)
+    → ((may : Trees → Type 0) → Leaves may → SparesFiles Made image may) → KeepsStore Leaves left → KeepsFiles IsStart Made image left
+store_kept IsStart Made image (leftover.Files files) Leaves spares kept = absurd kept
+store_kept IsStart Made image (leftover.Unopened files) Leaves spares kept = absurd kept
+store_kept {g} IsStart Made image (leftover.Store it) Leaves spares kept = spares ((over_files {g = g}).recovers it) kept
+
+-- of files of which no connection was made
+pub unopened_kept : {D : Type 0} {g : disk.Ghosts D} (IsStart : Files D → Type 0) (Made : Database → DeskRows → Database → Type 0) (files : Files D) (left : Leftover D g) → IsStart files → LeavesFiles files left → KeepsFiles IsStart Made (image_of g files) left
+unopened_kept IsStart Made files (leftover.Files now) start unharmed = (files, start, unharmed)
+unopened_kept IsStart Made files (leftover.Unopened now) start unharmed = (files, start, unharmed)
+unopened_kept {g} IsStart Made files (leftover.Store it) start unharmed = record {
+  rows = λ db both rows any d may. inl (∥∥₁_elim both (Trees-set _ _) ((unharmed d may).1 db.trees));
+  none = λ empty d may. inl (unharmed d may);
+}
+
+-- the same of files at a path, which nothing has happened to yet
+pub start_kept : {D : Type 0} {g : disk.Ghosts D} (IsLog IsDb : Files D → Type 0) (Made : Database → DeskRows → Database → Type 0) (image : Image) → ((files : Files D) → IsLog files → IsDb files → image_of g files ≡ image) → (Fails : Files D → Leftover D g → Type 0)
+    → (rest : Option (Leftover D g)) → IfSome rest (λ left. (files : Files D) × IsLog files × IsDb files × (IsCleanLeft left → Fails files left × LeavesFiles files left))
+    → IfSome rest (λ left. IsCleanLeft left → KeepsFiles (λ files. IsLog files × IsDb files) Made image left)
+start_kept IsLog IsDb Made image seen Fails None cause = tt
+start_kept IsLog IsDb Made image seen Fails (Some left) (files, log, db, cause) = λ clean.
+    subst (λ i. KeepsFiles (λ files. IsLog files × IsDb files) Made i left) (seen files log db) (unopened_kept (λ files. IsLog files × IsDb files) Made files left (log, db) (cause clean).1)
+
+-- nothing is made at an opening
+pub nothing_moves : (db other : Database) (rows : DeskRows) (made : Database) → HoldsAny other rows → other.trees ≡ db.trees → MakesNothing db rows made → MakesNothing other rows made
+nothing_moves db other rows made any same never = never
+
+-- rows of version 1 are made the same in version 2
+pub second_moves : SameTrees HoldsFirst → (db other : Database) (rows : DeskRows) (made : Database) → HoldsAny other rows → other.trees ≡ db.trees → MakesSecond db rows made → MakesSecond other rows made
+second_moves first db other rows made any same (held, now) = (first db other rows held (sound any) same, now)
+  where
+    sound : HoldsAny other rows → IsDatabase other
+    sound (inl is) = is.sound
+    sound (inr is) = is.sound
 
 -- files that were closed
 pub closed_hold : (image : Image) (s : State) (L : List Request) → IsTrue s.is_open → ∥ HoldsDatabase image s.committed.trees ∥₁ → KeepsRequests s L → HoldRowsOf image L

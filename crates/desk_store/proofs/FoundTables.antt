@@ -1,44 +1,21 @@
 -- What is found where a desk is opened, against the lists of requests.
 use Rattle.std.proofs.Common.{◌≡◌, ◌⊎◌, inl, inr, ℕ, false, List, [], Option, Some, None, Ok, Err, Result, IsTrue, refl, sym, ap, ◌∙◌, subst}
-use Rattle.std.specs.Prelude.{⊤}
-use Rattle.std.specs.FinMap as fin
-use Rattle.std.specs.FinMap.{get-empty}
-use Rattle.std.specs.Cmp.Lexicographic.{slice_cmp}
-use Rattle.std.specs.Ordering.{nat_cmp}
+use Rattle.std.specs.Prelude.{true, IsSome, ⊤}
 use Rattle.std.specs.List.{list_any}
-use Rattle.std.proofs.lemmas.List.Sorted.{IsPermutation-refl}
 use Rattle.sqlite.specs.Effect.{Database}
 use Rattle.sqlite.specs.State.{State, HasCleanDisk}
 use Rattle.sqlite_trees.specs.Tree.{Trees}
-use Rattle.catalogue_rules.specs.declared.entry.Entry.{Entry}
-use Rattle.catalogue_store.specs.Holding.{HoldsCatalogue, HoldsEntry}
 use Rattle.desk_tables.specs.Rows.{DeskRows, Holds, first_rows, version_in}
 use Rattle.desk_tables.specs.Schema.{is_meta, schema_0}
 use Rattle.desk_tables.specs.Transactions.{IsEmptied}
 use Rattle.desk_terms.specs.declared.faults.StoreFault.{StoreFault}
 use Rattle.series_rules.specs.declared.requests.Request.{Request}
 use Rattle.desk_store.specs.Desks.{AreRowsOf, HoldsRequests, KeepsRequests}
-use Rattle.desk_store.specs.Openings.{HasNoMeta, IsCreated, IsFaultFor, IsFoundFor, IsKnown, IsReady, IsVersionRead, LeavesOne, ShowsOnly, StaysShown, TellsFound}
+use Rattle.desk_store.specs.Openings.{AreItsTrees, AreTreesOf, CouldLeave, HasNoMeta, HoldsAny, IsCreated, IsFaultFor, IsFoundFor, IsKnown, IsReady, IsVersionRead, KeepsRows, LeavesOne, MakesNothing, ShowsOnly, Spares, StaysShown, TellsFound}
 use Rattle.desk_store.specs.Stands.{StandsFor}
 use Rattle.desk_store.specs.declared.opening.OpenFault.{OpenFault}
 use Rattle.desk_store.specs.declared.opening.OpenFault.TheVariants.{Store, OtherVersion}
-
--- ---- tables without requests
-
-no_entry : (s reference : List ℕ) → HoldsEntry s reference None first_rows
-no_entry s reference = record { storable = tt; records = IsPermutation-refl []; articles = IsPermutation-refl []; offers = IsPermutation-refl []; prices = IsPermutation-refl []; minimums = IsPermutation-refl [] }
-
-no_records : (s : List ℕ) → HoldsCatalogue s fin.empty first_rows
-no_records s = λ reference. subst (λ (o : Option Entry). HoldsEntry s reference o first_rows) (sym (get-empty (slice_cmp nat_cmp) reference)) (no_entry s reference)
-
-pub first_stand : StandsFor first_rows []
-first_stand = record {
-  version = refl;
-  by_name = λ name. refl;
-  by_parties = λ sender addressee. refl;
-  series = λ a found. absurd cc;
-  others = λ name none. record { held = λ n. refl; applied = λ n. refl; catalogue = no_records name };
-}
+use Rattle.desk_store.proofs.EmptyFiles.{first_stand}
 
 -- ---- what is found
 
@@ -90,6 +67,58 @@ tells_left IsTrueOf s0 s1 left fault settled leaves up tells = record {
   none = tells.none;
 }
 
+-- a desk's tables tell a version
+pub has_meta : (db : Database) (rows : DeskRows) → HoldsAny db rows → list_any is_meta db.schema.tables ≡ true
+has_meta db rows (inl held) = rw held.schema refl
+has_meta db rows (inr held) = rw held.schema refl
+
+none_is_some : IsSome {T = ℕ} None → ⊥
+none_is_some e = absurd cc
+
+-- so where no version was read, there are no rows
+pub no_rows_here : (s0 s1 : State) → IsVersionRead s0 s1 (Ok None) → HasCleanDisk s1 → (db : Database) → ShowsOnly db s0 → (rows : DeskRows) → HoldsAny db rows → ⊥
+no_rows_here s0 s1 read clean db only rows any = none_is_some (read.some clean db only (has_meta db rows any))
+
+-- ---- what a crash may leave
+
+-- the version was read, and nothing was done
+pub spares_read : (Made : Database → DeskRows → Database → Type 0) (s0 s1 : State) (result : Result (Option ℕ) StoreFault) → IsVersionRead s0 s1 result → HasCleanDisk s1 → Spares Made (λ db. ShowsOnly db s0) (CouldLeave s0) s1.may_leave
+spares_read Made s0 s1 result read clean = record {
+  rows = λ db only rows any d may. inl (read.crash clean db only (inr (rows, any)) d may);
+  none = λ db only emptied d may. inl (read.crash clean db only (inl (no_meta db emptied)) d may);
+}
+
+-- there was none, and tables were to be made
+pub spares_created : (Made : Database → DeskRows → Database → Type 0) (s0 s1 s2 : State) (result : Result ⊤ StoreFault) → IsVersionRead s0 s1 (Ok None) → IsCreated s1 s2 result → HasCleanDisk s2
+    → Spares Made (λ db. ShowsOnly db s0) (CouldLeave s0) s2.may_leave
+spares_created Made s0 s1 s2 result read created clean = record {
+  rows = λ db only rows any. absurd (no_rows_here s0 s1 read (created.premise clean) db only rows any);
+  none = λ db only emptied d may. go db only emptied d (created.crash clean db (read.left (created.premise clean) db only (inl (no_meta db emptied))) emptied d may);
+}
+  where
+    go : (db : Database) → ShowsOnly db s0 → IsEmptied schema_0 db → (d : Trees) → s1.may_leave d ⊎ ((made : Database) × (made.trees ≡ d) × Holds made first_rows) → s0.may_leave d ⊎ AreTreesOf (λ made. Holds made first_rows) d
+    go db only emptied d (inl before) = inl (read.crash (created.premise clean) db only (inl (no_meta db emptied)) d before)
+    go db only emptied d (inr made) = inr made
+
+-- what a crash leaves of a connection that was just opened is the database, or what was made of it
+pub spares_left : (Made : Database → DeskRows → Database → Type 0) (s0 s1 : State) (left : Trees → Type 0) → IsSettled s0 → ((d : Trees) → left d → s1.may_leave d) → IsTrue s0.is_open
+    → Spares Made (λ db. ShowsOnly db s0) (CouldLeave s0) s1.may_leave → Spares Made (λ db. ShowsOnly db s0) AreItsTrees left
+spares_left Made s0 s1 left settled leaves up spares = record {
+  rows = λ db only rows any d may. go db only _ d (spares.rows db only rows any d (leaves d may));
+  none = λ db only emptied d may. go db only _ d (spares.none db only emptied d (leaves d may));
+}
+  where
+    go : (db : Database) → ShowsOnly db s0 → (Other : Type 0) (d : Trees) → s0.may_leave d ⊎ Other → (d ≡ db.trees) ⊎ Other
+    go db only Other d (inl was) = inl (settled d up was ∙ ap (λ (x : Database). x.trees) (only up).2)
+    go db only Other d (inr other) = inr other
+
+-- so it is of a store that leaves no more
+pub spares_less : (Made : Database → DeskRows → Database → Type 0) (Found : Database → Type 0) (may left : Trees → Type 0) → ((d : Trees) → left d → may d) → Spares Made Found AreItsTrees may → Spares Made Found AreItsTrees left
+spares_less Made Found may left leaves spares = record { rows = λ db found rows any d is. spares.rows db found rows any d (leaves d is); none = λ db found emptied d is. spares.none db found emptied d (leaves d is) }
+
+pub keeps_rows : (db : Database) (s : State) (rows : DeskRows) → ShowsOnly db s → HoldsAny db rows → KeepsRows s rows
+keeps_rows db s rows only any = λ up. let is = only up in (is.0, subst (λ d. HoldsAny d rows) (sym is.1) any, subst (λ d. HoldsAny d rows) (sym is.2) any)
+
 -- ---- ready
 
 -- the tables are of version 2
@@ -104,6 +133,14 @@ ready_as_found s0 s1 settled read = record {
       let up = read.was_open clean in
       let before = read.crash clean db only (known_if_found db L found) d may in
       (db, sym (settled d up before ∙ ap (λ (x : Database). x.trees) (only up).2), here clean db only L found);
+  taken = λ clean db only rows any.
+      let up = read.was_open clean in
+      (
+        sym (read.present clean db only rows any),
+        keeps_rows db s1 rows (read.left clean db only (inr (rows, any))) any,
+        λ d may. settled d up (read.crash clean db only (inr (rows, any)) d may) ∙ ap (λ (x : Database). x.trees) (only up).2,
+      );
+  spares = spares_read MakesNothing s0 s1 (Ok (Some 2)) read;
 }
   where
     held : (db : Database) (L : List Request) (s : State) → ShowsOnly db s → HoldsRequests db L → KeepsRequests s L
@@ -125,6 +162,8 @@ ready_other s0 s1 found other read = record {
   fault = λ clean. tells_other IsFaultFor s0 s1 found read clean (λ rows is. (is, other));
   crash = λ clean db only L it d may. inl (read.crash clean db only (known_if_found db L it) d may);
   alone = λ clean db only L it. tt;
+  taken = λ clean db only rows any. tt;
+  spares = spares_read MakesNothing s0 s1 (Ok (Some found)) read;
 }
 
 pub ready_unread : (s0 s1 : State) (e : StoreFault) → IsVersionRead s0 s1 (Err e) → IsReady s0 s1 (Err (Store e))
@@ -135,6 +174,8 @@ ready_unread s0 s1 e read = record {
   fault = λ clean. tells_store IsFaultFor (λ db. ShowsOnly db s0) (StaysShown s0 s1) (HasNoMeta s0) e (λ rows. tt);
   crash = λ clean db only L it d may. inl (read.crash clean db only (known_if_found db L it) d may);
   alone = λ clean db only L it. tt;
+  taken = λ clean db only rows any. tt;
+  spares = spares_read MakesNothing s0 s1 (Err e) read;
 }
 
 -- there are none, and they are made
@@ -177,6 +218,8 @@ module _ (s0 s1 s2 : State) (read : IsVersionRead s0 s1 (Ok None)) where
         let done = now clean db only L it in
         let sure = created.alone clean in
         (done.0, sym (sure.1 d may ∙ ap (λ (x : Database). x.trees) (done.2.0 sure.0).2), done.2.1);
+    taken = λ clean db only rows any. absurd (no_rows_here s0 s1 read (created.premise clean) db only rows any);
+    spares = spares_created MakesNothing s0 s1 s2 (Ok tt) read created;
   }
     where
       now : HasCleanDisk s2 → (db : Database) → ShowsOnly db s0 → (L : List Request) → IsFoundFor db L → (made : Database) × KeepsRequests s2 L × (ShowsOnly made s2 × HoldsRequests made L)
@@ -197,4 +240,6 @@ module _ (s0 s1 s2 : State) (read : IsVersionRead s0 s1 (Ok None)) where
     fault = λ clean. tells_store IsFaultFor (λ db. ShowsOnly db s0) (StaysShown s0 s2) (HasNoMeta s0) e (λ rows. tt);
     crash = crash_here (Err e) created;
     alone = λ clean db only L it. tt;
+    taken = λ clean db only rows any. tt;
+    spares = spares_created MakesNothing s0 s1 s2 (Err e) read created;
   }

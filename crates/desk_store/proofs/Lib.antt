@@ -3,6 +3,7 @@ mod Alone
 mod FoundTables
 mod FoundFiles
 mod MigratedTables
+pub mod EmptyFiles
 mod MadeTables
 pub mod Lookups
 pub mod CatalogueRows

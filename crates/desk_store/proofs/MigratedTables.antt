@@ -1,21 +1,20 @@
 -- What bringing the tables to version 2 leaves, against the lists of requests.
 use Rattle.std.proofs.Common.{◌≡◌, ◌⊎◌, inl, inr, ℕ, List, [], Option, Some, None, Ok, Err, Result, refl, sym, ap, ◌∙◌}
-use Rattle.std.specs.Prelude.{true, IsSome, ⊤}
-use Rattle.std.specs.List.{list_any}
+use Rattle.std.specs.Prelude.{⊤}
 use Rattle.sqlite.specs.Effect.{Database}
 use Rattle.sqlite.specs.State.{State, HasCleanDisk}
 use Rattle.sqlite_trees.specs.Tree.{Trees}
 use Rattle.desk_tables.specs.Rows.{DeskRows, Holds, HoldsFirst, first_rows, with_version}
-use Rattle.desk_tables.specs.Schema.{is_meta, schema_0}
+use Rattle.desk_tables.specs.Schema.{desk_schema, schema_0}
 use Rattle.desk_tables.specs.Transactions.{IsEmptied}
 use Rattle.desk_terms.specs.declared.faults.StoreFault.{StoreFault}
 use Rattle.series_rules.specs.declared.requests.Request.{Request}
 use Rattle.desk_store.specs.Desks.{AreRowsOf, HoldsRequests}
-use Rattle.desk_store.specs.Migrations.{HoldsFirstRequests, IsMigrated, IsMigrateFaultFor, IsOfRequests}
-use Rattle.desk_store.specs.Openings.{HasNoMeta, HoldsAny, IsCreated, IsFoundFor, IsKnown, IsReady, IsVersionRead, MakesAll, ShowsOnly, StaysShown}
+use Rattle.desk_store.specs.Migrations.{HoldsFirstRequests, IsMigrated, IsMigrateFaultFor, IsOfRequests, MakesSecond}
+use Rattle.desk_store.specs.Openings.{AreTreesOf, CouldLeave, HasNoMeta, HoldsAny, IsCreated, IsFoundFor, IsKnown, IsReady, IsVersionRead, MakesAll, ShowsOnly, Spares, StaysShown}
 use Rattle.desk_store.specs.declared.migrating.MigrateAnswer.TheVariants.{Migrated, AlreadyTwo}
 use Rattle.desk_store.specs.declared.opening.OpenFault.TheVariants.{Store, OtherVersion}
-use Rattle.desk_store.proofs.FoundTables.{IsSettled, keeps_found, known_if_found, no_meta, ready_as_found, tells_other, tells_store, version_of_requests}
+use Rattle.desk_store.proofs.FoundTables.{IsSettled, keeps_found, known_if_found, no_meta, no_rows_here, ready_as_found, spares_created, spares_read, tells_other, tells_store, version_of_requests}
 
 known_if_of : (db : Database) (L : List Request) → IsOfRequests db L → IsKnown db
 known_if_of db L (inl first) = inr (first.0, inr first.1)
@@ -26,14 +25,6 @@ some_is m n e = cc
 
 none_is : (n : ℕ) → ◌≡◌ {A = Option ℕ} None (Some n) → ⊥
 none_is n e = absurd cc
-
--- a desk's tables tell a version
-has_meta : (db : Database) (rows : DeskRows) → HoldsAny db rows → list_any is_meta db.schema.tables ≡ true
-has_meta db rows (inl held) = rw held.schema refl
-has_meta db rows (inr held) = rw held.schema refl
-
-none_is_some : IsSome {T = ℕ} None → ⊥
-none_is_some e = absurd cc
 
 one_two : ◌≡◌ {A = ℕ} 1 2 → ⊥
 one_two e = absurd cc
@@ -64,6 +55,7 @@ migrated_already s0 s1 settled read = record {
   fault = λ clean. tt;
   crash = λ clean db only L of d may. inl (read.crash clean db only (known_if_of db L of) d may);
   alone = λ clean db only L of. ready.alone clean db only L (inl (held clean db only L of));
+  spares = spares_read MakesSecond s0 s1 (Ok (Some 2)) read;
 }
   where
     ready : IsReady s0 s1 (Ok tt)
@@ -84,6 +76,7 @@ migrated_other s0 s1 found not_one not_two read = record {
   fault = λ clean. tells_other IsMigrateFaultFor s0 s1 found read clean (λ rows is. (is, not_one, not_two));
   crash = λ clean db only L of d may. inl (read.crash clean db only (known_if_of db L of) d may);
   alone = λ clean db only L of. tt;
+  spares = spares_read MakesSecond s0 s1 (Ok (Some found)) read;
 }
 
 pub migrated_unread : (s0 s1 : State) (e : StoreFault) → IsVersionRead s0 s1 (Err e) → IsMigrated s0 s1 (Err (Store e))
@@ -95,6 +88,7 @@ migrated_unread s0 s1 e read = record {
   fault = λ clean. tells_store IsMigrateFaultFor (λ db. ShowsOnly db s0) (StaysShown s0 s1) (HasNoMeta s0) e (λ rows. tt);
   crash = λ clean db only L of d may. inl (read.crash clean db only (known_if_of db L of) d may);
   alone = λ clean db only L of. tt;
+  spares = spares_read MakesSecond s0 s1 (Err e) read;
 }
 
 -- ---- they are of version 1
@@ -114,6 +108,34 @@ module _ (s0 s1 s2 : State) (read : IsVersionRead s0 s1 (Ok (Some 1))) where
   abbrev Makes : Result ⊤ StoreFault → Type 0
   Makes result = (rows : DeskRows) → MakesAll (λ db. HoldsFirst db rows) (λ db. Holds db (with_version 2 rows)) s1 s2 result
 
+  abbrev MakesNoMore : Result ⊤ StoreFault → Type 0
+  MakesNoMore result = MakesAll (λ db. db.schema ≡ desk_schema) (λ _. ⊥) s1 s2 result
+
+  spares_first : (result : Result ⊤ StoreFault) → Makes result → MakesNoMore result → HasCleanDisk s2 → Spares MakesSecond (λ db. ShowsOnly db s0) (CouldLeave s0) s2.may_leave
+  spares_first result makes again clean = record {
+    rows = λ db only rows any d may. of_any db only rows any d may;
+    none = λ db only emptied. absurd (none_is 1 (sym (read.absent clean1 db only (no_meta db emptied))));
+  }
+    where
+      clean1 : HasCleanDisk s1
+      clean1 = again.premise clean
+
+      before : (db : Database) → ShowsOnly db s0 → (rows : DeskRows) → HoldsAny db rows → (Other : Type 0) (d : Trees) → s1.may_leave d ⊎ Other → s0.may_leave d ⊎ Other
+      before db only rows any Other d (inl was) = inl (read.crash clean1 db only (inr (rows, any)) d was)
+      before db only rows any Other d (inr other) = inr other
+
+      first_made : (db : Database) (rows : DeskRows) → HoldsFirst db rows → (d : Trees) → s0.may_leave d ⊎ ((made : Database) × (made.trees ≡ d) × Holds made (with_version 2 rows)) → s0.may_leave d ⊎ AreTreesOf (MakesSecond db rows) d
+      first_made db rows first d (inl was) = inl was
+      first_made db rows first d (inr made) = inr (made.0, made.1, (first, made.2))
+
+      never_made : (Other : Type 0) (d : Trees) → s0.may_leave d ⊎ ((made : Database) × (made.trees ≡ d) × ⊥) → s0.may_leave d ⊎ Other
+      never_made Other d (inl was) = inl was
+      never_made Other d (inr made) = absurd made.2
+
+      of_any : (db : Database) → ShowsOnly db s0 → (rows : DeskRows) → HoldsAny db rows → (d : Trees) → s2.may_leave d → s0.may_leave d ⊎ AreTreesOf (MakesSecond db rows) d
+      of_any db only rows (inl held) d may = never_made _ d (before db only rows (inl held) _ d (again.crash clean db (read.left clean1 db only (inr (rows, inl held))) held.schema d may))
+      of_any db only rows (inr first) d may = first_made db rows first d (before db only rows (inr first) _ d ((makes rows).crash clean db (read.left clean1 db only (inr (rows, inr first))) first d may))
+
   first_crash : (result : Result ⊤ StoreFault) → Makes result → HasCleanDisk s2 → (db : Database) → ShowsOnly db s0 → (L : List Request) → IsOfRequests db L → (d : Trees) → s2.may_leave d → s0.may_leave d ⊎ AreRowsOf d L
   first_crash result makes clean db only L of d may =
       let clean1 = (makes first_rows).premise clean in
@@ -124,8 +146,8 @@ module _ (s0 s1 s2 : State) (read : IsVersionRead s0 s1 (Ok (Some 1))) where
       go clean1 first (inl before) = inl (read.crash clean1 db only (known_if_of db L of) d before)
       go clean1 first (inr made) = inr (made.0, made.1, held_then db made.0 L first made.2)
 
-  pub migrated_first : Makes (Ok tt) → IsMigrated s0 s2 (Ok Migrated)
-  migrated_first makes = record {
+  pub migrated_first : Makes (Ok tt) → MakesNoMore (Ok tt) → IsMigrated s0 s2 (Ok Migrated)
+  migrated_first makes again = record {
     premise = λ clean. read.premise ((makes first_rows).premise clean);
     ok = λ clean db only L of. let now = made_now clean db only L of in keeps_found now.0 L s2 now.1 now.2;
     err = λ clean db only L of. tt;
@@ -141,6 +163,7 @@ module _ (s0 s1 s2 : State) (read : IsVersionRead s0 s1 (Ok (Some 1))) where
         let now = made_now clean db only L of in
         let sure = (makes first_rows).alone clean in
         (now.0, sym (sure.1 d may ∙ ap (λ (x : Database). x.trees) (now.1 sure.0).2), now.2);
+    spares = spares_first (Ok tt) makes again;
   }
     where
       made_now : HasCleanDisk s2 → (db : Database) → ShowsOnly db s0 → (L : List Request) → IsOfRequests db L → (made : Database) × ShowsOnly made s2 × HoldsRequests made L
@@ -150,8 +173,8 @@ module _ (s0 s1 s2 : State) (read : IsVersionRead s0 s1 (Ok (Some 1))) where
           let ok = (makes first.0).ok clean db (first_left clean1 db only L of) first.1 in
           (ok.0, ok.1, held_then db ok.0 L first ok.2)
 
-  pub migrate_failed : (e : StoreFault) → Makes (Err e) → IsMigrated s0 s2 (Err (Store e))
-  migrate_failed e makes = record {
+  pub migrate_failed : (e : StoreFault) → Makes (Err e) → MakesNoMore (Err e) → IsMigrated s0 s2 (Err (Store e))
+  migrate_failed e makes again = record {
     premise = λ clean. read.premise ((makes first_rows).premise clean);
     ok = λ clean db only L of. tt;
     err = λ clean db only L of.
@@ -162,6 +185,7 @@ module _ (s0 s1 s2 : State) (read : IsVersionRead s0 s1 (Ok (Some 1))) where
     fault = λ clean. tells_store IsMigrateFaultFor (λ db. ShowsOnly db s0) (StaysShown s0 s2) (HasNoMeta s0) e (λ rows. tt);
     crash = first_crash (Err e) makes;
     alone = λ clean db only L of. tt;
+    spares = spares_first (Err e) makes again;
   }
 
 -- ---- there are none
@@ -181,12 +205,13 @@ module _ (s0 s1 s2 : State) (read : IsVersionRead s0 s1 (Ok None)) where
     ok = λ clean db only L of. ready.ok clean db only L (found_here (created.premise clean) db only L of);
     err = λ clean db only L of. tt;
     answer = λ clean db only. record {
-      version = λ rows any. absurd (none_is_some (read.some (created.premise clean) db only (has_meta db rows any)));
+      version = λ rows any. absurd (no_rows_here s0 s1 read (created.premise clean) db only rows any);
       made = λ emptied. refl;
     };
     fault = λ clean. tt;
     crash = λ clean db only L of. ready.crash clean db only L (found_here (created.premise clean) db only L of);
     alone = λ clean db only L of. ready.alone clean db only L (found_here (created.premise clean) db only L of);
+    spares = spares_created MakesSecond s0 s1 s2 (Ok tt) read created;
   }
 
   pub uncreated_none : (e : StoreFault) → IsCreated s1 s2 (Err e) → IsReady s0 s2 (Err (Store e)) → IsMigrated s0 s2 (Err (Store e))
@@ -198,4 +223,5 @@ module _ (s0 s1 s2 : State) (read : IsVersionRead s0 s1 (Ok None)) where
     fault = λ clean. tells_store IsMigrateFaultFor (λ db. ShowsOnly db s0) (StaysShown s0 s2) (HasNoMeta s0) e (λ rows. tt);
     crash = λ clean db only L of. ready.crash clean db only L (found_here (created.premise clean) db only L of);
     alone = λ clean db only L of. tt;
+    spares = spares_created MakesSecond s0 s1 s2 (Err e) read created;
   }

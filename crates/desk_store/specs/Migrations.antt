@@ -5,12 +5,12 @@ use Rattle.sqlite.specs.Files.{HoldsDatabase}
 use Rattle.sqlite.specs.State.{State, HasCleanDisk}
 use Rattle.sqlite_trees.specs.Tree.{Trees}
 use Rattle.sqlite_wal.specs.Recovery.{Image}
-use Rattle.desk_tables.specs.Rows.{DeskRows, HoldsFirst, version_in, with_version}
+use Rattle.desk_tables.specs.Rows.{DeskRows, Holds, HoldsFirst, version_in, with_version}
 use Rattle.desk_tables.specs.Schema.{schema_0}
 use Rattle.desk_tables.specs.Transactions.{IsEmptied}
 use Rattle.series_rules.specs.declared.requests.Request.{Request}
 use Rattle.desk_store.specs.Desks.{AreRowsOf, KeepsRequests}
-use Rattle.desk_store.specs.Openings.{AreFilesOf, HasNoMeta, HoldsAny, IsFoundFor, ShowsOnly, StaysShown, TellsFound}
+use Rattle.desk_store.specs.Openings.{AreFilesOf, CouldLeave, HasNoMeta, HoldsAny, IsFoundFor, ShowsOnly, Spares, StaysShown, TellsFound}
 use Rattle.desk_store.specs.Stands.{StandsFor}
 use Rattle.desk_store.specs.declared.migrating.MigrateAnswer.{MigrateAnswer}
 use Rattle.desk_store.specs.declared.migrating.MigrateAnswer.TheVariants.{Migrated, AlreadyTwo}
@@ -40,6 +40,10 @@ abbrev pub IsMigrateFaultFor : DeskRows → OpenFault → Type 0
 IsMigrateFaultFor rows (Store fault) = ⊤
 IsMigrateFaultFor rows (OtherVersion found) = (version_in rows ≡ Some found) × ¬ (found ≡ 1) × ¬ (found ≡ 2)
 
+-- of rows of version 1 are made the same in version 2
+abbrev pub MakesSecond : Database → DeskRows → Database → Type 0
+MakesSecond db rows made = HoldsFirst db rows × Holds made (with_version 2 rows)
+
 -- The tables of a connection that was just opened were brought to version 2: they are of the same requests.
 pub record IsMigrated (old new : State) (result : Result MigrateAnswer OpenFault) : Type 0 where
   pub premise : HasCleanDisk new → HasCleanDisk old
@@ -51,6 +55,8 @@ pub record IsMigrated (old new : State) (result : Result MigrateAnswer OpenFault
   pub crash : HasCleanDisk new → (db : Database) → ShowsOnly db old → (L : List Request) → IsOfRequests db L → (d : Trees) → new.may_leave d → old.may_leave d ⊎ AreRowsOf d L
   -- once they are brought there, a crash leaves the rows of the requests and nothing else
   pub alone : HasCleanDisk new → (db : Database) → ShowsOnly db old → (L : List Request) → IsOfRequests db L → OnOk result ((d : Trees) → new.may_leave d → AreRowsOf d L)
+  -- whatever it ends in, a crash leaves rows as they were or, whole, in version 2, and in the place of no table that or the tables of no request
+  pub spares : HasCleanDisk new → Spares MakesSecond (λ db. ShowsOnly db old) (CouldLeave old) new.may_leave
 
 -- The two files hold a desk of those requests, in version 1 or in version 2, or an empty database and the requests are none.
 abbrev pub AreFilesOfEither : Image → List Request → Type 0

@@ -2,11 +2,12 @@
 use Rattle.std.specs.Prelude.{◌≡◌, ◌⊎◌, ℕ, true, false, List, [], Option, Some, None, Result, IfOk, IfErr, OnOk, OnErr, IsSome, IsTrue, ⊤}
 use Rattle.std.specs.List.{list_any}
 use Rattle.sqlite.specs.Effect.{Database, IsDatabase}
-use Rattle.sqlite.specs.Files.{AreFoundIn, HoldsDatabase, over_files}
+use Rattle.sqlite.specs.Files.{AreFoundIn, HoldsDatabase, LeavesFiles, over_files}
 use Rattle.sqlite.specs.State.{State, HasCleanDisk}
 use Rattle.sqlite.specs.declared.file.Leftover.{Leftover}
 use Rattle.sqlite.specs.declared.file.Leftover.TheVariants as leftover
 use Rattle.sqlite_disk.specs.declared.Disk as disk
+use Rattle.sqlite_disk.specs.declared.Files.{Files}
 use Rattle.sqlite_trees.specs.Tree.{Trees}
 use Rattle.sqlite_wal.specs.Recovery.{Image}
 use Rattle.desk_tables.specs.Rows.{DeskRows, Holds, HoldsFirst, first_rows, version_in}
@@ -86,6 +87,31 @@ StaysShown old new db = ShowsOnly db new × ((d : Trees) → new.may_leave d →
 abbrev pub LeavesOne : (Trees → Type 0) → Database → Type 0
 LeavesOne left db = (d : Trees) → left d → d ≡ db.trees
 
+-- the trees are those of a database for which that holds
+abbrev pub AreTreesOf : (Database → Type 0) → Trees → Type 0
+AreTreesOf Is d = (db : Database) × (db.trees ≡ d) × Is db
+
+-- What a crash may leave of a database that was found: that (`Was`), or, whole, what is made of its rows (`Made`) and, where it has no table, the tables of no request.
+pub record Spares (Made : Database → DeskRows → Database → Type 0) (Found : Database → Type 0) (Was : Database → Trees → Type 0) (left : Trees → Type 0) : Type 0 where
+  pub rows : (db : Database) → Found db → (rows : DeskRows) → HoldsAny db rows → (d : Trees) → left d → Was db d ⊎ AreTreesOf (Made db rows) d
+  pub none : (db : Database) → Found db → IsEmptied schema_0 db → (d : Trees) → left d → Was db d ⊎ AreTreesOf (λ made. Holds made first_rows) d
+
+-- an opening makes nothing of rows that are found
+abbrev pub MakesNothing : Database → DeskRows → Database → Type 0
+MakesNothing db rows made = ⊥
+
+-- what a crash could leave before
+abbrev pub CouldLeave : State → Database → Trees → Type 0
+CouldLeave s db d = s.may_leave d
+
+-- the trees are those of that database
+abbrev pub AreItsTrees : Database → Trees → Type 0
+AreItsTrees db d = d ≡ db.trees
+
+-- while the connection is open, it is in no transaction, and its database holds those rows, committed
+abbrev pub KeepsRows : State → DeskRows → Type 0
+KeepsRows s rows = IsTrue s.is_open → (s.in_transaction ≡ false) × HoldsAny s.now rows × HoldsAny s.committed rows
+
 -- a connection that was just opened was made ready for a desk: what was found stands for the same requests, and tables are made where there were none; a fault changes nothing and is true of what was found
 pub record IsReady (old new : State) (result : Result ⊤ OpenFault) : Type 0 where
   pub premise : HasCleanDisk new → HasCleanDisk old
@@ -96,12 +122,20 @@ pub record IsReady (old new : State) (result : Result ⊤ OpenFault) : Type 0 wh
   pub crash : HasCleanDisk new → (db : Database) → ShowsOnly db old → (L : List Request) → IsFoundFor db L → (d : Trees) → new.may_leave d → old.may_leave d ⊎ AreRowsOf d L
   -- once it is ready, a crash leaves the rows of the requests and nothing else
   pub alone : HasCleanDisk new → (db : Database) → ShowsOnly db old → (L : List Request) → IsFoundFor db L → OnOk result ((d : Trees) → new.may_leave d → AreRowsOf d L)
+  -- rows are taken only where they tell version 2, and they stay
+  pub taken : HasCleanDisk new → (db : Database) → ShowsOnly db old → (rows : DeskRows) → HoldsAny db rows → OnOk result ((version_in rows ≡ Some 2) × KeepsRows new rows × LeavesOne new.may_leave db)
+  -- whatever it ends in, a crash leaves rows as they were, and in the place of no table that or the tables of no request
+  pub spares : HasCleanDisk new → Spares MakesNothing (λ db. ShowsOnly db old) (CouldLeave old) new.may_leave
 
 -- ---- files
 
--- the two files hold an empty database
+-- the files hold a database, which is one of these
+abbrev pub HoldSuch : (Database → Type 0) → Image → Type 0
+HoldSuch Is image = (db : Database) × ∥ HoldsDatabase image db.trees ∥₁ × IsDatabase db × Is db
+
+-- The two files hold an empty database: whatever is found in them has no table, as in files of which no database was made yet, or they hold a database that has none.
 abbrev pub AreEmptyFiles : Image → Type 0
-AreEmptyFiles image = (db : Database) → IsDatabase db → AreFoundIn image db.trees → IsEmptied schema_0 db
+AreEmptyFiles image = ((db : Database) → IsDatabase db → AreFoundIn image db.trees → IsEmptied schema_0 db) ⊎ HoldSuch (IsEmptied schema_0) image
 
 -- the two files hold the rows of what those requests come to
 abbrev pub HoldRowsOf : Image → List Request → Type 0
@@ -115,6 +149,35 @@ AreFilesOf image L = HoldRowsOf image L ⊎ (AreEmptyFiles image × (L ≡ []))
 abbrev pub AreFilesWith : Image → DeskRows → Type 0
 AreFilesWith image rows = (db : Database) × ∥ HoldsDatabase image db.trees ∥₁ × HoldsAny db rows
 
+-- the files tell no version: they hold an empty database, or one without a table `meta` of a desk
+abbrev pub TellNoVersion : Image → Type 0
+TellNoVersion image = AreEmptyFiles image ⊎ HoldSuch (λ db. list_any is_meta db.schema.tables ≡ false) image
+
+-- rows that the files hold are taken only where they tell version 2, and they stay: the connection shows them, and a crash leaves the database that was found
+abbrev pub TakesRows : Image → State → Type 0
+TakesRows image s = (db : Database) → ∥ HoldsDatabase image db.trees ∥₁ → (rows : DeskRows) → HoldsAny db rows → (version_in rows ≡ Some 2) × KeepsRows s rows × LeavesOne s.may_leave db
+
+-- the trees are what the files recover to, or there was no database and they are empty; of files that hold a database, they are that
+abbrev pub AreFoundAs : Image → Trees → Type 0
+AreFoundAs image d = AreFoundIn image d × ((db : Trees) → HoldsDatabase image db → d ≡ db)
+
+-- What a crash may leave of the files: what was found, or, whole, what is made of rows that were found (`Made`) and, in an empty database, the tables of no request.
+pub record SparesFiles (Made : Database → DeskRows → Database → Type 0) (image : Image) (left : Trees → Type 0) : Type 0 where
+  pub rows : (db : Database) → ∥ HoldsDatabase image db.trees ∥₁ → (rows : DeskRows) → HoldsAny db rows → (d : Trees) → left d → (d ≡ db.trees) ⊎ AreTreesOf (Made db rows) d
+  pub none : AreEmptyFiles image → (d : Trees) → left d → AreFoundAs image d ⊎ AreTreesOf (λ made. Holds made first_rows) d
+
+-- What is left of two files after a fault. `image`: what they held; `IsStart`: they were these. Of a store that was made of them, as `SparesFiles` says; of files that no store was made of, what `sqlite` says.
+abbrev pub KeepsFiles : {D : Type 0} → {g : disk.Ghosts D} → (Files D → Type 0) → (Database → DeskRows → Database → Type 0) → Image → Leftover D g → Type 0
+KeepsFiles {D} {g} IsStart Made image (leftover.Files now) = (files : Files D) × IsStart files × LeavesFiles {g = g} files (leftover.Files now)
+KeepsFiles {D} {g} IsStart Made image (leftover.Unopened now) = (files : Files D) × IsStart files × LeavesFiles {g = g} files (leftover.Unopened now)
+KeepsFiles {g} IsStart Made image (leftover.Store it) = SparesFiles Made image ((over_files {g = g}).recovers it)
+
+-- a store is left of the files, and that holds of what a crash may leave of it
+abbrev pub KeepsStore : {D : Type 0} → {g : disk.Ghosts D} → ((Trees → Type 0) → Type 0) → Leftover D g → Type 0
+KeepsStore {g} Leaves (leftover.Files files) = ⊥
+KeepsStore {g} Leaves (leftover.Unopened files) = ⊥
+KeepsStore {g} Leaves (leftover.Store it) = Leaves ((over_files {g = g}).recovers it)
+
 -- what a crash may leave of a store that is left of files. Of files that no store was made of it may be anything
 abbrev pub left_in : {D : Type 0} → {g : disk.Ghosts D} → Leftover D g → Trees → Type 0
 left_in {g} (leftover.Files files) d = ⊤
@@ -123,4 +186,4 @@ left_in {g} (leftover.Store it) d = (over_files {g = g}).recovers it d
 
 -- a fault of opening two files is true of what they held, and tables of another version are left as they were. Left: what a crash may then leave of them
 abbrev pub TellsFiles : (DeskRows → OpenFault → Type 0) → Image → (Trees → Type 0) → OpenFault → Type 0
-TellsFiles IsTrueOf image left fault = TellsFound IsTrueOf (λ db. ∥ HoldsDatabase image db.trees ∥₁) (LeavesOne left) (AreEmptyFiles image) fault
+TellsFiles IsTrueOf image left fault = TellsFound IsTrueOf (λ db. ∥ HoldsDatabase image db.trees ∥₁) (LeavesOne left) (TellNoVersion image) fault

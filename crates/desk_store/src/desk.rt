@@ -1,16 +1,18 @@
 //! The desk in a SQLite file.
 
-ghost use Rattle.std.specs.Prelude.{◌≡◌, ◌↔◌, ◌∷◌, [], List, IfOk, IfErr, IfSome, IsTrue, None, Ok, OnOk, Err};
+ghost use Rattle.std.specs.Prelude.{◌≡◌, ◌↔◌, ◌∷◌, [], List, IfOk, IfErr, IfSome, IsTrue, None, Ok, OnOk, Err, true, false};
+ghost use Rattle.sqlite.specs.Closing.{IsCopied};
 ghost use Rattle.sqlite.specs.Files.{file_state, image_of, IsCleanLeft, IsClosed};
 ghost use Rattle.sqlite.specs.Held.{state};
 ghost use Rattle.sqlite.specs.State.{HasCleanDisk};
 ghost use Rattle.sqlite.specs.Steps.{over_memory};
+ghost use Rattle.sqlite_std_file.specs.File.{IsFresh};
 ghost use Rattle.sqlite_trees.specs.Tree.{Trees};
 ghost use Rattle.sqlite_wal.specs.Files.{image_at};
 ghost use Rattle.sqlite_wal.specs.Reads.{AreClean};
 ghost use Rattle.desk_store.specs.Desks.{AreRowsOf, IsAsked, IsQuestioned, KeepsRequests};
 ghost use Rattle.desk_store.specs.Leaves.{MayLeave};
-ghost use Rattle.desk_store.specs.Openings.{AreFilesOf, HasNoMeta, HoldRowsOf, IsFaultFor, IsOther, IsReady, LeavesOne, ShowsOnly, TellsFiles, TellsFound, left_in};
+ghost use Rattle.desk_store.specs.Openings.{AreFilesOf, AreItsTrees, HasNoMeta, HoldRowsOf, IsFaultFor, IsOther, IsReady, KeepsFiles, KeepsStore, LeavesOne, MakesNothing, ShowsOnly, Spares, TakesRows, TellsFiles, TellsFound, left_in};
 ghost use Rattle.series_rules.specs.Answers.{agree_answer, catalogue_answer, delivery_answer, gaps_answer, waive_answer};
 ghost use Rattle.series_rules.specs.Leaves.{LeavesNoMore, LeavesOneMore, LeavesOnly};
 ghost use Rattle.series_rules.specs.Offers.{offers_after};
@@ -51,6 +53,7 @@ impl<S: Alter + Drop> DeskStore<S> {
     fn over(alloc: Global, connection: Connection<S>) -> Result<DeskStore<S>, (OpenFault, S)>
         ensures ok { IfOk result (λ d. IsReady (state S.Store connection) (state S.Store d.tables.connection) (Ok tt)) }
         ensures fault { IfErr result (λ e. IsTrue (S.Store.view e.1).is_clean → HasCleanDisk (state S.Store connection) × (IsTrue (state S.Store connection).is_open → TellsFound IsFaultFor (λ db. ShowsOnly db (state S.Store connection)) (LeavesOne (S.Store.recovers e.1)) (HasNoMeta (state S.Store connection)) e.0)) }
+        ensures left { IfErr result (λ e. IsTrue (S.Store.view e.1).is_clean → IsTrue (state S.Store connection).is_open → Spares MakesNothing (λ db. ShowsOnly db (state S.Store connection)) AreItsTrees (S.Store.recovers e.1)) }
     {
         let mut tables = Tables::new(connection);
         match prepare(&mut tables) {
@@ -108,6 +111,7 @@ impl<D: Disk + Drop> DeskStore<FileStore<D>> {
     ) -> Result<DeskStore<FileStore<D>>, (OpenFault, Leftover<D>)>
         ensures ok { IfOk result (λ d. IsReady (file_state connection) (file_state d.tables.connection) (Ok tt)) }
         ensures fault { IfErr result (λ e. IsCleanLeft e.1 → HasCleanDisk (file_state connection) × (IsTrue (file_state connection).is_open → TellsFound IsFaultFor (λ db. ShowsOnly db (file_state connection)) (LeavesOne (left_in e.1)) (HasNoMeta (file_state connection)) e.0)) }
+        ensures left { IfErr result (λ e. IsCleanLeft e.1 → IsTrue (file_state connection).is_open → KeepsStore (Spares MakesNothing (λ db. ShowsOnly db (file_state connection)) AreItsTrees) e.1) }
     {
         match DeskStore::over(alloc, connection) {
             Ok(desk) => Ok(desk),
@@ -128,7 +132,9 @@ impl<D: Disk + Drop> DeskStore<FileStore<D>> {
         requires db { IsTrue (D.Disk.is_usable files.db) }
         ensures stands { IfOk result (λ d. HasCleanDisk (file_state d.tables.connection) → (L : List Request) → AreFilesOf (image_of D.Disk files) L → KeepsRequests (file_state d.tables.connection) L) }
         ensures alone { IfOk result (λ d. HasCleanDisk (file_state d.tables.connection) → (L : List Request) → AreFilesOf (image_of D.Disk files) L → (left : Trees) → (file_state d.tables.connection).may_leave left → AreRowsOf left L) }
+        ensures taken { IfOk result (λ d. HasCleanDisk (file_state d.tables.connection) → TakesRows (image_of D.Disk files) (file_state d.tables.connection)) }
         ensures fault { IfErr result (λ e. IsCleanLeft e.1 → TellsFiles IsFaultFor (image_of D.Disk files) (left_in e.1) e.0) }
+        ensures left { IfErr result (λ e. IsCleanLeft e.1 → KeepsFiles (λ were. were ≡ files) MakesNothing (image_of D.Disk files) e.1) }
     {
         same_trees_hold_the_same_rows();
         let connection = match Connection::open_files(alloc, files, options) {
@@ -146,6 +152,7 @@ impl<D: Disk + Drop> DeskStore<FileStore<D>> {
     pub fn close_files(self) -> Result<Files<D>, (StoreFault, FileStore<D>)>
         ensures usable { IfOk result (λ files. IsTrue (D.Disk.is_usable files.log) × IsTrue (D.Disk.is_usable files.db)) }
         ensures holds { IfOk result (λ files. AreClean D.Disk files.log files.db → (L : List Request) → KeepsRequests (file_state self.tables.connection) L → HoldRowsOf (image_of D.Disk files) L) }
+        ensures copied { IfOk result (λ files. AreClean D.Disk files.log files.db → IsCopied self.tables.connection files) }
         ensures left { IfErr result (λ e. IsClosed self.tables.connection e.1) }
     {
         let DeskStore { alloc: _, tables } = self;
@@ -167,7 +174,9 @@ impl<S: Start> DeskStore<FileStore<FileFrom<S>>> {
     ) -> Result<DeskStore<FileStore<FileFrom<S>>>, (OpenFault, Option<Leftover<FileFrom<S>>>)>
         ensures stands { IfOk result (λ d. HasCleanDisk (file_state d.tables.connection) → (L : List Request) → AreFilesOf (image_at S.Start) L → KeepsRequests (file_state d.tables.connection) L) }
         ensures alone { IfOk result (λ d. HasCleanDisk (file_state d.tables.connection) → (L : List Request) → AreFilesOf (image_at S.Start) L → (left : Trees) → (file_state d.tables.connection).may_leave left → AreRowsOf left L) }
+        ensures taken { IfOk result (λ d. HasCleanDisk (file_state d.tables.connection) → TakesRows (image_at S.Start) (file_state d.tables.connection)) }
         ensures fault { IfErr result (λ e. IfSome e.1 (λ left. IsCleanLeft left → TellsFiles IsFaultFor (image_at S.Start) (left_in left) e.0)) }
+        ensures left { IfErr result (λ e. IfSome e.1 (λ left. IsCleanLeft left → KeepsFiles (λ were. IsFresh true were.log × IsFresh false were.db) MakesNothing (image_at S.Start) left)) }
         ensures unopened { IfErr result (λ e. e.1 ≡ None → ¬ IsOther e.0) }
     {
         same_trees_hold_the_same_rows();

@@ -7,10 +7,13 @@ from pathlib import Path
 from figures import texts, tools
 from figures.desk import REFUSED, Desk
 from figures.figure import Figure
-from figures.runs import Run, beyond, kilobytes_of, least_of_each
+from figures.runs import BenchmarkFault, Run, beyond, kilobytes_of, least_of_each, usage_of
 
 # How often the answer to a catalogue question is written.
 ANSWERS = 40
+
+# How many records a catalogue has, and how many questions are asked about its prices.
+RECORDS, QUESTIONS = 5_000, 10_000
 
 
 def unknown_messages(desk: Desk) -> tuple[Run, Path]:
@@ -48,7 +51,7 @@ def memory_of_batch(desk: Desk) -> Iterator[Figure]:
 
 def catalogue(questions: list[str]) -> list[str]:
     """A batch that makes a catalogue of 5,000 records and asks these questions about it."""
-    return [texts.AGREEMENT, *texts.offers(range(1, 6), 1_000), *questions]
+    return [texts.AGREEMENT, *texts.offers(range(1, 6), RECORDS // 5), *questions]
 
 
 def catalogue_answer(desk: Desk) -> Path:
@@ -80,6 +83,33 @@ def questions(desk: Desk) -> Iterator[Figure]:
     catalogues = desk.batch(desk.text("catalogues", catalogue([texts.CATALOGUE_QUESTION] * ANSWERS)))
     one, other = least_of_each(lambda: beyond(prices, plain), lambda: beyond(catalogues, plain))
     yield Figure("100 price questions, to one catalogue question", one // ANSWERS, other // ANSWERS)
+
+
+def price_questions() -> list[str]:
+    """Questions about the price of each record of a catalogue, two of each."""
+    return list(texts.scattered_questions(RECORDS, QUESTIONS))
+
+
+def answers(run: Run) -> list[bytes]:
+    """The lines that a run answers questions with."""
+    with open(run.given, "rb") as given:
+        done = subprocess.run(run.words, stdin=given, stdout=subprocess.PIPE, check=True)
+    return [line for line in done.stdout.splitlines() if line.startswith((b"price,", b"offer,"))]
+
+
+def prices_to_rows(desk: Desk) -> Iterator[Figure]:
+    """Price questions over a desk in memory, the listing of its articles included, to the same by SQLite
+    alone over the rows of a desk's file in memory."""
+    plain = desk.batch(desk.text("catalogue", catalogue([])))
+    asked = desk.batch(desk.text("asked", catalogue(price_questions())))
+    desk.new_file()
+    usage_of(desk.batch(plain.given, True))
+    words = [tools.price_questions(desk.folder), desk.file]
+    rows, no_rows = Run(words, desk.text("questions", price_questions())), Run(words)
+    if answers(rows) != answers(asked):
+        raise BenchmarkFault("SQLite alone gave other answers than the desk")
+    one, other = least_of_each(lambda: beyond(asked, plain), lambda: beyond(rows, no_rows))
+    yield Figure("10,000 price questions in memory, to the same by SQLite alone", one, other)
 
 
 def growth(desk: Desk) -> Iterator[Figure]:

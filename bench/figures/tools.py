@@ -39,10 +39,20 @@ def records(folder: Path) -> Path:
 
 def bare_rows(folder: Path) -> Path:
     """The program that puts the rows of a desk's file into a new one by SQLite alone."""
+    return by_sqlite(folder, "bare_rows")
+
+
+def price_questions(folder: Path) -> Path:
+    """The program that answers price questions by SQLite alone, over the rows of a desk's file in memory."""
+    return by_sqlite(folder, "price_questions")
+
+
+def by_sqlite(folder: Path, name: str) -> Path:
+    """The program of that name, in C over SQLite."""
     need("cc", "gcc")
-    made = folder / "bare_rows"
+    made = folder / name
     if not made.exists():
-        source = SOURCES / "bare_rows.c"
+        source = SOURCES / f"{name}.c"
         words = ["cc", "-std=c11", "-O2", "-o", str(made), str(source), "-lsqlite3"]
         build(words, folder, "libsqlite3-dev")
     return made

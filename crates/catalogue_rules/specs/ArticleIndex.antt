@@ -34,7 +34,7 @@ is_of_article isbn (Some e) = has_article isbn e
 abbrev pub ListsAll : ByArticle → ByReference → Type 0
 ListsAll references m = (isbn reference : List ℕ) → is_of_article isbn (map.get m reference) ≡ true → is_listed references isbn reference ≡ true
 
--- an index of that catalogue: it lists all of its records
+-- an index of that catalogue: it lists each record at the value of each of its identifiers of type 03 or 15, and maybe more
 abbrev pub IsIndexOf : ArticleIndex → ByReference → Type 0
 IsIndexOf index m = ListsAll index.references m
 

@@ -28,13 +28,14 @@ def build(words: list, folder: Path, package: str):
 def records(folder: Path) -> Path:
     """The program that reads and writes records by the crate `csv`, built by cargo without a network."""
     need("cargo", "cargo")
-    made = folder / "records"
+    sources = folder / "records"
+    made = sources / "target/release/records"
     if not made.exists():
-        shutil.copytree(SOURCES / "records", made)
+        shutil.copytree(SOURCES / "records", sources, dirs_exist_ok=True)
         source = ["--config", 'source.crates-io.replace-with="debian"']
         source += ["--config", f'source.debian.directory="{CRATES}"']
-        build(["cargo", "build", "--release", "--offline", *source], made, "librust-csv-dev")
-    return made / "target/release/records"
+        build(["cargo", "build", "--release", "--offline", *source], sources, "librust-csv-dev")
+    return made
 
 
 def bare_rows(folder: Path) -> Path:

@@ -9,6 +9,7 @@
 #include <stdio.h>
 #include <stdlib.h>
 #include <string.h>
+#include <time.h>
 
 enum { WORD, ISBN, DAY, COUNTRY, CURRENCY, TYPE, FIELDS };
 
@@ -92,6 +93,13 @@ static int records_of(char **fields, struct record *records, int room) {
     return count;
 }
 
+/* The number of a day, with 0 for 1 January 1970, of its date as YYYYMMDD. */
+static int day_number(const char *date) {
+    int digits = atoi(date);
+    struct tm day = {.tm_year = digits / 10000 - 1900, .tm_mon = digits / 100 % 100 - 1, .tm_mday = digits % 100};
+    return timegm(&day) / 86400;
+}
+
 /* The current amount of an offer, or -1: of the price that began latest, and of these the least. */
 static long long amount_of(const struct record *record, int place, char **fields) {
     long long amount = -1;
@@ -101,7 +109,7 @@ static long long amount_of(const struct record *record, int place, char **fields
     check(rows, sqlite3_bind_int(statements[PRICES], 3, place));
     bind(PRICES, 4, fields[TYPE]);
     bind(PRICES, 5, fields[CURRENCY]);
-    check(rows, sqlite3_bind_int(statements[PRICES], 6, atoi(fields[DAY])));
+    check(rows, sqlite3_bind_int(statements[PRICES], 6, day_number(fields[DAY])));
     bind(PRICES, 7, fields[COUNTRY]);
     while (step(PRICES)) {
         int from = sqlite3_column_int(statements[PRICES], 0);

@@ -3,7 +3,7 @@ use Rattle.std.specs.Prelude.{◌≡◌, ◌≤◌, ◌++◌, ℕ, Bool, true, f
 use Rattle.desk_terms.specs.declared.faults.StoreFault.{StoreFault}
 use Rattle.price_rules.specs.declared.precedence.Rule.{Rule}
 use Rattle.series_rules.specs.Answers.{answer_to}
-use Rattle.series_rules.specs.Leaves.{LeavesEither, LeavesOnly}
+use Rattle.series_rules.specs.Leaves.{LeavesEither, LeavesOneMore, LeavesOnly}
 use Rattle.series_rules.specs.declared.requests.Request.{Request}
 use Rattle.http_requests.specs.declared.refusal.Refusal.{Refusal}
 use Rattle.desk_http.specs.AnswerReply.{reply_of_answer, reply_of_fault}
@@ -48,3 +48,7 @@ AtMostOneMore L stands = (more : List Request) × (length more ≤ 1) × stands 
 -- a crash may leave L, or L and one request more
 abbrev pub LeavesAtMostOneMore : List Request → (List Request → Type 0) → Type 0
 LeavesAtMostOneMore L left = (more : List Request) × (length more ≤ 1) × LeavesEither left L (more ++ L)
+
+-- a crash may leave what it could leave before, or L and at most one request more
+abbrev pub LeavesRequestMore : List Request → (List Request → Type 0) → (List Request → Type 0) → Type 0
+LeavesRequestMore L old new = (more : List Request) × (length more ≤ 1) × LeavesOneMore old new (more ++ L)

@@ -14,37 +14,38 @@ LAUNCHER = TESTS.parent / "bin/onixdesk"
 # The program stands on three of the four crates.
 CRATES = "low: csv\nhigh: low toml\nbeside: low\nonixdesk: high low clap\n"
 
-# A toolchain that reads the sources for three seconds, proves each crate for as long, and makes a program
-# that prints its words. It is called in the folder of the program's crate.
+# A toolchain that takes three seconds for each crate, and makes a program that prints its words. It is called
+# in the folder of each crate.
 TOOLCHAIN = """\
 #!/bin/sh
 [ "$1" != version ] || exec echo a toolchain
-echo "rt $*" >>../../calls
+echo "rt $* in ${PWD##*/}" >>../../calls
 sleep 3
-for crate in low high onixdesk; do
-    echo "rt: chose --jobs 2 for $crate"
-    sleep 3
-done
+[ "$1" = run ] || exit 0
 printf '#!/bin/sh\\necho "ran $*"\\n' >out/onixdesk
 chmod +x out/onixdesk
 """
 
 QUICK = TOOLCHAIN.replace("sleep 3", ":")
 
+# One that proves the lowest crate alone.
 FAILING = """\
 #!/bin/sh
-echo "rt: chose --jobs 1 for low"
+[ "${PWD##*/}" != low ] || exit 0
 echo "a goal is left"
 exit 1
 """
 
+# The calls that build the program.
+BUILD = "rt lib in low\nrt lib in high\nrt run -- --help in onixdesk\n"
+
 # How far the build is, the minutes so far, and the crate that it is at.
-PROGRESS = re.compile(r"onixdesk: (\d+) of at most (\d+) crates are done, (\d+) min so far(?:, now (\w+))?")
+PROGRESS = re.compile(r"onixdesk: (\d+) of (\d+) crates are done, (\d+) min so far(?:, now (\w+))?")
 
 
 def make_repository(room, toolchain: str):
     """Makes a repository of four crates in the room, with the launcher and that toolchain."""
-    for folder in ("bin", "tools", "crates/onixdesk/src"):
+    for folder in ("bin", "tools", "crates/low", "crates/high", "crates/onixdesk/src"):
         room.path(folder).mkdir(parents=True)
     for name, text in (("bin/onixdesk", LAUNCHER.read_text()), ("tools/rt", toolchain)):
         room.path(name).write_text(text)
@@ -76,8 +77,8 @@ def a_first_build(room):
     make_repository(room, TOOLCHAIN)
     came = launch(room, "gaps", "north")
     yield Outcome("launcher: the program", (came.status, came.output), (0, b"ran gaps north\n"))
-    lines = progress(came.errors)
-    wanted = [(0, 3, 0, None), (0, 3, 0, "low"), (1, 3, 0, "high"), (2, 3, 0, "onixdesk")]
+    lines = [line for line in progress(came.errors) if line[3]]
+    wanted = [(0, 3, 0, "low"), (1, 3, 0, "high"), (2, 3, 0, "onixdesk")]
     yield Outcome("launcher: how far it is", list(dict.fromkeys(lines)), wanted)
     for line in wanted:
         yield Outcome(f"launcher: it goes on to say {line}", lines.count(line) > 1, True)
@@ -92,7 +93,7 @@ def a_second_start(room):
     room.path("crates/onixdesk/src/main.rt").write_text("fn main() { }\n")
     launch(room, "help")
     calls = room.path("calls").read_text()
-    yield Outcome("launcher: its builds", calls, "rt run -- --help\n" * 2)
+    yield Outcome("launcher: its builds", calls, BUILD * 2)
 
 
 def a_stale_program(room):
@@ -107,7 +108,7 @@ def a_stale_program(room):
     room.path("crates/onixdesk/src/main.rt").write_text("fn main() { }\n")
     yield Outcome("launcher: a program of other sources", launch(room, "--sources"), wrong)
     calls = room.path("calls").read_text()
-    yield Outcome("launcher: it builds none", calls, "rt run -- --help\n")
+    yield Outcome("launcher: it builds none", calls, BUILD)
 
 
 def tests_of_a_stale_program(room):

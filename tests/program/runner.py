@@ -35,6 +35,7 @@ from program import (
     rules_files,
     sample_feeds,
     seeded_feeds,
+    weights,
 )
 from program.room import Group, Outcome, Room
 
@@ -69,6 +70,7 @@ MODULES = [
     examples,
     launcher,
     measured,
+    weights,
 ]
 
 # How much of a value a line shows.

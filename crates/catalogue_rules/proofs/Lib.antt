@@ -5,3 +5,5 @@ pub mod Effects
 pub mod Order
 pub mod Bounds
 pub mod Places
+pub mod Listed
+pub mod ArticleIndexes

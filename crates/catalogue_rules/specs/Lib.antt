@@ -2,3 +2,4 @@ pub mod Records
 pub mod Effects
 pub mod Plans
 pub mod Offers
+pub mod ArticleIndex

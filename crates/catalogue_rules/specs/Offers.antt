@@ -10,9 +10,13 @@ use Rattle.price_rules.specs.declared.offer.Offer.{Offer}
 use Rattle.catalogue_rules.specs.Records.{ByReference, records_of}
 use Rattle.catalogue_rules.specs.declared.entry.Entry.{Entry}
 
--- whether an identifier is a GTIN-13 (type 03) or an ISBN-13 (type 15) with this value
+-- whether an identifier is a GTIN-13 (type 03) or an ISBN-13 (type 15)
+abbrev pub has_article_type : ProductIdentifier → Bool
+has_article_type id = bytes_eq id.id_type (codes "03") || bytes_eq id.id_type (codes "15")
+
+-- whether it is one with this value
 abbrev pub is_article : List ℕ → ProductIdentifier → Bool
-is_article isbn id = (bytes_eq id.id_type (codes "03") || bytes_eq id.id_type (codes "15")) && bytes_eq id.id_value isbn
+is_article isbn id = has_article_type id && bytes_eq id.id_value isbn
 
 -- whether a record has such an identifier
 abbrev pub has_article : List ℕ → Entry → Bool

@@ -3,7 +3,7 @@
 ghost use Rattle.std.specs.Prelude.{◌≡◌, ◌+◌, ◌<◌, ◌^◌, ◌++◌, IfOk, OnOk, length};
 ghost use Rattle.onix_message.specs.DetailCount.{detail_count};
 ghost use Rattle.catalogue_rules.specs.Records.{HasFewDetails};
-ghost use Rattle.catalogue_rules.specs.Offers.{entry_offers, has_article, is_article, offer_of, offers_from, record_offers, supply_details};
+ghost use Rattle.catalogue_rules.specs.Offers.{entry_offers, has_article, has_article_type, is_article, offer_of, offers_from, record_offers, supply_details};
 
 use crate::entry::Entry;
 use onix_records::parts::{ProductIdentifier, ProductSupply, SupplyDetail};
@@ -15,6 +15,13 @@ use onix_terms::territory::Territory;
 use onix_terms::text::Text;
 use price_rules::offer::Offer;
 use std::alloc::{AllocError, Global};
+
+/// Whether an identifier is a GTIN-13 or an ISBN-13.
+pub(crate) fn has_article_type(id: &ProductIdentifier) -> bool
+    ensures { result ≡ has_article_type id.now }
+{
+    id.id_type.as_str() == "03" || id.id_type.as_str() == "15"
+}
 
 // Whether an identifier is a GTIN-13 or an ISBN-13 with this value.
 fn is_article(id: &ProductIdentifier, isbn: &Isbn13) -> bool

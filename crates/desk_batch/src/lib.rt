@@ -6,3 +6,5 @@
 #![tactic(auto)]
 
 pub mod batch;
+
+pub use batch::{BatchFault, RequestFault, run_batch, run_request};

@@ -23,3 +23,7 @@ mod request;
 pub mod routes;
 mod routing;
 pub mod serve;
+
+pub use answer_reply::reply_of;
+pub use exchange::HttpFault;
+pub use serve::serve_one;

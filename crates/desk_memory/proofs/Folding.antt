@@ -6,12 +6,16 @@ use Rattle.std.specs.FinMap as map
 use Rattle.std.specs.Ordering.{nat_cmp}
 use Rattle.std.proofs.lemmas.Bool.{cases_lt}
 use Rattle.std.proofs.lemmas.Bool.Decides.{nat_tests}
+use Rattle.std.proofs.lemmas.List.{take-append-le}
 use Rattle.std.proofs.lemmas.Option.{slice_get_within}
 use Rattle.onix_terms.specs.Number.{number_from}
 use Rattle.desk_terms.specs.declared.effects.Effect.{Effect}
 use Rattle.series_rules.specs.Answers.{placed_answer}
+use Rattle.catalogue_rules.specs.ArticleIndex.{IsIndexOf}
 use Rattle.desk_memory.specs.Folded.{IsFold, IsFolded}
-use Rattle.series_rules.specs.Series.{BeginsWith, IsFront, after_standing, effect_of_standing, kept_of}
+use Rattle.desk_memory.specs.Listed.{IsListed}
+use Rattle.desk_memory.specs.declared.articles.Articles.{Articles}
+use Rattle.series_rules.specs.Series.{BeginsWith, IsFront, after_all, after_standing, effect_of_standing, kept_of}
 use Rattle.series_rules.specs.declared.answers.DeliveryAnswer.TheVariants as delivery
 use Rattle.desk_memory.specs.declared.fold.Fold.{Fold}
 use Rattle.series_rules.specs.declared.requests.Standing.{Standing}
@@ -21,13 +25,26 @@ use Rattle.series_rules.specs.FrontLemmas.{front_goes_on, front_unique, kept_fro
 pub last_length : (hs : List Standing) (h : Standing) → length (hs ++ h ∷ []) ≡ length hs + 1
 last_length hs h = length-append hs (h ∷ [])
 
+-- what is listed of hs is listed of hs and one more
+listed_still : (from : ℕ) (hs : List Standing) (h : Standing) (articles : Articles) → IsListed from hs articles → IsListed from (hs ++ h ∷ []) articles
+listed_still from hs h articles is =
+    let more = last_length hs h in
+    let within = is.within in
+    record {
+      count = is.count;
+      within = omega arith;
+      next = is.next;
+      index = subst (λ (gs : List Standing). IsIndexOf articles.index (after_all map.empty gs)) (sym (take-append-le is.count hs (h ∷ []) within)) is.index;
+    }
+
 -- a fold of hs becomes the fold of hs and one more
-pub fold_more : (from : ℕ) (hs : List Standing) (h : Standing) (f g : Fold) → IsFold from hs f → g.next ≡ f.next + 1 → g.catalogue ≡ after_standing f.catalogue h → g.effects.items ≡ f.effects.items ++ effect_of_standing f.catalogue h ∷ [] → IsFold from (hs ++ h ∷ []) g
-fold_more from hs h f g is next catalogue effects = record {
+pub fold_more : (from : ℕ) (hs : List Standing) (h : Standing) (f g : Fold) → IsFold from hs f → g.next ≡ f.next + 1 → g.catalogue ≡ after_standing f.catalogue h → g.articles ≡ f.articles → g.effects.items ≡ f.effects.items ++ effect_of_standing f.catalogue h ∷ [] → IsFold from (hs ++ h ∷ []) g
+fold_more from hs h f g is next catalogue articles effects = record {
   next = let more = last_length hs h in let was = is.next in omega arith;
   catalogue = catalogue ∙ ap (λ m. after_standing m h) is.catalogue ∙ sym (after_all_last map.empty hs h);
   counted = ap length effects ∙ length-append f.effects.items (effect_of_standing f.catalogue h ∷ []) ∙ ap (λ n. n + 1) is.counted ∙ sym (last_length hs h);
   counts = λ k lt. ap (λ es. slice_get es k) effects ∙ go k lt (cases_lt k (length hs));
+  listed = subst (IsListed from (hs ++ h ∷ [])) (sym articles) (listed_still from hs h f.articles is.listed);
 }
   where
     go : (k : ℕ) → k < length (hs ++ h ∷ []) → (k < length hs) ⊎ (length hs ≤ k) → slice_get (f.effects.items ++ effect_of_standing f.catalogue h ∷ []) k ≡ Some (kept_of (hs ++ h ∷ []) k)

@@ -7,4 +7,5 @@ pub mod InOrder
 pub mod AfterRequests
 pub mod HeldWalk
 pub mod Folds
+pub mod Listing
 pub mod Folding

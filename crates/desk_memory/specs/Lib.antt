@@ -1,3 +1,4 @@
 pub mod KeptSeries
+pub mod Listed
 pub mod Folded
 pub mod Stands

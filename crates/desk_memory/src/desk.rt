@@ -238,6 +238,15 @@ fn add_offers(
     append(offers, series.offers_of(alloc, isbn)?)
 }
 
+// Lists the articles of each series, as far as memory goes.
+fn list_articles(kept: &mut Vec<Series>)
+    ensures { kept.new.items ≡ kept.old.items }
+{
+    for series in kept.iter_mut() {
+        series.list_articles();
+    }
+}
+
 fn offers_of(alloc: Global, kept: &[Series], isbn: &Isbn13) -> Result<Items<Offer>, AllocError>
     ensures { (L : List Request) → StandsFor kept.now L → IfOk result (λ o. o ≡ offers_after L isbn.now) }
 {
@@ -285,6 +294,7 @@ impl Desk for MemoryDesk {
     }
 
     fn offers_of(&mut self, isbn: &Isbn13) -> Result<Items<Offer>, StoreFault> {
+        list_articles(&mut self.kept);
         match offers_of(self.alloc, &self.kept, isbn) {
             Ok(offers) => Ok(offers),
             Err(_) => Err(StoreFault::Memory),

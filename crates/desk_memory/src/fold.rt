@@ -2,16 +2,22 @@
 
 ghost use Rattle.std.specs.Prelude.{◌≡◌, ◌≤◌, ◌+◌, ◌-◌, ◌++◌, ◌∷◌, [], ℕ, List, IfOk, IsTrue, OnOk, OnErr, option_copied, slice_get};
 ghost use Rattle.std.specs.BTreeMap.{get};
+ghost use Rattle.std.specs.FinMap as map;
 ghost use Rattle.std.specs.Ordering.{nat_cmp};
+ghost use Rattle.catalogue_rules.specs.Offers.{offers_in};
 ghost use Rattle.desk_memory.specs.Folded.{IsFold, IsFolded};
 ghost use Rattle.series_rules.specs.Answers.{placed_answer};
 ghost use Rattle.series_rules.specs.declared.requests.Standing.{Standing};
-ghost use Rattle.series_rules.specs.Series.{IsFront, after_standing, effect_of_standing};
+ghost use Rattle.series_rules.specs.Series.{IsFront, after_all, after_standing, effect_of_standing};
 
+use crate::articles::Articles;
 use catalogue_rules::catalogue::Catalogue;
 use desk_terms::Effect;
+use onix_terms::isbn13::Isbn13;
+use onix_terms::items::Items;
 use onix_terms::number::Number;
 use onix_terms::series_name::SeriesName;
+use price_rules::offer::Offer;
 use series_rules::answers::DeliveryAnswer;
 use series_rules::requests::Standing;
 use std::alloc::{AllocError, Global};
@@ -41,7 +47,7 @@ fn start_of(next: u32, from: Number) -> Number
     }
 }
 
-/// What stands at the first numbers of a series, applied in order, each once.
+/// What stands at the first numbers of a series, applied in order, each once, and its articles.
 #[derive(Drop)]
 pub(crate) struct Fold {
     pub(crate) catalogue: Catalogue,
@@ -49,6 +55,7 @@ pub(crate) struct Fold {
     pub(crate) effects: Vec<Effect>,
     /// The first number that is not folded.
     pub(crate) next: u32,
+    pub(crate) articles: Articles,
 }
 
 impl Fold {
@@ -60,6 +67,7 @@ impl Fold {
             catalogue: Catalogue::new(alloc),
             effects: Vec::new(alloc),
             next: from.value(),
+            articles: Articles::new(alloc, from),
         }
     }
 
@@ -111,6 +119,26 @@ impl Fold {
             },
             None => false,
         }
+    }
+
+    /// Lists the articles of what is folded, as far as memory goes.
+    pub(crate) fn list_articles(&mut self, numbers: &BTreeMap<Number, Standing>)
+        ensures { (from : ℕ) → IsFolded (get nat_cmp numbers.now) from self.old → IsFolded (get nat_cmp numbers.now) from self.new }
+    {
+        self.articles.go_on(numbers, self.next);
+    }
+
+    /// The article's offers in the catalogue, in order of reference and place.
+    pub(crate) fn offers_of(
+        &self,
+        series: &SeriesName,
+        isbn: &Isbn13,
+    ) -> Result<Items<Offer>, AllocError>
+        ensures { (from : ℕ) (hs : List Standing) → IsFold from hs self.now → IfOk result (λ offers.
+            offers ≡ offers_in series.now (after_all map.empty hs) isbn.now) }
+    {
+        self.articles
+            .offers_of(&self.catalogue, self.next, series, isbn)
     }
 
     // What the message of a number did, where it is folded.

@@ -231,6 +231,14 @@ impl Series {
         self.fold_anew(alloc)
     }
 
+    /// Lists the articles of its catalogue, as far as memory goes, so that `offers_of` need not look at
+    /// each record.
+    pub(crate) fn list_articles(&mut self)
+        ensures { self.new ≡ self.old }
+    {
+        self.fold.list_articles(&self.numbers);
+    }
+
     /// The article's offers in its catalogue, in order of reference and place.
     pub(crate) fn offers_of(&self, alloc: Global, isbn: &Isbn13) -> Result<Items<Offer>, AllocError>
         ensures { (hs : List Standing) → IsFront (stands_at self.now.numbers) self.now.agreement.first hs → IfOk result (λ offers.
@@ -238,7 +246,7 @@ impl Series {
     {
         let name = self.agreement.name;
         if self.fold.is_whole(&self.numbers, self.agreement.first) {
-            return self.fold.catalogue.offers_of(&name, isbn);
+            return self.fold.offers_of(&name, isbn);
         }
         let catalogue = self.fold_anew(alloc)?;
         catalogue.offers_of(&name, isbn)

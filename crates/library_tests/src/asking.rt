@@ -1,12 +1,12 @@
 //! What answers requests, a desk or files that are opened for each, and how it ended. A request is a batch,
 //! or an exchange over HTTP.
 
+use crate::cases::{expect, expect_bytes};
 use csv_records::reading::RecordFault;
-use desk_batch::batch::{BatchFault, run_batch};
-use desk_http::exchange::HttpFault;
-use desk_http::serve::serve_one;
-use desk_memory::desk::MemoryDesk;
-use desk_store::desk::DeskStore;
+use desk_batch::{BatchFault, run_batch};
+use desk_http::{HttpFault, serve_one};
+use desk_memory::MemoryDesk;
+use desk_store::DeskStore;
 use desk_terms::StoreFault;
 use price_rules::precedence::Precedence;
 use series_rules::desk::Desk;
@@ -145,6 +145,6 @@ impl<S: Alter> Asks for DeskStore<S> {
 /// Ends the test with the name of the case, unless a request was asked to its end and these are its
 /// answers.
 pub fn expect_asked(stop: &impl Abort, asked: &Asked, answers: &str, name: &str) {
-    assert_eq!(stop; asked.output.as_slice(), answers.as_bytes(), "{name}");
-    assert!(stop; matches!(asked.ended, End::Done), "{name}");
+    expect_bytes(stop, asked.output.as_slice(), answers.as_bytes(), name);
+    expect(stop, matches!(asked.ended, End::Done), name);
 }

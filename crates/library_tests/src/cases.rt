@@ -1,4 +1,5 @@
-//! What a test says of each of its cases, and cases that stand in one text: a function that names a table
+//! What a test says of each of its cases, by functions of their own, since a macro that makes words is some
+//! thirty times as dear to prove as a call; and cases that stand in one text: a function that names a table
 //! of many texts takes as many seconds to prove as one that names the text takes tenths.
 
 use std::alloc::{AllocError, Global};
@@ -11,10 +12,25 @@ pub fn expect(stop: &impl Abort, holds: bool, case: &str) {
     }
 }
 
+/// The same of a case of several of one name.
+pub fn expect_in(stop: &impl Abort, holds: bool, name: &str, case: &str) {
+    assert!(stop; holds, "{name}: {case}");
+}
+
+/// Ends the test with both and the name of the case, unless two texts are the same.
+pub fn expect_same(stop: &impl Abort, found: &str, wanted: &str, case: &str) {
+    assert_eq!(stop; found, wanted, "{case}");
+}
+
+/// The same of bytes.
+pub fn expect_bytes(stop: &impl Abort, found: &[u8], wanted: &[u8], case: &str) {
+    assert_eq!(stop; found, wanted, "{case}");
+}
+
 /// Ends the test unless a text was made and is as wanted.
 pub fn expect_text<E: Drop>(stop: &impl Abort, found: Result<String, E>, wanted: &str) {
     match found {
-        Ok(text) => assert_eq!(stop; text.as_str(), wanted),
+        Ok(text) => expect_same(stop, text.as_str(), wanted, "a text"),
         Err(_) => stop.panic(wanted),
     }
 }

@@ -13,7 +13,7 @@ pub mod three;
 pub mod waivers;
 
 use crate::asking::{Asked, Asks, expect_asked};
-use crate::cases::{Step, steps_of};
+use crate::cases::{Step, expect, steps_of};
 use crate::refusals::Refusals;
 use price_rules::precedence::{Precedence, PrecedenceFault};
 use std::alloc::Global;
@@ -72,11 +72,11 @@ fn expect_near<A: Asks>(
     step: Step<'_>,
 ) {
     let is_begun = step.wanted.as_bytes().starts_with(begun.output.as_slice());
-    assert!(stop; is_begun, "{}", step.name);
+    expect(stop, is_begun, step.name);
     drop(begun);
     let reported = asks.ask(alloc, between.rules, between.report);
     let is_near = is_report(&reported, before) || is_report(&reported, step.after);
-    assert!(stop; is_near, "{}", step.name);
+    expect(stop, is_near, step.name);
 }
 
 // Ends the test unless a request is answered as its step says.
@@ -151,6 +151,6 @@ pub fn expect_list<A: Asks>(
     list: List<'_>,
 ) {
     let steps = refusals.own(stop, steps_of(alloc, stop, list.requests));
-    assert!(stop; !steps.is_empty(), "{}", list.name);
+    expect(stop, !steps.is_empty(), list.name);
     expect_steps(alloc, stop, refusals, asks, list, steps.as_slice());
 }

@@ -6,7 +6,7 @@ ghost use Rattle.onixdesk.specs.Course.{Course};
 ghost use Rattle.onixdesk.specs.Ends.{BatchEnds};
 
 use crate::fault::{Fault, report};
-use desk_batch::batch::{BatchFault, run_batch};
+use desk_batch::{BatchFault, run_batch};
 use price_rules::precedence::Precedence;
 use series_rules::desk::Desk;
 use std::alloc::Global;

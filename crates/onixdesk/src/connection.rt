@@ -10,8 +10,7 @@ ghost use Rattle.onixdesk.specs.Course.{Course};
 ghost use Rattle.onixdesk.specs.Serving.{ExchangeEnds, line_of};
 
 use crate::fault::Fault;
-use desk_http::exchange::HttpFault;
-use desk_http::serve::serve_one;
+use desk_http::{HttpFault, serve_one};
 use price_rules::precedence::Precedence;
 use series_rules::desk::Desk;
 use std::alloc::Global;

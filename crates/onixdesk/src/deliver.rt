@@ -9,7 +9,7 @@ ghost use Rattle.onixdesk.specs.Deliveries.{DeliverEnds, DeliveryEnds, IsUnasked
 use crate::fault::{Fault, report, report_file};
 use csv_records::reading::{LIMIT, RecordFault, read_records};
 use csv_records::streams::{InputFault, read_input};
-use desk_batch::batch::{RequestFault, run_request};
+use desk_batch::{RequestFault, run_request};
 use price_rules::precedence::Precedence;
 use series_rules::desk::Desk;
 use series_rules::requests::Request;

@@ -3,8 +3,8 @@
 ghost use Rattle.std.specs.Prelude.{◌≡◌};
 
 use csv_records::reading::RecordFault;
-use desk_batch::batch::RequestFault;
-use desk_store::opening::OpenFault;
+use desk_batch::RequestFault;
+use desk_store::OpenFault;
 use desk_terms::StoreFault;
 use std::io::Write;
 use thiserror::Error;

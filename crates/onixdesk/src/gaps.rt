@@ -8,7 +8,7 @@ ghost use Rattle.onixdesk.specs.GapsEnd.{GapsEnds, QuestionEnds, UnknownFits};
 
 use crate::fault::{Fault, report};
 use csv_records::streams::{WriteFault, write_whole};
-use desk_batch::batch::{RequestFault, run_request};
+use desk_batch::{RequestFault, run_request};
 use desk_text::answer_text::write_answer;
 use onix_terms::series_name::SeriesName;
 use price_rules::precedence::Precedence;

@@ -12,7 +12,7 @@ ghost use Rattle.series_rules.specs.declared.requests.Request.{Request};
 
 use crate::fault::{Fault, report};
 use csv_records::streams::{WriteFault, write_whole};
-use desk_store::migrating::{MigrateAnswer, migrate};
+use desk_store::{MigrateAnswer, migrate};
 use sqlite::{FileFrom, Files, Start};
 use sqlite_disk::Disk;
 use std::io::Write;

@@ -12,7 +12,7 @@ ghost use Rattle.onixdesk.specs.Serving.{ConnectionsEnd, ExchangeEnds, ServeEnds
 use crate::connection::{print_line, serve_connection};
 use crate::fault::{Fault, report};
 use crate::timed::Timed;
-use desk_http::exchange::HttpFault;
+use desk_http::HttpFault;
 use price_rules::precedence::Precedence;
 use series_rules::desk::Desk;
 use std::io::{self, ErrorKind, Read, Write};

@@ -1,6 +1,6 @@
 //! Catalogues, and offers that are made by way of them.
 
-use crate::cases::expect_text;
+use crate::cases::{expect, expect_text};
 use catalogue_rules::catalogue::Catalogue;
 use onix_message::contents::read_contents;
 use onix_terms::isbn13::Isbn13;
@@ -65,13 +65,11 @@ fn offers_text(alloc: Global, offers: &[Offer]) -> Result<String, AllocError> {
 #[test]
 fn records_are_found_by_reference_and_article(rt: HostRuntime) -> Result<(), Fail> {
     let alloc = rt.alloc();
-    assert!(rt; Catalogue::new(alloc).is_empty(), "a new catalogue");
+    expect(&rt, Catalogue::new(alloc).is_empty(), "a new catalogue");
     let catalogue = catalogue_of(alloc, CONTENTS)?;
-    assert_eq!(rt; catalogue.len(), 3);
-    assert!(rt;
-        catalogue.get("R10").is_some() && catalogue.get("R3").is_none(),
-        "R10 and R3"
-    );
+    expect(&rt, catalogue.len() == 3, "three records");
+    let are_found = catalogue.get("R10").is_some() && catalogue.get("R3").is_none();
+    expect(&rt, are_found, "R10 and R3");
     expect_text(&rt, references_text(alloc, &catalogue), "R1,R10,R2,");
     drop(catalogue);
     let offers = offers_of(alloc, "north", CONTENTS)?;

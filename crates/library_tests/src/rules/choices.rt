@@ -1,6 +1,6 @@
 //! Choices among offers in orders that no question to a desk gives.
 
-use crate::cases::{Step, field, steps_of};
+use crate::cases::{Step, expect_same, field, steps_of};
 use crate::rules::catalogues::offers_of;
 use onix_terms::code::{Code2, Country, Currency};
 use onix_terms::day::Day;
@@ -89,7 +89,7 @@ fn expect_choice(
         Some(choice) => format!(in alloc; "{}\n", choice.offer_index)?,
         None => String::from_str(alloc, "none\n")?,
     };
-    assert_eq!(stop; found.as_str(), step.wanted, "{}", step.name);
+    expect_same(stop, found.as_str(), step.wanted, step.name);
     Ok(())
 }
 

@@ -1,7 +1,7 @@
 //! The texts of contents and of records. `bench/refused_memory` refuses each request for memory of
 //! `contents_have_one_text` in turn.
 
-use crate::cases::{Step, expect_text, steps_of};
+use crate::cases::{Step, expect, expect_text, steps_of};
 use crate::refusals::Refusals;
 use csv_records::reading::{RecordFault, read_records};
 use csv_records::writing::write_records;
@@ -119,7 +119,7 @@ fn expect_contents(
 ) {
     expect_text(stop, text_of(alloc, stop, met, contents), text);
     match contents_of(alloc, stop, met, text) {
-        Ok(read) => assert!(stop; read.is_same(contents), "{text}"),
+        Ok(read) => expect(stop, read.is_same(contents), text),
         Err(_) => stop.panic(text),
     }
 }
@@ -156,7 +156,7 @@ fn contents_have_one_text(rt: HostRuntime) {
     }
     for text in NO_CONTENTS.split('|') {
         let fault = contents_of(rt.alloc(), &rt, &mut met, text).err();
-        assert!(rt; matches!(fault, Some(ContentsFault::NotContents)), "{text}");
+        expect(&rt, matches!(fault, Some(ContentsFault::NotContents)), text);
     }
 }
 
@@ -177,8 +177,12 @@ fn records_are_read_and_written(rt: HostRuntime) {
     let written = written_again(rt.alloc(), "\u{feff}a,\"b\"\"c\",\r\n\r\n\"d\"".as_bytes());
     expect_text(&rt, written, "a,\"b\"\"c\",\nd\n");
     let fault = fault_of(rt.alloc(), b"\xff");
-    assert!(rt; matches!(fault, Some(RecordFault::NotUtf8)), "no UTF-8");
+    expect(&rt, matches!(fault, Some(RecordFault::NotUtf8)), "no UTF-8");
     let long = vec![in rt.alloc(); b'a'; 4_194_305].expect(&rt, "a long text");
     let fault = fault_of(rt.alloc(), long.as_slice());
-    assert!(rt; matches!(fault, Some(RecordFault::TooLarge)), "too large");
+    expect(
+        &rt,
+        matches!(fault, Some(RecordFault::TooLarge)),
+        "too large",
+    );
 }

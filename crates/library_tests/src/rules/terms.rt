@@ -1,6 +1,6 @@
 //! Worked values of each term.
 
-use crate::cases::{expect, expect_text, field};
+use crate::cases::{expect, expect_same, expect_text, field};
 use onix_terms::Memory;
 use onix_terms::amount::Amount;
 use onix_terms::code::{Code2, Country, Currency};
@@ -139,7 +139,7 @@ fn territories(rt: HostRuntime) -> Result<(), Fail> {
         expect(&rt, is_inside(text, &territory) == Some(inside), text);
     }
     let named = countries_text(rt.alloc(), territory.included.as_slice())?;
-    assert_eq!(rt; named.as_str(), "GB IE");
+    expect_same(&rt, named.as_str(), "GB IE", "the countries");
     let is_equal = territory.duplicate()?.is_equal(&territory);
     expect(&rt, is_equal && !territory.world, "the duplicate");
     Ok(())

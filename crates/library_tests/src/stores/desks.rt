@@ -1,6 +1,7 @@
 //! The lists of requests, of the desk in memory and of the desk in tables over a store in memory.
 //! `tests/refused-memory` and `bench/refused_memory` refuse each request for memory of these tests in turn.
 
+use crate::cases::expect;
 use crate::lists::drain::{drain, waiting};
 use crate::lists::exchanges::EXCHANGES;
 use crate::lists::questions::QUESTIONS;
@@ -8,9 +9,8 @@ use crate::lists::steps::STEPS;
 use crate::lists::three::THREE;
 use crate::lists::{List, expect_list};
 use crate::refusals::{Refusals, are_chosen};
-use desk_memory::desk::MemoryDesk;
-use desk_store::desk::DeskStore;
-use desk_store::opening::OpenFault;
+use desk_memory::MemoryDesk;
+use desk_store::{DeskStore, OpenFault};
 use desk_terms::StoreFault;
 use sqlite::MemStore;
 use std::alloc::Global;
@@ -33,7 +33,7 @@ fn desk_in_memory(rt: HostRuntime) {
             are_asked = true;
         }
     }
-    assert!(rt; are_asked, "no cases of this name");
+    expect(&rt, are_asked, "no cases of this name");
 }
 
 // A desk in tables; where memory is refused it is opened once more.
@@ -71,5 +71,5 @@ fn tables_in_memory(rt: HostRuntime) {
             are_asked = true;
         }
     }
-    assert!(rt; are_asked, "no cases of this name");
+    expect(&rt, are_asked, "no cases of this name");
 }

@@ -3,7 +3,7 @@
 //! `bench/refused_memory` refuses requests for memory of these tests one after the other.
 
 use crate::asking::{Asks, End, expect_asked};
-use crate::cases::{Step, steps_of};
+use crate::cases::{Step, expect, steps_of};
 use crate::files::{Call, FileDesk};
 use crate::lists::drain::{drain, rows, waiting};
 use crate::lists::exchanges::EXCHANGES;
@@ -31,7 +31,7 @@ fn requests(rt: HostRuntime) {
         expect_drain(alloc, &rt, &mut met, &mut FileDesk::new(alloc));
         are_asked = true;
     }
-    assert!(rt; are_asked, "no cases of this name");
+    expect(&rt, are_asked, "no cases of this name");
 }
 
 // Whether the tables answer so; where memory is refused they are asked once more.
@@ -63,13 +63,13 @@ fn expect_first(
     if met.has_met(stop, asked.ended) {
         let is_whole = has_rows(alloc, stop, met, desk, rows.0)
             || has_rows(alloc, stop, met, desk, rows.1);
-        assert!(stop; is_whole, "rows between those before and those after");
+        expect(stop, is_whole, "rows between those before and those after");
     } else {
         expect_asked(stop, &asked, first.wanted, first.name);
     }
     expect_steps(alloc, stop, met, desk, drain(""), [first].as_slice());
     let is_done = has_rows(alloc, stop, met, desk, rows.1);
-    assert!(stop; is_done, "the rows after it");
+    expect(stop, is_done, "the rows after it");
 }
 
 fn expect_drain(alloc: Global, stop: &impl Abort, met: &mut Refusals, desk: &mut FileDesk) {
@@ -82,7 +82,7 @@ fn expect_drain(alloc: Global, stop: &impl Abort, met: &mut Refusals, desk: &mut
     };
     expect_steps(alloc, stop, met, desk, drain(""), [*waiting].as_slice());
     let is_held = has_rows(alloc, stop, met, desk, before.as_str());
-    assert!(stop; is_held, "the rows before the first");
+    expect(stop, is_held, "the rows before the first");
     let rows = (before.as_str(), after.as_str());
     expect_first(alloc, stop, met, desk, *first, rows);
 }
@@ -91,5 +91,9 @@ fn expect_drain(alloc: Global, stop: &impl Abort, met: &mut Refusals, desk: &mut
 fn calls(rt: HostRuntime) {
     let mut desk = FileDesk::new(rt.alloc());
     let asked = desk.make(rt.alloc(), Call::Tables(EVERY_CALL));
-    assert!(rt; matches!(asked.ended, End::Done), "the calls over files");
+    expect(
+        &rt,
+        matches!(asked.ended, End::Done),
+        "the calls over files",
+    );
 }

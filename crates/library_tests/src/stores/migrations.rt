@@ -3,6 +3,7 @@
 //! migrated then, and the desk in it goes on. Empty files are migrated too, and other versions stay.
 
 use crate::asking::{Asks, End, expect_asked};
+use crate::cases::expect;
 use crate::disks::{TestFiles, stop_machine};
 use crate::files::{Call, FileDesk, make};
 use crate::lists::{List, expect_list};
@@ -208,9 +209,9 @@ fn expect_version(
 ) {
     let ended = desk.make(alloc, call).ended;
     let is_version = matches!(ended, End::Version(found) if found == version);
-    assert!(stop; is_version, "version {version}");
+    expect(stop, is_version, "the version");
     let kept = desk.make(alloc, Call::Tables(KEPT)).ended;
-    assert!(stop; matches!(kept, End::Done), "the rows of version {version}");
+    expect(stop, matches!(kept, End::Done), "the rows of a version");
 }
 
 #[test]
@@ -222,7 +223,7 @@ fn other_versions(rt: HostRuntime) {
     expect_version(alloc, &rt, &mut desk, Call::Ask(&none, ""), 1);
     let later = "UPDATE meta SET amount = 7";
     let ended = desk.make(alloc, Call::Execute(later)).ended;
-    assert!(rt; matches!(ended, End::Done), "the version is changed");
+    expect(&rt, matches!(ended, End::Done), "the version is changed");
     expect_version(alloc, &rt, &mut desk, Call::Ask(&none, ""), 7);
     expect_version(alloc, &rt, &mut desk, Call::Migrate, 7);
 }
@@ -233,10 +234,10 @@ fn stops(alloc: Global, stop: &impl Abort, files: TestFiles, list: List<'_>) -> 
     let (mut files, first) = make(alloc, files, Call::Migrate);
     let failed = stop_machine(&mut files);
     let is_caused = failed || matches!(first.ended, End::Done);
-    assert!(stop; is_caused, "a fault without a cause");
+    expect(stop, is_caused, "a fault without a cause");
     let (files, second) = make(alloc, files, Call::Migrate);
     let is_done = matches!(second.ended, End::Done);
-    assert!(stop; is_done, "what is left is migrated");
+    expect(stop, is_done, "what is left is migrated");
     let mut met = Refusals::none();
     expect_list(alloc, stop, &mut met, &mut FileDesk::of(files), list);
     failed

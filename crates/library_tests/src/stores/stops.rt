@@ -2,7 +2,7 @@
 //! the program alone, and that the requests can then be made again.
 
 use crate::asking::{Asked, End};
-use crate::cases::{Step, steps_of};
+use crate::cases::{Step, expect, expect_in, steps_of};
 use crate::disks::{TestFiles, copied, new_files, stop_machine};
 use crate::files::{Call, make};
 use crate::lists::List;
@@ -71,10 +71,8 @@ fn requests(alloc: Global, steps: &[Step<'_>]) -> Result<String, AllocError> {
 
 // How many of the requests were answered before the disk failed, or none where the files were not opened.
 fn count_of(stop: &impl Abort, batch: Batch<'_>, asked: &Asked) -> Option<usize> {
-    assert!(stop;
-        matches!(asked.ended, End::Done | End::Disk),
-        "a fault that is not the disk's"
-    );
+    let is_caused = matches!(asked.ended, End::Done | End::Disk);
+    expect(stop, is_caused, "a fault that is not the disk's");
     if !asked.is_opened {
         return None;
     }
@@ -104,9 +102,9 @@ fn expect_goes_on(
         }
         None => batch.begins_after(output, 0),
     };
-    assert!(stop; is_left, "{}: what stands after a stop", batch.list.name);
+    expect_in(stop, is_left, batch.list.name, "what stands after a stop");
     let is_done = matches!(asked.ended, End::Done) && batch.ends_at_last(output);
-    assert!(stop; is_done, "{}: the requests made again", batch.list.name);
+    expect_in(stop, is_done, batch.list.name, "the requests made again");
 }
 
 // Asks files of which one fails; then the program stops, and the machine: whether a file had failed.
@@ -121,7 +119,7 @@ fn stops(alloc: Global, stop: &impl Abort, files: TestFiles, batch: Batch<'_>) -
     }
     let failed = stop_machine(&mut files);
     let is_caused = failed || count == Some(batch.steps.len());
-    assert!(stop; is_caused, "a fault without a cause");
+    expect(stop, is_caused, "a fault without a cause");
     expect_goes_on(alloc, stop, files, batch, count);
     failed
 }

@@ -1,10 +1,11 @@
 //! Batches over inputs that are cut off or cannot be read on, and over outputs that take part of an
 //! answer. What is to be written is taken from the desk's written rules.
 
+use crate::cases::{expect, expect_bytes};
 use crate::streams::streams::{FailingReader, FailingWriter, OneByte};
 use csv_records::reading::RecordFault;
-use desk_batch::batch::{BatchFault, run_batch};
-use desk_memory::desk::MemoryDesk;
+use desk_batch::{BatchFault, run_batch};
+use desk_memory::MemoryDesk;
 use price_rules::precedence::Precedence;
 use std::alloc::Global;
 use std::io::{Read, Write};
@@ -83,8 +84,8 @@ fn expect_answers(
     let mut written = Vec::new(alloc);
     let mut reader = OneByte::new(batch);
     let ended = run(alloc, desk, &mut reader, &mut written);
-    assert!(stop; ended.is_ok(), "{answers}");
-    assert_eq!(stop; written.as_slice(), answers.as_bytes());
+    expect(stop, ended.is_ok(), answers);
+    expect_bytes(stop, written.as_slice(), answers.as_bytes(), "the answers");
 }
 
 // A batch whose read fails after these bytes asks nothing, also not the agreement, and answers nothing.
@@ -93,8 +94,12 @@ fn expect_unread(alloc: Global, stop: &impl Abort, batch: &[u8]) {
     let mut written = Vec::new(alloc);
     let mut reader = FailingReader { rest: batch };
     let ended = run(alloc, &mut desk, &mut reader, &mut written);
-    assert!(stop; matches!(&ended, Err(BatchFault::Read)), "a failed read");
-    assert!(stop; written.is_empty(), "an answer after a failed read");
+    expect(
+        stop,
+        matches!(&ended, Err(BatchFault::Read)),
+        "a failed read",
+    );
+    expect(stop, written.is_empty(), "an answer after a failed read");
     expect_answers(alloc, stop, &mut desk, GAPS.as_bytes(), NOT_AGREED);
 }
 
@@ -145,8 +150,8 @@ fn expect_written(alloc: Global, stop: &impl Abort, batch: &[u8], taken: &[u8], 
     let ended = run(alloc, &mut desk, &mut reader, &mut writer);
     let wanted = begun_answers(taken);
     let is_write = matches!(&ended, Err(BatchFault::Write { done }) if *done == wanted);
-    assert!(stop; is_write, "{wanted} requests");
-    assert_eq!(stop; writer.written.as_slice(), taken);
+    expect(stop, is_write, "a failed write");
+    expect_bytes(stop, writer.written.as_slice(), taken, "what was written");
     let held = if wanted == 1 {
         NONE_APPLIED
     } else {
@@ -190,9 +195,13 @@ fn most_reads(rt: HostRuntime) -> Result<(), Fail> {
         &mut written,
     );
     let is_too_large = matches!(&ended, Err(BatchFault::Records(RecordFault::TooLarge)));
-    assert!(rt; is_too_large, "a byte more");
-    assert!(rt; written.is_empty(), "an answer to a text that is too large");
+    expect(&rt, is_too_large, "a byte more");
+    expect(
+        &rt,
+        written.is_empty(),
+        "an answer to a text that is too large",
+    );
     let reads = reader.reads;
-    assert!(rt; reads <= MOST_READS, "{reads} reads");
+    expect(&rt, reads <= MOST_READS, "too many reads");
     Ok(())
 }

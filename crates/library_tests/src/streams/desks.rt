@@ -2,8 +2,8 @@
 
 use catalogue_rules::catalogue::Catalogue;
 use csv_records::records::Records;
-use desk_batch::batch::run_batch;
-use desk_memory::desk::MemoryDesk;
+use desk_batch::run_batch;
+use desk_memory::MemoryDesk;
 use desk_terms::{Agreement, StoreFault};
 use onix_terms::isbn13::Isbn13;
 use onix_terms::items::Items;

@@ -2,12 +2,11 @@
 //! reply; and the replies to answers and faults that no request comes to. What is replied is taken from
 //! the desk's written rules.
 
+use crate::cases::{expect, expect_bytes, expect_same};
 use crate::streams::desks::{BrokenDesk, agreed_desk};
 use crate::streams::streams::{FailingReader, FailingWriter, OneByte};
-use desk_http::answer_reply::reply_of;
-use desk_http::exchange::HttpFault;
-use desk_http::serve::serve_one;
-use desk_memory::desk::MemoryDesk;
+use desk_http::{HttpFault, reply_of, serve_one};
+use desk_memory::MemoryDesk;
 use onix_terms::number::Number;
 use onix_terms::series_name::SeriesName;
 use price_rules::precedence::Precedence;
@@ -91,9 +90,9 @@ fn expect_reply(
     reply: (u16, &str),
 ) {
     let (status, text) = reply;
-    assert_eq!(stop; written, text.as_bytes());
+    expect_bytes(stop, written, text.as_bytes(), "a reply");
     let is_status = matches!(&served, Ok(found) if *found == status);
-    assert!(stop; is_status, "{text}");
+    expect(stop, is_status, text);
 }
 
 // An input that comes one byte a read has this reply.
@@ -109,7 +108,7 @@ fn expect_slow(
     let served = serve_memory(alloc, desk, &mut reader, &mut written);
     expect_reply(stop, served, written.as_slice(), reply);
     let reads = reader.reads;
-    assert!(stop; reads <= MOST_READS, "{reads} reads");
+    expect(stop, reads <= MOST_READS, "too many reads");
 }
 
 // The most that an input may have.
@@ -145,8 +144,8 @@ fn expect_answer(
     };
     match reply_of(alloc, &answer) {
         Ok((found, text)) => {
-            assert_eq!(stop; text.as_str(), body);
-            assert_eq!(stop; found, status, "{body}");
+            expect_same(stop, text.as_str(), body, "a body");
+            expect(stop, found == status, body);
         }
         Err(_) => stop.panic(body),
     }
@@ -273,7 +272,7 @@ fn faults_of_storage(rt: HostRuntime) {
         expect_fault(rt.alloc(), &rt, number, GAPS, reply);
         number = number.saturating_add(1);
     }
-    assert_eq!(rt; number, 4, "each fault");
+    expect(&rt, number == 4, "each fault");
 }
 
 // A delivery of which the read after these bytes fails has no reply.
@@ -281,8 +280,12 @@ fn expect_unread(alloc: Global, stop: &impl Abort, desk: &mut MemoryDesk, begin:
     let mut reader = FailingReader { rest: begin };
     let mut written = Vec::new(alloc);
     let served = serve_memory(alloc, desk, &mut reader, &mut written);
-    assert!(stop; matches!(&served, Err(HttpFault::Read)), "a failed read");
-    assert!(stop; written.is_empty(), "a reply after a failed read");
+    expect(
+        stop,
+        matches!(&served, Err(HttpFault::Read)),
+        "a failed read",
+    );
+    expect(stop, written.is_empty(), "a reply after a failed read");
 }
 
 // After each byte; then nothing was delivered, and the whole delivery has its reply.
@@ -308,8 +311,8 @@ fn expect_written(alloc: Global, stop: &impl Abort, taken: &[u8], fails: bool) -
     let mut writer = FailingWriter::new(alloc, taken.len(), fails);
     let served = serve_memory(alloc, &mut desk, &mut reader, &mut writer);
     let is_write = matches!(&served, Err(HttpFault::Write { status: 200 }));
-    assert!(stop; is_write, "a failed write");
-    assert_eq!(stop; writer.written.as_slice(), taken);
+    expect(stop, is_write, "a failed write");
+    expect_bytes(stop, writer.written.as_slice(), taken, "what was written");
     expect_slow(alloc, stop, &mut desk, GAPS.as_bytes(), (200, ONE_NUMBER));
     Ok(())
 }

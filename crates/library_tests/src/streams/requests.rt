@@ -1,8 +1,9 @@
 //! A list of requests that a desk is asked at once.
 
+use crate::cases::expect_same;
 use crate::streams::desks::BrokenDesk;
 use csv_records::reading::RecordReader;
-use desk_memory::desk::MemoryDesk;
+use desk_memory::MemoryDesk;
 use desk_requests::request_rows::read_requests;
 use desk_text::answer_text::write_answer;
 use price_rules::precedence::Precedence;
@@ -51,7 +52,7 @@ fn expect_answers<D: Desk>(
             Err(fault) => write!(text, "{fault}\n")?,
         }
     }
-    assert_eq!(stop; text.as_str(), answers);
+    expect_same(stop, text.as_str(), answers, "the answers");
     Ok(())
 }
 

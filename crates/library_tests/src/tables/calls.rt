@@ -192,7 +192,7 @@ fn run_over<S: Alter + Drop>(
     let mut tables = Tables::new(connection);
     let ended = run_case(alloc, stop, met, &mut tables, case);
     drop(tables);
-    assert!(stop; ended.is_ok(), "a fault of the store");
+    expect(stop, ended.is_ok(), "a fault of the store");
 }
 
 // The same over a new store in memory.

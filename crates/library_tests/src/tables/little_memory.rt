@@ -313,7 +313,7 @@ pub fn calls_again<S: Alter>(
 ) -> Result<(), StoreFault> {
     takes(alloc, stop, met, tables, "create", "version: none")?;
     let steps = met.own(stop, steps_of(alloc, stop, CALLS));
-    assert!(stop; !steps.is_empty(), "no calls");
+    expect(stop, !steps.is_empty(), "no calls");
     expect_calls(alloc, stop, met, tables, NO_ROWS, steps.as_slice())
 }
 

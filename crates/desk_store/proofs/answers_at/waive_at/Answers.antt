@@ -1,14 +1,20 @@
-use Rattle.std.proofs.Common.{◌≡◌, ℕ, List, Option, Some, Ok, codes, sym, ap, ◌∙◌, true, false, refl}
+use Rattle.std.proofs.Common.{◌≡◌, ℕ, List, Option, Some, Ok, codes, sym, subst, ap, ◌∙◌, true, false, refl}
 use Rattle.std.specs.Prelude.{bytes_eq}
 use Rattle.sqlite.specs.Held.{state}
 use Rattle.catalogue_store.specs.AchievesLemmas.{achieves_as, achieves_failed, achieves_then}
 use Rattle.desk_tables.specs.Rows.{DeskRows}
+use Rattle.series_rules.specs.declared.answers.DeliveryAnswer.{DeliveryAnswer}
 use Rattle.series_rules.specs.declared.answers.WaiveAnswer.TheVariants as waiver
 use Rattle.series_rules.specs.declared.requests.Standing.TheVariants.{Waived}
-use Rattle.desk_store.specs.Changes.{PutsNew, WaivesAt}
-use Rattle.desk_store.specs.Stands.{stored_text}
+use Rattle.desk_store.specs.Answering.{IsStored, WaivesAt}
+use Rattle.desk_store.specs.Changes.{PutsNew}
+use Rattle.desk_store.specs.declared.answers_at.Stored.{Stored}
 use Rattle.desk_store.proofs.Answered.{waives_again, waives_late, waives_new}
 use Rattle.desk_store.proofs.answers_at.waive_at.Goals as goal
+
+-- what the tables have at the number
+abbrev Finds : List ℕ → ℕ → DeskRows → Option Stored → DeskRows → Type 0
+Finds s n rows stored now = (now ≡ rows) × IsStored s n rows stored
 
 pub returns-then-is_waived-clause-achieves : goal.returns-then-is_waived-clause-achieves
 returns-then-is_waived-clause-achieves g c =
@@ -17,11 +23,9 @@ returns-then-is_waived-clause-achieves g c =
     let s = c.args.series.now in
     let n = c.args.number in
     let stored = c.as_str.result.now in
-    let Stored : DeskRows → Option (List ℕ) → DeskRows → Type 0 = λ rows text now. (now ≡ rows) × (text ≡ stored_text s n rows) in
-    let found = ap (λ (t : List ℕ). Some t) c.as_str.ensures ∙ sym c.in-Some.is in
     let w : bytes_eq stored (codes "waived") ≡ true = sym c.is_waived.ensures ∙ c.if-is_waived.true in
-    achieves_as Stored _ old new c.in-Ok.stored waiver.Waived c.in-Ok.ensures.achieves
-    (λ rows now h m one. waives_again c.one_standing_text.ensures s c.args.next n stored rows now one.0 (found ∙ one.1) w)
+    achieves_as (Finds s n) _ old new c.in-Ok.stored waiver.Waived c.in-Ok.ensures.achieves
+    (λ rows now h m one. waives_again c.one_standing_text.ensures s c.args.next n stored rows now one.0 (ap (λ (t : List ℕ). Some t) c.as_str.ensures ∙ (subst (IsStored s n rows) c.in-Some.is one.1).0) w)
 
 pub returns-clause-achieves : goal.returns-clause-achieves
 returns-clause-achieves g c =
@@ -30,11 +34,9 @@ returns-clause-achieves g c =
     let s = c.args.series.now in
     let n = c.args.number in
     let stored = c.as_str.result.now in
-    let Stored : DeskRows → Option (List ℕ) → DeskRows → Type 0 = λ rows text now. (now ≡ rows) × (text ≡ stored_text s n rows) in
-    let found = ap (λ (t : List ℕ). Some t) c.as_str.ensures ∙ sym c.in-Some.is in
     let w : bytes_eq stored (codes "waived") ≡ false = sym c.is_waived.ensures ∙ c.if-is_waived.false in
-    achieves_as Stored _ old new c.in-Ok.stored waiver.HasMessage c.in-Ok.ensures.achieves
-    (λ rows now h m one. waives_late s c.args.next n stored rows now one.0 (found ∙ one.1) w)
+    achieves_as (Finds s n) _ old new c.in-Ok.stored waiver.HasMessage c.in-Ok.ensures.achieves
+    (λ rows now h m one. waives_late s c.args.next n stored rows now one.0 (ap (λ (t : List ℕ). Some t) c.as_str.ensures ∙ (subst (IsStored s n rows) c.in-Some.is one.1).0) w)
 
 pub returns-in-Ok-put_new-clause-achieves : goal.returns-in-Ok-put_new-clause-achieves
 returns-in-Ok-put_new-clause-achieves g c =
@@ -43,12 +45,11 @@ returns-in-Ok-put_new-clause-achieves g c =
     let new = state g.S.Store c.put_new.new.work.tables.now.connection in
     let s = c.args.series.now in
     let n = c.args.number in
-    let Stored : DeskRows → Option (List ℕ) → DeskRows → Type 0 = λ rows text now. (now ≡ rows) × (text ≡ stored_text s n rows) in
-    let Put : DeskRows → ℕ → DeskRows → Type 0 = PutsNew s c.args.next n Waived (codes "waived") in
-    let Done : DeskRows → ℕ → DeskRows → Type 0 = λ rows _ now. WaivesAt s c.args.next n rows waiver.Waived now in
+    let Put : DeskRows → DeliveryAnswer → DeskRows → Type 0 = PutsNew s c.args.next n Waived (codes "waived") in
+    let Done : DeskRows → DeliveryAnswer → DeskRows → Type 0 = λ rows _ now. WaivesAt s c.args.next n rows waiver.Waived now in
     achieves_as Done _ old new c.in-Ok-put_new.field-0 waiver.Waived
-    (achieves_then Stored Put Done old mid new c.in-Ok.stored (Ok c.in-Ok-put_new.field-0) c.in-Ok.ensures.achieves c.in-Ok-put_new.ensures.achieves
-    (λ rows between now to h m k one two. waives_new s c.args.next n to (codes "waived") rows between now refl one.0 (sym c.in_default.is ∙ one.1) two))
+    (achieves_then (Finds s n) Put Done old mid new c.in-Ok.stored (Ok c.in-Ok-put_new.field-0) c.in-Ok.ensures.achieves c.in-Ok-put_new.ensures.achieves
+    (λ rows between now answer h m k one two. waives_new s c.args.next n (codes "waived") rows between now answer refl one.0 (subst (IsStored s n rows) c.in_default.is one.1) two))
     (λ rows now h m one. one)
 
 pub returns-in-Err-put_new-clause-achieves : goal.returns-in-Err-put_new-clause-achieves
@@ -58,6 +59,5 @@ returns-in-Err-put_new-clause-achieves g c =
     let new = state g.S.Store c.put_new.new.work.tables.now.connection in
     let s = c.args.series.now in
     let n = c.args.number in
-    let Stored : DeskRows → Option (List ℕ) → DeskRows → Type 0 = λ rows text now. (now ≡ rows) × (text ≡ stored_text s n rows) in
-    let Put : DeskRows → ℕ → DeskRows → Type 0 = PutsNew s c.args.next n Waived (codes "waived") in
-    achieves_failed Stored Put _ old mid new c.in-Ok.stored c.in-Err-put_new.fault c.in-Ok.ensures.achieves c.in-Err-put_new.ensures.achieves
+    let Put : DeskRows → DeliveryAnswer → DeskRows → Type 0 = PutsNew s c.args.next n Waived (codes "waived") in
+    achieves_failed (Finds s n) Put _ old mid new c.in-Ok.stored c.in-Err-put_new.fault c.in-Ok.ensures.achieves c.in-Err-put_new.ensures.achieves

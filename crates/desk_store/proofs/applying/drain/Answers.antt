@@ -34,10 +34,10 @@ returns-then-not-moved-clause-achieves g c =
     let k = c.loop-value.value in
     let SoFar : DeskRows → Unit {0} → DeskRows → Type 0 = λ rows _ now. DrainsTo s c.args.from k rows now in
     let One : DeskRows → Bool → DeskRows → Type 0 = DrainsOne s c.in-Some.number in
-    let Done : DeskRows → Bool → DeskRows → Type 0 = λ rows moved now. moved ≡ false → Drains s c.args.from rows k now in
+    let Done : DeskRows → Bool → DeskRows → Type 0 = λ rows moved now. moved ≡ false → Drains s c.args.from rows now in
     let stopped : c.in-Ok.moved ≡ false = search rules in
     let at = number_is k c.in-Some.number (sym c.in-Some.is ∙ c.from_value.ensures) in
-    achieves_as Done _ old new c.in-Ok.moved k
+    achieves_as Done _ old new c.in-Ok.moved tt
     (achieves_then SoFar One Done old mid new tt (Ok c.in-Ok.moved) c.loop-value.invariant.so_far c.in-Ok.ensures.achieves
     (λ rows between now b h m n one two. λ e. drained_up s c.args.from k rows between now one (step_at s c.in-Some.number k between b false now at e two)))
     (λ rows now h m one. one stopped)
@@ -69,4 +69,4 @@ returns-clause-achieves g c =
     let s = c.args.series.now in
     let end : c.loop-value.value ≡ 1000000000 = omega arith in
     let SoFar : DeskRows → Unit {0} → DeskRows → Type 0 = λ rows _ now. DrainsTo s c.args.from c.loop-value.value rows now in
-    achieves_as SoFar _ old new tt 1000000000 c.loop-value.invariant.so_far (λ rows now h m one. drained_all s c.args.from 1000000000 rows now (omega arith) (subst (λ k. DrainsTo s c.args.from k rows now) end one))
+    achieves_as SoFar _ old new tt tt c.loop-value.invariant.so_far (λ rows now h m one. drained_all s c.args.from 1000000000 rows now (omega arith) (subst (λ k. DrainsTo s c.args.from k rows now) end one))

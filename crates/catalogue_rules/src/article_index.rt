@@ -1,0 +1,145 @@
+//! Which records of a catalogue may be of an article.
+
+ghost use Rattle.std.specs.Prelude.{◌≡◌, ◌++◌, ℕ, List, IfOk, OnOk, OnErr, true};
+ghost use Rattle.std.specs.BTreeSet.{contains_text};
+ghost use Rattle.std.specs.FinMap as map;
+ghost use Rattle.catalogue_rules.specs.ArticleIndex.{IsIndexOf, ListsArticles, ListsAsBefore, is_listed, offers_there};
+ghost use Rattle.catalogue_rules.specs.Effects.{after};
+ghost use Rattle.catalogue_rules.specs.Offers.{has_article_type, offers_in};
+ghost use Rattle.catalogue_rules.specs.Records.{ByReference};
+
+use crate::catalogue::Catalogue;
+use crate::offers::{add_record, has_article_type};
+use onix_message::contents::Contents;
+use onix_records::parts::{Product, ProductIdentifier};
+use onix_terms::isbn13::Isbn13;
+use onix_terms::items::Items;
+use onix_terms::series_name::SeriesName;
+use price_rules::offer::Offer;
+use std::alloc::{AllocError, Global};
+use std::collections::{BTreeMap, BTreeSet};
+
+/// The references of records by the values of their identifiers of types 03 and 15. A reference stays
+/// where its record no longer has the identifier, so whoever asks looks at each record.
+#[derive(Drop)]
+pub struct ArticleIndex {
+    alloc: Global,
+    references: BTreeMap<String, BTreeSet<String>>,
+}
+
+// Adds a reference to others.
+fn add_reference(
+    alloc: Global,
+    references: &mut BTreeSet<String>,
+    reference: &str,
+) -> Result<(), AllocError>
+    ensures kept { (q : List ℕ) → contains_text references.old q ≡ true → contains_text references.new q ≡ true }
+    ensures ok { OnOk result (contains_text references.new reference.now ≡ true) }
+{
+    if references.contains(reference) {
+        return Ok(());
+    }
+    references.insert(String::from_str(alloc, reference)?)?;
+    Ok(())
+}
+
+// Adds the article's offers of the record that a reference has, if it has one.
+fn add_listed(
+    alloc: Global,
+    offers: &mut Items<Offer>,
+    series: &SeriesName,
+    isbn: &Isbn13,
+    catalogue: &Catalogue,
+    reference: &str,
+) -> Result<(), AllocError>
+    ensures { OnOk result (offers.new ≡ offers.old ++ offers_there series.now isbn.now reference.now (map.get catalogue.now reference.now)) }
+{
+    if let Some(entry) = catalogue.get(reference) {
+        add_record(alloc, offers, series, isbn, reference, entry)?;
+    }
+    Ok(())
+}
+
+impl ArticleIndex {
+    /// An index that lists nothing. It takes no memory.
+    pub fn new(alloc: Global) -> ArticleIndex
+        ensures { IsIndexOf result map.empty }
+    {
+        ArticleIndex {
+            alloc,
+            references: BTreeMap::new(alloc),
+        }
+    }
+
+    // Lists a reference at a value.
+    fn list_reference(&mut self, isbn: &str, reference: &str) -> Result<(), AllocError>
+        ensures kept { ListsAsBefore self.old.references self.new.references }
+        ensures ok { OnOk result (is_listed self.new.references isbn.now reference.now ≡ true) }
+    {
+        let alloc = self.alloc;
+        if let Some(references) = self.references.get_mut(isbn) {
+            return add_reference(alloc, references, reference);
+        }
+        let mut references = BTreeSet::new(alloc);
+        add_reference(alloc, &mut references, reference)?;
+        let key = String::from_str(alloc, isbn)?;
+        self.references.insert(key, references)?;
+        Ok(())
+    }
+
+    // Lists a reference at the value of an identifier, if that is of type 03 or 15.
+    fn list_identifier(&mut self, id: &ProductIdentifier, reference: &str) -> Result<(), AllocError>
+        ensures kept { ListsAsBefore self.old.references self.new.references }
+        ensures ok { OnOk result (has_article_type id.now ≡ true → is_listed self.new.references id.now.id_value reference.now ≡ true) }
+    {
+        if !has_article_type(id) {
+            return Ok(());
+        }
+        self.list_reference(id.id_value.as_str(), reference)
+    }
+
+    // Lists a product at the values of its identifiers of types 03 and 15.
+    fn list_product(&mut self, product: &Product) -> Result<(), AllocError>
+        ensures kept { ListsAsBefore self.old.references self.new.references }
+        ensures ok { OnOk result (ListsArticles self.new.references product.now.reference product.now.ids) }
+    {
+        for id in product.ids.as_slice() {
+            self.list_identifier(id, product.reference.as_str())?;
+        }
+        Ok(())
+    }
+
+    /// Lists the products of a message, whatever they ask for, so that an index of a catalogue is one
+    /// of the catalogue after the message. Where memory runs out, it stays one of the catalogue.
+    pub fn list(&mut self, contents: &Contents) -> Result<(), AllocError>
+        ensures ok { (m : ByReference) → IsIndexOf self.old m → OnOk result (IsIndexOf self.new (after m contents.now)) }
+        ensures err { (m : ByReference) → IsIndexOf self.old m → OnErr result (IsIndexOf self.new m) }
+    {
+        for product in contents.products() {
+            self.list_product(product)?;
+        }
+        Ok(())
+    }
+
+    /// The article's offers under the name of a series, as the catalogue gives them, by a look at the
+    /// listed records alone.
+    pub fn offers_of(
+        &self,
+        catalogue: &Catalogue,
+        series: &SeriesName,
+        isbn: &Isbn13,
+    ) -> Result<Items<Offer>, AllocError>
+        ensures { IsIndexOf self.now catalogue.now → IfOk result (λ offers. offers ≡ offers_in series.now catalogue.now isbn.now) }
+    {
+        let alloc = self.alloc;
+        let mut offers = Items::new(alloc);
+        let Some(references) = self.references.get(isbn.as_str()) else {
+            return Ok(offers);
+        };
+        for reference in references.iter() {
+            let reference = reference.as_str();
+            add_listed(alloc, &mut offers, series, isbn, catalogue, reference)?;
+        }
+        Ok(offers)
+    }
+}

@@ -1,0 +1,61 @@
+"""`bench/weight`: which part of the gate a process is, the table, and the status of what was run."""
+
+import subprocess
+import sys
+from collections import Counter
+
+from program.examples import ROOT
+from program.room import SECONDS, Group, Outcome
+
+sys.path.append(str(ROOT / "bench"))
+
+from figures.weighing import crates_below, part_named, report
+
+# The words of a process, the folder that it works in, and its part.
+PARTS = [
+    (["/kit/bin/rattle", "check", "--crate-name", "price_rules", "src/lib.rt"], "/a/crates/price_rules", "proof of price_rules"),
+    (["rattle", "build", "--crate-name", "library_tests", "--test"], "/a/crates/library_tests", "tests of library_tests"),
+    (["rattle", "check", "--crate-name", "desk_store"], "/tmp/rt-edit-x1", "edits of desk_store"),
+    (["rattle", "build", "--crate-name", "onixdesk", "--crate-checked", "x"], "/a/crates/onixdesk", "compiling of onixdesk"),
+    (["/kit/bin/rattle-link", "-o", "x"], "/tmp", "linking"),
+    (["python3", "tests/run"], "/a", "all else"),
+    (["rattle"], "/a", "all else"),
+]
+
+TABLE = """    6.0 min   2.00 times  proof of desk_store
+    2.0 min   0.67 times  proof of onix_terms
+    1.0 min   0.33 times  proof of csv_records
+    7.0 min   2.33 times  proofs of the program and all below it
+    9.0 min   3.00 times  all
+    3.0 min   1.00 times  proofs of csv_records and onix_terms
+    2.0 min on the clock
+"""
+
+
+def parts(room):
+    for words, folder, part in PARTS:
+        yield Outcome(f"bench/weight: {part}", part_named(words, folder), part)
+
+
+def a_table(room):
+    lines = ["# the crates", "csv_records: csv", "desk_store: csv_records sqlite", "onix_terms: jiff"]
+    below = crates_below(lines, "desk_store")
+    yield Outcome("bench/weight: crates below one", below, {"csv_records", "desk_store"})
+    sums = Counter({"proof of desk_store": 6.0, "proof of onix_terms": 2.0, "proof of csv_records": 1.0})
+    yield Outcome("bench/weight: the table", report(sums, below, 120), TABLE)
+
+
+def a_run(room):
+    words = [ROOT / "bench/weight", "--file", room.path("weight.txt"), "sh", "-c", "exit 3"]
+    done = subprocess.run(words, cwd=room.folder, capture_output=True, timeout=SECONDS)
+    said = (done.returncode, done.stdout, done.stderr)
+    kept = room.path("weight.txt").read_bytes()
+    yield Outcome("bench/weight: the status of what was run", said, (3, kept, b""))
+    yield Outcome("bench/weight: how long it ran", kept.splitlines()[-1], b"    0.0 min on the clock")
+
+
+GROUPS = [
+    Group("parts of the gate", parts),
+    Group("the table of a weight", a_table),
+    Group("what is weighed", a_run),
+]

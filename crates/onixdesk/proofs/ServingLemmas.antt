@@ -11,14 +11,14 @@ use Rattle.series_rules.specs.Leaves.{LeavesOneMore, LeavesOnly}
 use Rattle.series_rules.specs.declared.requests.Request.{Request}
 use Rattle.price_rules.specs.declared.precedence.Rule.{Rule}
 use Rattle.desk_http.specs.AnswerReply.{reply_of_answer}
-use Rattle.desk_http.specs.Exchange.{AtMostOneMore, Exchanges, LeavesAfter, LeavesRequestMore, Served, Unsent, answers, faults, refuses}
+use Rattle.desk_http.specs.Exchange.{AreReplied, AtMostOneMore, Exchanges, LeavesAfter, LeavesRequestMore, Served, Unsent, answers, faults, further, none, refuses}
 use Rattle.desk_http.specs.Refusals.{reply_of_refusal}
 use Rattle.desk_http.specs.Reply.{Reply}
 use Rattle.desk_http.specs.ExchangeSteps.{IfMemory, IfWrite, OnRead}
 use Rattle.desk_http.specs.declared.exchange.HttpFault.{HttpFault}
 use Rattle.desk_http.specs.declared.exchange.HttpFault.TheVariants as fault
 use Rattle.onixdesk.specs.Course.{Course}
-use Rattle.onixdesk.specs.Serving.{AreReplied, AtMostMore, BeginInDoubt, ExchangeEnds, ExchangeFits, KeepsReplied, LeavesAtMostMore, WritesFront, further, line_of, lines_of, none}
+use Rattle.onixdesk.specs.Serving.{AtMostMore, BeginInDoubt, ExchangeEnds, ExchangeFits, KeepsReplied, LeavesAtMostMore, WritesFront, line_of, lines_of}
 
 -- known bytes that stay grow by nothing
 keeps_nothing : (held holds : Option (List ℕ)) → Keeps held holds → Appends held holds []

@@ -89,9 +89,3 @@ abbrev pub KeepsDelivered : List Request → List (List ℕ) → List (List ℕ)
 KeepsDelivered L texts last status left =
     let kept = followed_by (followed_by L (deliveries texts)) (deliveries last) in
     (further : List (List ℕ)) × (length last + length further ≤ 1) × (status ≤ 1 → further ≡ []) × LeavesEither left kept (followed_by kept (deliveries further))
-
--- How the command can end, of so many files: there are texts, one for each file that was delivered, of which this is the end. Where a crash left only what the desk stood for, it leaves the deliveries that were answered
-abbrev pub DeliverEnds : Course → ℕ → ℕ → Type 0
-DeliverEnds c count status =
-    (texts last : List (List ℕ)) × ((L : List Request) → c.stood L → c.sound →
-        DeliveriesEnd c L count texts last status × (LeavesOnly c.was L → KeepsDelivered L texts last status c.left))

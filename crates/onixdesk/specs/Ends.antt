@@ -1,13 +1,10 @@
 -- How the command `batch` ends.
-use Rattle.std.specs.Prelude.{◌≡◌, ◌≤◌, ◌⊎◌, ◌++◌, ◌+◌, ℕ, List, [], IsUtf8, Option, length, nat_eq, take, if◌then◌else◌}
+use Rattle.std.specs.Prelude.{◌≡◌, ◌≤◌, ◌⊎◌, ◌++◌, ◌+◌, ℕ, List, [], IsUtf8, length, nat_eq, take, if◌then◌else◌}
 use Rattle.csv_records.specs.RecordTexts.{limit}
-use Rattle.csv_records.specs.Streams.{IsTold}
 use Rattle.price_rules.specs.declared.precedence.Rule.{Rule}
 use Rattle.series_rules.specs.Answers.{followed_by}
-use Rattle.series_rules.specs.Leaves.{LeavesOnly}
 use Rattle.series_rules.specs.declared.requests.Request.{Request}
 use Rattle.desk_batch.specs.Batch.{output, refusals, requests_of}
-use Rattle.desk_batch.specs.Leaves.{KeepsAnswered}
 use Rattle.onixdesk.specs.Course.{Course}
 
 -- a text that has records: it is not too long, and UTF-8
@@ -46,9 +43,3 @@ IsUnread c L status = (status ≡ 3) × c.written [] × c.stands L
 -- how a batch of that text after L can end with this status: all answered, with 0 or 1; a fault behind some requests, with 3, their answers written but for a part of the last; or nothing asked and nothing written, with 3
 abbrev pub Ends : Course → List Request → List ℕ → ℕ → Type 0
 Ends c L text status = IsAnswered c L text status ⊎ (IsStopped c L text status ⊎ IsUnread c L status)
-
--- How the command can end: there is a text, that of the input where it tells its bytes, of which this is the end. Where a crash left only what the desk stood for, whatever was written is of requests that each crash leaves. Told: what the input tells of its bytes
-abbrev pub BatchEnds : Course → Option (List ℕ) → ℕ → Type 0
-BatchEnds c told status =
-    (text : List ℕ) × IsTold told text × ((L : List Request) → c.stood L → c.sound →
-        Ends c L text status × (LeavesOnly c.was L → KeepsAnswered c.rules L (requests_of text) c.written c.left))

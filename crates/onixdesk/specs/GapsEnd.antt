@@ -55,8 +55,3 @@ IsCut c L name status = (status ≡ 3) × ((part rest : List ℕ) × (part ++ re
 abbrev pub GapsEnd : Course → List Request → Option (List ℕ) → ℕ → Type 0
 GapsEnd c L name status =
     (IsWritten c L name status ⊎ IsCut c L name status) × (c.stands L ⊎ c.stands (with_question L name))
-
--- How the command can end. The question adds nothing to what a crash leaves
-abbrev pub GapsEnds : Course → Option (List ℕ) → ℕ → Type 0
-GapsEnds c name status =
-    (L : List Request) → c.stood L → c.sound → GapsEnd c L name status × (LeavesOnly c.was L → LeavesOnly c.left L)

@@ -3,11 +3,10 @@ use Rattle.std.specs.Prelude.{◌≡◌, ◌≤◌, ◌++◌, ◌∷◌, ℕ, Li
 use Rattle.std.specs.Fmt.{decimal}
 use Rattle.std.specs.List.{flat_map}
 use Rattle.desk_terms.specs.declared.faults.StoreFault.{StoreFault}
-use Rattle.series_rules.specs.Content.{SameContent}
-use Rattle.series_rules.specs.Leaves.{LeavesOnly}
-use Rattle.series_rules.specs.declared.requests.Request.{Request}
 use Rattle.price_rules.specs.declared.precedence.Rule.{Rule}
-use Rattle.desk_http.specs.Exchange.{Exchanges, Served, Unsent}
+use Rattle.series_rules.specs.Content.{SameContent}
+use Rattle.series_rules.specs.declared.requests.Request.{Request}
+use Rattle.desk_http.specs.Exchange.{AreReplied, Served, Unsent}
 use Rattle.desk_http.specs.Reply.{Reply}
 use Rattle.desk_http.specs.declared.exchange.HttpFault.{HttpFault}
 use Rattle.desk_http.specs.declared.exchange.HttpFault.TheVariants as fault
@@ -45,12 +44,6 @@ AtMostMore count L stands = (more : List Request) × (length more ≤ count) × 
 abbrev pub LeavesAtMostMore : ℕ → List Request → (List Request → Type 0) → Type 0
 LeavesAtMostMore count L left = (M : List Request) → left M → (more : List Request) × (length more ≤ count) × SameContent M (more ++ L)
 
--- connections were replied to one after the other, by a desk that stood for L at first, and none of these replies is of a fault of the store. Kept: L with each request that was answered
-pub data AreReplied (rules : List Rule) (L : List Request) : List Reply → List Request → Type 0 where
-  none : AreReplied rules L [] L
-  further : {replies : List Reply} {kept after : List Request} {wanted : _} {reply : Reply}
-      → AreReplied rules L replies kept → Exchanges rules (λ f. ⊥) kept wanted reply after → AreReplied rules L (replies ++ reply ∷ []) after
-
 -- these connections begin with one of a fault of the store, or that had no whole reply
 abbrev pub BeginInDoubt : List (Result ℕ HttpFault) → Type 0
 BeginInDoubt [] = ⊤
@@ -71,15 +64,3 @@ pub record KeepsReplied (rules : List Rule) (L : List Request) (outcomes : List 
 -- the line that says which port is listened at
 abbrev pub listening_line : ℕ → List ℕ
 listening_line port = codes "listening " ++ decimal port ++ 10 ∷ []
-
--- how so many connections can end: these are the outcomes of those that were served; at most one request of each has had an effect, also in whatever a crash leaves, and what was answered is kept
-abbrev pub ConnectionsEnd : Course → ℕ → List (Result ℕ HttpFault) → Type 0
-ConnectionsEnd c count outcomes =
-    (length outcomes ≤ count) × ((L : List Request) → c.stood L → c.sound → AtMostMore count L c.stands
-        × (LeavesOnly c.was L → LeavesAtMostMore count L c.left × KeepsReplied c.rules L outcomes c.stands c.left))
-
--- How the command can end, of so many connections at that port. With 0 each has its line, behind the one of the port
-abbrev pub ServeEnds : Course → ℕ → ℕ → ℕ → Type 0
-ServeEnds c port count status =
-    (outcomes : List (Result ℕ HttpFault)) × ConnectionsEnd c count outcomes
-    × (status ≡ 0 → (length outcomes ≡ count) × c.written (listening_line port ++ lines_of outcomes))

@@ -3,7 +3,7 @@
 ghost use Rattle.std.specs.Prelude.{◌≤◌};
 ghost use Rattle.std.specs.Io.KnownBytes.{Appends};
 ghost use Rattle.onixdesk.specs.Course.{Course};
-ghost use Rattle.onixdesk.specs.Ends.{BatchEnds};
+ghost use Rattle.onixdesk.specs.TaskEnds.{BatchEnds};
 
 use crate::fault::{Fault, report};
 use desk_batch::{BatchFault, run_batch};

@@ -4,7 +4,8 @@ ghost use Rattle.std.specs.Prelude.{◌≡◌, ◌≤◌, ℕ, List, length, if�
 ghost use Rattle.std.specs.Io.KnownBytes.{Appends};
 ghost use Rattle.csv_records.specs.Streams.{IsTold};
 ghost use Rattle.onixdesk.specs.Course.{Course};
-ghost use Rattle.onixdesk.specs.Deliveries.{DeliverEnds, DeliveryEnds, IsUnasked, ReadFits};
+ghost use Rattle.onixdesk.specs.Deliveries.{DeliveryEnds, IsUnasked, ReadFits};
+ghost use Rattle.onixdesk.specs.TaskEnds.{DeliverEnds};
 
 use crate::fault::{Fault, report, report_file};
 use csv_records::reading::{LIMIT, RecordFault, read_records};

@@ -4,7 +4,8 @@ ghost use Rattle.std.specs.Prelude.{◌≤◌};
 ghost use Rattle.std.specs.Io.KnownBytes.{Appends};
 ghost use Rattle.onix_terms.specs.SeriesName.{series_name_of};
 ghost use Rattle.onixdesk.specs.Course.{Course};
-ghost use Rattle.onixdesk.specs.GapsEnd.{GapsEnds, QuestionEnds, UnknownFits};
+ghost use Rattle.onixdesk.specs.GapsEnd.{QuestionEnds, UnknownFits};
+ghost use Rattle.onixdesk.specs.TaskEnds.{GapsEnds};
 
 use crate::fault::{Fault, report};
 use csv_records::streams::{WriteFault, write_whole};

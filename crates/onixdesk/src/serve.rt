@@ -7,7 +7,8 @@ ghost use Rattle.desk_http.specs.declared.exchange.HttpFault.{HttpFault};
 ghost use Rattle.series_rules.specs.Faults.{IsFaultOf};
 ghost use Rattle.series_rules.specs.declared.requests.Request.{Request};
 ghost use Rattle.onixdesk.specs.Course.{Course};
-ghost use Rattle.onixdesk.specs.Serving.{ConnectionsEnd, ExchangeEnds, ServeEnds, line_of, lines_of, listening_line};
+ghost use Rattle.onixdesk.specs.Serving.{ExchangeEnds, line_of, lines_of, listening_line};
+ghost use Rattle.onixdesk.specs.TaskEnds.{ConnectionsEnd, ServeEnds};
 
 use crate::connection::{print_line, serve_connection};
 use crate::fault::{Fault, report};

@@ -1,8 +1,7 @@
 use Rattle.std.proofs.Common.{length, subst, sym}
 use Rattle.std.specs.Io.KnownBytes.{Appends}
 use Rattle.onixdesk.specs.Course.{Course}
-use Rattle.onixdesk.specs.Deliveries.{DeliverEnds}
-use Rattle.onixdesk.specs.TaskEnds.{TaskEnds}
+use Rattle.onixdesk.specs.TaskEnds.{DeliverEnds, TaskEnds}
 use Rattle.onixdesk.proofs.program.run_task.Goals as goal
 
 pub returns-in-Deliver-clause-end : goal.returns-in-Deliver-clause-end

@@ -15,7 +15,7 @@ from onix_to_csv.inputs import STANDARD_INPUT, Input, stem
 from onix_to_csv.outputs import Folder, StandardOutput
 from onix_to_csv.progress import Progress
 from onix_to_csv.reading import OLDEST_EXPAT
-from onix_to_csv.terms import CODE, NUMBER, RULES
+from onix_to_csv.terms import CODE, NUMBER
 
 PROGRAM = "onix-to-csv"
 
@@ -31,21 +31,21 @@ cannot be read or written. docs/ONIX.md says what is read, left out and refused.
 
 
 def number(word: str) -> int:
-    if not RULES[NUMBER](word):
-        raise argparse.ArgumentTypeError(f"{word} is not {NUMBER}")
+    if not NUMBER.keeps(word):
+        raise argparse.ArgumentTypeError(f"{word} is not {NUMBER.words}")
     return int(word)
 
 
 def code(word: str) -> str:
-    if not RULES[CODE](word):
-        raise argparse.ArgumentTypeError(f"{word} is not {CODE}")
+    if not CODE.keeps(word):
+        raise argparse.ArgumentTypeError(f"{word} is not {CODE.words}")
     return word
 
 
 def identifier(word: str) -> tuple[str, str]:
     found = re.fullmatch("([0-9]{2}),(.+)", word)
     if not found:
-        raise argparse.ArgumentTypeError(f"{word} is not TYPE,VALUE with a TYPE of {CODE}")
+        raise argparse.ArgumentTypeError(f"{word} is not TYPE,VALUE with a TYPE of {CODE.words}")
     return found[1], found[2]
 
 

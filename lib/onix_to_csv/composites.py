@@ -26,55 +26,61 @@ class Composites:
 
     def __init__(self, closers: dict[str, Callable[[Values], Any]]):
         self.closers = closers
-        # Of each composite that is open: its name, what may stand beside it, the Values around it, and
-        # how many items are free but for those that it holds.
-        self.around: list[tuple[str, dict[str, Word], Values | None, int]] = []
+        # Of each composite that is open: the one around it with its Values, and how many items are free
+        # but for those that it holds.
+        self.around: list[tuple[Word, Values | None, int]] = []
         self.values: Values | None = None
         # The Header or Product, and what is free of its bounds.
         self.top: Values | None = None
         self.items = self.characters = 0
 
-    def open(self, word: Word, siblings: dict[str, Word], line: int) -> bool:
+    def open(self, word: Word, around: Word, line: int) -> bool:
         """Opens a composite that begins at that line, unless it does not count."""
+        parent = self.values
         values = Values()
         values.line = line
-        if not self.around:
+        if parent is None:
             self.top, self.items, self.characters = values, ITEMS, CHARACTERS
         elif self.items == 0:
             self.top[TOO_LARGE] = True
             return False
         elif word.is_repeatable:
-            self.values.setdefault(word.name, []).append(values)
-        elif self.values.setdefault(word.name, values) is not values:
+            if word.name in parent:
+                parent[word.name].append(values)
+            else:
+                parent[word.name] = [values]
+        elif parent.setdefault(word.name, values) is not values:
             return False
         self.items -= 1
-        self.around.append((word.name, siblings, self.values, self.items))
+        self.around.append((around, parent, self.items))
         self.values = values
         return True
 
-    def close(self) -> dict[str, Word]:
-        """Closes the composite that is open, and gives what may stand beside it."""
-        name, siblings, parent, items = self.around.pop()
-        closer = self.closers.get(name)
+    def close(self, word: Word) -> Word:
+        """Closes the composite that is open, and gives the one around it."""
+        around, parent, items = self.around.pop()
+        closer = self.closers.get(word.name)
         if closer:
             closed = closer(self.values)
             self.items = items
             if parent is not None:
-                parent[name][-1] = closed
+                parent[word.name][-1] = closed
         self.values = parent
-        return siblings
+        return around
 
     def keep(self, name: str, text: str) -> bool:
         """Keeps a text of the composite that is open, where it is the first of that name and there is room
         for it. Whether it is kept."""
-        if name in self.values:
+        values = self.values
+        if name in values:
             return False
-        text = text[:KEPT]
+        if len(text) > KEPT:
+            text = text[:KEPT]
         self.items -= 1
         self.characters -= len(text)
         if self.items < 0 or self.characters < 0:
             self.items = max(self.items, 0)
             self.top[TOO_LARGE] = True
             return False
-        self.values[name] = text
+        values[name] = text
         return True

@@ -10,10 +10,10 @@ from onix_to_csv.headers import Choices, Header, read_header
 from onix_to_csv.inputs import Input
 from onix_to_csv.notes import LeftOut, Notes
 from onix_to_csv.parts import Parts
-from onix_to_csv.prices import JudgedPrice, judge_price
-from onix_to_csv.products import product_records
+from onix_to_csv.prices import Unwritten, judge_price
+from onix_to_csv.products import product_lines
 from onix_to_csv.reading import MessageReader
-from onix_to_csv.supplies import JudgedDetail, judge_detail
+from onix_to_csv.supplies import DetailLines, judge_detail
 
 
 class Conversion:
@@ -46,19 +46,20 @@ class Conversion:
             self.header = read_header(values, self.choices)
             self.parts = Parts(self.header, self.choices.parts, self.open_part)
 
-    def on_price(self, price: Values) -> JudgedPrice:
-        self.begin(None)
+    def on_price(self, price: Values) -> bytes | Unwritten:
+        if self.header is None:
+            self.begin(None)
         return judge_price(price, self.header)
 
-    def on_detail(self, detail: Values) -> JudgedDetail:
+    def on_detail(self, detail: Values) -> DetailLines | Wrong:
         return judge_detail(detail, self.choices.id_type)
 
     def on_product(self, product: Values):
         self.begin(None)
         reference = product.get("RecordReference", "no RecordReference")
         try:
-            records, missing = product_records(product)
-            self.parts.add(records, product.line)
+            lines, missing = product_lines(product)
+            self.parts.add(lines, product.line)
         except Wrong as wrong:
             if not self.choices.leaves_out_wrong:
                 raise Refusal(wrong.line, f"{shown(reference)}: {wrong.why}") from None

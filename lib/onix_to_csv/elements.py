@@ -26,13 +26,18 @@ class Values(dict):
     line: int
 
 
-class Word(NamedTuple):
-    """An Element as a feed writes it: its children by the names that the parser gives them."""
+class Word:
+    """An Element as a feed writes it: its children, of which a text has none, by the names that the parser
+    gives them."""
 
-    name: str
-    children: dict[str, "Word"] | None
-    is_repeatable: bool
-    attribute: str | None
+    __slots__ = ("name", "children", "is_text", "is_repeatable", "attribute")
+
+    def __init__(self, element: Element, children: dict[str, "Word"]):
+        self.name = element.name
+        self.children = children
+        self.is_text = not element.is_composite
+        self.is_repeatable = element.is_repeatable
+        self.attribute = element.attribute
 
 
 def text(name: str, short_tag: str, attribute: str | None = None) -> Element:
@@ -116,21 +121,19 @@ PRODUCT = repeatable(
 MESSAGE = composite("ONIXMessage", HEADER, PRODUCT, short_tag="ONIXmessage")
 
 
-def vocabulary(root: str, prefix: str) -> dict[str, Word] | None:
-    """The children of the root of that name, written in its kind of names behind `prefix`; None where
-    no ONIX message has such a root."""
+def vocabulary(root: str, prefix: str) -> Word | None:
+    """The root of that name, with all below it written in its kind of names behind `prefix`; None where no
+    ONIX message has such a root."""
     if root not in (MESSAGE.name, MESSAGE.short_tag):
         return None
-    return words(MESSAGE.children, root == MESSAGE.short_tag, prefix)
+    return word(MESSAGE, root == MESSAGE.short_tag, prefix)
 
 
-def words(elements: tuple[Element, ...], is_short: bool, prefix: str) -> dict[str, Word]:
-    return {
-        prefix + (element.short_tag if is_short else element.name): Word(
-            element.name,
-            words(element.children, is_short, prefix) if element.is_composite else None,
-            element.is_repeatable,
-            element.attribute,
-        )
-        for element in elements
-    }
+def word(element: Element, is_short: bool, prefix: str) -> Word:
+    return Word(
+        element,
+        {
+            prefix + (child.short_tag if is_short else child.name): word(child, is_short, prefix)
+            for child in element.children
+        },
+    )

@@ -5,7 +5,7 @@ from typing import NamedTuple
 from onix_to_csv.composites import TOO_LARGE
 from onix_to_csv.elements import Values
 from onix_to_csv.faults import Refusal, Wrong
-from onix_to_csv.identifiers import GLN, party
+from onix_to_csv.identifiers import ADDRESSEE, GLN, SENDER, party
 from onix_to_csv.terms import CODE, CURRENCY, NUMBER, REPEAT, field, optional_term, term
 
 FORM = "2"
@@ -54,16 +54,14 @@ def read_header(values: Values | None, choices: Choices) -> Header:
 
 def header_of(values: Values, choices: Choices) -> Header:
     line = values.line
-    sender = party(values.get("Sender"), "Sender", choices.id_type)
+    sender = party(values.get("Sender"), SENDER, choices.id_type)
     if sender == ["", ""]:
         raise Refusal(line, "no sender identifier")
-    addressee = party(addressee_of(values, choices), "Addressee", choices.id_type)
-    default_type = optional_term(CODE, values.get("DefaultPriceType"), "DefaultPriceType", line)
-    default_currency = optional_term(
-        CURRENCY, values.get("DefaultCurrencyCode"), "DefaultCurrencyCode", line
-    )
+    addressee = party(addressee_of(values, choices), ADDRESSEE, choices.id_type)
+    default_type = optional_term(CODE, values, "DefaultPriceType")
+    default_currency = optional_term(CURRENCY, values, "DefaultCurrencyCode")
     behind = [
-        optional_term(REPEAT, values.get("MessageRepeat"), "MessageRepeat", line),
+        optional_term(REPEAT, values, "MessageRepeat"),
         field(values.get("SentDateTime", ""), "SentDateTime", line),
         default_type,
         default_currency,
@@ -78,7 +76,7 @@ def first_number(values: Values, choices: Choices) -> int:
     if number is None:
         if "MessageNumber" not in values:
             raise Refusal(values.line, "no MessageNumber; --number gives one")
-        number = int(term(NUMBER, values["MessageNumber"], "MessageNumber", values.line))
+        number = int(term(NUMBER, values, "MessageNumber"))
     if number * choices.parts > MOST_NUMBER:
         raise Refusal(
             values.line,
@@ -99,8 +97,8 @@ def addressee_of(values: Values, choices: Choices) -> Values | None:
             values.line, f"{len(addressees)} addressees; --addressee TYPE,VALUE picks one"
         )
     for addressee in addressees:
-        for identifier in addressee.get("AddresseeIdentifier", []):
-            if (identifier.get("AddresseeIDType"), identifier.get("IDValue")) == choices.addressee:
+        for identifier in addressee.get(ADDRESSEE.name, []):
+            if (identifier.get(ADDRESSEE.id_type), identifier.get("IDValue")) == choices.addressee:
                 return addressee
     raise Refusal(
         values.line,

@@ -6,23 +6,42 @@ from onix_to_csv.terms import CODE, needed, term
 GLN = "06"
 
 
-def chosen(identifiers: list[Values], type_name: str, preferred: str) -> Values:
+class Identifier:
+    """The names of an identifier, of its type and, where it is wrong, of its value."""
+
+    __slots__ = ("name", "id_type", "value")
+
+    def __init__(self, owner: str):
+        self.name = f"{owner}Identifier"
+        self.id_type = f"{owner}IDType"
+        self.value = f"IDValue of {self.name}"
+
+
+SENDER = Identifier("Sender")
+ADDRESSEE = Identifier("Addressee")
+SUPPLIER = Identifier("Supplier")
+PRODUCT = Identifier("Product")
+
+
+def chosen(identifiers: list[Values], kind: Identifier, preferred: str) -> Values:
     """The first of the identifiers that has the preferred type, else the first of them."""
-    of_type = (each for each in identifiers if each.get(type_name) == preferred)
-    return next(of_type, identifiers[0])
+    for identifier in identifiers:
+        if identifier.get(kind.id_type) == preferred:
+            return identifier
+    return identifiers[0]
 
 
-def pair(identifier: Values, type_name: str, name: str) -> list[str]:
+def pair(identifier: Values, kind: Identifier) -> list[str]:
     """The type and the value of an identifier; Wrong where one is absent or none."""
-    id_type = term(CODE, identifier.get(type_name), type_name, identifier.line)
-    return [id_type, needed(identifier.get("IDValue"), f"IDValue of {name}", identifier.line)]
+    return [
+        term(CODE, identifier, kind.id_type),
+        needed(identifier.get("IDValue"), kind.value, identifier.line),
+    ]
 
 
-def party(parent: Values | None, name: str, preferred: str) -> list[str]:
-    """Type and value of the identifier that is chosen of the composite of that name, two empty fields
-    where it has none; Wrong where it is malformed."""
-    identifiers = parent.get(f"{name}Identifier") if parent else None
-    if not identifiers:
+def party(parent: Values | None, kind: Identifier, preferred: str) -> list[str]:
+    """Type and value of the identifier that is chosen of the composite, two empty fields where it has none;
+    Wrong where it is malformed."""
+    if not parent or kind.name not in parent:
         return ["", ""]
-    type_name = f"{name}IDType"
-    return pair(chosen(identifiers, type_name, preferred), type_name, f"{name}Identifier")
+    return pair(chosen(parent[kind.name], kind, preferred), kind)

@@ -1,27 +1,16 @@
 """A message as one or more parts, each a message of its own that the desk takes."""
 
-import csv
 from collections.abc import Callable
 from typing import BinaryIO
 
 from onix_to_csv.faults import Refusal
 from onix_to_csv.headers import Header
-from onix_to_csv.terms import MOST_BYTES, MOST_RECORDS, Record, too_large
-
-
-class Lines:
-    """What a CSV writer writes to: it gives back each line as its bytes."""
-
-    def write(self, line: str) -> bytes:
-        return line.encode()
-
-
-# Of a record its line. Fields are quoted only where they must be.
-line_of: Callable[[Record], bytes] = csv.writer(Lines(), lineterminator="\n").writerow
+from onix_to_csv.lines import line_of
+from onix_to_csv.terms import MOST_BYTES, MOST_RECORDS, too_large
 
 
 def end_line(records: int) -> bytes:
-    return line_of(["EndMessage", str(records)])
+    return f"EndMessage,{records}\n".encode()
 
 
 class Parts:
@@ -63,21 +52,21 @@ class Parts:
             and opening_size + size + len(end_line(records)) <= MOST_BYTES
         )
 
-    def add(self, records: list[Record], line: int):
-        """Writes the records of the product that begins at that line; Wrong where no message has room
-        for them."""
-        data = lines(records, line)
-        if not self.fits(len(records), len(data), self.records, self.bytes):
+    def add(self, lines: list[bytes], at: int):
+        """Writes the lines of the product that begins at that line of the file; Wrong where no message has
+        room for them."""
+        records, size = len(lines), sum(map(len, lines))
+        if not self.fits(records, size, self.records, self.bytes):
             opening = line_of(self.header.record(self.begun))
-            if self.records == 1 or not self.fits(len(records), len(data), 1, len(opening)):
-                raise too_large(line)
+            if self.records == 1 or not self.fits(records, size, 1, len(opening)):
+                raise too_large(at)
             self.end()
             self.begin()
             if self.stream is None and self.beyond is None:
-                self.beyond = line
-        self.write(data)
-        self.records += len(records)
-        self.bytes += len(data)
+                self.beyond = at
+        self.write(b"".join(lines))
+        self.records += records
+        self.bytes += size
 
     def finish(self):
         """Ends the message, and writes the parts that are left over; Refusal where it needs more."""
@@ -90,14 +79,3 @@ class Parts:
         while self.begun < self.count:
             self.begin()
             self.end()
-
-
-def lines(records: list[Record], line: int) -> bytes:
-    """The lines of a product's records; Wrong where they are more than a message may have."""
-    data = bytearray()
-    for record in records:
-        data += line_of(record)
-        if len(data) > MOST_BYTES:
-            raise too_large(line)
-    return bytes(data)
-

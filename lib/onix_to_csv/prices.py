@@ -1,4 +1,4 @@
-"""The record of a Price, or why it has none."""
+"""The line of a Price, or why it has none."""
 
 import re
 from typing import NamedTuple
@@ -6,18 +6,10 @@ from typing import NamedTuple
 from onix_to_csv.elements import Values
 from onix_to_csv.faults import Wrong, shown
 from onix_to_csv.headers import Header
+from onix_to_csv.lines import Record, line_of
 from onix_to_csv.notes import LeftOut
 from onix_to_csv.territories import region_fault, territory_fields
-from onix_to_csv.terms import (
-    AMOUNT,
-    CODE,
-    CURRENCY,
-    DAY,
-    QUANTITY,
-    Record,
-    optional_term,
-    term,
-)
+from onix_to_csv.terms import AMOUNT, CODE, CURRENCY, DAY, QUANTITY, Rule, kept, term
 
 # What a price is without the element.
 USUAL = "00"
@@ -28,31 +20,47 @@ FORMATS = {FROM: ONE_DAY, UNTIL: ONE_DAY, FROM_UNTIL: TWO_DAYS}
 
 HAS_MORE_DECIMALS = re.compile("[0-9]+[.][0-9]{4,}").fullmatch
 
+# The elements, beside its amount, for which a price may be left out. Most prices have none of them.
+TELLING = frozenset(
+    {
+        "PriceQualifier",
+        "PricePer",
+        "PriceCondition",
+        "PriceConstraint",
+        "PriceCoded",
+        "CurrencyZone",
+        "Territory",
+        "PriceDate",
+    }
+)
 
-class JudgedPrice(NamedTuple):
-    """What comes of a Price: its record, or why it is left out, or why it makes its product wrong, or
+
+class Unwritten(NamedTuple):
+    """What comes of a Price that has no line: why it is left out, or why it makes its product wrong, or
     none of these; and the UnpricedItemType of one without an amount."""
 
-    record: Record | None = None
     left_out: LeftOut | None = None
     wrong: Wrong | None = None
     unpriced: str | None = None
 
 
-def judge_price(price: Values, header: Header) -> JudgedPrice:
+def judge_price(price: Values, header: Header) -> bytes | Unwritten:
+    """The line of a Price, or what comes of it in place of one."""
     unpriced = None if "PriceAmount" in price else price.get("UnpricedItemType")
     if "PriceAmount" not in price and "PriceCoded" not in price:
-        return JudgedPrice(unpriced=unpriced)
+        return Unwritten(unpriced=unpriced)
     if why := left_out(price):
-        return JudgedPrice(left_out=LeftOut(price.line, "Price", why), unpriced=unpriced)
+        return Unwritten(left_out=LeftOut(price.line, "Price", why), unpriced=unpriced)
     try:
-        return JudgedPrice(record=price_record(price, header))
+        return line_of(price_record(price, header))
     except Wrong as wrong:
-        return JudgedPrice(wrong=wrong)
+        return Unwritten(wrong=wrong)
 
 
 def left_out(price: Values) -> str | None:
     """Why a Price is left out, in the order in which its elements stand in ONIX; None where it is not."""
+    if TELLING.isdisjoint(price):
+        return decimals_fault(price)
     return (
         unusual(price, "PriceQualifier")
         or unusual(price, "PricePer")
@@ -85,6 +93,8 @@ def unusual_below(price: Values, name: str) -> str | None:
 
 def decimals_fault(price: Values) -> str | None:
     amount = price.get("PriceAmount", "")
+    if AMOUNT.keeps(amount):
+        return None
     return f"PriceAmount {shown(amount)} has more than 3 decimals" if HAS_MORE_DECIMALS(amount) else None
 
 
@@ -102,9 +112,11 @@ def date_fault(price: Values) -> str | None:
 
 def days(price: Values) -> list[str]:
     """The first and the last day, each empty where there is none; Wrong where a date says none."""
+    if "PriceDate" not in price:
+        return ["", ""]
     first: list[str] = []
     last: list[str] = []
-    for price_date in price.get("PriceDate", []):
+    for price_date in price["PriceDate"]:
         role = price_date.get("PriceDateRole")
         if role not in FORMATS:
             continue
@@ -117,26 +129,28 @@ def days(price: Values) -> list[str]:
             first.append(date[:8] if role == FROM_UNTIL else date)
         if role != FROM:
             last.append(date[8:] if role == FROM_UNTIL else date)
-    return [optional_term(DAY, each[0] if each else "", "Date", price.line) for each in (first, last)]
+    return [kept(DAY, dates[0], "Date", price.line) if dates else "" for dates in (first, last)]
 
 
 def price_record(price: Values, header: Header) -> Record:
     """The record of a Price that is not left out; Wrong where the desk would call it malformed."""
-    line = price.line
     record = [
         "Price",
         or_default(CODE, price, "PriceType", header.has_type),
-        term(AMOUNT, price.get("PriceAmount"), "PriceAmount", line),
+        term(AMOUNT, price, "PriceAmount"),
         or_default(CURRENCY, price, "CurrencyCode", header.has_currency),
         *territory_fields(price.get("Territory")),
         *days(price),
     ]
     if "MinimumOrderQuantity" in price:
-        record.append(term(QUANTITY, price["MinimumOrderQuantity"], "MinimumOrderQuantity", line))
+        record.append(term(QUANTITY, price, "MinimumOrderQuantity"))
     return record
 
 
-def or_default(rule: str, price: Values, name: str, has_default: bool) -> str:
-    if not has_default and name not in price:
+def or_default(rule: Rule, price: Values, name: str, has_default: bool) -> str:
+    text = price.get(name, "")
+    if rule.keeps(text) or not text and has_default:
+        return text
+    if not text:
         raise Wrong(price.line, f"no {name}, and no default in the Header")
-    return optional_term(rule, price.get(name), name, price.line)
+    return kept(rule, text, name, price.line)

@@ -63,10 +63,6 @@ DECLARED_WITHIN = 512
 
 StartHandler = Callable[[str, dict[str, str]], None]
 
-# What counts within a text.
-NOTHING: dict[str, Word] = {}
-
-
 def normalized(text: str) -> str:
     """The text with each run of white space made one space, and none at the ends."""
     if text.isascii():
@@ -93,11 +89,10 @@ class MessageReader:
 
     def __init__(self, composites: Composites):
         self.composites = composites
-        # What may stand where the reading is.
-        self.children: dict[str, Word] = {}
-        # The text that is open, and what may stand beside it.
-        self.text: Word | None = None
-        self.siblings = self.children
+        # The composite or text that is open; of a text also the composite around it, its attributes and
+        # what was read of it.
+        self.word: Word | None = None
+        self.outer: Word | None = None
         self.attributes: dict[str, str] = {}
         self.pieces: list[str] = []
         # How many elements are open from the one on that is passed over.
@@ -159,10 +154,10 @@ class MessageReader:
         names = list(filter(None, self.parser.intern))
         if len(names) > NAMES or sum(map(len, names)) > NAME_CHARACTERS:
             self.refuse("too many or too long names of elements, attributes and prefixes")
-        if self.text:
+        if self.word and self.word.is_text:
             self.pieces[:] = ["".join(self.pieces)]
             if len(self.pieces[0]) > STRETCH:
-                self.refuse(f"{self.text.name} has more than {STRETCH} characters")
+                self.refuse(f"{self.word.name} has more than {STRETCH} characters")
 
     # The prolog, and entities.
 
@@ -207,14 +202,13 @@ class MessageReader:
 
     def on_root(self, name: str, attributes: dict[str, str]):
         namespace, separator, local_name = name.rpartition(SEPARATOR)
-        children = vocabulary(local_name, namespace + separator)
-        if children is None:
+        self.word = vocabulary(local_name, namespace + separator)
+        if self.word is None:
             self.refuse(f"root {shown(local_name)} is neither ONIXMessage nor ONIXmessage")
         release = attributes.get("release")
         if release not in RELEASES:
             found = "no release" if release is None else f"release {shown(release)}"
             self.refuse(f"{found}, not {' or '.join(RELEASES)}")
-        self.children = children
         self.listen(self.start, self.end)
 
     def listen(self, start: StartHandler, end: Callable[[str], None]):
@@ -229,41 +223,41 @@ class MessageReader:
         self.present_start(name, attributes)
 
     def on_start(self, name: str, attributes: dict[str, str]):
-        word = self.children.get(name)
+        word = self.word.children.get(name)
         if word is None:
             self.pass_over()
-        elif word.children is None:
-            self.text = word
+        elif word.is_text:
+            self.outer, self.word = self.word, word
             self.attributes = attributes
-            self.siblings, self.children = self.children, NOTHING
             self.parser.CharacterDataHandler = self.add_piece
-        elif self.composites.open(word, self.children, self.parser.CurrentLineNumber):
-            self.children = word.children
+        elif self.composites.open(word, self.word, self.parser.CurrentLineNumber):
+            self.word = word
         else:
             self.pass_over()
 
     def on_end(self, _name: str):
-        if self.text:
-            self.close_text()
+        word = self.word
+        if word.is_text:
+            self.parser.CharacterDataHandler = None
+            self.word = self.outer
+            text = "".join(self.pieces)
+            self.pieces.clear()
+            if not text.isalnum():
+                text = normalized(text)
+            if text and self.composites.keep(word.name, text) and word.attribute:
+                self.keep_attribute(word.attribute)
         elif self.composites.around:
-            self.children = self.composites.close()
+            self.word = self.composites.close(word)
 
-    def close_text(self):
-        self.parser.CharacterDataHandler = None
-        self.children = self.siblings
-        word, self.text = self.text, None
-        text = "".join(self.pieces)
-        self.pieces.clear()
-        if not text.isalnum():
-            text = normalized(text)
-        if text and self.composites.keep(word.name, text) and word.attribute in self.attributes:
-            self.composites.keep(word.attribute, normalized(self.attributes[word.attribute]))
+    def keep_attribute(self, name: str):
+        if name in self.attributes:
+            self.composites.keep(name, normalized(self.attributes[name]))
 
     # Elements that are passed over, with all below them.
 
     def pass_over(self):
         self.depth = 1
-        if self.text:
+        if self.word.is_text:
             self.parser.CharacterDataHandler = None
         self.listen(self.start_below, self.end_below)
 
@@ -277,7 +271,7 @@ class MessageReader:
         if self.depth == 0:
             self.stretch = 0
             self.listen(self.start, self.end)
-            if self.text:
+            if self.word.is_text:
                 self.parser.CharacterDataHandler = self.add_piece
 
 

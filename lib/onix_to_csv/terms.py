@@ -2,12 +2,12 @@
 these rules is malformed, and the desk would refuse the whole message."""
 
 import re
+from collections.abc import Callable
 from datetime import date
 from functools import lru_cache
 
+from onix_to_csv.elements import Values
 from onix_to_csv.faults import Wrong, shown
-
-Record = list[str]
 
 FIELD_BYTES = 1_024
 
@@ -18,23 +18,15 @@ MOST_BYTES = 4_194_304
 # Of the characters that no field has these are in XML.
 CONTROL = "\x7f"
 
-IS_CODE = re.compile("[0-9]{2}").fullmatch
-IS_CURRENCY = re.compile("[A-Z]{3}").fullmatch
+# Few currencies, countries, amounts and days make up most of a feed.
+known = lru_cache(256)
+
 IS_COUNTRIES = re.compile("[A-Z]{2}( [A-Z]{2})*").fullmatch
-IS_NUMBER = re.compile("(?=.*[1-9])[0-9]{1,9}").fullmatch
-IS_REPEAT = re.compile("[0-9]{1,9}").fullmatch
-IS_QUANTITY = re.compile("(?=.*[1-9])[0-9]{1,6}").fullmatch
-IS_AMOUNT = re.compile("[0-9]{1,9}([.][0-9]{1,3})?").fullmatch
 IS_DAY = re.compile("[0-9]{8}").fullmatch
 
-CODE = "two digits"
-COUNTRIES = "countries of two capital letters"
-CURRENCY = "three capital letters"
-NUMBER = "a number of 1 to 9 digits, not all zero"
-REPEAT = "1 to 9 digits"
-QUANTITY = "1 to 6 digits, not all zero"
-AMOUNT = "1 to 9 digits, and at most 3 behind a point"
-DAY = "a day YYYYMMDD"
+
+def is_countries(text: str) -> bool:
+    return len(text) <= FIELD_BYTES and IS_COUNTRIES(text) is not None
 
 
 def is_day(text: str) -> bool:
@@ -47,16 +39,29 @@ def is_day(text: str) -> bool:
     return True
 
 
-RULES = {
-    CODE: IS_CODE,
-    COUNTRIES: IS_COUNTRIES,
-    CURRENCY: IS_CURRENCY,
-    NUMBER: IS_NUMBER,
-    REPEAT: IS_REPEAT,
-    QUANTITY: IS_QUANTITY,
-    AMOUNT: IS_AMOUNT,
-    DAY: is_day,
-}
+class Rule:
+    """What a field may have, in words, and whether a text keeps to it."""
+
+    __slots__ = ("words", "keeps")
+
+    def __init__(self, words: str, keeps: Callable[[str], object]):
+        self.words = words
+        self.keeps = keeps
+
+
+def pattern(words: str, expression: str) -> Rule:
+    matches = re.compile(expression).fullmatch
+    return Rule(words, known(lambda text: matches(text) is not None))
+
+
+CODE = Rule("two digits", {f"{code:02}" for code in range(100)}.__contains__)
+COUNTRIES = Rule("countries of two capital letters", known(is_countries))
+CURRENCY = pattern("three capital letters", "[A-Z]{3}")
+NUMBER = pattern("a number of 1 to 9 digits, not all zero", "(?=.*[1-9])[0-9]{1,9}")
+REPEAT = pattern("1 to 9 digits", "[0-9]{1,9}")
+QUANTITY = pattern("1 to 6 digits, not all zero", "(?=.*[1-9])[0-9]{1,6}")
+AMOUNT = pattern("1 to 9 digits, and at most 3 behind a point", "[0-9]{1,9}([.][0-9]{1,3})?")
+DAY = Rule("a day YYYYMMDD", known(is_day))
 
 
 def field(text: str, name: str, line: int) -> str:
@@ -76,23 +81,24 @@ def needed(text: str | None, name: str, line: int) -> str:
     return field(text, name, line)
 
 
-@lru_cache
-def keeps(rule: str, text: str) -> bool:
-    """Whether a field of that rule may have the text. Few texts make up most of a feed's codes."""
-    return len(text) <= FIELD_BYTES and bool(RULES[rule](text))
-
-
-def term(rule: str, text: str | None, name: str, line: int) -> str:
-    """The text, which keeps that rule; Wrong where it is absent or does not."""
-    if not (text and keeps(rule, text)):
+def kept(rule: Rule, text: str, name: str, line: int) -> str:
+    """The text, which keeps to that rule; Wrong where it does not."""
+    if not rule.keeps(text):
         needed(text, name, line)
-        raise Wrong(line, f"{name} {shown(text)} is not {rule}")
+        raise Wrong(line, f"{name} {shown(text)} is not {rule.words}")
     return text
 
 
-def optional_term(rule: str, text: str | None, name: str, line: int) -> str:
-    """The text, which keeps that rule, or the empty text where it is absent; Wrong where it does not."""
-    return term(rule, text, name, line) if text else ""
+def term(rule: Rule, values: Values, name: str) -> str:
+    """The text of that name, which keeps to that rule; Wrong where it is absent or does not."""
+    text = values.get(name, "")
+    return text if rule.keeps(text) else kept(rule, text, name, values.line)
+
+
+def optional_term(rule: Rule, values: Values, name: str) -> str:
+    """The text of that name, which keeps to that rule, or the empty text where it is absent; Wrong where
+    it does not."""
+    return term(rule, values, name) if name in values else ""
 
 
 def too_large(line: int) -> Wrong:

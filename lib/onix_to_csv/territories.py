@@ -10,9 +10,11 @@ WORLD = "WORLD"
 def region_fault(parent: Values) -> str | None:
     """Why the territory of a Market or a Price cannot be written: the desk knows no region but the
     world."""
-    territory = parent.get("Territory", {})
+    territory = parent.get("Territory")
+    if territory is None:
+        return None
     regions = territory.get("RegionsIncluded", WORLD)
-    if set(regions.split(" ")) != {WORLD}:
+    if regions != WORLD and set(regions.split(" ")) != {WORLD}:
         return f"RegionsIncluded {shown(regions)}"
     if "RegionsExcluded" in territory:
         return f"RegionsExcluded {shown(territory['RegionsExcluded'])}"
@@ -25,11 +27,7 @@ def territory_fields(territory: Values | None) -> list[str]:
     if territory is None:
         return ["", "", ""]
     return [
-        countries(territory, "CountriesIncluded"),
+        optional_term(COUNTRIES, territory, "CountriesIncluded"),
         WORLD if "RegionsIncluded" in territory else "",
-        countries(territory, "CountriesExcluded"),
+        optional_term(COUNTRIES, territory, "CountriesExcluded"),
     ]
-
-
-def countries(territory: Values, name: str) -> str:
-    return optional_term(COUNTRIES, territory.get(name), name, territory.line)

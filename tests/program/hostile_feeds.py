@@ -138,6 +138,17 @@ LARGE = [
         TOO_LARGE,
     ),
     Case(
+        "identifiers of characters that have four bytes",
+        lambda: repeated(
+            "<Product><RecordReference>R1</RecordReference><NotificationType>03</NotificationType>",
+            "<ProductIdentifier><ProductIDType>15</ProductIDType>"
+            f"<IDValue>{chr(0x1F600) * 256}</IDValue></ProductIdentifier>",
+            16_000,
+            "</Product>",
+        ),
+        TOO_LARGE,
+    ),
+    Case(
         "prices without end",
         lambda: repeated(
             "<Product><RecordReference>R1</RecordReference><ProductSupply><SupplyDetail>",

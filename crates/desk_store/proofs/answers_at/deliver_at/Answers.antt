@@ -22,8 +22,8 @@ returns-in-Some-clause-achieves g c =
     let s = c.args.series.now in
     let n = c.args.number in
     let products : List Product = c.args.contents in
-    let text = c.as_str-in-Some.result.now in
-    let own = sym c.in-Ok.ensures ∙ sym c.as_str-in-Some.ensures.value in
+    let text = c.as_str.result.now in
+    let own = sym c.in-Ok.ensures ∙ sym c.as_str.ensures.value in
     achieves_as (Finds s n) _ old new c.in-Ok-stored_at.stored c.answer_again.result c.in-Ok-stored_at.ensures.achieves
     (λ rows now h m one. delivers_again s c.args.next n products c.in-Some.stored text rows now c.answer_again.result own one.0 (subst (IsStored s n rows) c.in-Some.is one.1) c.answer_again.ensures)
 

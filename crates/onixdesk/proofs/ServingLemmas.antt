@@ -148,6 +148,7 @@ replied_next c may_give L outcomes outcome k sound ends one adds =
     begun_in_doubt : (x : Result ℕ HttpFault) (xs : List (Result ℕ HttpFault)) (o : Result ℕ HttpFault) → BeginInDoubt (x ∷ xs) → BeginInDoubt ((x ∷ xs) ++ o ∷ [])
     begun_in_doubt (Ok status) xs o doubt = doubt
     begun_in_doubt (Err f) xs o doubt = tt
+
     go : (o : Result ℕ HttpFault) (others : List (Result ℕ HttpFault)) → k.others ≡ others → ExchangeEnds c may_give None o → KeepsReplied c.rules L (outcomes ++ o ∷ []) c.stands c.left
     go o (x ∷ xs) is exchanged =
         doubt_next c.rules L outcomes o c.stood c.was c.stands c.left k one adds

@@ -59,9 +59,9 @@ deliveries_begun c stood was L count texts last status (inr s) = inr record {
 
 -- where each list of the one beginning is one of the other, of which a crash left it alone
 pub task_begun : (c : Course) (stood was : List Request → Type 0) (task : Task) (told : Option (List ℕ)) (status : ℕ)
-    → ((L : List Request) → stood L → c.sound → c.stood L × LeavesOnly c.was L)
-    → TaskEnds c task told status → TaskEnds (begun c stood was) task told status
-task_begun c stood was task.Batch told status begins ended = (
+    → TaskEnds c task told status → ((L : List Request) → stood L → c.sound → c.stood L × LeavesOnly c.was L)
+    → TaskEnds (begun c stood was) task told status
+task_begun c stood was task.Batch told status ended begins = (
   ended.0,
   ended.1,
   λ L began sound.
@@ -69,7 +69,7 @@ task_begun c stood was task.Batch told status begins ended = (
       let end = ended.2 L from.0 sound in
       (batch_begun c stood was L ended.0 status end.0, λ only. end.1 from.1),
 )
-task_begun c stood was (task.Deliver names) told status begins ended = (
+task_begun c stood was (task.Deliver names) told status ended begins = (
   ended.0,
   ended.1,
   λ L began sound.
@@ -77,11 +77,11 @@ task_begun c stood was (task.Deliver names) told status begins ended = (
       let end = ended.2 L from.0 sound in
       (deliveries_begun c stood was L (length names.items) ended.0 ended.1 status end.0, λ only. end.1 from.1),
 )
-task_begun c stood was (task.Gaps name) told status begins ended = λ L began sound.
+task_begun c stood was (task.Gaps name) told status ended begins = λ L began sound.
     let from = begins L began sound in
     let end = ended L from.0 sound in
     (end.0, λ only. end.1 from.1)
-task_begun c stood was (task.Serve port requests) told status begins ended = (
+task_begun c stood was (task.Serve port requests) told status ended begins = (
   ended.0,
   (
     ended.1.0,

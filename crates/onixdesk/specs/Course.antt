@@ -3,6 +3,7 @@ use Rattle.std.specs.Prelude.{ℕ, List}
 use Rattle.price_rules.specs.declared.precedence.Rule.{Rule}
 use Rattle.series_rules.specs.declared.requests.Request.{Request}
 
+-- what is said of it: the desk, and what a crash may leave of it, when it began and when it ended, and what it wrote
 pub record Course : Type 1 where
   -- the rules of the precedence table
   pub rules : List Rule

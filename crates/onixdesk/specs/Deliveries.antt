@@ -84,7 +84,7 @@ abbrev pub DeliveriesEnd : Course → List Request → ℕ → List (List ℕ) �
 DeliveriesEnd c L count texts last status =
     (AreDelivered c L count texts status × (last ≡ [])) ⊎ AreStopped c L count texts last status
 
--- whatever a crash leaves has the deliveries of these texts and of the last, whole, whose answers are written, in part or not; after a fault it may have one more, if there is no last
+-- whatever a crash leaves has the deliveries of these texts, whose answers are written, and of the last, whose answer is perhaps written in part, each whole; with 3, where there is no last, perhaps one delivery more
 abbrev pub KeepsDelivered : List Request → List (List ℕ) → List (List ℕ) → ℕ → (List Request → Type 0) → Type 0
 KeepsDelivered L texts last status left =
     let kept = followed_by (followed_by L (deliveries texts)) (deliveries last) in

@@ -19,13 +19,13 @@ use Rattle.onixdesk.specs.declared.command_line.Task.TheVariants as task
 abbrev pub BatchEnds : Course → Option (List ℕ) → ℕ → Type 0
 BatchEnds c told status =
     (text : List ℕ) × IsTold told text × ((L : List Request) → c.stood L → c.sound →
-        Ends c L text status × (LeavesOnly c.was L → KeepsAnswered c.rules L (requests_of text) c.written c.left))
+    Ends c L text status × (LeavesOnly c.was L → KeepsAnswered c.rules L (requests_of text) c.written c.left))
 
 -- how `deliver` can end with this status, of so many files: there are texts, one for each file that was delivered, whose deliveries end so. Where a crash left only what the desk stood for, it leaves the deliveries that were answered
 abbrev pub DeliverEnds : Course → ℕ → ℕ → Type 0
 DeliverEnds c count status =
     (texts last : List (List ℕ)) × ((L : List Request) → c.stood L → c.sound →
-        DeliveriesEnd c L count texts last status × (LeavesOnly c.was L → KeepsDelivered L texts last status c.left))
+    DeliveriesEnd c L count texts last status × (LeavesOnly c.was L → KeepsDelivered L texts last status c.left))
 
 -- how `gaps` can end with this status, of a series of that name. The question adds nothing to what a crash leaves
 abbrev pub GapsEnds : Course → Option (List ℕ) → ℕ → Type 0
@@ -36,7 +36,7 @@ GapsEnds c name status =
 abbrev pub ConnectionsEnd : Course → ℕ → List (Result ℕ HttpFault) → Type 0
 ConnectionsEnd c count outcomes =
     (length outcomes ≤ count) × ((L : List Request) → c.stood L → c.sound →
-        AtMostMore count L c.stands × (LeavesOnly c.was L → LeavesAtMostMore count L c.left × KeepsReplied c.rules L outcomes c.stands c.left))
+    AtMostMore count L c.stands × (LeavesOnly c.was L → LeavesAtMostMore count L c.left × KeepsReplied c.rules L outcomes c.stands c.left))
 
 -- how `serve` can end with this status, of so many connections at that port: with 0 each has its line, behind the one of the port
 abbrev pub ServeEnds : Course → ℕ → ℕ → ℕ → Type 0

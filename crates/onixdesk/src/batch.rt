@@ -41,9 +41,13 @@ pub fn run<D: Desk, R: Read, W: Write, E: Write>(
     // all answers to these are written, but perhaps a part of the last or the whole of it; or none.
     // Whatever is written is of requests that each crash leaves, where one left only what the desk stood for.
     ensures end { BatchEnds (record {
-        rules = precedence.now; written = Appends (W.contents output.old) (W.contents output.new);
-        stood = D.stands_for desk.old; was = D.may_leave desk.old;
-        sound = D.is_sound desk.new; stands = D.stands_for desk.new; left = D.may_leave desk.new;
+      rules = precedence.now;
+      written = Appends (W.contents output.old) (W.contents output.new);
+      stood = D.stands_for desk.old;
+      was = D.may_leave desk.old;
+      sound = D.is_sound desk.new;
+      stands = D.stands_for desk.new;
+      left = D.may_leave desk.new;
     }) (R.remaining input.old) result }
 {
     match run_batch(alloc, desk, precedence, input, output) {

@@ -54,9 +54,13 @@ pub fn serve_connection<D: Desk, R: Read, W: Write, O: Write>(
     ensures crash { (L : List Request) → D.stands_for desk.old L → D.is_sound desk.new → LeavesRequestMore L (D.may_leave desk.old) (D.may_leave desk.new) }
     // There is an outcome of the exchange whose line is written.
     ensures line { (outcome : Result ℕ HttpFault) × ExchangeEnds (record {
-        rules = precedence.now; written = Appends (W.contents writer.old) (W.contents writer.new);
-        stood = D.stands_for desk.old; was = D.may_leave desk.old;
-        sound = D.is_sound desk.new; stands = D.stands_for desk.new; left = D.may_leave desk.new;
+      rules = precedence.now;
+      written = Appends (W.contents writer.old) (W.contents writer.new);
+      stood = D.stands_for desk.old;
+      was = D.may_leave desk.old;
+      sound = D.is_sound desk.new;
+      stands = D.stands_for desk.new;
+      left = D.may_leave desk.new;
     }) (IsFaultOf D.may_give) (R.remaining reader.old) outcome
         × OnOk result (Appends (O.contents output.old) (O.contents output.new) (line_of outcome)) }
 {

@@ -63,9 +63,13 @@ pub fn deliver_one<D: Desk, R: Read, W: Write>(
     ensures premise { D.is_sound desk.new → D.is_sound desk.old }
     // There is a text, that of the reader where it tells its bytes, whose delivery ends as the definitions have it.
     ensures run { (text : List ℕ) × IsTold (R.remaining reader.old) text × DeliveryEnds (record {
-        rules = precedence.now; written = Appends (W.contents writer.old) (W.contents writer.new);
-        stood = D.stands_for desk.old; was = D.may_leave desk.old;
-        sound = D.is_sound desk.new; stands = D.stands_for desk.new; left = D.may_leave desk.new;
+      rules = precedence.now;
+      written = Appends (W.contents writer.old) (W.contents writer.new);
+      stood = D.stands_for desk.old;
+      was = D.may_leave desk.old;
+      sound = D.is_sound desk.new;
+      stands = D.stands_for desk.new;
+      left = D.may_leave desk.new;
     }) text result }
 {
     let request = match read_delivery(alloc, reader) {
@@ -101,9 +105,13 @@ fn deliver_file<D: Desk, W: Write>(
     ensures premise { D.is_sound desk.new → D.is_sound desk.old }
     // Of some text: no clause can say what a file holds.
     ensures run { (text : List ℕ) × DeliveryEnds (record {
-        rules = precedence.now; written = Appends (W.contents writer.old) (W.contents writer.new);
-        stood = D.stands_for desk.old; was = D.may_leave desk.old;
-        sound = D.is_sound desk.new; stands = D.stands_for desk.new; left = D.may_leave desk.new;
+      rules = precedence.now;
+      written = Appends (W.contents writer.old) (W.contents writer.new);
+      stood = D.stands_for desk.old;
+      was = D.may_leave desk.old;
+      sound = D.is_sound desk.new;
+      stands = D.stands_for desk.new;
+      left = D.may_leave desk.new;
     }) text result }
 {
     match File::open(rt, name) {
@@ -123,9 +131,13 @@ fn deliver_named<D: Desk, R: Read, W: Write>(
 ) -> Result<bool, DeliveryFault>
     ensures premise { D.is_sound desk.new → D.is_sound desk.old }
     ensures run { (text : List ℕ) × DeliveryEnds (record {
-        rules = precedence.now; written = Appends (W.contents writer.old) (W.contents writer.new);
-        stood = D.stands_for desk.old; was = D.may_leave desk.old;
-        sound = D.is_sound desk.new; stands = D.stands_for desk.new; left = D.may_leave desk.new;
+      rules = precedence.now;
+      written = Appends (W.contents writer.old) (W.contents writer.new);
+      stood = D.stands_for desk.old;
+      was = D.may_leave desk.old;
+      sound = D.is_sound desk.new;
+      stands = D.stands_for desk.new;
+      left = D.may_leave desk.new;
     }) text result }
 {
     if name == "-" {
@@ -173,9 +185,13 @@ pub fn run<D: Desk, R: Read, W: Write, E: Write>(
     // There are texts, one for each file that was delivered: no clause can say what a file holds.
     // Where a crash left only what the desk stood for, it leaves the deliveries that were answered.
     ensures end { DeliverEnds (record {
-        rules = precedence.now; written = Appends (W.contents output.old) (W.contents output.new);
-        stood = D.stands_for desk.old; was = D.may_leave desk.old;
-        sound = D.is_sound desk.new; stands = D.stands_for desk.new; left = D.may_leave desk.new;
+      rules = precedence.now;
+      written = Appends (W.contents output.old) (W.contents output.new);
+      stood = D.stands_for desk.old;
+      was = D.may_leave desk.old;
+      sound = D.is_sound desk.new;
+      stands = D.stands_for desk.new;
+      left = D.may_leave desk.new;
     }) (length names.now) result }
 {
     let mut has_refusal = false;

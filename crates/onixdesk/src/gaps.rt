@@ -42,9 +42,13 @@ fn ask<D: Desk, W: Write>(
 ) -> Result<bool, RequestFault>
     ensures premise { D.is_sound desk.new → D.is_sound desk.old }
     ensures run { QuestionEnds (record {
-        rules = precedence.now; written = Appends (W.contents writer.old) (W.contents writer.new);
-        stood = D.stands_for desk.old; was = D.may_leave desk.old;
-        sound = D.is_sound desk.new; stands = D.stands_for desk.new; left = D.may_leave desk.new;
+      rules = precedence.now;
+      written = Appends (W.contents writer.old) (W.contents writer.new);
+      stood = D.stands_for desk.old;
+      was = D.may_leave desk.old;
+      sound = D.is_sound desk.new;
+      stands = D.stands_for desk.new;
+      left = D.may_leave desk.new;
     }) (series_name_of name.now) result }
 {
     match SeriesName::read(name) {
@@ -68,9 +72,13 @@ pub fn run<D: Desk, W: Write, E: Write>(
     ensures premise { D.is_sound desk.new → D.is_sound desk.old }
     // The question adds nothing to what a crash leaves, where one left only what the desk stood for.
     ensures end { GapsEnds (record {
-        rules = precedence.now; written = Appends (W.contents output.old) (W.contents output.new);
-        stood = D.stands_for desk.old; was = D.may_leave desk.old;
-        sound = D.is_sound desk.new; stands = D.stands_for desk.new; left = D.may_leave desk.new;
+      rules = precedence.now;
+      written = Appends (W.contents output.old) (W.contents output.new);
+      stood = D.stands_for desk.old;
+      was = D.may_leave desk.old;
+      sound = D.is_sound desk.new;
+      stands = D.stands_for desk.new;
+      left = D.may_leave desk.new;
     }) (series_name_of name.now) result }
 {
     match ask(alloc, desk, precedence, name, output) {

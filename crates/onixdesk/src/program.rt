@@ -37,9 +37,13 @@ fn run_task<D: Desk, R: Read, W: Write, E: Write>(
     ensures status { result ≤ 3 }
     ensures premise { D.is_sound desk.new → D.is_sound desk.old }
     ensures end { TaskEnds (record {
-        rules = precedence.now; written = Appends (W.contents output.old) (W.contents output.new);
-        stood = D.stands_for desk.old; was = D.may_leave desk.old;
-        sound = D.is_sound desk.new; stands = D.stands_for desk.new; left = D.may_leave desk.new;
+      rules = precedence.now;
+      written = Appends (W.contents output.old) (W.contents output.new);
+      stood = D.stands_for desk.old;
+      was = D.may_leave desk.old;
+      sound = D.is_sound desk.new;
+      stands = D.stands_for desk.new;
+      left = D.may_leave desk.new;
     }) task.now (R.remaining input.old) result }
 {
     match task {
@@ -75,10 +79,14 @@ fn run_in_memory<R: Read, W: Write, E: Write>(
     // Over a desk that has seen no request, and whose store is sound.
     ensures end { (new left : MemoryDesk) × ⟦<MemoryDesk as Desk>⟧.stands_for new [] × ⟦<MemoryDesk as Desk>⟧.is_sound left
         × TaskEnds (record {
-        rules = precedence.now; written = Appends (W.contents output.old) (W.contents output.new);
-        stood = ⟦<MemoryDesk as Desk>⟧.stands_for new; was = ⟦<MemoryDesk as Desk>⟧.may_leave new;
-        sound = ⟦<MemoryDesk as Desk>⟧.is_sound left; stands = ⟦<MemoryDesk as Desk>⟧.stands_for left; left = ⟦<MemoryDesk as Desk>⟧.may_leave left;
-    }) task.now (R.remaining input.old) result }
+          rules = precedence.now;
+          written = Appends (W.contents output.old) (W.contents output.new);
+          stood = ⟦<MemoryDesk as Desk>⟧.stands_for new;
+          was = ⟦<MemoryDesk as Desk>⟧.may_leave new;
+          sound = ⟦<MemoryDesk as Desk>⟧.is_sound left;
+          stands = ⟦<MemoryDesk as Desk>⟧.stands_for left;
+          left = ⟦<MemoryDesk as Desk>⟧.may_leave left;
+        }) task.now (R.remaining input.old) result }
 {
     let mut desk = MemoryDesk::new(rt.alloc());
     let status = run_task(rt, &mut desk, precedence, task, input, output, errors);
@@ -116,10 +124,14 @@ fn run_and_close<D: Disk + Drop, R: Read, W: Write, E: Write>(
     // disk is not clean it binds nothing; that of `run_task` names it.
     ensures end { (left : _) × (status : ℕ) × ((result ≡ status) ⊎ (result ≡ 3)) × (⟦<DeskStore<FileStore<D>> as Desk>⟧.is_sound left → ⟦<DeskStore<FileStore<D>> as Desk>⟧.is_sound desk)
         × TaskEnds (record {
-        rules = precedence.now; written = Appends (W.contents output.old) (W.contents output.new);
-        stood = ⟦<DeskStore<FileStore<D>> as Desk>⟧.stands_for desk; was = ⟦<DeskStore<FileStore<D>> as Desk>⟧.may_leave desk;
-        sound = ⟦<DeskStore<FileStore<D>> as Desk>⟧.is_sound left; stands = ⟦<DeskStore<FileStore<D>> as Desk>⟧.stands_for left; left = ⟦<DeskStore<FileStore<D>> as Desk>⟧.may_leave left;
-    }) task.now (R.remaining input.old) status }
+          rules = precedence.now;
+          written = Appends (W.contents output.old) (W.contents output.new);
+          stood = ⟦<DeskStore<FileStore<D>> as Desk>⟧.stands_for desk;
+          was = ⟦<DeskStore<FileStore<D>> as Desk>⟧.may_leave desk;
+          sound = ⟦<DeskStore<FileStore<D>> as Desk>⟧.is_sound left;
+          stands = ⟦<DeskStore<FileStore<D>> as Desk>⟧.stands_for left;
+          left = ⟦<DeskStore<FileStore<D>> as Desk>⟧.may_leave left;
+        }) task.now (R.remaining input.old) status }
 {
     let status = run_task(rt, &mut desk, precedence, task, input, output, errors);
     match close(desk) {
@@ -144,9 +156,13 @@ fn run_in_file<S: Start, R: Read, W: Write, E: Write>(
     // of, so that the clause says of some desk, not which one was left, and where the disk of that
     // one is not clean it binds nothing.
     ensures end { FileEnds (λ status. (left : _) × TaskEnds (record {
-        rules = precedence.now; written = Appends (W.contents output.old) (W.contents output.new);
-        stood = AreFilesOf (image_at S.Start); was = AreFilesAlone (image_at S.Start);
-        sound = ⟦<DeskStore<FileStore<FileFrom<S>>> as Desk>⟧.is_sound left; stands = ⟦<DeskStore<FileStore<FileFrom<S>>> as Desk>⟧.stands_for left; left = ⟦<DeskStore<FileStore<FileFrom<S>>> as Desk>⟧.may_leave left;
+      rules = precedence.now;
+      written = Appends (W.contents output.old) (W.contents output.new);
+      stood = AreFilesOf (image_at S.Start);
+      was = AreFilesAlone (image_at S.Start);
+      sound = ⟦<DeskStore<FileStore<FileFrom<S>>> as Desk>⟧.is_sound left;
+      stands = ⟦<DeskStore<FileStore<FileFrom<S>>> as Desk>⟧.stands_for left;
+      left = ⟦<DeskStore<FileStore<FileFrom<S>>> as Desk>⟧.may_leave left;
     }) task.now (R.remaining input.old) status) (Appends (W.contents output.old) (W.contents output.new)) result }
 {
     if let Err(fault) = look_at(rt, db, errors) {

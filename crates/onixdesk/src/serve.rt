@@ -61,9 +61,13 @@ fn serve_stream<D: Desk, O: Write>(
     ensures crash { (L : List Request) → D.stands_for desk.old L → D.is_sound desk.new → LeavesRequestMore L (D.may_leave desk.old) (D.may_leave desk.new) }
     // The line is that of an exchange; of what a client sends and is sent no clause can say which bytes they are.
     ensures line { (outcome : Result ℕ HttpFault) × ExchangeEnds (record {
-        rules = precedence.now; written = λ _. ⊤;
-        stood = D.stands_for desk.old; was = D.may_leave desk.old;
-        sound = D.is_sound desk.new; stands = D.stands_for desk.new; left = D.may_leave desk.new;
+      rules = precedence.now;
+      written = λ _. ⊤;
+      stood = D.stands_for desk.old;
+      was = D.may_leave desk.old;
+      sound = D.is_sound desk.new;
+      stands = D.stands_for desk.new;
+      left = D.may_leave desk.new;
     }) (IsFaultOf D.may_give) None outcome
         × OnOk result (Appends (O.contents output.old) (O.contents output.new) (line_of outcome)) }
 {
@@ -102,9 +106,13 @@ fn serve_next<D: Desk, O: Write>(
     ensures crash { (L : List Request) → D.stands_for desk.old L → D.is_sound desk.new → LeavesRequestMore L (D.may_leave desk.old) (D.may_leave desk.new) }
     // The line is that of an exchange; of what a client sends and is sent no clause can say which bytes they are.
     ensures line { (outcome : Result ℕ HttpFault) × ExchangeEnds (record {
-        rules = precedence.now; written = λ _. ⊤;
-        stood = D.stands_for desk.old; was = D.may_leave desk.old;
-        sound = D.is_sound desk.new; stands = D.stands_for desk.new; left = D.may_leave desk.new;
+      rules = precedence.now;
+      written = λ _. ⊤;
+      stood = D.stands_for desk.old;
+      was = D.may_leave desk.old;
+      sound = D.is_sound desk.new;
+      stands = D.stands_for desk.new;
+      left = D.may_leave desk.new;
     }) (IsFaultOf D.may_give) None outcome
         × OnOk result (Appends (O.contents output.old) (O.contents output.new) (line_of outcome)) }
 {
@@ -137,9 +145,13 @@ pub fn serve_port<D: Desk, O: Write, E: Write>(
     // fault of the store, or the first reply that was not sent whole, is in whatever a crash leaves.
     // With 0 each connection has its line.
     ensures end { (outcomes : List (Result ℕ HttpFault)) × ConnectionsEnd (record {
-        rules = precedence.now; written = Appends (O.contents output.old) (O.contents output.new);
-        stood = D.stands_for desk.old; was = D.may_leave desk.old;
-        sound = D.is_sound desk.new; stands = D.stands_for desk.new; left = D.may_leave desk.new;
+      rules = precedence.now;
+      written = Appends (O.contents output.old) (O.contents output.new);
+      stood = D.stands_for desk.old;
+      was = D.may_leave desk.old;
+      sound = D.is_sound desk.new;
+      stands = D.stands_for desk.new;
+      left = D.may_leave desk.new;
     }) requests outcomes
         × (result ≡ 0 → (length outcomes ≡ requests) × Appends (O.contents output.old) (O.contents output.new) (lines_of outcomes)) }
 {
@@ -198,9 +210,13 @@ pub fn run<D: Desk, O: Write, E: Write>(
     ensures premise { D.is_sound desk.new → D.is_sound desk.old }
     // As `serve_port`, behind the line of the port.
     ensures end { ServeEnds (record {
-        rules = precedence.now; written = Appends (O.contents output.old) (O.contents output.new);
-        stood = D.stands_for desk.old; was = D.may_leave desk.old;
-        sound = D.is_sound desk.new; stands = D.stands_for desk.new; left = D.may_leave desk.new;
+      rules = precedence.now;
+      written = Appends (O.contents output.old) (O.contents output.new);
+      stood = D.stands_for desk.old;
+      was = D.may_leave desk.old;
+      sound = D.is_sound desk.new;
+      stands = D.stands_for desk.new;
+      left = D.may_leave desk.new;
     }) number requests result }
 {
     match listen(rt, number, output) {

@@ -64,9 +64,9 @@ returns-in-Err-clause-end g c =
           let before = inv.so_far L stands before_sound in
           let ended = ran.1 (followed_by L (deliveries inv.texts)) before.3 sound in (
             inr (stopped_by course L (length c.args.names.now) inv.texts ran.0
-            (g.W.Write.contents c.args.output.now) (g.W.Write.contents c.loop-name.output) (g.W.Write.contents c.deliver_named.new.writer)
-            c.in-Err.fault c.report_delivery.result c.report_delivery.ensures
-            (omega (arith, inv.counted)) before.1 before.2 ended.0),
+                (g.W.Write.contents c.args.output.now) (g.W.Write.contents c.loop-name.output) (g.W.Write.contents c.deliver_named.new.writer)
+                c.in-Err.fault c.report_delivery.result c.report_delivery.ensures
+                (omega (arith, inv.counted)) before.1 before.2 ended.0),
             λ only. stopped_keeps L inv.texts ran.0 c.report_delivery.result course.left c.in-Err.fault c.report_delivery.ensures (ended.1 (inv.left L stands before_sound only)),
           ),
     )

@@ -76,7 +76,7 @@ returns-in-Err-clause-end g c =
               λ only. (
                 one_more_left c.serving._served c.args.requests L before.0 added.0 course.was course.left before.1 added.1 (omega arith) (inv.left L stands before_sound only) added.2,
                 replied_next course (IsFaultOf g.D.Desk.may_give) L inv.outcomes line.0 (inv.keeps L stands before_sound only) sound line.1
-                (λ K stood. c.in-Err.ensures.one K stood sound) (λ K stood. adds K stood sound),
+                    (λ K stood. c.in-Err.ensures.one K stood sound) (λ K stood. adds K stood sound),
               ),
             ),
       ),

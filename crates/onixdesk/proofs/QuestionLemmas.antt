@@ -1,8 +1,8 @@
 -- A question about gaps ends as a request, and adds nothing to what a crash leaves.
-use Rattle.std.proofs.Common.{◌≡◌, ◌∷◌, ◌⊎◌, inl, inr, ℕ, Bool, List, Some, Result, Ok, Err, refl, sym}
+use Rattle.std.proofs.Common.{◌∷◌, ◌⊎◌, inl, inr, ℕ, Bool, List, Some, Result, Ok, Err, refl, sym}
 use Rattle.series_rules.proofs.Questions.{content_left}
 use Rattle.series_rules.specs.Content.{SameContent}
-use Rattle.series_rules.specs.Leaves.{LeavesEither, LeavesOnly}
+use Rattle.series_rules.specs.Leaves.{LeavesOnly}
 use Rattle.series_rules.specs.LeavesLemmas.{same_trans}
 use Rattle.series_rules.specs.declared.requests.Request.{Request}
 use Rattle.series_rules.specs.declared.requests.Request.TheVariants.{AskGaps}

@@ -1,5 +1,5 @@
 -- One more connection of those that were served.
-use Rattle.std.proofs.Common.{◌≡◌, ◌+◌, ◌≤◌, ◌++◌, ◌∷◌, ◌∙◌, ◌⊎◌, inl, inr, [], ℕ, Bool, List, Option, None, Result, Ok, Err, IfOk, map, refl, length, length-append, arith, ap, sym, subst, append-nil, append_assoc}
+use Rattle.std.proofs.Common.{◌≡◌, ◌+◌, ◌≤◌, ◌++◌, ◌∷◌, ◌∙◌, ◌⊎◌, inl, inr, [], ℕ, List, Option, None, Result, Ok, Err, IfOk, map, refl, length, length-append, arith, ap, sym, subst, append-nil, append_assoc}
 use Rattle.std.specs.Io.KnownBytes.{Appends, Keeps}
 use Rattle.std.proofs.KnownBytes.{Appends-kept, Appends-nil, Appends-trans}
 use Rattle.std.proofs.lemmas.List.{map-append}

@@ -1,11 +1,10 @@
 -- A command that ends from one beginning ends so from each that comes to it.
-use Rattle.std.proofs.Common.{◌≡◌, ◌⊎◌, inl, inr, ℕ, List, Option, length}
-use Rattle.onix_terms.specs.SeriesName.{series_name_of}
+use Rattle.std.proofs.Common.{inl, inr, ℕ, List, Option, length}
 use Rattle.series_rules.specs.Leaves.{LeavesOnly}
 use Rattle.series_rules.specs.declared.requests.Request.{Request}
 use Rattle.onixdesk.specs.Course.{Course}
-use Rattle.onixdesk.specs.Deliveries.{AreDelivered, AreStopped, DeliveriesEnd}
-use Rattle.onixdesk.specs.Ends.{Ends, IsStopped}
+use Rattle.onixdesk.specs.Deliveries.{DeliveriesEnd}
+use Rattle.onixdesk.specs.Ends.{Ends}
 use Rattle.onixdesk.specs.TaskEnds.{TaskEnds}
 use Rattle.onixdesk.specs.declared.command_line.Task.{Task}
 use Rattle.onixdesk.specs.declared.command_line.Task.TheVariants as task

@@ -22,7 +22,7 @@ returns-in-Ok-clause-end g c =
     let last = file_state ended.0.tables.connection in
     let image = image_at g.S.Start in
     let alone : HasCleanDisk state → (L : List Request) → AreFilesOf image L → LeavesOnly (MayLeave state) L =
-        λ clean L files M may. may.2 L (opened.alone clean L files may.0 may.1) in
+    λ clean L files M may. may.2 L (opened.alone clean L files may.0 may.1) in
     let course : Course = record {
       rules = c.args.precedence.now;
       stood = KeepsRequests state;
@@ -38,7 +38,7 @@ returns-in-Ok-clause-end g c =
       (
         ended.0,
         task_begun course (AreFilesOf image) (AreFilesAlone image) c.args.task.now (g.R.Read.remaining c.args.input.now) ended.1 ended.4
-        (λ L files sound. (opened.stands (ended.3 sound) L files, alone (ended.3 sound) L files)),
+            (λ L files sound. (opened.stands (ended.3 sound) L files, alone (ended.3 sound) L files)),
       ),
     )
 

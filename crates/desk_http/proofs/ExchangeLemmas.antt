@@ -12,8 +12,8 @@ use Rattle.desk_http.specs.declared.exchange.ReplyText.{ReplyText}
 use Rattle.http_requests.specs.declared.refusal.Refusal.{Refusal}
 use Rattle.desk_http.specs.AnswerReply.{reply_of_answer}
 use Rattle.desk_http.specs.Asks.{Asks}
-use Rattle.desk_http.specs.Exchange.{AtMostOneMore, Exchanges, LeavesAfter, LeavesAtMostOneMore, Served, Unsent, answers, faults, refuses}
-use Rattle.desk_http.specs.ExchangeSteps.{AskFits, AskLeaves, AskedLeaves, IsAnswered, IfMemory, IfWrite, IsReplied, IsUnreplied, reply_view}
+use Rattle.desk_http.specs.Exchange.{AtMostOneMore, Exchanges, LeavesAfter, LeavesAtMostOneMore, LeavesRequestMore, Served, Unsent, answers, faults, refuses}
+use Rattle.desk_http.specs.ExchangeSteps.{AskAdds, AskFits, AskLeaves, AskedLeaves, IsAnswered, IfMemory, IfWrite, IsReplied, IsUnreplied, reply_view}
 use Rattle.desk_http.specs.Reply.{Reply, reply_text}
 
 -- a status and a body are those of an answer
@@ -125,3 +125,8 @@ ask_leaves L wanted left (Ok reply) leaves = asked_leaves L wanted left reply.ta
 ask_leaves L wanted left (Err fault.Read) leaves = absurd leaves
 ask_leaves L wanted left (Err (fault.Write status)) leaves = absurd leaves
 ask_leaves L wanted left (Err (fault.Memory taken)) leaves = asked_leaves L wanted left taken leaves
+
+-- whatever it could leave before
+pub ask_adds : (L : List Request) (wanted : Result Request Refusal) (old new : List Request → Type 0) → AskAdds L wanted old new → LeavesRequestMore L old new
+ask_adds L (Ok r) old new adds = (r ∷ [], omega arith, adds)
+ask_adds L (Err why) old new adds = ([], omega arith, λ M may. inl (adds M may))

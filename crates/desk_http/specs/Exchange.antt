@@ -1,9 +1,9 @@
 -- One exchange: what an input asks for, what is replied, and what the desk stands for then.
-use Rattle.std.specs.Prelude.{◌≡◌, ◌≤◌, ◌++◌, ℕ, Bool, true, false, List, ◌∷◌, length, Option, IfSome, Result, Ok, Err}
+use Rattle.std.specs.Prelude.{◌≡◌, ◌≤◌, ◌++◌, ℕ, Bool, true, false, List, [], ◌∷◌, length, Option, IfSome, Result, Ok, Err}
 use Rattle.desk_terms.specs.declared.faults.StoreFault.{StoreFault}
 use Rattle.price_rules.specs.declared.precedence.Rule.{Rule}
 use Rattle.series_rules.specs.Answers.{answer_to}
-use Rattle.series_rules.specs.Leaves.{LeavesEither, LeavesOnly}
+use Rattle.series_rules.specs.Leaves.{LeavesEither, LeavesOneMore, LeavesOnly}
 use Rattle.series_rules.specs.declared.requests.Request.{Request}
 use Rattle.http_requests.specs.declared.refusal.Refusal.{Refusal}
 use Rattle.desk_http.specs.AnswerReply.{reply_of_answer, reply_of_fault}
@@ -17,6 +17,12 @@ pub data Exchanges (rules : List Rule) (may_give : StoreFault → Type 0) (L : L
   refuses : {why : Refusal} → Exchanges rules may_give L (Err why) (reply_of_refusal why) L
   answers : {r : Request} → Exchanges rules may_give L (Ok r) (reply_of_answer (answer_to rules L r)) (r ∷ L)
   faults : {r : Request} {f : StoreFault} → may_give f → Exchanges rules may_give L (Ok r) (reply_of_fault f) L
+
+-- inputs were replied to one after the other, by a desk that stood for L at first, and no reply is of a fault of its store. The list is L with each request that was answered
+pub data AreReplied (rules : List Rule) (L : List Request) : List Reply → List Request → Type 0 where
+  none : AreReplied rules L [] L
+  further : {replies : List Reply} {kept after : List Request} {wanted : Result Request Refusal} {reply : Reply}
+      → AreReplied rules L replies kept → Exchanges rules (λ f. ⊥) kept wanted reply after → AreReplied rules L (replies ++ reply ∷ []) after
 
 -- What a crash may leave then of a desk of which it left only L: what the desk stands for. After a fault it may leave the request too
 abbrev pub LeavesAfter : List Request → Result Request Refusal → List Request → (List Request → Type 0) → Type 0
@@ -48,3 +54,7 @@ AtMostOneMore L stands = (more : List Request) × (length more ≤ 1) × stands 
 -- a crash may leave L, or L and one request more
 abbrev pub LeavesAtMostOneMore : List Request → (List Request → Type 0) → Type 0
 LeavesAtMostOneMore L left = (more : List Request) × (length more ≤ 1) × LeavesEither left L (more ++ L)
+
+-- a crash may leave what it could leave before, or L and at most one request more
+abbrev pub LeavesRequestMore : List Request → (List Request → Type 0) → (List Request → Type 0) → Type 0
+LeavesRequestMore L old new = (more : List Request) × (length more ≤ 1) × LeavesOneMore old new (more ++ L)

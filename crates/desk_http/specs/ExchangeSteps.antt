@@ -4,7 +4,7 @@ use Rattle.std.specs.String.{string_bytes}
 use Rattle.desk_terms.specs.declared.faults.StoreFault.{StoreFault}
 use Rattle.price_rules.specs.declared.precedence.Rule.{Rule}
 use Rattle.series_rules.specs.Answers.{answer_to}
-use Rattle.series_rules.specs.Leaves.{LeavesEither, LeavesOnly}
+use Rattle.series_rules.specs.Leaves.{LeavesEither, LeavesNoMore, LeavesOneMore, LeavesOnly}
 use Rattle.series_rules.specs.declared.requests.Request.{Request}
 use Rattle.desk_http.specs.declared.exchange.HttpFault.{HttpFault}
 use Rattle.desk_http.specs.declared.exchange.HttpFault.TheVariants as fault
@@ -53,6 +53,11 @@ AskLeaves L wanted left (Ok reply) = AskedLeaves L wanted left reply.taken
 AskLeaves L wanted left (Err fault.Read) = ⊥
 AskLeaves L wanted left (Err (fault.Write status)) = ⊥
 AskLeaves L wanted left (Err (fault.Memory taken)) = AskedLeaves L wanted left taken
+
+-- whatever it left before, it leaves that, or a request that was asked
+abbrev pub AskAdds : List Request → Result Request Refusal → (List Request → Type 0) → (List Request → Type 0) → Type 0
+AskAdds L (Ok r) old new = LeavesOneMore old new (r ∷ L)
+AskAdds L (Err why) old new = LeavesNoMore old new
 
 -- what is said after a failed read
 abbrev pub OnRead : {T : Type 0} → Result T HttpFault → Type 0 → Type 0

@@ -7,8 +7,8 @@ ghost use Rattle.series_rules.specs.Faults.{IsFaultOf};
 ghost use Rattle.series_rules.specs.Leaves.{LeavesOnly};
 ghost use Rattle.series_rules.specs.declared.requests.Request.{Request};
 ghost use Rattle.desk_http.specs.Asks.{Asks};
-ghost use Rattle.desk_http.specs.Exchange.{AtMostOneMore, LeavesAtMostOneMore, Served, Unsent};
-ghost use Rattle.desk_http.specs.ExchangeSteps.{AskFits, AskLeaves, IfMemory, IfWrite, OnRead, reply_view};
+ghost use Rattle.desk_http.specs.Exchange.{AtMostOneMore, LeavesAtMostOneMore, LeavesRequestMore, Served, Unsent};
+ghost use Rattle.desk_http.specs.ExchangeSteps.{AskAdds, AskFits, AskLeaves, IfMemory, IfWrite, OnRead, reply_view};
 ghost use Rattle.desk_json.specs.Json.{refused};
 ghost use Rattle.desk_http.specs.AnswerReply.{reply_of_fault};
 ghost use Rattle.desk_http.specs.Refusals.{reply_of_refusal};
@@ -111,6 +111,7 @@ fn ask<D: Desk>(
     ensures asked { (L : List Request) → D.stands_for desk.old L → D.is_sound desk.new →
         AskFits precedence.now (IsFaultOf D.may_give) L (Ok request.now) (D.stands_for desk.new) result }
     ensures left { (L : List Request) → D.stands_for desk.old L → D.is_sound desk.new → LeavesOnly (D.may_leave desk.old) L → AskLeaves L (Ok request.now) (D.may_leave desk.new) result }
+    ensures crash { (L : List Request) → D.stands_for desk.old L → D.is_sound desk.new → AskAdds L (Ok request.now) (D.may_leave desk.old) (D.may_leave desk.new) }
 {
     match answer(alloc, desk, precedence, request) {
         Ok(answer) => match reply_of(alloc, &answer) {
@@ -140,6 +141,7 @@ fn perform<D: Desk>(
     ensures asked { (L : List Request) → D.stands_for desk.old L → D.is_sound desk.new →
         AskFits precedence.now (IsFaultOf D.may_give) L wanted.now (D.stands_for desk.new) result }
     ensures left { (L : List Request) → D.stands_for desk.old L → D.is_sound desk.new → LeavesOnly (D.may_leave desk.old) L → AskLeaves L wanted.now (D.may_leave desk.new) result }
+    ensures crash { (L : List Request) → D.stands_for desk.old L → D.is_sound desk.new → AskAdds L wanted.now (D.may_leave desk.old) (D.may_leave desk.new) }
 {
     match wanted {
         Ok(request) => ask(alloc, desk, precedence, request),
@@ -172,7 +174,8 @@ fn send<W: Write>(alloc: Global, writer: &mut W, reply: &ReplyText) -> Result<()
 /// Serves one connection: reads a request, asks the desk under a precedence table, writes one
 /// reply, and gives its status. A refusal that the bytes decide is replied before the desk is
 /// asked; a fault of the desk's store is replied with status 503 and leaves what the desk stands
-/// for. Where a crash left only what the desk stood for, it leaves each request that is answered.
+/// for. Where a crash left only what the desk stood for, it leaves each request that is answered;
+/// whatever it left before, it leaves that, or what the desk stood for with at most one request more.
 /// Bytes behind the request are not looked at, and the writer is not flushed.
 pub fn serve_one<D: Desk, R: Read, W: Write>(
     alloc: Global,
@@ -193,6 +196,7 @@ pub fn serve_one<D: Desk, R: Read, W: Write>(
     ensures unsent { IfMemory result (λ _. Keeps (W.contents writer.old) (W.contents writer.new)) }
     ensures one { (L : List Request) → D.stands_for desk.old L → D.is_sound desk.new → AtMostOneMore L (D.stands_for desk.new) }
     ensures left { (L : List Request) → D.stands_for desk.old L → D.is_sound desk.new → LeavesOnly (D.may_leave desk.old) L → LeavesAtMostOneMore L (D.may_leave desk.new) }
+    ensures crash { (L : List Request) → D.stands_for desk.old L → D.is_sound desk.new → LeavesRequestMore L (D.may_leave desk.old) (D.may_leave desk.new) }
 {
     let wanted = match read_wanted(alloc, reader) {
         Ok(wanted) => wanted,

@@ -1,10 +1,12 @@
 -- What is written of a batch's answers where it ends by a fault, and what the desk stands for.
-use Rattle.std.proofs.Common.{◌≡◌, ◌-◌, ℕ, zero, suc, List, [], ◌∷◌, ◌++◌, Err, inl, inr, refl, ap, sym, subst, ◌∙◌, append-nil, arith, take}
+use Rattle.std.proofs.Common.{◌≡◌, ◌-◌, ℕ, zero, suc, List, [], ◌∷◌, ◌++◌, Ok, Err, nat_eq, inl, inr, refl, ap, sym, subst, ◌∙◌, append-nil, arith, take}
+use Rattle.std.specs.Prelude.{if◌then◌else◌}
 use Rattle.std.proofs.lemmas.List.{append_assoc}
 use Rattle.price_rules.specs.declared.precedence.Rule.{Rule}
 use Rattle.series_rules.specs.Answers.{answer_to}
 use Rattle.desk_text.specs.AnswerText.{text_of}
 use Rattle.desk_batch.specs.Batch.{BatchFits, output, requests_of}
+use Rattle.onixdesk.specs.Course.{Course}
 use Rattle.onixdesk.specs.Ends.{Ends}
 use Rattle.desk_batch.specs.declared.batch.BatchFault.{BatchFault}
 use Rattle.desk_batch.specs.declared.batch.BatchFault.TheVariants as fault
@@ -19,13 +21,19 @@ next_answer rules L (r ∷ rs) (suc n) =
     let text = text_of (answer_to rules L r) in
     (more.0, append_assoc text (output rules (r ∷ L) (take n rs)) more.0 ∙ ap (λ xs. text ++ xs) more.1)
 
+-- how a batch that was answered to its end leaves what is written and what stands
+pub answered_ends : (c : Course) (L : List Request) (text : List ℕ) (refused status : ℕ) → status ≡ (if nat_eq refused 0 then 0 else 1)
+    → BatchFits c.rules L text c.written c.stands (Ok refused) → Ends c L text status
+answered_ends c L text refused status is fits =
+    inl (is ∙ ap (λ n. if nat_eq n 0 then 0 else 1) fits.2.0, (fits.0, fits.1), fits.2.1, fits.2.2)
+
 -- how a batch that ends by a fault leaves what is written and what stands
-pub ends-by : (rules : List Rule) (L : List Request) (text : List ℕ) (written : List ℕ → Type 0) (stands : List Request → Type 0) (f : BatchFault) (status : ℕ)
-    → status ≡ 3 → BatchFits rules L text written stands (Err f) → Ends rules L text written stands status
-ends-by rules L text written stands (fault.Records f) status three fits = inr (inr (three, fits.1, fits.2))
-ends-by rules L text written stands fault.Read status three fits = inr (inr (three, fits.0, fits.1))
-ends-by rules L text written stands (fault.Store done f) status three fits =
-    let whole = append-nil (output rules L (take done (requests_of text))) in
+pub ends-by : (c : Course) (L : List Request) (text : List ℕ) (f : BatchFault) (status : ℕ)
+    → status ≡ 3 → BatchFits c.rules L text c.written c.stands (Err f) → Ends c L text status
+ends-by c L text (fault.Records f) status three fits = inr (inr (three, fits.1, fits.2))
+ends-by c L text fault.Read status three fits = inr (inr (three, fits.0, fits.1))
+ends-by c L text (fault.Store done f) status three fits =
+    let whole = append-nil (output c.rules L (take done (requests_of text))) in
     inr (inl record {
       status_is = three;
       has_records = (fits.0, fits.1);
@@ -37,10 +45,10 @@ ends-by rules L text written stands (fault.Store done f) status three fits =
       part = [];
       rest = [];
       last_is = whole;
-      answers_are = subst written (sym whole) fits.2.1;
+      answers_are = subst c.written (sym whole) fits.2.1;
       stands_after = fits.2.2;
     })
-ends-by rules L text written stands (fault.Write done) status three fits =
+ends-by c L text (fault.Write done) status three fits =
     let begun = fits.2.2 in
     inr (inl record {
       status_is = three;
@@ -56,9 +64,9 @@ ends-by rules L text written stands (fault.Write done) status three fits =
       answers_are = begun.3;
       stands_after = fits.2.3;
     })
-ends-by rules L text written stands (fault.Memory done) status three fits =
-    let before = output rules L (take (done - 1) (requests_of text)) in
-    let last = next_answer rules L (requests_of text) (done - 1) in
+ends-by c L text (fault.Memory done) status three fits =
+    let before = output c.rules L (take (done - 1) (requests_of text)) in
+    let last = next_answer c.rules L (requests_of text) (done - 1) in
     let all : suc (done - 1) ≡ done = omega (arith, fits.2.0) in
     inr (inl record {
       status_is = three;
@@ -70,7 +78,7 @@ ends-by rules L text written stands (fault.Memory done) status three fits =
       all_but_one = omega (arith, fits.2.0);
       part = [];
       rest = last.0;
-      last_is = last.1 ∙ ap (λ n. output rules L (take n (requests_of text))) all;
-      answers_are = subst written (sym (append-nil before)) fits.2.2;
+      last_is = last.1 ∙ ap (λ n. output c.rules L (take n (requests_of text))) all;
+      answers_are = subst c.written (sym (append-nil before)) fits.2.2;
       stands_after = fits.2.3;
     })

@@ -1,16 +1,44 @@
--- A question about gaps ends as a request.
-use Rattle.std.proofs.Common.{ℕ, Bool, List, Some, Result, Ok, Err}
-use Rattle.price_rules.specs.declared.precedence.Rule.{Rule}
+-- A question about gaps ends as a request, and adds nothing to what a crash leaves.
+use Rattle.std.proofs.Common.{◌∷◌, ◌⊎◌, inl, inr, ℕ, Bool, List, Some, Result, Ok, Err, refl, sym}
+use Rattle.series_rules.proofs.Questions.{content_left}
+use Rattle.series_rules.specs.Content.{SameContent}
+use Rattle.series_rules.specs.Leaves.{LeavesOnly}
+use Rattle.series_rules.specs.LeavesLemmas.{same_trans}
 use Rattle.series_rules.specs.declared.requests.Request.{Request}
 use Rattle.series_rules.specs.declared.requests.Request.TheVariants.{AskGaps}
+use Rattle.desk_batch.specs.Leaves.{RequestLeaves}
 use Rattle.desk_batch.specs.OneRequest.{RequestFits}
 use Rattle.desk_batch.specs.declared.batch.RequestFault.{RequestFault}
 use Rattle.desk_batch.specs.declared.batch.RequestFault.TheVariants as fault
+use Rattle.onixdesk.specs.Course.{Course}
 use Rattle.onixdesk.specs.GapsEnd.{QuestionFits}
 
-pub question_fits : (rules : List Rule) (L : List Request) (series : List ℕ) (written : List ℕ → Type 0) (stands : List Request → Type 0) (result : Result Bool RequestFault)
-    → RequestFits rules L (AskGaps series) written stands result → QuestionFits L (Some series) written stands result
-question_fits rules L series written stands (Ok b) fits = fits
-question_fits rules L series written stands (Err (fault.Store f)) fits = fits
-question_fits rules L series written stands (Err fault.Write) fits = fits
-question_fits rules L series written stands (Err fault.Memory) fits = fits
+question_fits : (c : Course) (L : List Request) (series : List ℕ) (result : Result Bool RequestFault)
+    → RequestFits c.rules L (AskGaps series) c.written c.stands result → QuestionFits c L (Some series) result
+question_fits c L series (Ok b) fits = fits
+question_fits c L series (Err (fault.Store f)) fits = fits
+question_fits c L series (Err fault.Write) fits = fits
+question_fits c L series (Err fault.Memory) fits = fits
+
+-- what comes to a list with the question comes to the list
+without_question : (M L : List Request) (series : List ℕ) → SameContent M (AskGaps series ∷ L) → SameContent M L
+without_question M L series same =
+    let kept = content_left L (AskGaps series) refl refl in
+    same_trans M (AskGaps series ∷ L) L same (record { agreements = λ name. sym (kept.agreements name); firsts = λ s n. sym (kept.firsts s n) })
+
+question_leaves : (L : List Request) (series : List ℕ) (left : List Request → Type 0) (result : Result Bool RequestFault)
+    → RequestLeaves L (AskGaps series) left result → LeavesOnly left L
+question_leaves L series left (Ok b) leaves = λ M may. without_question M L series (leaves M may)
+question_leaves L series left (Err (fault.Store f)) leaves = λ M may. either M (leaves M may)
+  where
+    either : (M : List Request) → SameContent M L ⊎ SameContent M (AskGaps series ∷ L) → SameContent M L
+    either M (inl same) = same
+    either M (inr same) = without_question M L series same
+question_leaves L series left (Err fault.Write) leaves = λ M may. without_question M L series (leaves M may)
+question_leaves L series left (Err fault.Memory) leaves = λ M may. without_question M L series (leaves M may)
+
+pub question_ends : (c : Course) (L : List Request) (series : List ℕ) (result : Result Bool RequestFault)
+    → RequestFits c.rules L (AskGaps series) c.written c.stands result → (LeavesOnly c.was L → RequestLeaves L (AskGaps series) c.left result)
+    → QuestionFits c L (Some series) result × (LeavesOnly c.was L → LeavesOnly c.left L)
+question_ends c L series result fits leaves =
+    (question_fits c L series result fits, λ only. question_leaves L series c.left result (leaves only))

@@ -1,6 +1,7 @@
 -- How the command `gaps` ends.
 use Rattle.std.specs.Prelude.{◌≡◌, ◌⊎◌, ◌++◌, ◌∷◌, ℕ, Bool, List, [], Option, Some, None, Result, Ok, Err, if◌then◌else◌}
 use Rattle.series_rules.specs.Answers.{gaps_answer, gaps_or_unknown}
+use Rattle.series_rules.specs.Leaves.{LeavesOnly}
 use Rattle.series_rules.specs.declared.answers.Answer.{Answer}
 use Rattle.series_rules.specs.declared.answers.Answer.TheVariants.{UnknownSeries}
 use Rattle.series_rules.specs.declared.requests.Request.{Request}
@@ -8,6 +9,7 @@ use Rattle.series_rules.specs.declared.requests.Request.TheVariants.{AskGaps}
 use Rattle.desk_text.specs.AnswerText.{is_refused, text_of}
 use Rattle.desk_batch.specs.declared.batch.RequestFault.{RequestFault}
 use Rattle.desk_batch.specs.declared.batch.RequestFault.TheVariants as fault
+use Rattle.onixdesk.specs.Course.{Course}
 
 -- the answer after L about the gaps of the series of that name. What can be no name is a series that is not agreed
 abbrev pub gaps_named : List Request → Option (List ℕ) → Answer
@@ -19,14 +21,19 @@ abbrev pub with_question : List Request → Option (List ℕ) → List Request
 with_question L None = L
 with_question L (Some series) = AskGaps series ∷ L
 
--- how the question can end. Written: these bytes were written. Stands: the desk stands for that list
-abbrev pub QuestionFits : List Request → Option (List ℕ) → (List ℕ → Type 0) → (List Request → Type 0) → Result Bool RequestFault → Type 0
-QuestionFits L name written stands (Ok b) =
-    (b ≡ is_refused (gaps_named L name)) × written (text_of (gaps_named L name)) × stands (with_question L name)
-QuestionFits L name written stands (Err (fault.Store f)) = written [] × stands L
-QuestionFits L name written stands (Err fault.Write) =
-    ((part rest : List ℕ) × (part ++ rest ≡ text_of (gaps_named L name)) × written part) × stands (with_question L name)
-QuestionFits L name written stands (Err fault.Memory) = written [] × stands (with_question L name)
+-- how the question can end
+abbrev pub QuestionFits : Course → List Request → Option (List ℕ) → Result Bool RequestFault → Type 0
+QuestionFits c L name (Ok b) =
+    (b ≡ is_refused (gaps_named L name)) × c.written (text_of (gaps_named L name)) × c.stands (with_question L name)
+QuestionFits c L name (Err (fault.Store f)) = c.written [] × c.stands L
+QuestionFits c L name (Err fault.Write) =
+    ((part rest : List ℕ) × (part ++ rest ≡ text_of (gaps_named L name)) × c.written part) × c.stands (with_question L name)
+QuestionFits c L name (Err fault.Memory) = c.written [] × c.stands (with_question L name)
+
+-- how the question can end. It adds nothing to what a crash leaves
+abbrev pub QuestionEnds : Course → Option (List ℕ) → Result Bool RequestFault → Type 0
+QuestionEnds c name result =
+    (L : List Request) → c.stood L → c.sound → QuestionFits c L name result × (LeavesOnly c.was L → LeavesOnly c.left L)
 
 -- how writing that a series is unknown can end
 abbrev pub UnknownFits : (List ℕ → Type 0) → Result Bool RequestFault → Type 0
@@ -36,15 +43,15 @@ UnknownFits written (Err fault.Write) = (part rest : List ℕ) × (part ++ rest 
 UnknownFits written (Err fault.Memory) = written []
 
 -- the answer is written
-abbrev pub IsWritten : List Request → Option (List ℕ) → (List ℕ → Type 0) → ℕ → Type 0
-IsWritten L name written status =
-    (status ≡ (if is_refused (gaps_named L name) then 1 else 0)) × written (text_of (gaps_named L name))
+abbrev pub IsWritten : Course → List Request → Option (List ℕ) → ℕ → Type 0
+IsWritten c L name status =
+    (status ≡ (if is_refused (gaps_named L name) then 1 else 0)) × c.written (text_of (gaps_named L name))
 
 -- a fault ended it: a first part of the answer is written
-abbrev pub IsCut : List Request → Option (List ℕ) → (List ℕ → Type 0) → ℕ → Type 0
-IsCut L name written status = (status ≡ 3) × ((part rest : List ℕ) × (part ++ rest ≡ text_of (gaps_named L name)) × written part)
+abbrev pub IsCut : Course → List Request → Option (List ℕ) → ℕ → Type 0
+IsCut c L name status = (status ≡ 3) × ((part rest : List ℕ) × (part ++ rest ≡ text_of (gaps_named L name)) × c.written part)
 
 -- how the command can end after L: with the answer written and 0, or 1 for a refusal, or with a first part of it and 3. The question changes nothing that the desk stands for
-abbrev pub GapsEnd : List Request → Option (List ℕ) → (List ℕ → Type 0) → (List Request → Type 0) → ℕ → Type 0
-GapsEnd L name written stands status =
-    (IsWritten L name written status ⊎ IsCut L name written status) × (stands L ⊎ stands (with_question L name))
+abbrev pub GapsEnd : Course → List Request → Option (List ℕ) → ℕ → Type 0
+GapsEnd c L name status =
+    (IsWritten c L name status ⊎ IsCut c L name status) × (c.stands L ⊎ c.stands (with_question L name))

@@ -1,7 +1,9 @@
 pub mod RulesFile
+pub mod Course
 pub mod Ends
 pub mod Deliveries
 pub mod GapsEnd
 pub mod MigrationEnd
 pub mod Serving
 pub mod TaskEnds
+pub mod FileEnds

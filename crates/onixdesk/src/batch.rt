@@ -1,10 +1,9 @@
 //! The command `batch`: standard input to standard output.
 
-ghost use Rattle.std.specs.Prelude.{◌≤◌, ℕ, List};
+ghost use Rattle.std.specs.Prelude.{◌≤◌};
 ghost use Rattle.std.specs.Io.KnownBytes.{Appends};
-ghost use Rattle.csv_records.specs.Streams.{IsTold};
-ghost use Rattle.onixdesk.specs.Ends.{Ends};
-ghost use Rattle.series_rules.specs.declared.requests.Request.{Request};
+ghost use Rattle.onixdesk.specs.Course.{Course};
+ghost use Rattle.onixdesk.specs.TaskEnds.{BatchEnds};
 
 use crate::fault::{Fault, report};
 use desk_batch::{BatchFault, run_batch};
@@ -40,8 +39,16 @@ pub fn run<D: Desk, R: Read, W: Write, E: Write>(
     // There is a text, that of the input where it tells its bytes, of which this is the status. All
     // its requests have taken effect, and all answers are written; or the first of them have, and
     // all answers to these are written, but perhaps a part of the last or the whole of it; or none.
-    ensures end { (text : List ℕ) × IsTold (R.remaining input.old) text × ((L : List Request) → D.stands_for desk.old L → D.is_sound desk.new →
-        Ends precedence.now L text (Appends (W.contents output.old) (W.contents output.new)) (D.stands_for desk.new) result) }
+    // Whatever is written is of requests that each crash leaves, where one left only what the desk stood for.
+    ensures end { BatchEnds (record {
+      rules = precedence.now;
+      written = Appends (W.contents output.old) (W.contents output.new);
+      stood = D.stands_for desk.old;
+      was = D.may_leave desk.old;
+      sound = D.is_sound desk.new;
+      stands = D.stands_for desk.new;
+      left = D.may_leave desk.new;
+    }) (R.remaining input.old) result }
 {
     match run_batch(alloc, desk, precedence, input, output) {
         Ok(0) => 0,

@@ -2,10 +2,11 @@
 
 ghost use Rattle.std.specs.Prelude.{ℕ, List, OnOk, Result};
 ghost use Rattle.std.specs.Io.KnownBytes.{Appends};
-ghost use Rattle.desk_http.specs.Exchange.{AtMostOneMore};
+ghost use Rattle.desk_http.specs.Exchange.{AtMostOneMore, LeavesRequestMore};
 ghost use Rattle.desk_http.specs.declared.exchange.HttpFault.{HttpFault};
 ghost use Rattle.series_rules.specs.Faults.{IsFaultOf};
 ghost use Rattle.series_rules.specs.declared.requests.Request.{Request};
+ghost use Rattle.onixdesk.specs.Course.{Course};
 ghost use Rattle.onixdesk.specs.Serving.{ExchangeEnds, line_of};
 
 use crate::fault::Fault;
@@ -50,10 +51,17 @@ pub fn serve_connection<D: Desk, R: Read, W: Write, O: Write>(
 ) -> Result<(), Fault>
     ensures premise { D.is_sound desk.new → D.is_sound desk.old }
     ensures one { (L : List Request) → D.stands_for desk.old L → D.is_sound desk.new → AtMostOneMore L (D.stands_for desk.new) }
+    ensures crash { (L : List Request) → D.stands_for desk.old L → D.is_sound desk.new → LeavesRequestMore L (D.may_leave desk.old) (D.may_leave desk.new) }
     // There is an outcome of the exchange whose line is written.
-    ensures line { (outcome : Result ℕ HttpFault)
-        × ((L : List Request) → D.stands_for desk.old L → D.is_sound desk.new →
-        ExchangeEnds precedence.now (IsFaultOf D.may_give) L (R.remaining reader.old) (D.stands_for desk.new) (D.may_leave desk.old) (D.may_leave desk.new) (W.contents writer.old) (W.contents writer.new) outcome)
+    ensures line { (outcome : Result ℕ HttpFault) × ExchangeEnds (record {
+      rules = precedence.now;
+      written = Appends (W.contents writer.old) (W.contents writer.new);
+      stood = D.stands_for desk.old;
+      was = D.may_leave desk.old;
+      sound = D.is_sound desk.new;
+      stands = D.stands_for desk.new;
+      left = D.may_leave desk.new;
+    }) (IsFaultOf D.may_give) (R.remaining reader.old) outcome
         × OnOk result (Appends (O.contents output.old) (O.contents output.new) (line_of outcome)) }
 {
     let outcome = serve_one(alloc, desk, precedence, reader, writer);

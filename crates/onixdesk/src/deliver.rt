@@ -3,8 +3,9 @@
 ghost use Rattle.std.specs.Prelude.{◌≡◌, ◌≤◌, ℕ, List, length, if◌then◌else◌};
 ghost use Rattle.std.specs.Io.KnownBytes.{Appends};
 ghost use Rattle.csv_records.specs.Streams.{IsTold};
-ghost use Rattle.onixdesk.specs.Deliveries.{DeliveriesEnd, DeliveryFits, IsUnasked, ReadFits};
-ghost use Rattle.series_rules.specs.declared.requests.Request.{Request};
+ghost use Rattle.onixdesk.specs.Course.{Course};
+ghost use Rattle.onixdesk.specs.Deliveries.{DeliveryEnds, IsUnasked, ReadFits};
+ghost use Rattle.onixdesk.specs.TaskEnds.{DeliverEnds};
 
 use crate::fault::{Fault, report, report_file};
 use csv_records::reading::{LIMIT, RecordFault, read_records};
@@ -61,8 +62,15 @@ pub fn deliver_one<D: Desk, R: Read, W: Write>(
 ) -> Result<bool, DeliveryFault>
     ensures premise { D.is_sound desk.new → D.is_sound desk.old }
     // There is a text, that of the reader where it tells its bytes, whose delivery ends as the definitions have it.
-    ensures run { (text : List ℕ) × IsTold (R.remaining reader.old) text × ((L : List Request) → D.stands_for desk.old L → D.is_sound desk.new →
-        DeliveryFits precedence.now L text (Appends (W.contents writer.old) (W.contents writer.new)) (D.stands_for desk.new) result) }
+    ensures run { (text : List ℕ) × IsTold (R.remaining reader.old) text × DeliveryEnds (record {
+      rules = precedence.now;
+      written = Appends (W.contents writer.old) (W.contents writer.new);
+      stood = D.stands_for desk.old;
+      was = D.may_leave desk.old;
+      sound = D.is_sound desk.new;
+      stands = D.stands_for desk.new;
+      left = D.may_leave desk.new;
+    }) text result }
 {
     let request = match read_delivery(alloc, reader) {
         Ok(request) => request,
@@ -96,8 +104,15 @@ fn deliver_file<D: Desk, W: Write>(
 ) -> Result<bool, DeliveryFault>
     ensures premise { D.is_sound desk.new → D.is_sound desk.old }
     // Of some text: no clause can say what a file holds.
-    ensures run { (text : List ℕ) × ((L : List Request) → D.stands_for desk.old L → D.is_sound desk.new →
-        DeliveryFits precedence.now L text (Appends (W.contents writer.old) (W.contents writer.new)) (D.stands_for desk.new) result) }
+    ensures run { (text : List ℕ) × DeliveryEnds (record {
+      rules = precedence.now;
+      written = Appends (W.contents writer.old) (W.contents writer.new);
+      stood = D.stands_for desk.old;
+      was = D.may_leave desk.old;
+      sound = D.is_sound desk.new;
+      stands = D.stands_for desk.new;
+      left = D.may_leave desk.new;
+    }) text result }
 {
     match File::open(rt, name) {
         Ok(mut file) => deliver_one(rt.alloc(), desk, precedence, &mut file, writer),
@@ -115,8 +130,15 @@ fn deliver_named<D: Desk, R: Read, W: Write>(
     writer: &mut W,
 ) -> Result<bool, DeliveryFault>
     ensures premise { D.is_sound desk.new → D.is_sound desk.old }
-    ensures run { (text : List ℕ) × ((L : List Request) → D.stands_for desk.old L → D.is_sound desk.new →
-        DeliveryFits precedence.now L text (Appends (W.contents writer.old) (W.contents writer.new)) (D.stands_for desk.new) result) }
+    ensures run { (text : List ℕ) × DeliveryEnds (record {
+      rules = precedence.now;
+      written = Appends (W.contents writer.old) (W.contents writer.new);
+      stood = D.stands_for desk.old;
+      was = D.may_leave desk.old;
+      sound = D.is_sound desk.new;
+      stands = D.stands_for desk.new;
+      left = D.may_leave desk.new;
+    }) text result }
 {
     if name == "-" {
         deliver_one(rt.alloc(), desk, precedence, input, writer)
@@ -161,8 +183,16 @@ pub fn run<D: Desk, R: Read, W: Write, E: Write>(
     ensures status { result ≤ 3 }
     ensures premise { D.is_sound desk.new → D.is_sound desk.old }
     // There are texts, one for each file that was delivered: no clause can say what a file holds.
-    ensures end { (texts last : List (List ℕ)) × ((L : List Request) → D.stands_for desk.old L → D.is_sound desk.new →
-        DeliveriesEnd precedence.now L (length names.now) texts last (Appends (W.contents output.old) (W.contents output.new)) (D.stands_for desk.new) result) }
+    // Where a crash left only what the desk stood for, it leaves the deliveries that were answered.
+    ensures end { DeliverEnds (record {
+      rules = precedence.now;
+      written = Appends (W.contents output.old) (W.contents output.new);
+      stood = D.stands_for desk.old;
+      was = D.may_leave desk.old;
+      sound = D.is_sound desk.new;
+      stands = D.stands_for desk.new;
+      left = D.may_leave desk.new;
+    }) (length names.now) result }
 {
     let mut has_refusal = false;
     for name in names {

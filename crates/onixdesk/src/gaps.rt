@@ -1,10 +1,11 @@
 //! The command `gaps`: which numbers a series lacks.
 
-ghost use Rattle.std.specs.Prelude.{◌≤◌, List, None};
+ghost use Rattle.std.specs.Prelude.{◌≤◌};
 ghost use Rattle.std.specs.Io.KnownBytes.{Appends};
 ghost use Rattle.onix_terms.specs.SeriesName.{series_name_of};
-ghost use Rattle.onixdesk.specs.GapsEnd.{GapsEnd, QuestionFits, UnknownFits};
-ghost use Rattle.series_rules.specs.declared.requests.Request.{Request};
+ghost use Rattle.onixdesk.specs.Course.{Course};
+ghost use Rattle.onixdesk.specs.GapsEnd.{QuestionEnds, UnknownFits};
+ghost use Rattle.onixdesk.specs.TaskEnds.{GapsEnds};
 
 use crate::fault::{Fault, report};
 use csv_records::streams::{WriteFault, write_whole};
@@ -40,8 +41,15 @@ fn ask<D: Desk, W: Write>(
     writer: &mut W,
 ) -> Result<bool, RequestFault>
     ensures premise { D.is_sound desk.new → D.is_sound desk.old }
-    ensures run { (L : List Request) → D.stands_for desk.old L → D.is_sound desk.new →
-        QuestionFits L (series_name_of name.now) (Appends (W.contents writer.old) (W.contents writer.new)) (D.stands_for desk.new) result }
+    ensures run { QuestionEnds (record {
+      rules = precedence.now;
+      written = Appends (W.contents writer.old) (W.contents writer.new);
+      stood = D.stands_for desk.old;
+      was = D.may_leave desk.old;
+      sound = D.is_sound desk.new;
+      stands = D.stands_for desk.new;
+      left = D.may_leave desk.new;
+    }) (series_name_of name.now) result }
 {
     match SeriesName::read(name) {
         Some(series) => run_request(alloc, desk, precedence, &Request::AskGaps(series), writer),
@@ -62,8 +70,16 @@ pub fn run<D: Desk, W: Write, E: Write>(
 ) -> u8
     ensures status { result ≤ 3 }
     ensures premise { D.is_sound desk.new → D.is_sound desk.old }
-    ensures end { (L : List Request) → D.stands_for desk.old L → D.is_sound desk.new →
-        GapsEnd L (series_name_of name.now) (Appends (W.contents output.old) (W.contents output.new)) (D.stands_for desk.new) result }
+    // The question adds nothing to what a crash leaves, where one left only what the desk stood for.
+    ensures end { GapsEnds (record {
+      rules = precedence.now;
+      written = Appends (W.contents output.old) (W.contents output.new);
+      stood = D.stands_for desk.old;
+      was = D.may_leave desk.old;
+      sound = D.is_sound desk.new;
+      stands = D.stands_for desk.new;
+      left = D.may_leave desk.new;
+    }) (series_name_of name.now) result }
 {
     match ask(alloc, desk, precedence, name, output) {
         Ok(false) => 0,

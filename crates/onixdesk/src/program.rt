@@ -2,7 +2,11 @@
 
 ghost use Rattle.std.specs.Prelude.{◌≡◌, ◌≤◌, ◌⊎◌, ℕ, []};
 ghost use Rattle.std.specs.Io.KnownBytes.{Appends};
+ghost use Rattle.onixdesk.specs.Course.{Course};
+ghost use Rattle.onixdesk.specs.FileEnds.{AreFilesAlone, FileEnds};
 ghost use Rattle.onixdesk.specs.TaskEnds.{TaskEnds};
+ghost use Rattle.desk_store.specs.Openings.{AreFilesOf};
+ghost use Rattle.sqlite_wal.specs.Files.{image_at};
 ghost use Rattle.desk_memory.specs.declared.desk.MemoryDesk.{MemoryDesk};
 
 use crate::command_line::{self, Action, Database, Invocation, Reading, Task};
@@ -15,7 +19,7 @@ use desk_store::DeskStore;
 use desk_terms::StoreFault;
 use price_rules::precedence::Precedence;
 use series_rules::desk::Desk;
-use sqlite::{FileStore, Start, Unknown};
+use sqlite::{FileFrom, FileStore, Start, Unknown};
 use sqlite_disk::Disk;
 use std::io::{Read, Write};
 use std::rt::HostRuntime;
@@ -32,8 +36,15 @@ fn run_task<D: Desk, R: Read, W: Write, E: Write>(
 ) -> u8
     ensures status { result ≤ 3 }
     ensures premise { D.is_sound desk.new → D.is_sound desk.old }
-    ensures end { TaskEnds precedence.now task.now (R.remaining input.old) (D.stands_for desk.old) (D.is_sound desk.new)
-        (Appends (W.contents output.old) (W.contents output.new)) (D.stands_for desk.new) result }
+    ensures end { TaskEnds (record {
+      rules = precedence.now;
+      written = Appends (W.contents output.old) (W.contents output.new);
+      stood = D.stands_for desk.old;
+      was = D.may_leave desk.old;
+      sound = D.is_sound desk.new;
+      stands = D.stands_for desk.new;
+      left = D.may_leave desk.new;
+    }) task.now (R.remaining input.old) result }
 {
     match task {
         Task::Batch => batch::run(rt.alloc(), desk, precedence, input, output, errors),
@@ -67,8 +78,15 @@ fn run_in_memory<R: Read, W: Write, E: Write>(
     ensures status { result ≤ 3 }
     // Over a desk that has seen no request, and whose store is sound.
     ensures end { (new left : MemoryDesk) × ⟦<MemoryDesk as Desk>⟧.stands_for new [] × ⟦<MemoryDesk as Desk>⟧.is_sound left
-        × TaskEnds precedence.now task.now (R.remaining input.old) (⟦<MemoryDesk as Desk>⟧.stands_for new) (⟦<MemoryDesk as Desk>⟧.is_sound left)
-        (Appends (W.contents output.old) (W.contents output.new)) (⟦<MemoryDesk as Desk>⟧.stands_for left) result }
+        × TaskEnds (record {
+          rules = precedence.now;
+          written = Appends (W.contents output.old) (W.contents output.new);
+          stood = ⟦<MemoryDesk as Desk>⟧.stands_for new;
+          was = ⟦<MemoryDesk as Desk>⟧.may_leave new;
+          sound = ⟦<MemoryDesk as Desk>⟧.is_sound left;
+          stands = ⟦<MemoryDesk as Desk>⟧.stands_for left;
+          left = ⟦<MemoryDesk as Desk>⟧.may_leave left;
+        }) task.now (R.remaining input.old) result }
 {
     let mut desk = MemoryDesk::new(rt.alloc());
     let status = run_task(rt, &mut desk, precedence, task, input, output, errors);
@@ -105,8 +123,15 @@ fn run_and_close<D: Disk + Drop, R: Read, W: Write, E: Write>(
     // The desk is let go of here, so that this clause cannot name it as it was left, and where its
     // disk is not clean it binds nothing; that of `run_task` names it.
     ensures end { (left : _) × (status : ℕ) × ((result ≡ status) ⊎ (result ≡ 3)) × (⟦<DeskStore<FileStore<D>> as Desk>⟧.is_sound left → ⟦<DeskStore<FileStore<D>> as Desk>⟧.is_sound desk)
-        × TaskEnds precedence.now task.now (R.remaining input.old) (⟦<DeskStore<FileStore<D>> as Desk>⟧.stands_for desk) (⟦<DeskStore<FileStore<D>> as Desk>⟧.is_sound left)
-        (Appends (W.contents output.old) (W.contents output.new)) (⟦<DeskStore<FileStore<D>> as Desk>⟧.stands_for left) status }
+        × TaskEnds (record {
+          rules = precedence.now;
+          written = Appends (W.contents output.old) (W.contents output.new);
+          stood = ⟦<DeskStore<FileStore<D>> as Desk>⟧.stands_for desk;
+          was = ⟦<DeskStore<FileStore<D>> as Desk>⟧.may_leave desk;
+          sound = ⟦<DeskStore<FileStore<D>> as Desk>⟧.is_sound left;
+          stands = ⟦<DeskStore<FileStore<D>> as Desk>⟧.stands_for left;
+          left = ⟦<DeskStore<FileStore<D>> as Desk>⟧.may_leave left;
+        }) task.now (R.remaining input.old) status }
 {
     let status = run_task(rt, &mut desk, precedence, task, input, output, errors);
     match close(desk) {
@@ -126,7 +151,19 @@ fn run_in_file<S: Start, R: Read, W: Write, E: Write>(
     output: &mut W,
     errors: &mut E,
 ) -> u8
-    ensures { result ≤ 3 }
+    ensures status { result ≤ 3 }
+    // A desk that was opened stood for what its files hold, and a crash left that alone. It is let go
+    // of, so that the clause says of some desk, not which one was left, and where the disk of that
+    // one is not clean it binds nothing.
+    ensures end { FileEnds (λ status. (left : _) × TaskEnds (record {
+      rules = precedence.now;
+      written = Appends (W.contents output.old) (W.contents output.new);
+      stood = AreFilesOf (image_at S.Start);
+      was = AreFilesAlone (image_at S.Start);
+      sound = ⟦<DeskStore<FileStore<FileFrom<S>>> as Desk>⟧.is_sound left;
+      stands = ⟦<DeskStore<FileStore<FileFrom<S>>> as Desk>⟧.stands_for left;
+      left = ⟦<DeskStore<FileStore<FileFrom<S>>> as Desk>⟧.may_leave left;
+    }) task.now (R.remaining input.old) status) (Appends (W.contents output.old) (W.contents output.new)) result }
 {
     if let Err(fault) = look_at(rt, db, errors) {
         return report(&fault, errors);

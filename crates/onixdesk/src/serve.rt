@@ -1,11 +1,14 @@
 //! The command `serve`: the desk over HTTP on a port of 127.0.0.1.
 
-ghost use Rattle.std.specs.Prelude.{◌≡◌, ◌≤◌, ℕ, List, OnOk, Result, length};
+ghost use Rattle.std.specs.Prelude.{◌≡◌, ◌≤◌, ℕ, List, None, OnOk, Result, length, ⊤};
 ghost use Rattle.std.specs.Io.KnownBytes.{Appends};
-ghost use Rattle.desk_http.specs.Exchange.{AtMostOneMore};
+ghost use Rattle.desk_http.specs.Exchange.{AtMostOneMore, LeavesRequestMore};
 ghost use Rattle.desk_http.specs.declared.exchange.HttpFault.{HttpFault};
+ghost use Rattle.series_rules.specs.Faults.{IsFaultOf};
 ghost use Rattle.series_rules.specs.declared.requests.Request.{Request};
-ghost use Rattle.onixdesk.specs.Serving.{AtMostMore, line_of, lines_of};
+ghost use Rattle.onixdesk.specs.Course.{Course};
+ghost use Rattle.onixdesk.specs.Serving.{ExchangeEnds, line_of, lines_of, listening_line};
+ghost use Rattle.onixdesk.specs.TaskEnds.{ConnectionsEnd, ServeEnds};
 
 use crate::connection::{print_line, serve_connection};
 use crate::fault::{Fault, report};
@@ -55,7 +58,18 @@ fn serve_stream<D: Desk, O: Write>(
 ) -> Result<(), Fault>
     ensures premise { D.is_sound desk.new → D.is_sound desk.old }
     ensures one { (L : List Request) → D.stands_for desk.old L → D.is_sound desk.new → AtMostOneMore L (D.stands_for desk.new) }
-    ensures line { (outcome : Result ℕ HttpFault) × OnOk result (Appends (O.contents output.old) (O.contents output.new) (line_of outcome)) }
+    ensures crash { (L : List Request) → D.stands_for desk.old L → D.is_sound desk.new → LeavesRequestMore L (D.may_leave desk.old) (D.may_leave desk.new) }
+    // The line is that of an exchange; of what a client sends and is sent no clause can say which bytes they are.
+    ensures line { (outcome : Result ℕ HttpFault) × ExchangeEnds (record {
+      rules = precedence.now;
+      written = λ _. ⊤;
+      stood = D.stands_for desk.old;
+      was = D.may_leave desk.old;
+      sound = D.is_sound desk.new;
+      stands = D.stands_for desk.new;
+      left = D.may_leave desk.new;
+    }) (IsFaultOf D.may_give) None outcome
+        × OnOk result (Appends (O.contents output.old) (O.contents output.new) (line_of outcome)) }
 {
     let mut reader = Timed::new(rt, &stream, limit);
     let mut writer = Timed::new(rt, &stream, limit);
@@ -89,7 +103,18 @@ fn serve_next<D: Desk, O: Write>(
 ) -> Result<(), Fault>
     ensures premise { D.is_sound desk.new → D.is_sound desk.old }
     ensures one { (L : List Request) → D.stands_for desk.old L → D.is_sound desk.new → AtMostOneMore L (D.stands_for desk.new) }
-    ensures line { (outcome : Result ℕ HttpFault) × OnOk result (Appends (O.contents output.old) (O.contents output.new) (line_of outcome)) }
+    ensures crash { (L : List Request) → D.stands_for desk.old L → D.is_sound desk.new → LeavesRequestMore L (D.may_leave desk.old) (D.may_leave desk.new) }
+    // The line is that of an exchange; of what a client sends and is sent no clause can say which bytes they are.
+    ensures line { (outcome : Result ℕ HttpFault) × ExchangeEnds (record {
+      rules = precedence.now;
+      written = λ _. ⊤;
+      stood = D.stands_for desk.old;
+      was = D.may_leave desk.old;
+      sound = D.is_sound desk.new;
+      stands = D.stands_for desk.new;
+      left = D.may_leave desk.new;
+    }) (IsFaultOf D.may_give) None outcome
+        × OnOk result (Appends (O.contents output.old) (O.contents output.new) (line_of outcome)) }
 {
     match port.listener.accept() {
         Ok((stream, _)) => serve_stream(rt, desk, precedence, stream, port.limit, output),
@@ -116,11 +141,19 @@ pub fn serve_port<D: Desk, O: Write, E: Write>(
 ) -> u8
     ensures status { result ≤ 3 }
     ensures premise { D.is_sound desk.new → D.is_sound desk.old }
-    // At most one request of each connection has had an effect.
-    ensures some { (L : List Request) → D.stands_for desk.old L → D.is_sound desk.new → AtMostMore requests L (D.stands_for desk.new) }
+    // At most one request of each connection has had an effect, and what was answered before the first
+    // fault of the store, or the first reply that was not sent whole, is in whatever a crash leaves.
     // With 0 each connection has its line.
-    ensures lines { result ≡ 0 → (outcomes : List (Result ℕ HttpFault)) × (length outcomes ≡ requests)
-        × Appends (O.contents output.old) (O.contents output.new) (lines_of outcomes) }
+    ensures end { (outcomes : List (Result ℕ HttpFault)) × ConnectionsEnd (record {
+      rules = precedence.now;
+      written = Appends (O.contents output.old) (O.contents output.new);
+      stood = D.stands_for desk.old;
+      was = D.may_leave desk.old;
+      sound = D.is_sound desk.new;
+      stands = D.stands_for desk.new;
+      left = D.may_leave desk.new;
+    }) requests outcomes
+        × (result ≡ 0 → (length outcomes ≡ requests) × Appends (O.contents output.old) (O.contents output.new) (lines_of outcomes)) }
 {
     'serving: for _served in 0..requests {
         match serve_next(rt, desk, precedence, port, output) {
@@ -131,20 +164,35 @@ pub fn serve_port<D: Desk, O: Write, E: Write>(
     0
 }
 
+// Says which port is listened at.
+fn print_listening<O: Write>(number: u16, output: &mut O) -> Result<(), Fault>
+    ensures { OnOk result (Appends (O.contents output.old) (O.contents output.new) (listening_line number)) }
+{
+    if write!(output, "listening {number}\n").is_err() {
+        return Err(Fault::Output);
+    }
+    match output.flush() {
+        Ok(()) => Ok(()),
+        Err(_) => Err(Fault::Output),
+    }
+}
+
 // Listens at a port of 127.0.0.1, and says so.
-fn listen<O: Write>(rt: &HostRuntime, number: u16, output: &mut O) -> Result<Port, Fault> {
+fn listen<O: Write>(rt: &HostRuntime, number: u16, output: &mut O) -> Result<Port, Fault>
+    ensures { OnOk result (Appends (O.contents output.old) (O.contents output.new) (listening_line number)) }
+{
     let address = SocketAddr::V4(SocketAddrV4::new(Ipv4Addr::LOCALHOST, number));
     let Ok(listener) = TcpListener::bind(rt, address) else {
         return Err(Fault::Port(number));
     };
-    if write!(output, "listening {number}\n").is_err() || output.flush().is_err() {
-        return Err(Fault::Output);
+    match print_listening(number, output) {
+        Ok(()) => Ok(Port {
+            number,
+            listener,
+            limit: Duration::from_secs(CLIENT_SECONDS),
+        }),
+        Err(fault) => Err(fault),
     }
-    Ok(Port {
-        number,
-        listener,
-        limit: Duration::from_secs(CLIENT_SECONDS),
-    })
 }
 
 /// Listens at a port of 127.0.0.1, writes `listening` and its number, and serves so many
@@ -160,8 +208,16 @@ pub fn run<D: Desk, O: Write, E: Write>(
 ) -> u8
     ensures status { result ≤ 3 }
     ensures premise { D.is_sound desk.new → D.is_sound desk.old }
-    // At most one request of each connection has had an effect.
-    ensures some { (L : List Request) → D.stands_for desk.old L → D.is_sound desk.new → AtMostMore requests L (D.stands_for desk.new) }
+    // As `serve_port`, behind the line of the port.
+    ensures end { ServeEnds (record {
+      rules = precedence.now;
+      written = Appends (O.contents output.old) (O.contents output.new);
+      stood = D.stands_for desk.old;
+      was = D.may_leave desk.old;
+      sound = D.is_sound desk.new;
+      stands = D.stands_for desk.new;
+      left = D.may_leave desk.new;
+    }) number requests result }
 {
     match listen(rt, number, output) {
         Ok(port) => serve_port(rt, desk, precedence, &port, requests, output, errors),

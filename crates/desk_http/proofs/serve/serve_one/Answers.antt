@@ -3,7 +3,7 @@ use Rattle.std.specs.Io.KnownBytes.{Appends}
 use Rattle.series_rules.specs.Faults.{IsFaultOf}
 use Rattle.desk_http.specs.ExchangeSteps.{reply_view}
 use Rattle.desk_http.specs.Writing.{AppendsFront}
-use Rattle.desk_http.proofs.ExchangeLemmas.{ask_leaves, asked_once, fault_after, fault_before, fault_between, served, served_in_part}
+use Rattle.desk_http.proofs.ExchangeLemmas.{ask_adds, ask_leaves, asked_once, fault_after, fault_before, fault_between, served, served_in_part}
 use Rattle.desk_http.proofs.serve.serve_one.Goals as goal
 
 pub returns-in-Err-clause-memory : goal.returns-in-Err-clause-memory
@@ -67,3 +67,18 @@ returns-in-Ok-send-clause-left g c L stands sound only =
 pub returns-clause-left : goal.returns-clause-left
 returns-clause-left g c L stands sound only =
     ask_leaves L c.in-Ok.wanted (g.D.Desk.may_leave c.perform.new.desk) (Ok c.in-Ok-perform.reply) (c.in-Ok-perform.ensures.left L stands sound only)
+
+pub returns-in-Err-clause-crash : goal.returns-in-Err-clause-crash
+returns-in-Err-clause-crash g c L stands sound = ([], omega arith, λ M may. inl may)
+
+pub returns-in-Err-perform-clause-crash : goal.returns-in-Err-perform-clause-crash
+returns-in-Err-perform-clause-crash g c L stands sound =
+    ask_adds L c.in-Ok.wanted (g.D.Desk.may_leave c.args.desk.now) (g.D.Desk.may_leave c.perform.new.desk) (c.in-Err-perform.ensures.crash L stands sound)
+
+pub returns-in-Ok-send-clause-crash : goal.returns-in-Ok-send-clause-crash
+returns-in-Ok-send-clause-crash g c L stands sound =
+    ask_adds L c.in-Ok.wanted (g.D.Desk.may_leave c.args.desk.now) (g.D.Desk.may_leave c.perform.new.desk) (c.in-Ok-perform.ensures.crash L stands sound)
+
+pub returns-clause-crash : goal.returns-clause-crash
+returns-clause-crash g c L stands sound =
+    ask_adds L c.in-Ok.wanted (g.D.Desk.may_leave c.args.desk.now) (g.D.Desk.may_leave c.perform.new.desk) (c.in-Ok-perform.ensures.crash L stands sound)

@@ -1,6 +1,7 @@
 use Rattle.std.proofs.Common.{◌≡◌, List, ℕ, length, not, nat_eq}
 use Rattle.std.specs.Io.KnownBytes.{Appends}
 use Rattle.series_rules.specs.Answers.{followed_by}
+use Rattle.series_rules.specs.Leaves.{LeavesOnly}
 use Rattle.series_rules.specs.declared.requests.Request.{Request}
 use Rattle.desk_batch.specs.Batch.{output, refusals}
 use Rattle.onixdesk.specs.Deliveries.{HaveRecords, deliveries}
@@ -17,4 +18,6 @@ invariant-loop-name g l = record {
       HaveRecords texts ×
       Appends (g.W.Write.contents l.fn.output) (g.W.Write.contents l.output) (output l.precedence L (deliveries texts)) ×
       g.D.Desk.stands_for l.desk (followed_by L (deliveries texts));
+  left : (L : List Request) → g.D.Desk.stands_for l.fn.desk L → g.D.Desk.is_sound l.desk → LeavesOnly (g.D.Desk.may_leave l.fn.desk) L →
+      LeavesOnly (g.D.Desk.may_leave l.desk) (followed_by L (deliveries texts));
 }

@@ -1,0 +1,93 @@
+-- A command that ends from one beginning ends so from each that comes to it.
+use Rattle.std.proofs.Common.{inl, inr, ℕ, List, Option, length}
+use Rattle.series_rules.specs.Leaves.{LeavesOnly}
+use Rattle.series_rules.specs.declared.requests.Request.{Request}
+use Rattle.onixdesk.specs.Course.{Course}
+use Rattle.onixdesk.specs.Deliveries.{DeliveriesEnd}
+use Rattle.onixdesk.specs.Ends.{Ends}
+use Rattle.onixdesk.specs.TaskEnds.{TaskEnds}
+use Rattle.onixdesk.specs.declared.command_line.Task.{Task}
+use Rattle.onixdesk.specs.declared.command_line.Task.TheVariants as task
+
+-- the same, begun otherwise
+abbrev pub begun : Course → (List Request → Type 0) → (List Request → Type 0) → Course
+begun c stood was = record c { stood = stood; was = was }
+
+batch_begun : (c : Course) (stood was : List Request → Type 0) (L : List Request) (text : List ℕ) (status : ℕ) → Ends c L text status → Ends (begun c stood was) L text status
+batch_begun c stood was L text status (inl answered) = inl answered
+batch_begun c stood was L text status (inr (inr unread)) = inr (inr unread)
+batch_begun c stood was L text status (inr (inl s)) = inr (inl record {
+  status_is = s.status_is;
+  has_records = s.has_records;
+  done = s.done;
+  within = s.within;
+  answered = s.answered;
+  no_more = s.no_more;
+  all_but_one = s.all_but_one;
+  part = s.part;
+  rest = s.rest;
+  last_is = s.last_is;
+  answers_are = s.answers_are;
+  stands_after = s.stands_after;
+})
+
+deliveries_begun : (c : Course) (stood was : List Request → Type 0) (L : List Request) (count : ℕ) (texts last : List (List ℕ)) (status : ℕ)
+    → DeliveriesEnd c L count texts last status → DeliveriesEnd (begun c stood was) L count texts last status
+deliveries_begun c stood was L count texts last status (inl (d, none)) = inl (
+  record {
+    all = d.all;
+    status_is = d.status_is;
+    have_records = d.have_records;
+    answers_are = d.answers_are;
+    stands_after = d.stands_after;
+  },
+  none,
+)
+deliveries_begun c stood was L count texts last status (inr s) = inr record {
+  status_is = s.status_is;
+  few = s.few;
+  one = s.one;
+  have_records = s.have_records;
+  has_records = s.has_records;
+  part = s.part;
+  rest = s.rest;
+  last_is = s.last_is;
+  answers_are = s.answers_are;
+  stands_after = s.stands_after;
+}
+
+-- where each list of the one beginning is one of the other, of which a crash left it alone
+pub task_begun : (c : Course) (stood was : List Request → Type 0) (task : Task) (told : Option (List ℕ)) (status : ℕ)
+    → TaskEnds c task told status → ((L : List Request) → stood L → c.sound → c.stood L × LeavesOnly c.was L)
+    → TaskEnds (begun c stood was) task told status
+task_begun c stood was task.Batch told status ended begins = (
+  ended.0,
+  ended.1,
+  λ L began sound.
+      let from = begins L began sound in
+      let end = ended.2 L from.0 sound in
+      (batch_begun c stood was L ended.0 status end.0, λ only. end.1 from.1),
+)
+task_begun c stood was (task.Deliver names) told status ended begins = (
+  ended.0,
+  ended.1,
+  λ L began sound.
+      let from = begins L began sound in
+      let end = ended.2 L from.0 sound in
+      (deliveries_begun c stood was L (length names.items) ended.0 ended.1 status end.0, λ only. end.1 from.1),
+)
+task_begun c stood was (task.Gaps name) told status ended begins = λ L began sound.
+    let from = begins L began sound in
+    let end = ended L from.0 sound in
+    (end.0, λ only. end.1 from.1)
+task_begun c stood was (task.Serve port requests) told status ended begins = (
+  ended.0,
+  (
+    ended.1.0,
+    λ L began sound.
+        let from = begins L began sound in
+        let end = ended.1.1 L from.0 sound in
+        (end.0, λ only. end.1 from.1),
+  ),
+  ended.2,
+)

@@ -146,8 +146,7 @@ ready_as_found s0 s1 settled read = record {
       let up = read.was_open clean in
       (sym (read.present clean db only meta has), λ d may. settled d up (read.crash clean db only (inr (meta, has)) d may) ∙ ap (λ (x : Database). x.trees) (only up).2);
   taken = λ clean db only rows any.
-      let up = read.was_open clean in
-      (
+      let up = read.was_open clean in (
         sym (read.present clean db only rows.meta (any_has_meta db rows any)),
         keeps_rows db s1 rows (read.left clean db only (known_if_any db rows any)) any,
         λ d may. settled d up (read.crash clean db only (known_if_any db rows any) d may) ∙ ap (λ (x : Database). x.trees) (only up).2,

@@ -1,5 +1,5 @@
 -- What is found where a desk of version 1 is brought to version 2, and what that leaves.
-use Rattle.std.specs.Prelude.{◌≡◌, ◌⊎◌, ℕ, List, Some, Result, IfOk, IfErr, OnErr, OnOk, ⊤}
+use Rattle.std.specs.Prelude.{◌≡◌, ◌⊎◌, List, Some, Result, IfOk, IfErr, OnErr, OnOk, ⊤}
 use Rattle.sqlite.specs.Effect.{Database}
 use Rattle.sqlite.specs.Files.{HoldsDatabase}
 use Rattle.sqlite.specs.State.{State, HasCleanDisk}

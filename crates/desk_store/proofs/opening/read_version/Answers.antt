@@ -17,8 +17,8 @@ returns g c =
     subst (λ t. IsVersionRead s0 (state g.S.Store t.connection) c.version.result) same
     (version_read c.in_ok-work.work s0 s1 s2 s3 c.in_ok-work.work.spent c.version.new.self.spent c.version.result c.in_ok-work.ensures.begun
     (λ none.
-        let it = told.absent none in (
-          it.0,
-          subst (λ t. KeepsCommit s1 (state g.S.Store t.connection) × ((d : Trees) → (state g.S.Store t.connection).may_leave d → s1.may_leave d)) (sym it.1) (record { was_open = λ up. up; committed = λ up. refl }, λ d may. may),
-        ))
+    let it = told.absent none in (
+      it.0,
+      subst (λ t. KeepsCommit s1 (state g.S.Store t.connection) × ((d : Trees) → (state g.S.Store t.connection).may_leave d → s1.may_leave d)) (sym it.1) (record { was_open = λ up. up; committed = λ up. refl }, λ d may. may),
+    ))
     told.present told.tells told.keeps_meta c.drop-work.ensures.undone c.drop-work.ensures.survives)

@@ -15,14 +15,16 @@ use Rattle.sqlite_trees.proofs.Doubt.{no_doubt}
 use Rattle.sqlite_trees.specs.Tree.{Trees}
 use Rattle.sqlite_trees.specs.View.{doubt}
 use Rattle.sqlite_wal.specs.Recovery.{Image}
+use Rattle.desk_tables.proofs.MetaAlone.{meta_again}
 use Rattle.desk_tables.proofs.OneSchema.{emptied_again, no_meta_again}
-use Rattle.desk_tables.specs.Rows.{DeskRows, Holds, HoldsFirst, first_rows}
+use Rattle.desk_tables.specs.Meta.{HoldsMeta}
+use Rattle.desk_tables.specs.Rows.{DeskRows, Holds, HoldsFirst, MetaRow, first_rows}
 use Rattle.desk_tables.specs.Schema.{is_meta, schema_0}
 use Rattle.desk_tables.specs.Transactions.{IsEmptied}
 use Rattle.series_rules.specs.declared.requests.Request.{Request}
 use Rattle.desk_store.specs.Desks.{AreRowsOf, KeepsRequests}
 use Rattle.desk_store.specs.Migrations.{AreFilesOfEither, IsOfRequests, IsTrueAnswer, MakesSecond}
-use Rattle.desk_store.specs.Openings.{AreEmptyFiles, AreFilesOf, AreFilesWith, AreFoundAs, AreItsTrees, AreTreesOf, HasNoMeta, HoldRowsOf, HoldSuch, HoldsAny, IsFoundFor, IsReady, KeepsFiles, KeepsStore, LeavesOne, MakesNothing, ShowsOnly, Spares, SparesFiles, TakesRows, TellNoVersion, TellsFiles, TellsFound}
+use Rattle.desk_store.specs.Openings.{AreEmptyFiles, AreFilesOf, AreFilesWith, AreFoundAs, AreItsTrees, AreTreesOf, HasNoMeta, HoldRowsOf, HoldSuch, HoldsAny, IsFoundFor, IsReady, KeepsFiles, KeepsStore, LeavesOne, MakesNothing, ShowsOnly, Spares, SparesFiles, TakesFound, TellNoVersion, TellsFiles, TellsFound}
 use Rattle.desk_store.specs.declared.migrating.MigrateAnswer.{MigrateAnswer}
 use Rattle.desk_store.specs.declared.opening.OpenFault.{OpenFault}
 use Rattle.desk_store.proofs.FoundTables.{no_meta}
@@ -77,6 +79,9 @@ module _ (image : Image) (s0 s1 : State) (opened : HasCleanDisk s0 → Opens s0 
   found_with clean rows (db, both, inl held) = inl (second db s0.now rows held (live clean) (same_trees clean db.trees both))
   found_with clean rows (db, both, inr held) = inr (first db s0.now rows held (live clean) (same_trees clean db.trees both))
 
+  found_meta : HasCleanDisk s0 → (db : Database) → ∥ HoldsDatabase image db.trees ∥₁ → (meta : List MetaRow) → HoldsMeta db meta → HoldsMeta s0.now meta
+  found_meta clean db both meta has = meta_again db s0.now meta has (live clean) (same_trees clean db.trees both)
+
   found_either : HasCleanDisk s0 → (L : List Request) → AreFilesOfEither image L → IsOfRequests s0.now L
   found_either clean L (inl (db, both, old)) = inl (old.0, first db s0.now old.0 old.1 (live clean) (same_trees clean db.trees both), old.2, old.3)
   found_either clean L (inr are) = inr (found_for clean L are)
@@ -95,11 +100,11 @@ module _ (image : Image) (s0 s1 : State) (opened : HasCleanDisk s0 → Opens s0 
       }
 
   -- a fault that is true of the database that was found is true of the files
-  pub files_tell : (IsTrueOf : DeskRows → OpenFault → Type 0) (left : Trees → Type 0) (fault : OpenFault) → HasCleanDisk s0
+  pub files_tell : (IsTrueOf : List MetaRow → OpenFault → Type 0) (left : Trees → Type 0) (fault : OpenFault) → HasCleanDisk s0
       → (IsTrue s0.is_open → TellsFound IsTrueOf (λ db. ShowsOnly db s0) (LeavesOne left) (HasNoMeta s0) fault) → TellsFiles IsTrueOf image left fault
   files_tell IsTrueOf left fault clean of_open = record {
-    version = λ db both rows any. tells.version s0.now only rows (found_any db both rows any);
-    stays = λ db both rows any other d may. tells.stays s0.now only rows (found_any db both rows any) other d may ∙ same_trees clean db.trees both;
+    version = λ db both meta has. tells.version s0.now only meta (found_meta clean db both meta has);
+    stays = λ db both meta has other d may. tells.stays s0.now only meta (found_meta clean db both meta has) other d may ∙ same_trees clean db.trees both;
     none = λ none. tells.none (s0.now, only, found_none clean none);
   }
     where
@@ -108,9 +113,6 @@ module _ (image : Image) (s0 s1 : State) (opened : HasCleanDisk s0 → Opens s0 
 
       tells : TellsFound IsTrueOf (λ db. ShowsOnly db s0) (LeavesOne left) (HasNoMeta s0) fault
       tells = of_open (opened clean).0.is_open
-
-      found_any : (db : Database) → ∥ HoldsDatabase image db.trees ∥₁ → (rows : DeskRows) → HoldsAny db rows → HoldsAny s0.now rows
-      found_any db both rows any = found_with clean rows (db, both, any)
 
   -- so is what a crash may leave
   pub files_spare : (Made : Database → DeskRows → Database → Type 0) (left : Trees → Type 0) → ((db other : Database) (rows : DeskRows) (made : Database) → HoldsAny other rows → other.trees ≡ db.trees → Made db rows made → Made other rows made) → HasCleanDisk s0
@@ -134,12 +136,22 @@ module _ (image : Image) (s0 s1 : State) (opened : HasCleanDisk s0 → Opens s0 
       of_none d (inl is) = inl (found_as clean d is)
       of_none d (inr made) = inr made
 
-  -- rows are taken only where they tell version 2
-  pub files_take : IsReady s0 s1 (Ok tt) → HasCleanDisk s1 → TakesRows image s1
-  files_take ready clean db both rows any =
-      let clean0 = ready.premise clean in
-      let it = ready.taken clean s0.now (opened_shows s0 (opened clean0).0) rows (found_with clean0 rows (db, both, any)) in
-      (it.0, it.1, λ d may. it.2 d may ∙ same_trees clean0 db.trees both)
+  -- what was found is taken only where it tells version 2
+  pub files_take : IsReady s0 s1 (Ok tt) → HasCleanDisk s1 → TakesFound image s1
+  files_take ready clean = record {
+    told = λ db both meta has.
+        let it = ready.told clean s0.now only meta (found_meta clean0 db both meta has) in
+        (it.0, λ d may. it.1 d may ∙ same_trees clean0 db.trees both);
+    rows = λ db both rows any.
+        let it = ready.taken clean s0.now only rows (found_with clean0 rows (db, both, any)) in
+        (it.0, it.1, λ d may. it.2 d may ∙ same_trees clean0 db.trees both);
+  }
+    where
+      clean0 : HasCleanDisk s0
+      clean0 = ready.premise clean
+
+      only : ShowsOnly s0.now s0
+      only = opened_shows s0 (opened clean0).0
 
   pub files_stand : IsReady s0 s1 (Ok tt) → HasCleanDisk s1 → (L : List Request) → AreFilesOf image L → KeepsRequests s1 L
   files_stand ready clean L are = let clean0 = ready.premise clean in ready.ok clean s0.now (opened_shows s0 (opened clean0).0) L (found_for clean0 L are)

@@ -1,11 +1,13 @@
 -- What is found where a desk is opened, against the lists of requests.
 use Rattle.std.proofs.Common.{◌≡◌, ◌⊎◌, inl, inr, ℕ, false, List, [], Option, Some, None, Ok, Err, Result, IsTrue, refl, sym, ap, ◌∙◌, subst}
-use Rattle.std.specs.Prelude.{true, IsSome, ⊤}
+use Rattle.std.specs.Prelude.{IsSome, ⊤}
 use Rattle.std.specs.List.{list_any}
 use Rattle.sqlite.specs.Effect.{Database}
 use Rattle.sqlite.specs.State.{State, HasCleanDisk}
 use Rattle.sqlite_trees.specs.Tree.{Trees}
-use Rattle.desk_tables.specs.Rows.{DeskRows, Holds, first_rows, version_in}
+use Rattle.desk_tables.proofs.MetaAlone.{first_has_meta, has_its_meta, second_has_meta}
+use Rattle.desk_tables.specs.Meta.{HoldsMeta, version_among}
+use Rattle.desk_tables.specs.Rows.{DeskRows, Holds, MetaRow, first_rows, version_in}
 use Rattle.desk_tables.specs.Schema.{is_meta, schema_0}
 use Rattle.desk_tables.specs.Transactions.{IsEmptied}
 use Rattle.desk_terms.specs.declared.faults.StoreFault.{StoreFault}
@@ -25,29 +27,37 @@ version_of_requests rows L stands = rw stands.version refl
 pub no_meta : (db : Database) → IsEmptied schema_0 db → list_any is_meta db.schema.tables ≡ false
 no_meta db emptied = rw emptied.schema_is refl
 
+-- a database of a desk, in either version, has its table `meta`
+pub any_has_meta : (db : Database) (rows : DeskRows) → HoldsAny db rows → HoldsMeta db rows.meta
+any_has_meta db rows (inl held) = second_has_meta db rows held
+any_has_meta db rows (inr held) = first_has_meta db rows held
+
+pub known_if_any : (db : Database) (rows : DeskRows) → HoldsAny db rows → IsKnown db
+known_if_any db rows any = inr (rows.meta, any_has_meta db rows any)
+
 pub known_if_found : (db : Database) (L : List Request) → IsFoundFor db L → IsKnown db
-known_if_found db L (inl held) = inr (held.0, inl held.1)
+known_if_found db L (inl held) = inr (held.0.meta, second_has_meta db held.0 held.1)
 known_if_found db L (inr none) = inl (no_meta db none.0)
 
 pub keeps_found : (db : Database) (L : List Request) (s : State) → ShowsOnly db s → HoldsRequests db L → KeepsRequests s L
 keeps_found db L s only held = λ up. let is = only up in (is.0, subst (λ d. HoldsRequests d L) (sym is.1) held, subst (λ d. HoldsRequests d L) (sym is.2) held)
 
 -- a fault of the store, which is true of everything
-pub tells_store : (IsTrueOf : DeskRows → OpenFault → Type 0) (Found Stays : Database → Type 0) (HasNone : Type 0) (e : StoreFault) → ((rows : DeskRows) → IsTrueOf rows (Store e))
+pub tells_store : (IsTrueOf : List MetaRow → OpenFault → Type 0) (Found Stays : Database → Type 0) (HasNone : Type 0) (e : StoreFault) → ((meta : List MetaRow) → IsTrueOf meta (Store e))
     → TellsFound IsTrueOf Found Stays HasNone (Store e)
 tells_store IsTrueOf Found Stays HasNone e always = record {
-  version = λ db found rows any. always rows;
-  stays = λ db found rows any other. absurd other;
+  version = λ db found meta has. always meta;
+  stays = λ db found meta has other. absurd other;
   none = λ none other. other;
 }
 
 -- the version that was read
-pub tells_other : (IsTrueOf : DeskRows → OpenFault → Type 0) (s0 s1 : State) (found : ℕ) → IsVersionRead s0 s1 (Ok (Some found)) → HasCleanDisk s1
-    → ((rows : DeskRows) → version_in rows ≡ Some found → IsTrueOf rows (OtherVersion found))
+pub tells_other : (IsTrueOf : List MetaRow → OpenFault → Type 0) (s0 s1 : State) (found : ℕ) → IsVersionRead s0 s1 (Ok (Some found)) → HasCleanDisk s1
+    → ((meta : List MetaRow) → version_among meta ≡ Some found → IsTrueOf meta (OtherVersion found))
     → TellsFound IsTrueOf (λ db. ShowsOnly db s0) (StaysShown s0 s1) (HasNoMeta s0) (OtherVersion found)
 tells_other IsTrueOf s0 s1 found read clean is_true = record {
-  version = λ db only rows any. is_true rows (sym (read.present clean db only rows any));
-  stays = λ db only rows any other. (read.left clean db only (inr (rows, any)), read.crash clean db only (inr (rows, any)));
+  version = λ db only meta has. is_true meta (sym (read.present clean db only meta has));
+  stays = λ db only meta has other. (read.left clean db only (inr (meta, has)), read.crash clean db only (inr (meta, has)));
   none = λ (db, only, no_table) other. some_none (read.absent clean db only no_table);
 }
   where
@@ -59,32 +69,31 @@ abbrev pub IsSettled : State → Type 0
 IsSettled s = (d : Trees) → IsTrue s.is_open → s.may_leave d → d ≡ s.committed.trees
 
 -- what stays is all that a crash leaves of a connection that was just opened
-pub tells_left : (IsTrueOf : DeskRows → OpenFault → Type 0) (s0 s1 : State) (left : Trees → Type 0) (fault : OpenFault) → IsSettled s0 → ((d : Trees) → left d → s1.may_leave d) → IsTrue s0.is_open
+pub tells_left : (IsTrueOf : List MetaRow → OpenFault → Type 0) (s0 s1 : State) (left : Trees → Type 0) (fault : OpenFault) → IsSettled s0 → ((d : Trees) → left d → s1.may_leave d) → IsTrue s0.is_open
     → TellsFound IsTrueOf (λ db. ShowsOnly db s0) (StaysShown s0 s1) (HasNoMeta s0) fault → TellsFound IsTrueOf (λ db. ShowsOnly db s0) (LeavesOne left) (HasNoMeta s0) fault
 tells_left IsTrueOf s0 s1 left fault settled leaves up tells = record {
   version = tells.version;
-  stays = λ db only rows any other d may. settled d up ((tells.stays db only rows any other).1 d (leaves d may)) ∙ ap (λ (x : Database). x.trees) (only up).2;
+  stays = λ db only meta has other d may. settled d up ((tells.stays db only meta has other).1 d (leaves d may)) ∙ ap (λ (x : Database). x.trees) (only up).2;
   none = tells.none;
 }
-
--- a desk's tables tell a version
-pub has_meta : (db : Database) (rows : DeskRows) → HoldsAny db rows → list_any is_meta db.schema.tables ≡ true
-has_meta db rows (inl held) = rw held.schema refl
-has_meta db rows (inr held) = rw held.schema refl
 
 none_is_some : IsSome {T = ℕ} None → ⊥
 none_is_some e = absurd cc
 
--- so where no version was read, there are no rows
+-- where no version was read, there is no table `meta`
+pub no_meta_here : (s0 s1 : State) → IsVersionRead s0 s1 (Ok None) → HasCleanDisk s1 → (db : Database) → ShowsOnly db s0 → (meta : List MetaRow) → HoldsMeta db meta → ⊥
+no_meta_here s0 s1 read clean db only meta has = none_is_some (read.some clean db only (has_its_meta db meta has))
+
+-- so there are no rows
 pub no_rows_here : (s0 s1 : State) → IsVersionRead s0 s1 (Ok None) → HasCleanDisk s1 → (db : Database) → ShowsOnly db s0 → (rows : DeskRows) → HoldsAny db rows → ⊥
-no_rows_here s0 s1 read clean db only rows any = none_is_some (read.some clean db only (has_meta db rows any))
+no_rows_here s0 s1 read clean db only rows any = no_meta_here s0 s1 read clean db only rows.meta (any_has_meta db rows any)
 
 -- ---- what a crash may leave
 
 -- the version was read, and nothing was done
 pub spares_read : (Made : Database → DeskRows → Database → Type 0) (s0 s1 : State) (result : Result (Option ℕ) StoreFault) → IsVersionRead s0 s1 result → HasCleanDisk s1 → Spares Made (λ db. ShowsOnly db s0) (CouldLeave s0) s1.may_leave
 spares_read Made s0 s1 result read clean = record {
-  rows = λ db only rows any d may. inl (read.crash clean db only (inr (rows, any)) d may);
+  rows = λ db only rows any d may. inl (read.crash clean db only (known_if_any db rows any) d may);
   none = λ db only emptied d may. inl (read.crash clean db only (inl (no_meta db emptied)) d may);
 }
 
@@ -133,12 +142,14 @@ ready_as_found s0 s1 settled read = record {
       let up = read.was_open clean in
       let before = read.crash clean db only (known_if_found db L found) d may in
       (db, sym (settled d up before ∙ ap (λ (x : Database). x.trees) (only up).2), here clean db only L found);
-  taken = λ clean db only rows any.
+  told = λ clean db only meta has.
       let up = read.was_open clean in
-      (
-        sym (read.present clean db only rows any),
-        keeps_rows db s1 rows (read.left clean db only (inr (rows, any))) any,
-        λ d may. settled d up (read.crash clean db only (inr (rows, any)) d may) ∙ ap (λ (x : Database). x.trees) (only up).2,
+      (sym (read.present clean db only meta has), λ d may. settled d up (read.crash clean db only (inr (meta, has)) d may) ∙ ap (λ (x : Database). x.trees) (only up).2);
+  taken = λ clean db only rows any.
+      let up = read.was_open clean in (
+        sym (read.present clean db only rows.meta (any_has_meta db rows any)),
+        keeps_rows db s1 rows (read.left clean db only (known_if_any db rows any)) any,
+        λ d may. settled d up (read.crash clean db only (known_if_any db rows any) d may) ∙ ap (λ (x : Database). x.trees) (only up).2,
       );
   spares = spares_read MakesNothing s0 s1 (Ok (Some 2)) read;
 }
@@ -159,9 +170,10 @@ ready_other s0 s1 found other read = record {
   premise = read.premise;
   ok = λ clean db only L it. tt;
   err = λ clean db only L it. read.left clean db only (known_if_found db L it);
-  fault = λ clean. tells_other IsFaultFor s0 s1 found read clean (λ rows is. (is, other));
+  fault = λ clean. tells_other IsFaultFor s0 s1 found read clean (λ meta is. (is, other));
   crash = λ clean db only L it d may. inl (read.crash clean db only (known_if_found db L it) d may);
   alone = λ clean db only L it. tt;
+  told = λ clean db only meta has. tt;
   taken = λ clean db only rows any. tt;
   spares = spares_read MakesNothing s0 s1 (Ok (Some found)) read;
 }
@@ -171,9 +183,10 @@ ready_unread s0 s1 e read = record {
   premise = read.premise;
   ok = λ clean db only L it. tt;
   err = λ clean db only L it. read.left clean db only (known_if_found db L it);
-  fault = λ clean. tells_store IsFaultFor (λ db. ShowsOnly db s0) (StaysShown s0 s1) (HasNoMeta s0) e (λ rows. tt);
+  fault = λ clean. tells_store IsFaultFor (λ db. ShowsOnly db s0) (StaysShown s0 s1) (HasNoMeta s0) e (λ meta. tt);
   crash = λ clean db only L it d may. inl (read.crash clean db only (known_if_found db L it) d may);
   alone = λ clean db only L it. tt;
+  told = λ clean db only meta has. tt;
   taken = λ clean db only rows any. tt;
   spares = spares_read MakesNothing s0 s1 (Err e) read;
 }
@@ -185,7 +198,7 @@ module _ (s0 s1 s2 : State) (read : IsVersionRead s0 s1 (Ok None)) where
 
   -- so the database is empty, and the list too
   emptied_here : HasCleanDisk s1 → (db : Database) → ShowsOnly db s0 → (L : List Request) → IsFoundFor db L → IsEmptied schema_0 db × (L ≡ [])
-  emptied_here clean db only L (inl held) = absurd (differ (read.present clean db only held.0 (inl held.1) ∙ version_of_requests held.0 L held.2))
+  emptied_here clean db only L (inl held) = absurd (differ (read.present clean db only held.0.meta (second_has_meta db held.0 held.1) ∙ version_of_requests held.0 L held.2))
   emptied_here clean db only L (inr none) = none
 
   left_here : HasCleanDisk s1 → (db : Database) → ShowsOnly db s0 → (L : List Request) → IsFoundFor db L → ShowsOnly db s1
@@ -218,6 +231,7 @@ module _ (s0 s1 s2 : State) (read : IsVersionRead s0 s1 (Ok None)) where
         let done = now clean db only L it in
         let sure = created.alone clean in
         (done.0, sym (sure.1 d may ∙ ap (λ (x : Database). x.trees) (done.2.0 sure.0).2), done.2.1);
+    told = λ clean db only meta has. absurd (no_meta_here s0 s1 read (created.premise clean) db only meta has);
     taken = λ clean db only rows any. absurd (no_rows_here s0 s1 read (created.premise clean) db only rows any);
     spares = spares_created MakesNothing s0 s1 s2 (Ok tt) read created;
   }
@@ -237,9 +251,10 @@ module _ (s0 s1 s2 : State) (read : IsVersionRead s0 s1 (Ok None)) where
     err = λ clean db only L it.
         let clean1 = created.premise clean in
         created.err clean db (left_here clean1 db only L it) (emptied_here clean1 db only L it).0;
-    fault = λ clean. tells_store IsFaultFor (λ db. ShowsOnly db s0) (StaysShown s0 s2) (HasNoMeta s0) e (λ rows. tt);
+    fault = λ clean. tells_store IsFaultFor (λ db. ShowsOnly db s0) (StaysShown s0 s2) (HasNoMeta s0) e (λ meta. tt);
     crash = crash_here (Err e) created;
     alone = λ clean db only L it. tt;
+    told = λ clean db only meta has. tt;
     taken = λ clean db only rows any. tt;
     spares = spares_created MakesNothing s0 s1 s2 (Err e) read created;
   }

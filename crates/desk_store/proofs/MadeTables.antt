@@ -1,12 +1,16 @@
 -- Tables that are made in one transaction: all at once or not at all.
-use Rattle.std.proofs.Common.{◌≡◌, ◌⊎◌, inl, inr, Bool, false, Ok, Err, Result, OnOk, IsTrue, sym, ◌∙◌, subst, arith}
-use Rattle.std.specs.Prelude.{⊤}
+use Rattle.std.proofs.Common.{◌≡◌, ◌⊎◌, inl, inr, ℕ, Bool, true, false, List, [], None, Option, Ok, Err, Result, IfOk, OnOk, IsTrue, sym, ◌∙◌, subst, arith}
+use Rattle.std.specs.List.{list_any}
+use Rattle.std.specs.Prelude.{IsSome, ⊤}
 use Rattle.sqlite.specs.Effect.{Database}
 use Rattle.sqlite.specs.State.{State, HasCleanDisk, KeepsCommit, Survives}
 use Rattle.sqlite_trees.specs.Tree.{Trees}
+use Rattle.desk_tables.specs.Meta.{HoldsMeta, version_among}
+use Rattle.desk_tables.specs.Rows.{MetaRow}
+use Rattle.desk_tables.specs.Schema.{is_meta}
 use Rattle.desk_tables.specs.Transactions.{BeginsWork, EndsWork, IsUndone, LeavesOnly, Makes, NoTrees}
 use Rattle.desk_terms.specs.declared.faults.StoreFault.{StoreFault}
-use Rattle.desk_store.specs.Openings.{MakesAll, ShowsOnly}
+use Rattle.desk_store.specs.Openings.{IsKnown, IsVersionRead, MakesAll, ShowsOnly}
 
 -- ---- a transaction, by what was shown before it
 
@@ -37,6 +41,50 @@ undone_on : (db : Database) (s1 s2 s3 : State) → s1.committed ≡ db → Keeps
 undone_on db s1 s2 s3 committed kept undone = λ up.
     let up2 = undone.was_open up in
     (undone.autocommit, undone.now up ∙ kept.committed up2 ∙ committed, undone.committed up ∙ kept.committed up2 ∙ committed)
+
+-- ---- the version read
+
+on_ok : {A E P : Type 0} (r : Result A E) → P → OnOk r P
+on_ok (Ok a) p = p
+on_ok (Err e) p = tt
+
+module _ {W : Type 0} (w : W) (s0 s1 s2 s3 : State) (was now : Bool) (result : Result (Option ℕ) StoreFault) (begins : BeginsWork {A = W} {E = StoreFault} s0 s1 (Ok w))
+    (absent : list_any is_meta s1.now.schema.tables ≡ false → IfOk result (λ version. version ≡ None) × (KeepsCommit s1 s2 × ((d : Trees) → s2.may_leave d → s1.may_leave d)))
+    (present : list_any is_meta s1.now.schema.tables ≡ true → IfOk result (λ version. IsSome version)) (tells : HasCleanDisk s2 → (meta : List MetaRow) → HoldsMeta s1.now meta → IfOk result (λ version. version ≡ version_among meta))
+    (keeps : (meta : List MetaRow) → Makes (λ db. HoldsMeta db meta) (λ db. HoldsMeta db meta) s1 s2 was now result) (undone : HasCleanDisk s3 → IsUndone s2 s3) (survives : Survives s2 s3 NoTrees) where
+  read_clean2 : HasCleanDisk s3 → HasCleanDisk s2
+  read_clean2 clean = omega (arith, survives.clean)
+
+  read_clean1 : HasCleanDisk s2 → HasCleanDisk s1
+  read_clean1 clean = omega (arith, (keeps []).survives.clean)
+
+  read_clean0 : HasCleanDisk s1 → HasCleanDisk s0
+  read_clean0 clean = omega (arith, begins.survives.clean)
+
+  begun : HasCleanDisk s3 → (db : Database) → ShowsOnly db s0 → IsBegunOn db s0 s1
+  begun clean db only = begun_on w db s0 s1 (read_clean1 (read_clean2 clean)) begins only
+
+  known_now : HasCleanDisk s3 → (db : Database) → ShowsOnly db s0 → IsKnown db → IsKnown s1.now
+  known_now clean db only known = subst IsKnown (sym (begun clean db only).now) known
+
+  of_known : HasCleanDisk s2 → IsKnown s1.now → KeepsCommit s1 s2 × ((d : Trees) → s2.may_leave d → s1.may_leave d)
+  of_known clean (inl none) = (absent none).1
+  of_known clean (inr (meta, has)) = ((keeps meta).kept clean has, λ d may. go ((keeps meta).survives.crash clean d may))
+    where
+      go : {P : Type 0} → P ⊎ ¬ HoldsMeta s1.now meta → P
+      go (inl earlier) = earlier
+      go (inr other) = absurd (other has)
+
+  pub version_read : IsVersionRead s0 s3 result
+  version_read = record {
+    premise = λ clean. read_clean0 (read_clean1 (read_clean2 clean));
+    was_open = λ clean. on_ok result (begins.begun (read_clean1 (read_clean2 clean))).0.was_open;
+    absent = λ clean db only none. (absent (subst (λ (x : Database). list_any is_meta x.schema.tables ≡ false) (sym (begun clean db only).now) none)).0;
+    some = λ clean db only has. present (subst (λ (x : Database). list_any is_meta x.schema.tables ≡ true) (sym (begun clean db only).now) has);
+    present = λ clean db only meta has. tells (read_clean2 clean) meta (subst (λ x. HoldsMeta x meta) (sym (begun clean db only).now) has);
+    left = λ clean db only known. undone_on db s1 s2 s3 (begun clean db only).committed (of_known (read_clean2 clean) (known_now clean db only known)).0 (undone clean);
+    crash = λ clean db only known d may. (begun clean db only).crash d ((of_known (read_clean2 clean) (known_now clean db only known)).1 d (either (survives.crash clean d may)));
+  }
 
 -- ---- the tables made
 

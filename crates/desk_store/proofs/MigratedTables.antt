@@ -14,10 +14,10 @@ use Rattle.desk_store.specs.Migrations.{HoldsFirstRequests, IsMigrated, IsMigrat
 use Rattle.desk_store.specs.Openings.{AreTreesOf, CouldLeave, HasNoMeta, HoldsAny, IsCreated, IsFoundFor, IsKnown, IsReady, IsVersionRead, MakesAll, ShowsOnly, Spares, StaysShown}
 use Rattle.desk_store.specs.declared.migrating.MigrateAnswer.TheVariants.{Migrated, AlreadyTwo}
 use Rattle.desk_store.specs.declared.opening.OpenFault.TheVariants.{Store, OtherVersion}
-use Rattle.desk_store.proofs.FoundTables.{IsSettled, keeps_found, known_if_found, no_meta, no_rows_here, ready_as_found, spares_created, spares_read, tells_other, tells_store, version_of_requests}
+use Rattle.desk_store.proofs.FoundTables.{IsSettled, any_has_meta, keeps_found, known_if_any, known_if_found, no_meta, no_rows_here, ready_as_found, spares_created, spares_read, tells_other, tells_store, version_of_requests}
 
 known_if_of : (db : Database) (L : List Request) → IsOfRequests db L → IsKnown db
-known_if_of db L (inl first) = inr (first.0, inr first.1)
+known_if_of db L (inl first) = known_if_any db first.0 (inr first.1)
 known_if_of db L (inr found) = known_if_found db L found
 
 some_is : (m n : ℕ) → ◌≡◌ {A = Option ℕ} (Some m) (Some n) → m ≡ n
@@ -33,10 +33,10 @@ one_two e = absurd cc
 
 module _ (s0 s1 : State) (version : Option ℕ) (read : IsVersionRead s0 s1 (Ok version)) (clean : HasCleanDisk s1) (db : Database) (only : ShowsOnly db s0) where
   second_says : (L : List Request) → HoldsRequests db L → version ≡ Some 2
-  second_says L held = read.present clean db only held.0 (inl held.1) ∙ version_of_requests held.0 L held.2
+  second_says L held = read.present clean db only held.0.meta (any_has_meta db held.0 (inl held.1)) ∙ version_of_requests held.0 L held.2
 
   first_says : (L : List Request) → HoldsFirstRequests db L → version ≡ Some 1
-  first_says L first = read.present clean db only first.0 (inr first.1) ∙ first.2
+  first_says L first = read.present clean db only first.0.meta (any_has_meta db first.0 (inr first.1)) ∙ first.2
 
   none_says : IsEmptied schema_0 db → version ≡ None
   none_says emptied = read.absent clean db only (no_meta db emptied)
@@ -49,7 +49,7 @@ migrated_already s0 s1 settled read = record {
   ok = λ clean db only L of. ready.ok clean db only L (inl (held clean db only L of));
   err = λ clean db only L of. tt;
   answer = λ clean db only. record {
-    version = λ rows any. sym (read.present clean db only rows any);
+    version = λ rows any. sym (read.present clean db only rows.meta (any_has_meta db rows any));
     made = λ emptied. absurd (none_is 2 (sym (none_says s0 s1 (Some 2) read clean db only emptied)));
   };
   fault = λ clean. tt;
@@ -73,7 +73,7 @@ migrated_other s0 s1 found not_one not_two read = record {
   ok = λ clean db only L of. tt;
   err = λ clean db only L of. read.left clean db only (known_if_of db L of);
   answer = λ clean db only. tt;
-  fault = λ clean. tells_other IsMigrateFaultFor s0 s1 found read clean (λ rows is. (is, not_one, not_two));
+  fault = λ clean. tells_other IsMigrateFaultFor s0 s1 found read clean (λ meta is. (is, not_one, not_two));
   crash = λ clean db only L of d may. inl (read.crash clean db only (known_if_of db L of) d may);
   alone = λ clean db only L of. tt;
   spares = spares_read MakesSecond s0 s1 (Ok (Some found)) read;
@@ -85,7 +85,7 @@ migrated_unread s0 s1 e read = record {
   ok = λ clean db only L of. tt;
   err = λ clean db only L of. read.left clean db only (known_if_of db L of);
   answer = λ clean db only. tt;
-  fault = λ clean. tells_store IsMigrateFaultFor (λ db. ShowsOnly db s0) (StaysShown s0 s1) (HasNoMeta s0) e (λ rows. tt);
+  fault = λ clean. tells_store IsMigrateFaultFor (λ db. ShowsOnly db s0) (StaysShown s0 s1) (HasNoMeta s0) e (λ meta. tt);
   crash = λ clean db only L of d may. inl (read.crash clean db only (known_if_of db L of) d may);
   alone = λ clean db only L of. tt;
   spares = spares_read MakesSecond s0 s1 (Err e) read;
@@ -121,7 +121,7 @@ module _ (s0 s1 s2 : State) (read : IsVersionRead s0 s1 (Ok (Some 1))) where
       clean1 = again.premise clean
 
       before : (db : Database) → ShowsOnly db s0 → (rows : DeskRows) → HoldsAny db rows → (Other : Type 0) (d : Trees) → s1.may_leave d ⊎ Other → s0.may_leave d ⊎ Other
-      before db only rows any Other d (inl was) = inl (read.crash clean1 db only (inr (rows, any)) d was)
+      before db only rows any Other d (inl was) = inl (read.crash clean1 db only (known_if_any db rows any) d was)
       before db only rows any Other d (inr other) = inr other
 
       first_made : (db : Database) (rows : DeskRows) → HoldsFirst db rows → (d : Trees) → s0.may_leave d ⊎ ((made : Database) × (made.trees ≡ d) × Holds made (with_version 2 rows)) → s0.may_leave d ⊎ AreTreesOf (MakesSecond db rows) d
@@ -133,8 +133,8 @@ module _ (s0 s1 s2 : State) (read : IsVersionRead s0 s1 (Ok (Some 1))) where
       never_made Other d (inr made) = absurd made.2
 
       of_any : (db : Database) → ShowsOnly db s0 → (rows : DeskRows) → HoldsAny db rows → (d : Trees) → s2.may_leave d → s0.may_leave d ⊎ AreTreesOf (MakesSecond db rows) d
-      of_any db only rows (inl held) d may = never_made _ d (before db only rows (inl held) _ d (again.crash clean db (read.left clean1 db only (inr (rows, inl held))) held.schema d may))
-      of_any db only rows (inr first) d may = first_made db rows first d (before db only rows (inr first) _ d ((makes rows).crash clean db (read.left clean1 db only (inr (rows, inr first))) first d may))
+      of_any db only rows (inl held) d may = never_made _ d (before db only rows (inl held) _ d (again.crash clean db (read.left clean1 db only (known_if_any db rows (inl held))) held.schema d may))
+      of_any db only rows (inr first) d may = first_made db rows first d (before db only rows (inr first) _ d ((makes rows).crash clean db (read.left clean1 db only (known_if_any db rows (inr first))) first d may))
 
   first_crash : (result : Result ⊤ StoreFault) → Makes result → HasCleanDisk s2 → (db : Database) → ShowsOnly db s0 → (L : List Request) → IsOfRequests db L → (d : Trees) → s2.may_leave d → s0.may_leave d ⊎ AreRowsOf d L
   first_crash result makes clean db only L of d may =
@@ -154,7 +154,7 @@ module _ (s0 s1 s2 : State) (read : IsVersionRead s0 s1 (Ok (Some 1))) where
     answer = λ clean db only.
         let clean1 = (makes first_rows).premise clean in
         record {
-          version = λ rows any. sym (read.present clean1 db only rows any);
+          version = λ rows any. sym (read.present clean1 db only rows.meta (any_has_meta db rows any));
           made = λ emptied. refl;
         };
     fault = λ clean. tt;
@@ -182,7 +182,7 @@ module _ (s0 s1 s2 : State) (read : IsVersionRead s0 s1 (Ok (Some 1))) where
         let first = first_here clean1 db only L of in
         (makes first.0).err clean db (first_left clean1 db only L of) first.1;
     answer = λ clean db only. tt;
-    fault = λ clean. tells_store IsMigrateFaultFor (λ db. ShowsOnly db s0) (StaysShown s0 s2) (HasNoMeta s0) e (λ rows. tt);
+    fault = λ clean. tells_store IsMigrateFaultFor (λ db. ShowsOnly db s0) (StaysShown s0 s2) (HasNoMeta s0) e (λ meta. tt);
     crash = first_crash (Err e) makes;
     alone = λ clean db only L of. tt;
     spares = spares_first (Err e) makes again;
@@ -220,7 +220,7 @@ module _ (s0 s1 s2 : State) (read : IsVersionRead s0 s1 (Ok None)) where
     ok = λ clean db only L of. tt;
     err = λ clean db only L of. ready.err clean db only L (found_here (created.premise clean) db only L of);
     answer = λ clean db only. tt;
-    fault = λ clean. tells_store IsMigrateFaultFor (λ db. ShowsOnly db s0) (StaysShown s0 s2) (HasNoMeta s0) e (λ rows. tt);
+    fault = λ clean. tells_store IsMigrateFaultFor (λ db. ShowsOnly db s0) (StaysShown s0 s2) (HasNoMeta s0) e (λ meta. tt);
     crash = λ clean db only L of. ready.crash clean db only L (found_here (created.premise clean) db only L of);
     alone = λ clean db only L of. tt;
     spares = spares_created MakesSecond s0 s1 s2 (Err e) read created;

@@ -1,11 +1,12 @@
 -- What is found where a desk of version 1 is brought to version 2, and what that leaves.
-use Rattle.std.specs.Prelude.{◌≡◌, ◌⊎◌, ℕ, List, Some, Result, IfOk, IfErr, OnErr, OnOk, ⊤}
+use Rattle.std.specs.Prelude.{◌≡◌, ◌⊎◌, List, Some, Result, IfOk, IfErr, OnErr, OnOk, ⊤}
 use Rattle.sqlite.specs.Effect.{Database}
 use Rattle.sqlite.specs.Files.{HoldsDatabase}
 use Rattle.sqlite.specs.State.{State, HasCleanDisk}
 use Rattle.sqlite_trees.specs.Tree.{Trees}
 use Rattle.sqlite_wal.specs.Recovery.{Image}
-use Rattle.desk_tables.specs.Rows.{DeskRows, Holds, HoldsFirst, version_in, with_version}
+use Rattle.desk_tables.specs.Meta.{version_among}
+use Rattle.desk_tables.specs.Rows.{DeskRows, Holds, HoldsFirst, MetaRow, version_in, with_version}
 use Rattle.desk_tables.specs.Schema.{schema_0}
 use Rattle.desk_tables.specs.Transactions.{IsEmptied}
 use Rattle.series_rules.specs.declared.requests.Request.{Request}
@@ -35,10 +36,10 @@ pub record IsTrueAnswer (Has : DeskRows → Type 0) (IsEmpty : Type 0) (answer :
   pub version : (rows : DeskRows) → Has rows → IsAnswerFor rows answer
   pub made : IsEmpty → answer ≡ Migrated
 
--- the fault is true of the rows: another version is theirs, and neither 1 nor 2
-abbrev pub IsMigrateFaultFor : DeskRows → OpenFault → Type 0
-IsMigrateFaultFor rows (Store fault) = ⊤
-IsMigrateFaultFor rows (OtherVersion found) = (version_in rows ≡ Some found) × ¬ (found ≡ 1) × ¬ (found ≡ 2)
+-- the fault is true of the rows of `meta`: another version is theirs, and neither 1 nor 2
+abbrev pub IsMigrateFaultFor : List MetaRow → OpenFault → Type 0
+IsMigrateFaultFor meta (Store fault) = ⊤
+IsMigrateFaultFor meta (OtherVersion found) = (version_among meta ≡ Some found) × ¬ (found ≡ 1) × ¬ (found ≡ 2)
 
 -- of rows of version 1 are made the same in version 2
 abbrev pub MakesSecond : Database → DeskRows → Database → Type 0

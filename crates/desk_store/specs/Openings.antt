@@ -10,7 +10,8 @@ use Rattle.sqlite_disk.specs.declared.Disk as disk
 use Rattle.sqlite_disk.specs.declared.Files.{Files}
 use Rattle.sqlite_trees.specs.Tree.{Trees}
 use Rattle.sqlite_wal.specs.Recovery.{Image}
-use Rattle.desk_tables.specs.Rows.{DeskRows, Holds, HoldsFirst, first_rows, version_in}
+use Rattle.desk_tables.specs.Meta.{HoldsMeta, version_among}
+use Rattle.desk_tables.specs.Rows.{DeskRows, Holds, HoldsFirst, MetaRow, first_rows, version_in}
 use Rattle.desk_tables.specs.Schema.{is_meta, schema_0}
 use Rattle.desk_tables.specs.Transactions.{IsEmptied, LeavesOnly}
 use Rattle.desk_terms.specs.declared.faults.StoreFault.{StoreFault}
@@ -27,9 +28,9 @@ ShowsOnly db s = IsTrue s.is_open → (s.in_transaction ≡ false) × (s.now ≡
 abbrev pub HoldsAny : Database → DeskRows → Type 0
 HoldsAny db rows = Holds db rows ⊎ HoldsFirst db rows
 
--- the database is a desk's, or it has no table `meta` of a desk
+-- the database has no table `meta` of a desk, or its first table is one
 abbrev pub IsKnown : Database → Type 0
-IsKnown db = (list_any is_meta db.schema.tables ≡ false) ⊎ ((rows : DeskRows) × HoldsAny db rows)
+IsKnown db = (list_any is_meta db.schema.tables ≡ false) ⊎ ((meta : List MetaRow) × HoldsMeta db meta)
 
 -- the database holds what those requests come to, or it has no table and they are none
 abbrev pub IsFoundFor : Database → List Request → Type 0
@@ -41,7 +42,7 @@ pub record IsVersionRead (old new : State) (result : Result (Option ℕ) StoreFa
   pub was_open : HasCleanDisk new → OnOk result (IsTrue old.is_open)
   pub absent : HasCleanDisk new → (db : Database) → ShowsOnly db old → list_any is_meta db.schema.tables ≡ false → IfOk result (λ version. version ≡ None)
   pub some : HasCleanDisk new → (db : Database) → ShowsOnly db old → list_any is_meta db.schema.tables ≡ true → IfOk result (λ version. IsSome version)
-  pub present : HasCleanDisk new → (db : Database) → ShowsOnly db old → (rows : DeskRows) → HoldsAny db rows → IfOk result (λ version. version ≡ version_in rows)
+  pub present : HasCleanDisk new → (db : Database) → ShowsOnly db old → (meta : List MetaRow) → HoldsMeta db meta → IfOk result (λ version. version ≡ version_among meta)
   pub left : HasCleanDisk new → (db : Database) → ShowsOnly db old → IsKnown db → ShowsOnly db new
   pub crash : HasCleanDisk new → (db : Database) → ShowsOnly db old → IsKnown db → (d : Trees) → new.may_leave d → old.may_leave d
 
@@ -57,21 +58,21 @@ pub record MakesAll (Before After : Database → Type 0) (old new : State) (resu
 abbrev pub IsCreated : State → State → Result ⊤ StoreFault → Type 0
 IsCreated old new result = MakesAll (IsEmptied schema_0) (λ db. Holds db first_rows) old new result
 
--- the fault is true of the rows: another version is theirs, and not 2
-abbrev pub IsFaultFor : DeskRows → OpenFault → Type 0
-IsFaultFor rows (Store fault) = ⊤
-IsFaultFor rows (OtherVersion found) = (version_in rows ≡ Some found) × ¬ (found ≡ 2)
+-- the fault is true of the rows of `meta`: another version is theirs, and not 2
+abbrev pub IsFaultFor : List MetaRow → OpenFault → Type 0
+IsFaultFor meta (Store fault) = ⊤
+IsFaultFor meta (OtherVersion found) = (version_among meta ≡ Some found) × ¬ (found ≡ 2)
 
 -- the fault is that another version was found
 abbrev pub IsOther : OpenFault → Type 0
 IsOther (Store fault) = ⊥
 IsOther (OtherVersion found) = ⊤
 
--- A fault is true of what was found. Found: this is the database. Stays: it is there as before. HasNone: no table tells a version.
-pub record TellsFound (IsTrueOf : DeskRows → OpenFault → Type 0) (Found Stays : Database → Type 0) (HasNone : Type 0) (fault : OpenFault) : Type 0 where
-  pub version : (db : Database) → Found db → (rows : DeskRows) → HoldsAny db rows → IsTrueOf rows fault
+-- A fault is true of what was found. Found: this is the database. Stays: it is there as before. HasNone: no table tells a version. The version is that of the table `meta` alone, whatever tables stand beside it.
+pub record TellsFound (IsTrueOf : List MetaRow → OpenFault → Type 0) (Found Stays : Database → Type 0) (HasNone : Type 0) (fault : OpenFault) : Type 0 where
+  pub version : (db : Database) → Found db → (meta : List MetaRow) → HoldsMeta db meta → IsTrueOf meta fault
   -- what is of another version stays
-  pub stays : (db : Database) → Found db → (rows : DeskRows) → HoldsAny db rows → IsOther fault → Stays db
+  pub stays : (db : Database) → Found db → (meta : List MetaRow) → HoldsMeta db meta → IsOther fault → Stays db
   -- without a version the fault is one of the store
   pub none : HasNone → ¬ IsOther fault
 
@@ -122,6 +123,8 @@ pub record IsReady (old new : State) (result : Result ⊤ OpenFault) : Type 0 wh
   pub crash : HasCleanDisk new → (db : Database) → ShowsOnly db old → (L : List Request) → IsFoundFor db L → (d : Trees) → new.may_leave d → old.may_leave d ⊎ AreRowsOf d L
   -- once it is ready, a crash leaves the rows of the requests and nothing else
   pub alone : HasCleanDisk new → (db : Database) → ShowsOnly db old → (L : List Request) → IsFoundFor db L → OnOk result ((d : Trees) → new.may_leave d → AreRowsOf d L)
+  -- a table `meta` is taken only where it tells version 2, and the database stays
+  pub told : HasCleanDisk new → (db : Database) → ShowsOnly db old → (meta : List MetaRow) → HoldsMeta db meta → OnOk result ((version_among meta ≡ Some 2) × LeavesOne new.may_leave db)
   -- rows are taken only where they tell version 2, and they stay
   pub taken : HasCleanDisk new → (db : Database) → ShowsOnly db old → (rows : DeskRows) → HoldsAny db rows → OnOk result ((version_in rows ≡ Some 2) × KeepsRows new rows × LeavesOne new.may_leave db)
   -- whatever it ends in, a crash leaves rows as they were, and in the place of no table that or the tables of no request
@@ -153,9 +156,10 @@ AreFilesWith image rows = (db : Database) × ∥ HoldsDatabase image db.trees �
 abbrev pub TellNoVersion : Image → Type 0
 TellNoVersion image = AreEmptyFiles image ⊎ HoldSuch (λ db. list_any is_meta db.schema.tables ≡ false) image
 
--- rows that the files hold are taken only where they tell version 2, and they stay: the connection shows them, and a crash leaves the database that was found
-abbrev pub TakesRows : Image → State → Type 0
-TakesRows image s = (db : Database) → ∥ HoldsDatabase image db.trees ∥₁ → (rows : DeskRows) → HoldsAny db rows → (version_in rows ≡ Some 2) × KeepsRows s rows × LeavesOne s.may_leave db
+-- What of the files is taken for a desk. A table `meta`, whatever stands beside it, only where it tells version 2, and a crash then leaves the database that was found; the connection shows the rows of a desk that were found.
+pub record TakesFound (image : Image) (s : State) : Type 0 where
+  pub told : (db : Database) → ∥ HoldsDatabase image db.trees ∥₁ → (meta : List MetaRow) → HoldsMeta db meta → (version_among meta ≡ Some 2) × LeavesOne s.may_leave db
+  pub rows : (db : Database) → ∥ HoldsDatabase image db.trees ∥₁ → (rows : DeskRows) → HoldsAny db rows → (version_in rows ≡ Some 2) × KeepsRows s rows × LeavesOne s.may_leave db
 
 -- the trees are what the files recover to, or there was no database and they are empty; of files that hold a database, they are that
 abbrev pub AreFoundAs : Image → Trees → Type 0
@@ -185,5 +189,5 @@ left_in {g} (leftover.Unopened files) d = ⊤
 left_in {g} (leftover.Store it) d = (over_files {g = g}).recovers it d
 
 -- a fault of opening two files is true of what they held, and tables of another version are left as they were. Left: what a crash may then leave of them
-abbrev pub TellsFiles : (DeskRows → OpenFault → Type 0) → Image → (Trees → Type 0) → OpenFault → Type 0
+abbrev pub TellsFiles : (List MetaRow → OpenFault → Type 0) → Image → (Trees → Type 0) → OpenFault → Type 0
 TellsFiles IsTrueOf image left fault = TellsFound IsTrueOf (λ db. ∥ HoldsDatabase image db.trees ∥₁) (LeavesOne left) (TellNoVersion image) fault

@@ -12,7 +12,7 @@ ghost use Rattle.sqlite_wal.specs.Files.{image_at};
 ghost use Rattle.sqlite_wal.specs.Reads.{AreClean};
 ghost use Rattle.desk_store.specs.Desks.{AreRowsOf, IsAsked, IsQuestioned, KeepsRequests};
 ghost use Rattle.desk_store.specs.Leaves.{MayLeave};
-ghost use Rattle.desk_store.specs.Openings.{AreFilesOf, AreItsTrees, HasNoMeta, HoldRowsOf, IsFaultFor, IsOther, IsReady, KeepsFiles, KeepsStore, LeavesOne, MakesNothing, ShowsOnly, Spares, TakesRows, TellsFiles, TellsFound, left_in};
+ghost use Rattle.desk_store.specs.Openings.{AreFilesOf, AreItsTrees, HasNoMeta, HoldRowsOf, IsFaultFor, IsOther, IsReady, KeepsFiles, KeepsStore, LeavesOne, MakesNothing, ShowsOnly, Spares, TakesFound, TellsFiles, TellsFound, left_in};
 ghost use Rattle.series_rules.specs.Answers.{agree_answer, catalogue_answer, delivery_answer, gaps_answer, waive_answer};
 ghost use Rattle.series_rules.specs.Leaves.{LeavesNoMore, LeavesOneMore, LeavesOnly};
 ghost use Rattle.series_rules.specs.Offers.{offers_after};
@@ -132,7 +132,7 @@ impl<D: Disk + Drop> DeskStore<FileStore<D>> {
         requires db { IsTrue (D.Disk.is_usable files.db) }
         ensures stands { IfOk result (λ d. HasCleanDisk (file_state d.tables.connection) → (L : List Request) → AreFilesOf (image_of D.Disk files) L → KeepsRequests (file_state d.tables.connection) L) }
         ensures alone { IfOk result (λ d. HasCleanDisk (file_state d.tables.connection) → (L : List Request) → AreFilesOf (image_of D.Disk files) L → (left : Trees) → (file_state d.tables.connection).may_leave left → AreRowsOf left L) }
-        ensures taken { IfOk result (λ d. HasCleanDisk (file_state d.tables.connection) → TakesRows (image_of D.Disk files) (file_state d.tables.connection)) }
+        ensures taken { IfOk result (λ d. HasCleanDisk (file_state d.tables.connection) → TakesFound (image_of D.Disk files) (file_state d.tables.connection)) }
         ensures fault { IfErr result (λ e. IsCleanLeft e.1 → TellsFiles IsFaultFor (image_of D.Disk files) (left_in e.1) e.0) }
         ensures left { IfErr result (λ e. IsCleanLeft e.1 → KeepsFiles (λ were. were ≡ files) MakesNothing (image_of D.Disk files) e.1) }
     {
@@ -174,7 +174,7 @@ impl<S: Start> DeskStore<FileStore<FileFrom<S>>> {
     ) -> Result<DeskStore<FileStore<FileFrom<S>>>, (OpenFault, Option<Leftover<FileFrom<S>>>)>
         ensures stands { IfOk result (λ d. HasCleanDisk (file_state d.tables.connection) → (L : List Request) → AreFilesOf (image_at S.Start) L → KeepsRequests (file_state d.tables.connection) L) }
         ensures alone { IfOk result (λ d. HasCleanDisk (file_state d.tables.connection) → (L : List Request) → AreFilesOf (image_at S.Start) L → (left : Trees) → (file_state d.tables.connection).may_leave left → AreRowsOf left L) }
-        ensures taken { IfOk result (λ d. HasCleanDisk (file_state d.tables.connection) → TakesRows (image_at S.Start) (file_state d.tables.connection)) }
+        ensures taken { IfOk result (λ d. HasCleanDisk (file_state d.tables.connection) → TakesFound (image_at S.Start) (file_state d.tables.connection)) }
         ensures fault { IfErr result (λ e. IfSome e.1 (λ left. IsCleanLeft left → TellsFiles IsFaultFor (image_at S.Start) (left_in left) e.0)) }
         ensures left { IfErr result (λ e. IfSome e.1 (λ left. IsCleanLeft left → KeepsFiles (λ were. IsFresh true were.log × IsFresh false were.db) MakesNothing (image_at S.Start) left)) }
         ensures unopened { IfErr result (λ e. e.1 ≡ None → ¬ IsOther e.0) }

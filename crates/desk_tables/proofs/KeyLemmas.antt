@@ -147,14 +147,14 @@ parties_once db rows h a b c d =
 
 -- ---- meta: the item
 
-item_tells : (item : List ℕ) (v w : Value) (x y : MetaRow) → is_int v ≡ true → is_int w ≡ true → bytes_eq x.item item ≡ true → bytes_eq y.item item ≡ true → value_cmp v w ≡ Less
+pub item_tells : (item : List ℕ) (v w : Value) (x y : MetaRow) → is_int v ≡ true → is_int w ≡ true → bytes_eq x.item item ≡ true → bytes_eq y.item item ≡ true → value_cmp v w ≡ Less
     → key_clash (1 ∷ []) (v ∷ meta_columns x) (w ∷ meta_columns y) ≡ true
 item_tells item v w x y int int′ here there below =
     let same : x.item ≡ y.item = text_of x.item item here ∙ sym (text_of y.item item there) in
     rw (first_key-plain, same, text_itself y.item, differs v w int int′ below) refl
 
 -- an item stands once at most, in both versions
-item_free : (schema : Schema) (db : Database) → ((row : Row) → Keeps Unique schema db.trees → Has (db.trees 0) row → not (clashes plain (1 ∷ []) (db.trees 0) row) ≡ true) → db.schema ≡ schema → IsDatabase db
+pub item_free : (schema : Schema) (db : Database) → ((row : Row) → Keeps Unique schema db.trees → Has (db.trees 0) row → not (clashes plain (1 ∷ []) (db.trees 0) row) ≡ true) → db.schema ≡ schema → IsDatabase db
     → (a b : Row) → Has (db.trees 0) a → Has (db.trees 0) b → key_clash (1 ∷ []) a b ≡ false
 item_free schema db free has sound a b h k = no_clash (1 ∷ []) (db.trees 0) a b h (free b (subst (λ s. Keeps Unique s db.trees) has (sound.obeys.rules Unique)) k)
 

@@ -18,6 +18,7 @@ pub mod Creates
 pub mod Makings
 pub mod TableSteps
 pub mod MetaLemmas
+pub mod MetaAlone
 pub mod Deletes
 pub mod Removes
 pub mod Returned

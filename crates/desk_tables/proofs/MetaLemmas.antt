@@ -47,7 +47,7 @@ step_version =
     (λ old new count h ran. puts_version old new count no_rows h ran)
 
 module _ (rows : DeskRows) (old new : State) (got : List Row) where
-  shown_in : (schema : Schema) → (command_of (understood schema version_text) ≡ Select (program version_query) (codes "amount" ∷ [])) × (reads_listing schema version_text ≡ false) × IsPlain (understood schema version_text) → old.now.schema ≡ schema
+  pub shown_in : (schema : Schema) → (command_of (understood schema version_text) ≡ Select (program version_query) (codes "amount" ∷ [])) × (reads_listing schema version_text ≡ false) × IsPlain (understood schema version_text) → old.now.schema ≡ schema
       → Stands meta_columns rows.meta (old.now.trees 0) → length (filter is_version rows.meta) ≤ 1 → Shown version_text [] old new got
       → slice_get got 0 ≡ option_map (λ (r : MetaRow). Int (pos r.amount) ∷ []) (find is_version rows.meta)
   shown_in schema is has stands once shown =

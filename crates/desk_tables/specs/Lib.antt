@@ -12,3 +12,4 @@ pub mod ArticleAnswers
 pub mod AddedRows
 pub mod Refusals
 pub mod Inside
+pub mod Meta

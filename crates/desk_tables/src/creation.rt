@@ -1,11 +1,12 @@
 //! How the tables are made, and the version of their schema.
 
-ghost use Rattle.std.specs.Prelude.{◌≡◌, true, false, Err, None, Some, IsTrue, IfOk, IsSome};
+ghost use Rattle.std.specs.Prelude.{◌≡◌, true, false, Err, List, None, Some, IsTrue, IfOk, IsSome};
 ghost use Rattle.std.specs.List.{list_any};
 ghost use Rattle.sqlite.specs.Held.{state};
 ghost use Rattle.sqlite.specs.State.{HasCleanDisk};
 ghost use Rattle.desk_tables.specs.Schema.{is_meta, is_desk_table, desk_schema, first_schema, schema_0, schema_3, schema_6};
-ghost use Rattle.desk_tables.specs.Rows.{DeskRows, Holds, HoldsFirst, first_rows, no_rows, version_in, unchanged};
+ghost use Rattle.desk_tables.specs.Meta.{HoldsMeta, version_among};
+ghost use Rattle.desk_tables.specs.Rows.{DeskRows, Holds, HoldsFirst, MetaRow, first_rows, no_rows, unchanged, version_in};
 ghost use Rattle.desk_tables.specs.Transactions.{HasNoRows, IsEmptied, Makes, Works};
 
 use crate::rows::schemas::{has_desk_table, has_meta, version_of};
@@ -161,7 +162,9 @@ impl<S: Alter> Work<'_, S> {
     }
 
     /// The version of the tables, or `None` where there is no table `meta` with columns of the desk's
-    /// two names. `Unusable` where that table has no row of a version, or one that is no `u32`.
+    /// two names. `Unusable` where that table has no row of a version, or one that is no `u32`. Where
+    /// the first table is the `meta` of a desk, the version is the one that its rows tell, whatever
+    /// other tables stand beside it.
     pub fn version(&mut self) -> Result<Option<u32>, StoreFault>
         ensures same_reference { self.new.tables.ghost_name ≡ self.old.tables.ghost_name }
         ensures untouched { IsTrue self.old.spent → (result ≡ Err StoreFault.Unusable) × (self.new.tables.now ≡ self.old.tables.now) }
@@ -169,6 +172,8 @@ impl<S: Alter> Work<'_, S> {
         ensures present { list_any is_meta (state S.Store self.old.tables.now.connection).now.schema.tables ≡ true → IfOk result (λ version. IsSome version) }
         ensures first { HasCleanDisk (state S.Store self.new.tables.now.connection) → (rows : DeskRows) → HoldsFirst (state S.Store self.old.tables.now.connection).now rows → IfOk result (λ version. version ≡ version_in rows) }
         ensures keeps_first { (rows : DeskRows) → Makes (λ db. HoldsFirst db rows) (λ db. HoldsFirst db rows) (state S.Store self.old.tables.now.connection) (state S.Store self.new.tables.now.connection) self.old.spent self.new.spent result }
+        ensures tells { HasCleanDisk (state S.Store self.new.tables.now.connection) → (meta : List MetaRow) → HoldsMeta (state S.Store self.old.tables.now.connection).now meta → IfOk result (λ version. version ≡ version_among meta) }
+        ensures keeps_meta { (meta : List MetaRow) → Makes (λ db. HoldsMeta db meta) (λ db. HoldsMeta db meta) (state S.Store self.old.tables.now.connection) (state S.Store self.new.tables.now.connection) self.old.spent self.new.spent result }
         ensures works { Works (λ rows version. version ≡ version_in rows) unchanged
             (state S.Store self.old.tables.now.connection) (state S.Store self.new.tables.now.connection) self.old.spent self.new.spent result }
     {

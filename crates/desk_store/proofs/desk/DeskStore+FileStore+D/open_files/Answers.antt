@@ -1,4 +1,4 @@
-use Rattle.std.proofs.Common.{◌≡◌, refl, true, false}
+use Rattle.std.proofs.Common.{◌≡◌, refl}
 use Rattle.sqlite.specs.Files.{file_state, image_of}
 use Rattle.sqlite.specs.State.{HasCleanDisk}
 use Rattle.desk_store.proofs.FoundFiles.{files_alone, files_spare, files_stand, files_take, files_tell, nothing_moves, store_kept, unopened_kept}

@@ -1,5 +1,5 @@
-//! What answers requests, a desk or files that are opened for each, and how it ended. A request is a batch,
-//! or an exchange over HTTP.
+//! Requests to a desk, and how each ended. A request is a batch, or an exchange over HTTP. The caller lends
+//! what is written to, so that no function here owns memory.
 
 use crate::cases::{expect, expect_bytes};
 use csv_records::reading::RecordFault;
@@ -21,37 +21,13 @@ pub enum End {
     /// By want of memory, of the desk or of the text that the test lets it write to.
     Memory,
     Disk,
+    /// A disk failed before files were opened for it.
+    Unopened,
     /// A disk may not be used again.
     Lost,
     /// The tables are of this version.
     Version(u32),
     Other,
-}
-
-/// What was written to a request, and how it ended.
-#[derive(Drop)]
-pub struct Asked {
-    pub output: Vec<u8>,
-    pub ended: End,
-    /// Whether files were opened for it.
-    pub is_opened: bool,
-}
-
-impl Asked {
-    /// What comes of files that are not opened.
-    pub fn unopened(alloc: Global, ended: End) -> Asked {
-        Asked {
-            output: Vec::new(alloc),
-            ended,
-            is_opened: false,
-        }
-    }
-}
-
-/// What answers requests.
-pub trait Asks {
-    /// Asks it under rules.
-    fn ask(&mut self, alloc: Global, rules: &Precedence, request: &str) -> Asked;
 }
 
 /// How a fault of a store is told.
@@ -94,57 +70,77 @@ fn end_of_exchange(ended: Result<u16, HttpFault>, reply: &[u8]) -> End {
     }
 }
 
-fn batch<D: Desk>(alloc: Global, desk: &mut D, rules: &Precedence, text: &str) -> Asked {
-    let mut output = Vec::new(alloc);
-    let ended = run_batch(alloc, desk, rules, &mut text.as_bytes(), &mut output);
-    Asked {
-        output,
-        ended: end_of_batch(ended),
-        is_opened: true,
-    }
+fn batch<D: Desk>(
+    alloc: Global,
+    desk: &mut D,
+    rules: &Precedence,
+    text: &str,
+    output: &mut Vec<u8>,
+) -> End {
+    end_of_batch(run_batch(alloc, desk, rules, &mut text.as_bytes(), output))
 }
 
 // A line end is written behind the reply, as behind all that tests compare. That of a fault is no answer.
-fn exchange<D: Desk>(alloc: Global, desk: &mut D, rules: &Precedence, text: &str) -> Asked {
-    let mut output = Vec::new(alloc);
-    let ended = serve_one(alloc, desk, rules, &mut text.as_bytes(), &mut output);
-    let mut ended = end_of_exchange(ended, output.as_slice());
-    if !matches!(ended, End::Done) {
-        output.clear();
-    } else if output.push(b'\n').is_err() {
-        ended = End::Memory;
-    }
-    Asked {
-        output,
-        ended,
-        is_opened: true,
+fn exchange<D: Desk>(
+    alloc: Global,
+    desk: &mut D,
+    rules: &Precedence,
+    text: &str,
+    output: &mut Vec<u8>,
+) -> End {
+    let served = serve_one(alloc, desk, rules, &mut text.as_bytes(), output);
+    match end_of_exchange(served, output.as_slice()) {
+        End::Done if output.push(b'\n').is_err() => End::Memory,
+        End::Done => End::Done,
+        ended => {
+            output.clear();
+            ended
+        }
     }
 }
 
-/// Asks a desk.
-pub fn ask_desk<D: Desk>(alloc: Global, desk: &mut D, rules: &Precedence, request: &str) -> Asked {
+fn ask_desk<D: Desk>(
+    alloc: Global,
+    desk: &mut D,
+    rules: &Precedence,
+    request: &str,
+    output: &mut Vec<u8>,
+) -> End {
+    output.clear();
     if request.starts_with("GET ") || request.starts_with("POST ") {
-        exchange(alloc, desk, rules, request)
+        exchange(alloc, desk, rules, request, output)
     } else {
-        batch(alloc, desk, rules, request)
+        batch(alloc, desk, rules, request, output)
     }
 }
 
-impl Asks for MemoryDesk {
-    fn ask(&mut self, alloc: Global, rules: &Precedence, request: &str) -> Asked {
-        ask_desk(alloc, self, rules, request)
-    }
+// A function that calls what is generic over a desk with a known one is dear to prove, so each kind has one.
+
+/// Asks the desk in memory. What is answered is all that the output holds then.
+pub fn ask_memory(
+    alloc: Global,
+    desk: &mut MemoryDesk,
+    rules: &Precedence,
+    request: &str,
+    output: &mut Vec<u8>,
+) -> End {
+    ask_desk(alloc, desk, rules, request, output)
 }
 
-impl<S: Alter> Asks for DeskStore<S> {
-    fn ask(&mut self, alloc: Global, rules: &Precedence, request: &str) -> Asked {
-        ask_desk(alloc, self, rules, request)
-    }
+/// The same of a desk in tables.
+pub fn ask_store<S: Alter>(
+    alloc: Global,
+    desk: &mut DeskStore<S>,
+    rules: &Precedence,
+    request: &str,
+    output: &mut Vec<u8>,
+) -> End {
+    ask_desk(alloc, desk, rules, request, output)
 }
 
 /// Ends the test with the name of the case, unless a request was asked to its end and these are its
 /// answers.
-pub fn expect_asked(stop: &impl Abort, asked: &Asked, answers: &str, name: &str) {
-    expect_bytes(stop, asked.output.as_slice(), answers.as_bytes(), name);
-    expect(stop, matches!(asked.ended, End::Done), name);
+pub fn expect_asked(stop: &impl Abort, ended: End, output: &[u8], answers: &str, name: &str) {
+    expect_bytes(stop, output, answers.as_bytes(), name);
+    expect(stop, matches!(ended, End::Done), name);
 }

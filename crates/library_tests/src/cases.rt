@@ -12,9 +12,21 @@ pub fn expect(stop: &impl Abort, holds: bool, case: &str) {
     }
 }
 
-/// The same of a case of several of one name.
-pub fn expect_in(stop: &impl Abort, holds: bool, name: &str, case: &str) {
-    assert!(stop; holds, "{name}: {case}");
+/// What a test makes for itself; the test ends where it is not made. A test that handed the fault on would
+/// be dearer to prove, by all that it lets go of on that way out.
+pub fn made<T, E: Drop>(stop: &impl Abort, made: Result<T, E>) -> T {
+    match made {
+        Ok(made) => made,
+        Err(_) => stop.panic("what the test makes for itself"),
+    }
+}
+
+/// The same of what is read or found, by its name.
+pub fn found<T>(stop: &impl Abort, found: Option<T>, name: &str) -> T {
+    match found {
+        Some(found) => found,
+        None => stop.panic(name),
+    }
 }
 
 /// Ends the test with both and the name of the case, unless two texts are the same.
@@ -35,6 +47,11 @@ pub fn expect_text<E: Drop>(stop: &impl Abort, found: Result<String, E>, wanted:
     }
 }
 
+/// Adds a number to a text.
+pub fn push_number(text: &mut String, number: u32) -> Result<(), AllocError> {
+    write!(text, "{number}")
+}
+
 /// The field at this place of a line, from 0, or an empty text.
 pub fn field(line: &str, place: usize) -> &str {
     line.split(',').nth(place).unwrap_or("")
@@ -51,39 +68,41 @@ pub struct Step<'a> {
 
 // The case behind its `== `: a line with its name, what is given, a line `-- wanted`, what is wanted, and
 // where something is looked at after it, a line `-- after` and that.
-fn read_step<'a>(text: &'a str) -> Option<Step<'a>> {
-    let (name, rest) = text.split_once('\n')?;
-    let (given, rest) = rest.split_once("-- wanted\n")?;
+fn read_step<'a>(stop: &impl Abort, text: &'a str) -> Step<'a> {
+    let Some((name, rest)) = text.split_once('\n') else {
+        stop.panic(text)
+    };
+    let Some((given, rest)) = rest.split_once("-- wanted\n") else {
+        stop.panic(text)
+    };
     let (wanted, after) = rest.split_once("-- after\n").unwrap_or((rest, ""));
-    Some(Step {
+    Step {
         name,
         given,
         wanted,
         after,
-    })
-}
-
-fn push_step<'a>(
-    stop: &impl Abort,
-    steps: &mut Vec<Step<'a>>,
-    text: &'a str,
-) -> Result<(), AllocError> {
-    match read_step(text) {
-        Some(step) => steps.push(step)?,
-        None => stop.panic(text),
     }
-    Ok(())
 }
 
-/// The cases of a text, each behind a line end and `== `.
+// More cases than any text has.
+const MOST_STEPS: usize = 100;
+
+/// The cases of a text, each behind a line end and `== `. They are found one after the other, since a loop
+/// over the parts of a text is dear to prove.
 pub fn steps_of<'a>(
     alloc: Global,
     stop: &impl Abort,
     text: &'a str,
 ) -> Result<Vec<Step<'a>>, AllocError> {
     let mut steps = Vec::new(alloc);
-    for step in text.split("\n== ").skip(1) {
-        push_step(stop, &mut steps, step)?;
+    let mut rest = text.strip_prefix("\n== ").unwrap_or("");
+    for _ in 0..MOST_STEPS {
+        let (step, more) = rest.split_once("\n== ").unwrap_or((rest, ""));
+        if step.is_empty() {
+            return Ok(steps);
+        }
+        steps.push(read_step(stop, step))?;
+        rest = more;
     }
-    Ok(steps)
+    stop.panic("more cases than are read")
 }

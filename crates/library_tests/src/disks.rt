@@ -17,7 +17,6 @@ pub const OPTIONS: Options = Options {
 /// Files in memory. All tests have them of this type, since each further one is proved anew.
 pub type TestFiles = Files<Fuse<Memory>>;
 
-// Files of which one fails each call from that one on, the log or the database.
 fn fused(log: Memory, db: Memory, calls: u64, is_log: bool) -> TestFiles {
     let (log_calls, db_calls) = if is_log {
         (calls, u64::MAX)
@@ -30,9 +29,9 @@ fn fused(log: Memory, db: Memory, calls: u64, is_log: bool) -> TestFiles {
     }
 }
 
-/// New files, which do not fail.
-pub fn new_files(alloc: Global) -> TestFiles {
-    fused(Memory::new(alloc), Memory::new(alloc), u64::MAX, true)
+/// New files of which one fails each call from that one on, the log or the database.
+pub fn failing_files(alloc: Global, calls: u64, is_log: bool) -> TestFiles {
+    fused(Memory::new(alloc), Memory::new(alloc), calls, is_log)
 }
 
 fn copy_of(alloc: Global, disk: &Fuse<Memory>) -> io::Result<Memory> {

@@ -3,12 +3,13 @@
 
 ghost use Rattle.std.specs.Prelude.{IsTrue};
 
-use crate::asking::{Asked, Asks, End, ask_desk, end_of_fault};
-use crate::disks::{OPTIONS, TestFiles, copied, new_files};
+use crate::asking::{End, ask_store, end_of_fault};
+use crate::disks::{OPTIONS, TestFiles, copied, failing_files, stop_machine};
 use crate::tables::transcripts::first_unanswered;
 use desk_store::{DeskStore, MigrateAnswer, OpenFault, migrate_files};
 use desk_tables::rows::fault::fault_of;
 use desk_tables::tables::Tables;
+use desk_terms::StoreFault;
 use price_rules::precedence::Precedence;
 use sqlite::{Alter, Connection, FileStore, Files};
 use sqlite_disk::Disk;
@@ -34,16 +35,9 @@ enum Opened<S: Alter> {
     Connection(Connection<S>),
 }
 
-fn ended(alloc: Global, ended: End) -> Asked {
-    Asked {
-        output: Vec::new(alloc),
-        ended,
-        is_opened: true,
-    }
-}
-
 fn end_of_opening(fault: OpenFault) -> End {
     match fault {
+        OpenFault::Store(StoreFault::Disk) => End::Unopened,
         OpenFault::Store(fault) => end_of_fault(fault),
         OpenFault::OtherVersion { found } => End::Version(found),
     }
@@ -84,18 +78,23 @@ fn act_on<S: Alter + Drop>(
     }
 }
 
-fn act<S: Alter + Drop>(alloc: Global, opened: Opened<S>, call: Call<'_>) -> (Opened<S>, Asked) {
+fn act<S: Alter + Drop>(
+    alloc: Global,
+    opened: Opened<S>,
+    call: Call<'_>,
+    output: &mut Vec<u8>,
+) -> (Opened<S>, End) {
     match opened {
         Opened::Desk(mut desk) => {
-            let asked = match call {
-                Call::Ask(rules, request) => ask_desk(alloc, &mut desk, rules, request),
-                _ => ended(alloc, End::Other),
+            let end = match call {
+                Call::Ask(rules, request) => ask_store(alloc, &mut desk, rules, request, output),
+                _ => End::Other,
             };
-            (Opened::Desk(desk), asked)
+            (Opened::Desk(desk), end)
         }
         Opened::Connection(connection) => {
             let (connection, end) = act_on(alloc, connection, call);
-            (Opened::Connection(connection), ended(alloc, end))
+            (Opened::Connection(connection), end)
         }
     }
 }
@@ -106,8 +105,9 @@ fn act_on_files<D: Disk + Drop>(
     alloc: Global,
     opened: Opened<FileStore<D>>,
     call: Call<'_>,
-) -> (Opened<FileStore<D>>, Asked) {
-    act(alloc, opened, call)
+    output: &mut Vec<u8>,
+) -> (Opened<FileStore<D>>, End) {
+    act(alloc, opened, call, output)
 }
 
 // Closes files, whether or not their log can be copied.
@@ -128,124 +128,157 @@ fn act_and_close<D: Disk + Drop>(
     alloc: Global,
     opened: Opened<FileStore<D>>,
     call: Call<'_>,
-) -> (Files<D>, Asked) {
-    let (opened, asked) = act_on_files(alloc, opened, call);
-    (close(opened), asked)
+    output: &mut Vec<u8>,
+) -> (Files<D>, End) {
+    let (opened, end) = act_on_files(alloc, opened, call, output);
+    (close(opened), end)
 }
 
-fn ask<D: Disk + Drop>(alloc: Global, files: Files<D>, call: Call<'_>) -> (Files<D>, Asked)
+fn ask<D: Disk + Drop>(
+    alloc: Global,
+    files: Files<D>,
+    call: Call<'_>,
+    output: &mut Vec<u8>,
+) -> (Files<D>, End)
     requires log { IsTrue (D.Disk.is_usable files.log) }
     requires db { IsTrue (D.Disk.is_usable files.db) }
 {
     match DeskStore::open_files(alloc, files, OPTIONS) {
-        Ok(desk) => act_and_close(alloc, Opened::Desk(desk), call),
-        Err((fault, left)) => (
-            left.into_files(),
-            Asked::unopened(alloc, end_of_opening(fault)),
-        ),
+        Ok(desk) => act_and_close(alloc, Opened::Desk(desk), call, output),
+        Err((fault, left)) => (left.into_files(), end_of_opening(fault)),
     }
 }
 
-fn connect<D: Disk + Drop>(alloc: Global, files: Files<D>, call: Call<'_>) -> (Files<D>, Asked)
+fn connect<D: Disk + Drop>(
+    alloc: Global,
+    files: Files<D>,
+    call: Call<'_>,
+    output: &mut Vec<u8>,
+) -> (Files<D>, End)
     requires log { IsTrue (D.Disk.is_usable files.log) }
     requires db { IsTrue (D.Disk.is_usable files.db) }
 {
     match Connection::open_files(alloc, files, OPTIONS) {
-        Ok(connection) => act_and_close(alloc, Opened::Connection(connection), call),
-        Err((error, left)) => (
-            left.into_files(),
-            Asked::unopened(alloc, end_of_fault(fault_of(error))),
-        ),
+        Ok(connection) => act_and_close(alloc, Opened::Connection(connection), call, output),
+        Err((error, left)) => (left.into_files(), end_of_fault(fault_of(error))),
     }
 }
 
-fn migrated(alloc: Global, answer: MigrateAnswer) -> Asked {
+fn write_migrated(answer: MigrateAnswer, output: &mut Vec<u8>) -> End {
     let line = match answer {
         MigrateAnswer::Migrated => "migrated\n",
         MigrateAnswer::AlreadyTwo => "schema 2\n",
     };
-    match line.as_bytes().to_vec(alloc) {
-        Ok(output) => Asked {
-            output,
-            ended: End::Done,
-            is_opened: true,
-        },
-        Err(_) => ended(alloc, End::Memory),
+    match output.extend_from_slice(line.as_bytes()) {
+        Ok(()) => End::Done,
+        Err(_) => End::Memory,
     }
 }
 
-fn migrate<D: Disk + Drop>(alloc: Global, files: Files<D>) -> (Files<D>, Asked)
+fn migrate<D: Disk + Drop>(alloc: Global, files: Files<D>, output: &mut Vec<u8>) -> (Files<D>, End)
     requires log { IsTrue (D.Disk.is_usable files.log) }
     requires db { IsTrue (D.Disk.is_usable files.db) }
 {
     match migrate_files(alloc, files, OPTIONS) {
-        Ok((answer, files)) => (files, migrated(alloc, answer)),
-        Err((fault, left)) => (
-            left.into_files(),
-            Asked::unopened(alloc, end_of_opening(fault)),
-        ),
+        Ok((answer, files)) => (files, write_migrated(answer, output)),
+        Err((fault, left)) => (left.into_files(), end_of_opening(fault)),
     }
 }
 
-/// Opens files for a call and closes them behind it.
-pub fn make<D: Disk + Drop>(alloc: Global, files: Files<D>, call: Call<'_>) -> (Files<D>, Asked) {
+// Opens files for a call and closes them behind it.
+fn opened_for<D: Disk + Drop>(
+    alloc: Global,
+    files: Files<D>,
+    call: Call<'_>,
+    output: &mut Vec<u8>,
+) -> (Files<D>, End) {
     if !files.may_be_used() {
-        return (files, Asked::unopened(alloc, End::Lost));
+        return (files, End::Lost);
     }
     match call {
-        Call::Ask(..) => ask(alloc, files, call),
-        Call::Migrate => migrate(alloc, files),
-        Call::Tables(_) | Call::Execute(_) => connect(alloc, files, call),
+        Call::Ask(..) => ask(alloc, files, call, output),
+        Call::Migrate => migrate(alloc, files, output),
+        Call::Tables(_) | Call::Execute(_) => connect(alloc, files, call, output),
     }
 }
 
-/// Files on disks that fail only where memory is refused.
+// How a call ended over disks in memory that fail only where it is refused.
+fn end_in_memory(may_be_used: bool, end: End) -> End {
+    match end {
+        _ if !may_be_used => End::Lost,
+        End::Disk | End::Unopened => End::Memory,
+        end => end,
+    }
+}
+
+fn make<D: Disk + Drop>(
+    alloc: Global,
+    files: &mut Option<Files<D>>,
+    may_fail: bool,
+    call: Call<'_>,
+    output: &mut Vec<u8>,
+) -> End {
+    let Some(given) = files.take() else {
+        return End::Lost;
+    };
+    let (left, end) = opened_for(alloc, given, call, output);
+    let may_be_used = may_fail || left.may_be_used();
+    drop(files.replace(left));
+    if may_fail {
+        end
+    } else {
+        end_in_memory(may_be_used, end)
+    }
+}
+
+/// Files on disks in memory.
 #[derive(Drop)]
 pub struct FileDesk {
     files: Option<TestFiles>,
+    // Whether one of them fails otherwise than for want of memory.
+    may_fail: bool,
 }
 
 impl FileDesk {
     /// Over new files.
     pub fn new(alloc: Global) -> FileDesk {
-        FileDesk::of(new_files(alloc))
-    }
-
-    /// What was written to its files, in files of which one fails each call from that one on.
-    pub fn copied(&self, alloc: Global, calls: u64, is_log: bool) -> Option<TestFiles> {
-        match &self.files {
-            Some(files) => copied(alloc, files, calls, is_log).ok(),
-            None => None,
+        FileDesk {
+            files: Some(failing_files(alloc, u64::MAX, true)),
+            may_fail: false,
         }
     }
 
-    /// Makes a call. A disk in memory that fails lacks memory.
-    pub fn make(&mut self, alloc: Global, call: Call<'_>) -> Asked {
-        let Some(files) = self.files.take() else {
-            return Asked::unopened(alloc, End::Lost);
-        };
-        let (files, asked) = make(alloc, files, call);
-        let ended = match asked.ended {
-            _ if !files.may_be_used() => End::Lost,
-            End::Disk => End::Memory,
-            ended => ended,
-        };
-        drop(self.files.replace(files));
-        Asked {
-            output: asked.output,
-            ended,
-            is_opened: asked.is_opened,
+    /// Over new files of which one fails each call from that one on, the log or the database.
+    pub fn failing(alloc: Global, calls: u64, is_log: bool) -> FileDesk {
+        FileDesk {
+            files: Some(failing_files(alloc, calls, is_log)),
+            may_fail: true,
         }
     }
 
-    /// Over these files.
-    pub fn of(files: TestFiles) -> FileDesk {
-        FileDesk { files: Some(files) }
+    /// Over what was written to its files, whether or not it was synced, in files of which one fails so.
+    pub fn copied(&self, alloc: Global, calls: u64, is_log: bool) -> Option<FileDesk> {
+        let files = self.files.as_ref()?;
+        let copied = copied(alloc, files, calls, is_log).ok()?;
+        Some(FileDesk {
+            files: Some(copied),
+            may_fail: true,
+        })
     }
-}
 
-impl Asks for FileDesk {
-    fn ask(&mut self, alloc: Global, rules: &Precedence, request: &str) -> Asked {
-        self.make(alloc, Call::Ask(rules, request))
+    /// Opens its files for a call, and closes them behind it. What is answered is all that the output
+    /// holds then. This is the only place that names the type of the files, since each further one is
+    /// proved anew.
+    pub fn make(&mut self, alloc: Global, call: Call<'_>, output: &mut Vec<u8>) -> End {
+        output.clear();
+        make(alloc, &mut self.files, self.may_fail, call, output)
+    }
+
+    /// Stops the machine: what was not synced is lost. Says whether a file had failed before.
+    pub fn stop_machine(&mut self) -> bool {
+        match &mut self.files {
+            Some(files) => stop_machine(files),
+            None => false,
+        }
     }
 }

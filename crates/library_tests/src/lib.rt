@@ -8,6 +8,8 @@ mod asking;
 #[cfg(test)]
 mod cases;
 #[cfg(test)]
+mod desks;
+#[cfg(test)]
 mod disks;
 #[cfg(test)]
 mod files;

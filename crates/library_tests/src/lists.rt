@@ -12,8 +12,9 @@ pub mod steps;
 pub mod three;
 pub mod waivers;
 
-use crate::asking::{Asked, Asks, expect_asked};
+use crate::asking::expect_asked;
 use crate::cases::{Step, expect, steps_of};
+use crate::desks::TestDesk;
 use crate::refusals::Refusals;
 use price_rules::precedence::{Precedence, PrecedenceFault};
 use std::alloc::Global;
@@ -56,57 +57,57 @@ fn rules_of(
 }
 
 // Whether this is the report, where one is told.
-fn is_report(reported: &Asked, report: &str) -> bool {
-    report.is_empty() || reported.output.as_slice() == report.as_bytes()
+fn is_report(reported: &[u8], report: &str) -> bool {
+    report.is_empty() || reported == report.as_bytes()
 }
 
 // Ends the test unless a request that lacked memory left answers that begin as they are to be, and the
 // report from before it or the one after it.
-fn expect_near<A: Asks>(
+fn expect_near(
     alloc: Global,
     stop: &impl Abort,
-    asks: &mut A,
+    desk: &mut TestDesk,
     between: Between<'_>,
-    begun: Asked,
     before: &str,
     step: Step<'_>,
+    output: &mut Vec<u8>,
 ) {
-    let is_begun = step.wanted.as_bytes().starts_with(begun.output.as_slice());
+    let is_begun = step.wanted.as_bytes().starts_with(output.as_slice());
     expect(stop, is_begun, step.name);
-    drop(begun);
-    let reported = asks.ask(alloc, between.rules, between.report);
-    let is_near = is_report(&reported, before) || is_report(&reported, step.after);
+    desk.ask(alloc, between.rules, between.report, output);
+    let reported = output.as_slice();
+    let is_near = is_report(reported, before) || is_report(reported, step.after);
     expect(stop, is_near, step.name);
 }
 
 // Ends the test unless a request is answered as its step says.
-fn expect_answers<A: Asks>(
+fn expect_answers(
     alloc: Global,
     stop: &impl Abort,
     refusals: &mut Refusals,
-    asks: &mut A,
+    desk: &mut TestDesk,
     between: Between<'_>,
     before: &str,
     step: Step<'_>,
+    output: &mut Vec<u8>,
 ) {
-    let asked = asks.ask(alloc, between.rules, step.given);
-    if refusals.has_met(stop, asked.ended) {
-        expect_near(alloc, stop, asks, between, asked, before, step);
-        let again = asks.ask(alloc, between.rules, step.given);
-        expect_asked(stop, &again, step.wanted, step.name);
-    } else {
-        expect_asked(stop, &asked, step.wanted, step.name);
+    let mut ended = desk.ask(alloc, between.rules, step.given, output);
+    if refusals.has_met(stop, ended) {
+        expect_near(alloc, stop, desk, between, before, step, output);
+        ended = desk.ask(alloc, between.rules, step.given, output);
     }
+    expect_asked(stop, ended, output.as_slice(), step.wanted, step.name);
 }
 
 // The same of the report after it.
-fn expect_report<A: Asks>(
+fn expect_report(
     alloc: Global,
     stop: &impl Abort,
     refusals: &mut Refusals,
-    asks: &mut A,
+    desk: &mut TestDesk,
     between: Between<'_>,
     step: Step<'_>,
+    output: &mut Vec<u8>,
 ) {
     let reported = Step {
         name: step.name,
@@ -114,15 +115,17 @@ fn expect_report<A: Asks>(
         wanted: step.after,
         after: step.after,
     };
-    expect_answers(alloc, stop, refusals, asks, between, step.after, reported);
+    expect_answers(
+        alloc, stop, refusals, desk, between, step.after, reported, output,
+    );
 }
 
 /// Asks requests one after the other.
-pub fn expect_steps<A: Asks>(
+pub fn expect_steps(
     alloc: Global,
     stop: &impl Abort,
     refusals: &mut Refusals,
-    asks: &mut A,
+    desk: &mut TestDesk,
     list: List<'_>,
     steps: &[Step<'_>],
 ) {
@@ -132,25 +135,35 @@ pub fn expect_steps<A: Asks>(
         rules: &rules,
         report: list.report,
     };
+    let mut output = Vec::new(alloc);
     let mut before = list.before;
     for step in steps {
-        expect_answers(alloc, stop, refusals, asks, between, before, *step);
+        expect_answers(
+            alloc,
+            stop,
+            refusals,
+            desk,
+            between,
+            before,
+            *step,
+            &mut output,
+        );
         if !step.after.is_empty() {
-            expect_report(alloc, stop, refusals, asks, between, *step);
+            expect_report(alloc, stop, refusals, desk, between, *step, &mut output);
         }
         before = step.after;
     }
 }
 
 /// Asks all requests of a list.
-pub fn expect_list<A: Asks>(
+pub fn expect_list(
     alloc: Global,
     stop: &impl Abort,
     refusals: &mut Refusals,
-    asks: &mut A,
+    desk: &mut TestDesk,
     list: List<'_>,
 ) {
     let steps = refusals.own(stop, steps_of(alloc, stop, list.requests));
     expect(stop, !steps.is_empty(), list.name);
-    expect_steps(alloc, stop, refusals, asks, list, steps.as_slice());
+    expect_steps(alloc, stop, refusals, desk, list, steps.as_slice());
 }

@@ -2,7 +2,7 @@
 //! refused, what stands after a stop, and how files of version 1 go on. `tests/run` has what the program
 //! shows.
 
-mod desks;
+pub mod desks;
 mod files;
 mod migrations;
 mod stops;

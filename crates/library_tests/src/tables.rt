@@ -11,4 +11,4 @@ mod refused;
 mod sample;
 pub mod transcripts;
 pub mod version_1;
-mod words;
+pub mod words;

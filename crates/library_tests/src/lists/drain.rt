@@ -1,5 +1,6 @@
 //! Forty messages that wait behind the first of their series, and the first, which lets all be applied.
 
+use crate::cases::push_number;
 use crate::lists::List;
 use std::alloc::{AllocError, Global};
 
@@ -19,6 +20,9 @@ const AGREEMENT: &str = "
 Agree,north,06,4012345000009,06,5012345678900,1
 ";
 
+// What stands before the number of each.
+const MESSAGE: &str = "Message,1,06,4012345000009,06,5012345678900,";
+
 // What lacks before the first, the first with its answer, and what lacks then.
 const FIRST: &str = "-- after
 gaps,north,first=1,next=1,greatest=41,held=40,missing=1
@@ -33,24 +37,12 @@ applied,north,1,replaced=0,updated=0,deleted=0,unknown=0,ignored=0
 gaps,north,first=1,next=42,greatest=41,held=0,missing=0
 ";
 
-// Adds the forty messages, from the last one on.
-fn push_messages(alloc: Global, text: &mut String) -> Result<(), AllocError> {
+// Adds a text with each number from 41 down to 2 in it.
+fn push_forty(text: &mut String, before: &str, after: &str) -> Result<(), AllocError> {
     for above in 0..40u32 {
-        let number = 41u32.saturating_sub(above);
-        let message = format!(in alloc;
-            "Message,1,06,4012345000009,06,5012345678900,{number},,,,\nEndMessage,1\n"
-        )?;
-        text.push_str(message.as_str())?;
-    }
-    Ok(())
-}
-
-// Adds their answers.
-fn push_answers(alloc: Global, text: &mut String) -> Result<(), AllocError> {
-    for above in 0..40u32 {
-        let number = 41u32.saturating_sub(above);
-        let answer = format!(in alloc; "held,north,{number},waiting-for=1\n")?;
-        text.push_str(answer.as_str())?;
+        text.push_str(before)?;
+        push_number(text, 41u32.saturating_sub(above))?;
+        text.push_str(after)?;
     }
     Ok(())
 }
@@ -58,9 +50,9 @@ fn push_answers(alloc: Global, text: &mut String) -> Result<(), AllocError> {
 /// The agreement with the messages from 41 down to 2 as one request, and the first message.
 pub fn waiting(alloc: Global) -> Result<String, AllocError> {
     let mut text = String::from_str(alloc, AGREEMENT)?;
-    push_messages(alloc, &mut text)?;
+    push_forty(&mut text, MESSAGE, ",,,,\nEndMessage,1\n")?;
     text.push_str("-- wanted\nagreed,north,1\n")?;
-    push_answers(alloc, &mut text)?;
+    push_forty(&mut text, "held,north,", ",waiting-for=1\n")?;
     text.push_str(FIRST)?;
     Ok(text)
 }
@@ -68,17 +60,13 @@ pub fn waiting(alloc: Global) -> Result<String, AllocError> {
 /// What the tables answer where the first is next and the others wait, or where all are applied.
 pub fn rows(alloc: Global, are_applied: bool) -> Result<String, AllocError> {
     let (first, held, applied) = if are_applied {
-        (APPLIED, "none", "'' 0 0 0 0 0")
+        (APPLIED, ": none", ": '' 0 0 0 0 0")
     } else {
-        (HELD, "''", "none")
+        (HELD, ": ''", ": none")
     };
     let mut text = String::from_str(alloc, first)?;
-    for number in 2..42u32 {
-        let row = format!(in alloc;
-            "\nnext_held {number}: {held}\napplied_at {number}: {applied}"
-        )?;
-        text.push_str(row.as_str())?;
-    }
+    push_forty(&mut text, "\nnext_held ", held)?;
+    push_forty(&mut text, "\napplied_at ", applied)?;
     Ok(text)
 }
 

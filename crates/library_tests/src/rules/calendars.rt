@@ -1,174 +1,106 @@
-//! Calendars of one offer, by its break days and day by day, and the break days.
+//! The calendar of one offer beside the same day by day, and its break days. tests/batches/calendars.txt
+//! has the spans of the calendars.
 
-use crate::cases::{Step, expect_text, field, steps_of};
-use crate::rules::catalogues::offers_of;
-use crate::rules::choices::question;
-use onix_terms::Memory;
+use crate::cases::{Step, expect, field, found, made, steps_of};
+use crate::rules::offers::{offers_of, question};
 use onix_terms::day::Day;
 use onix_terms::items::Items;
 use price_rules::breaks::break_days;
 use price_rules::calendar::{CalendarFault, Span, calendar};
 use price_rules::day_by_day::calendar_day_by_day;
 use price_rules::offer::{CalendarQuery, Offer};
-use std::alloc::Global;
+use std::alloc::{AllocError, Global};
 use std::process::Abort;
-use std::test::Fail;
 
-// The first and the last day, and the prices, each by amount, From and Until; the spans, and
-// the break days.
+// The first and the last day, and the prices; then the break days, or none where the range is bad.
 const CASES: &str = "
 == a price that changes
 20250331,20250601
-10.000,20250401,20250430
-11.000,20250501,20250531
-9.500,20250515,20250520
-9.000,20250515,20250516
+Price,02,10.000,GBP,,WORLD,,20250401,20250430
+Price,02,11.000,GBP,,WORLD,,20250501,20250531
+Price,02,9.500,GBP,,WORLD,,20250515,20250520
+Price,02,9.000,GBP,,WORLD,,20250515,20250516
 -- wanted
-20250331,20250331,
-20250401,20250430,10.000
-20250501,20250514,11.000
-20250515,20250516,9.000
-20250517,20250520,9.500
-20250521,20250531,11.000
-20250601,20250601,
--- after
-20250331,20250401,20250501,20250515,20250517,20250521,20250601,
-
+20250331,20250401,20250501,20250515,20250517,20250521,20250601
 == one day
 20250401,20250401
-10.000,20250401,20250430
-11.000,20250501,20250531
+Price,02,10.000,GBP,,WORLD,,20250401,20250430
+Price,02,11.000,GBP,,WORLD,,20250501,20250531
 -- wanted
-20250401,20250401,10.000
--- after
-20250401,
-
+20250401
 == 3,660 days
 20250101,20350108
-10.000,20250401,20250430
-11.000,20250501,20250531
+Price,02,10.000,GBP,,WORLD,,20250401,20250430
+Price,02,11.000,GBP,,WORLD,,20250501,20250531
 -- wanted
-20250101,20250331,
-20250401,20250430,10.000
-20250501,20250531,11.000
-20250601,20350108,
--- after
-20250101,20250401,20250501,20250601,
-
+20250101,20250401,20250501,20250601
 == 3,661 days
 20250101,20350109
-10.000,20250401,20250430
+Price,02,10.000,GBP,,WORLD,,20250401,20250430
 -- wanted
-bad range
--- after
-bad range
 
 == a range that ends before it begins
 20250402,20250401
-10.000,20250401,20250430
+Price,02,10.000,GBP,,WORLD,,20250401,20250430
 -- wanted
-bad range
--- after
-bad range
 
 == neighbours of one amount
 20250101,20250228
-7.000,20250101,20250131
-7.000,20250201,20250228
+Price,02,7.000,GBP,,WORLD,,20250101,20250131
+Price,02,7.000,GBP,,WORLD,,20250201,20250228
 -- wanted
-20250101,20250228,7.000
--- after
-20250101,20250201,
-
+20250101,20250201
 == the last days of the calendar
 99991230,99991231
-7.000,,99991231
+Price,02,7.000,GBP,,WORLD,,,99991231
 -- wanted
-99991230,99991231,7.000
--- after
-99991230,
+99991230
+";
+
+const OFFER: &str = "Product,R1,03,15,9781234567897
+ProductSupply,GB IE,,
+SupplyDetail,04,,,North Books,21,
 ";
 
 // The contents with one offer that has these prices.
-fn contents(alloc: Global, prices: &str) -> Result<String, Fail> {
-    let mut text = String::from_str(
-        alloc,
-        "Product,R1,03,15,9781234567897\nProductSupply,GB IE,,\nSupplyDetail,04,,,North Books,21,\n",
-    )?;
-    for price in prices.lines() {
-        let amount = field(price, 0);
-        let from = field(price, 1);
-        let until = field(price, 2);
-        write!(text, "Price,02,{amount},GBP,,WORLD,,{from},{until}\n")?;
-    }
+fn contents(alloc: Global, prices: &str) -> Result<String, AllocError> {
+    let mut text = String::from_str(alloc, OFFER)?;
+    text.push_str(prices)?;
     Ok(text)
 }
 
-fn write_span(text: &mut String, span: Span) -> Result<(), Memory> {
-    span.first.write(text)?;
-    text.push_str(",")?;
-    span.last.write(text)?;
-    text.push_str(",")?;
-    if let Some(amount) = span.amount {
-        amount.write(text)?;
+// Whether both are the same spans, or both say that the range is bad where no break day is wanted.
+fn are_same(
+    one: &Result<Items<Span>, CalendarFault>,
+    other: &Result<Items<Span>, CalendarFault>,
+    wanted: &str,
+) -> bool {
+    match (one, other) {
+        (Ok(one), Ok(other)) => one.as_slice() == other.as_slice(),
+        (Err(CalendarFault::BadRange), Err(CalendarFault::BadRange)) => wanted.is_empty(),
+        _ => false,
     }
-    text.push_str("\n")
 }
 
-// Each span as a line.
-fn spans_text(alloc: Global, spans: &[Span]) -> Result<String, Memory> {
-    let mut text = String::new(alloc);
-    for span in spans {
-        write_span(&mut text, *span)?;
-    }
-    Ok(text)
-}
-
-// Each day with a comma, in one line.
-fn days_text(alloc: Global, days: &[Day]) -> Result<String, Memory> {
-    let mut text = String::new(alloc);
+fn are_days(days: &[Day], wanted: &str) -> bool {
+    let mut place = 0usize;
     for day in days {
-        day.write(&mut text)?;
-        text.push_str(",")?;
+        if Day::read(field(wanted, place)) != Some(*day) {
+            return false;
+        }
+        place = place.saturating_add(1);
     }
-    text.push_str("\n")?;
-    Ok(text)
+    field(wanted, place).is_empty()
 }
 
-fn fault_text(alloc: Global, fault: CalendarFault) -> Result<String, Memory> {
-    format!(in alloc; "{fault}\n")
-}
-
-fn calendar_text(
-    alloc: Global,
-    found: Result<Items<Span>, CalendarFault>,
-) -> Result<String, Memory> {
+fn are_breaks(found: &Result<Vec<Day>, CalendarFault>, wanted: &str) -> bool {
     match found {
-        Ok(spans) => spans_text(alloc, spans.as_slice()),
-        Err(fault) => fault_text(alloc, fault),
+        Ok(days) => are_days(days.as_slice(), wanted),
+        Err(CalendarFault::BadRange) => wanted.is_empty(),
+        Err(CalendarFault::Memory) => false,
     }
 }
 
-fn breaks_text(alloc: Global, found: Result<Vec<Day>, CalendarFault>) -> Result<String, Memory> {
-    match found {
-        Ok(days) => days_text(alloc, days.as_slice()),
-        Err(fault) => fault_text(alloc, fault),
-    }
-}
-
-fn calendar_question(range: &str) -> Option<CalendarQuery> {
-    let query = question(Day::read(field(range, 0))?)?;
-    Some(CalendarQuery {
-        from: query.day,
-        to: Day::read(field(range, 1))?,
-        country: query.country,
-        currency: query.currency,
-        price_type: query.price_type,
-        quantity: query.quantity,
-    })
-}
-
-// Both calendars of an offer and its break days are as the step says.
 fn expect_calendars(
     alloc: Global,
     stop: &impl Abort,
@@ -176,31 +108,35 @@ fn expect_calendars(
     query: &CalendarQuery,
     step: Step<'_>,
 ) {
-    let by_break_days = calendar_text(alloc, calendar(alloc, offer, query));
-    expect_text(stop, by_break_days, step.wanted);
-    let by_days = calendar_text(alloc, calendar_day_by_day(alloc, offer, query));
-    expect_text(stop, by_days, step.wanted);
-    let breaks = breaks_text(alloc, break_days(alloc, offer, query.from, query.to));
-    expect_text(stop, breaks, step.after);
+    let wanted = step.wanted.trim_end();
+    let one = calendar(alloc, offer, query);
+    let other = calendar_day_by_day(alloc, offer, query);
+    expect(stop, are_same(&one, &other, wanted), step.name);
+    drop(one);
+    drop(other);
+    let breaks = break_days(alloc, offer, query.from, query.to);
+    expect(stop, are_breaks(&breaks, wanted), step.name);
 }
 
-fn expect_step(alloc: Global, stop: &impl Abort, step: Step<'_>) -> Result<(), Fail> {
-    let (range, prices) = step.given.split_once('\n').ok_or("a range")?;
-    let query = calendar_question(range).ok_or("a question")?;
-    let contents = contents(alloc, prices)?;
-    let offers = offers_of(alloc, "north", contents.as_str())?;
+fn expect_step(alloc: Global, stop: &impl Abort, step: Step<'_>) {
+    let Some((range, prices)) = step.given.split_once('\n') else {
+        stop.panic(step.name)
+    };
+    let query = found(stop, question(range), step.name);
+    let contents = made(stop, contents(alloc, prices));
+    let offers = offers_of(alloc, stop, "north", contents.as_str());
+    drop(contents);
     match offers.as_slice() {
         [offer] => expect_calendars(alloc, stop, offer, &query, step),
         _ => stop.panic("one offer"),
     }
-    Ok(())
 }
 
 #[test]
-fn calendars(rt: HostRuntime) -> Result<(), Fail> {
-    let steps = steps_of(rt.alloc(), &rt, CASES)?;
+fn calendars(rt: HostRuntime) {
+    let steps = made(&rt, steps_of(rt.alloc(), &rt, CASES));
+    expect(&rt, !steps.is_empty(), "no calendars");
     for step in steps.as_slice() {
-        expect_step(rt.alloc(), &rt, *step)?;
+        expect_step(rt.alloc(), &rt, *step);
     }
-    Ok(())
 }

@@ -1,7 +1,7 @@
 //! The texts of contents and of records. `bench/refused_memory` refuses each request for memory of
 //! `contents_have_one_text` in turn.
 
-use crate::cases::{Step, expect, expect_text, steps_of};
+use crate::cases::{Step, expect, expect_text, made, steps_of};
 use crate::refusals::Refusals;
 use csv_records::reading::{RecordFault, read_records};
 use csv_records::writing::write_records;
@@ -131,33 +131,53 @@ fn expect_message(alloc: Global, stop: &impl Abort, met: &mut Refusals, step: St
     }
 }
 
-// Texts of no contents, each between two lines `|`: an amount and a minimum that are written otherwise,
-// and what is not written of contents.
+// Texts of no contents, each behind an empty line: an amount and a minimum that are written otherwise, and
+// what is not written of contents.
 const NO_CONTENTS: &str = "Product,R1,03,15,9781234567897
 ProductSupply,GB IE,,
 SupplyDetail,04,06,4012345000009,North Books,21,
 Price,02,12.99,GBP,,WORLD,,,
-|Product,R1,03,15,9781234567897
+
+Product,R1,03,15,9781234567897
 ProductSupply,GB IE,,
 SupplyDetail,04,06,4012345000009,North Books,21,
 Price,02,9.990,GBP,,WORLD,,,,1
-|Product,R1,03,15,9781234567897
+
+Product,R1,03,15,9781234567897
 ProductSupply,GB IE,,
 SupplyDetail,04,06,4012345000009,North Books,21,
 Price,02,9.990,GBP,,WORLD,,,,010
-|waived|\u{feff}";
+
+waived
+
+\u{feff}";
+
+fn expect_no_contents(alloc: Global, stop: &impl Abort, met: &mut Refusals, text: &str) {
+    let fault = contents_of(alloc, stop, met, text).err();
+    let is_none = matches!(fault, Some(ContentsFault::NotContents));
+    expect(stop, is_none, text);
+}
+
+// All of them.
+fn expect_none(alloc: Global, stop: &impl Abort, met: &mut Refusals) {
+    let mut rest = NO_CONTENTS;
+    for _ in 0..5 {
+        let (text, more) = rest.split_once("\n\n").unwrap_or((rest, ""));
+        expect_no_contents(alloc, stop, met, text);
+        rest = more;
+    }
+    expect(stop, rest.is_empty(), "each text");
+}
 
 #[test]
 fn contents_have_one_text(rt: HostRuntime) {
     let mut met = Refusals::of(&rt);
     let steps = met.own(&rt, steps_of(rt.alloc(), &rt, MESSAGES));
+    expect(&rt, !steps.is_empty(), "no messages");
     for step in steps.as_slice() {
         expect_message(rt.alloc(), &rt, &mut met, *step);
     }
-    for text in NO_CONTENTS.split('|') {
-        let fault = contents_of(rt.alloc(), &rt, &mut met, text).err();
-        expect(&rt, matches!(fault, Some(ContentsFault::NotContents)), text);
-    }
+    expect_none(rt.alloc(), &rt, &mut met);
 }
 
 // What is read of the bytes, and written again.
@@ -178,11 +198,8 @@ fn records_are_read_and_written(rt: HostRuntime) {
     expect_text(&rt, written, "a,\"b\"\"c\",\nd\n");
     let fault = fault_of(rt.alloc(), b"\xff");
     expect(&rt, matches!(fault, Some(RecordFault::NotUtf8)), "no UTF-8");
-    let long = vec![in rt.alloc(); b'a'; 4_194_305].expect(&rt, "a long text");
+    let long = made(&rt, vec![in rt.alloc(); b'a'; 4_194_305]);
     let fault = fault_of(rt.alloc(), long.as_slice());
-    expect(
-        &rt,
-        matches!(fault, Some(RecordFault::TooLarge)),
-        "too large",
-    );
+    let is_too_large = matches!(fault, Some(RecordFault::TooLarge));
+    expect(&rt, is_too_large, "too large");
 }

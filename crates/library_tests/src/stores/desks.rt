@@ -2,6 +2,7 @@
 //! `tests/refused-memory` and `bench/refused_memory` refuse each request for memory of these tests in turn.
 
 use crate::cases::expect;
+use crate::desks::{Kind, TestDesk};
 use crate::lists::drain::{drain, waiting};
 use crate::lists::exchanges::EXCHANGES;
 use crate::lists::questions::QUESTIONS;
@@ -9,67 +10,56 @@ use crate::lists::steps::STEPS;
 use crate::lists::three::THREE;
 use crate::lists::{List, expect_list};
 use crate::refusals::{Refusals, are_chosen};
-use desk_memory::MemoryDesk;
-use desk_store::{DeskStore, OpenFault};
-use desk_terms::StoreFault;
-use sqlite::MemStore;
 use std::alloc::Global;
 use std::process::Abort;
+use std::rt::Env;
 
-// Asks a new desk in memory, which this function owns alone.
-fn over_memory(alloc: Global, stop: &impl Abort, met: &mut Refusals, list: List<'_>) {
-    expect_list(alloc, stop, met, &mut MemoryDesk::new(alloc), list);
+// Asks a new desk a list that is chosen: whether it is.
+fn ask_list<R: Abort + Env>(
+    alloc: Global,
+    rt: &R,
+    met: &mut Refusals,
+    kind: Kind,
+    list: List<'_>,
+) -> bool {
+    if !are_chosen(rt, list.name) {
+        return false;
+    }
+    let mut desk = TestDesk::new(alloc, rt, met, kind);
+    expect_list(alloc, rt, met, &mut desk, list);
+    true
+}
+
+/// Asks new desks of a kind the lists that are chosen: whether one is.
+pub fn ask_lists<R: Abort + Env>(alloc: Global, rt: &R, met: &mut Refusals, kind: Kind) -> bool {
+    let steps = ask_list(alloc, rt, met, kind, STEPS);
+    let three = ask_list(alloc, rt, met, kind, THREE);
+    let questions = ask_list(alloc, rt, met, kind, QUESTIONS);
+    let exchanges = ask_list(alloc, rt, met, kind, EXCHANGES);
+    steps || three || questions || exchanges
+}
+
+fn ask_drain<R: Abort + Env>(alloc: Global, rt: &R, met: &mut Refusals, kind: Kind) -> bool {
+    if !are_chosen(rt, "drain") {
+        return false;
+    }
+    let requests = met.own(rt, waiting(alloc));
+    ask_list(alloc, rt, met, kind, drain(requests.as_str()))
+}
+
+fn ask_all<R: Abort + Env>(alloc: Global, rt: &R, kind: Kind) {
+    let mut met = Refusals::of(rt);
+    let are_asked = ask_lists(alloc, rt, &mut met, kind);
+    let is_drained = ask_drain(alloc, rt, &mut met, kind);
+    expect(rt, are_asked || is_drained, "no cases of this name");
 }
 
 #[test]
 fn desk_in_memory(rt: HostRuntime) {
-    let alloc = rt.alloc();
-    let mut met = Refusals::of(&rt);
-    let drained = met.own(&rt, waiting(alloc));
-    let mut are_asked = false;
-    for list in [STEPS, QUESTIONS, EXCHANGES, drain(drained.as_str())] {
-        if are_chosen(&rt, list.name) {
-            over_memory(alloc, &rt, &mut met, list);
-            are_asked = true;
-        }
-    }
-    expect(&rt, are_asked, "no cases of this name");
-}
-
-// A desk in tables; where memory is refused it is opened once more.
-fn opened(
-    alloc: Global,
-    stop: &impl Abort,
-    met: &mut Refusals,
-) -> Result<DeskStore<MemStore>, OpenFault> {
-    match DeskStore::open_in_memory(alloc) {
-        Err(OpenFault::Store(StoreFault::Memory)) => {
-            met.meet(stop);
-            DeskStore::open_in_memory(alloc)
-        }
-        opened => opened,
-    }
-}
-
-// The same with a desk in tables, which this function owns alone.
-fn over_tables(alloc: Global, stop: &impl Abort, met: &mut Refusals, list: List<'_>) {
-    match opened(alloc, stop, met) {
-        Ok(mut desk) => expect_list(alloc, stop, met, &mut desk, list),
-        Err(fault) => stop.panic(fault),
-    }
+    ask_all(rt.alloc(), &rt, Kind::Memory);
 }
 
 #[test]
 fn tables_in_memory(rt: HostRuntime) {
-    let alloc = rt.alloc();
-    let mut met = Refusals::of(&rt);
-    let drained = met.own(&rt, waiting(alloc));
-    let mut are_asked = false;
-    for list in [STEPS, THREE, QUESTIONS, EXCHANGES, drain(drained.as_str())] {
-        if are_chosen(&rt, list.name) {
-            over_tables(alloc, &rt, &mut met, list);
-            are_asked = true;
-        }
-    }
-    expect(&rt, are_asked, "no cases of this name");
+    ask_all(rt.alloc(), &rt, Kind::Tables);
 }

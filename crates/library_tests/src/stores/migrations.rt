@@ -2,17 +2,16 @@
 //! refused once (by `bench/refused_memory`), and over disks that fail on the way: what is left is
 //! migrated then, and the desk in it goes on. Empty files are migrated too, and other versions stay.
 
-use crate::asking::{Asks, End, expect_asked};
-use crate::cases::expect;
-use crate::disks::{TestFiles, stop_machine};
-use crate::files::{Call, FileDesk, make};
+use crate::asking::{End, expect_asked};
+use crate::cases::{expect, found};
+use crate::desks::{Kind, TestDesk};
+use crate::files::{Call, FileDesk};
 use crate::lists::{List, expect_list};
 use crate::refusals::Refusals;
 use crate::tables::version_1::{ROWS, TABLES};
 use price_rules::precedence::Precedence;
 use std::alloc::Global;
 use std::process::Abort;
-use std::test::Fail;
 
 // What the desk is asked once its files are of version 2. Each request has the same answers when it is
 // made again.
@@ -131,15 +130,20 @@ AskGaps,north
 refused,unknown-series
 ";
 
-// Files of version 1 with these rows. The test lacks memory itself where its statements do.
-fn put_rows(alloc: Global, stop: &impl Abort, met: &mut Refusals, desk: &mut FileDesk, rows: &str) {
+// New files of version 1 with these rows. The test lacks memory itself where its statements do.
+fn version_1(alloc: Global, stop: &impl Abort, met: &mut Refusals, rows: &str) -> FileDesk {
+    let mut output = Vec::new(alloc);
+    let mut desk = FileDesk::new(alloc);
     for statements in [TABLES, rows] {
-        let done = match desk.make(alloc, Call::Execute(statements)).ended {
-            End::Done => Ok(()),
-            ended => Err(ended),
+        let end = desk.make(alloc, Call::Execute(statements), &mut output);
+        let done = if matches!(end, End::Done) {
+            Ok(())
+        } else {
+            Err(end)
         };
         met.own(stop, done);
     }
+    desk
 }
 
 // Migrates files, and ends the test unless this is the answer; where memory is refused, once more, and
@@ -148,21 +152,18 @@ fn expect_migrated(
     alloc: Global,
     stop: &impl Abort,
     met: &mut Refusals,
-    desk: &mut FileDesk,
+    desk: &mut TestDesk,
     wanted: &str,
+    output: &mut Vec<u8>,
 ) {
-    let asked = desk.make(alloc, Call::Migrate);
-    if met.has_met(stop, asked.ended) {
-        let again = desk.make(alloc, Call::Migrate);
-        let is_two = again.output.as_slice() == "schema 2\n".as_bytes();
-        expect_asked(
-            stop,
-            &again,
-            if is_two { "schema 2\n" } else { wanted },
-            wanted,
-        );
+    let end = desk.make(alloc, Call::Migrate, output);
+    if met.has_met(stop, end) {
+        let again = desk.make(alloc, Call::Migrate, output);
+        let is_two = output.as_slice() == "schema 2\n".as_bytes();
+        let answer = if is_two { "schema 2\n" } else { wanted };
+        expect_asked(stop, again, output.as_slice(), answer, wanted);
     } else {
-        expect_asked(stop, &asked, wanted, wanted);
+        expect_asked(stop, end, output.as_slice(), wanted, wanted);
     }
 }
 
@@ -171,26 +172,27 @@ fn expect_goes_on(
     alloc: Global,
     stop: &impl Abort,
     met: &mut Refusals,
-    desk: &mut FileDesk,
+    files: FileDesk,
     list: List<'_>,
 ) {
-    expect_migrated(alloc, stop, met, desk, "migrated\n");
-    expect_migrated(alloc, stop, met, desk, "schema 2\n");
-    expect_list(alloc, stop, met, desk, list);
+    let mut output = Vec::new(alloc);
+    let mut desk = TestDesk::Files(files);
+    expect_migrated(alloc, stop, met, &mut desk, "migrated\n", &mut output);
+    expect_migrated(alloc, stop, met, &mut desk, "schema 2\n", &mut output);
+    drop(output);
+    expect_list(alloc, stop, met, &mut desk, list);
 }
 
 #[test]
 fn desks_of_version_1_go_on(rt: HostRuntime) {
     let alloc = rt.alloc();
     let mut met = Refusals::of(&rt);
-    for (rows, requests) in [(APPLIED_ROWS, APPLIED), (WAITING_ROWS, WAITING)] {
-        let mut desk = FileDesk::new(alloc);
-        put_rows(alloc, &rt, &mut met, &mut desk, rows);
-        let list = list("version 1", requests);
-        expect_goes_on(alloc, &rt, &mut met, &mut desk, list);
-    }
-    let list = list("empty files", NOTHING);
-    expect_goes_on(alloc, &rt, &mut met, &mut FileDesk::new(alloc), list);
+    let files = version_1(alloc, &rt, &mut met, APPLIED_ROWS);
+    expect_goes_on(alloc, &rt, &mut met, files, list("applied", APPLIED));
+    let files = version_1(alloc, &rt, &mut met, WAITING_ROWS);
+    expect_goes_on(alloc, &rt, &mut met, files, list("waiting", WAITING));
+    let files = FileDesk::new(alloc);
+    expect_goes_on(alloc, &rt, &mut met, files, list("empty files", NOTHING));
 }
 
 // What the tables answer that hold ROWS.
@@ -206,69 +208,74 @@ fn expect_version(
     desk: &mut FileDesk,
     call: Call<'_>,
     version: u32,
+    output: &mut Vec<u8>,
 ) {
-    let ended = desk.make(alloc, call).ended;
-    let is_version = matches!(ended, End::Version(found) if found == version);
+    let end = desk.make(alloc, call, output);
+    let is_version = matches!(end, End::Version(found) if found == version);
     expect(stop, is_version, "the version");
-    let kept = desk.make(alloc, Call::Tables(KEPT)).ended;
+    let kept = desk.make(alloc, Call::Tables(KEPT), output);
     expect(stop, matches!(kept, End::Done), "the rows of a version");
 }
 
 #[test]
 fn other_versions(rt: HostRuntime) {
     let alloc = rt.alloc();
-    let mut desk = FileDesk::new(alloc);
-    put_rows(alloc, &rt, &mut Refusals::of(&rt), &mut desk, ROWS);
+    let mut desk = version_1(alloc, &rt, &mut Refusals::of(&rt), ROWS);
     let none = Precedence::none(alloc);
-    expect_version(alloc, &rt, &mut desk, Call::Ask(&none, ""), 1);
-    let later = "UPDATE meta SET amount = 7";
-    let ended = desk.make(alloc, Call::Execute(later)).ended;
-    expect(&rt, matches!(ended, End::Done), "the version is changed");
-    expect_version(alloc, &rt, &mut desk, Call::Ask(&none, ""), 7);
-    expect_version(alloc, &rt, &mut desk, Call::Migrate, 7);
+    let mut output = Vec::new(alloc);
+    expect_version(alloc, &rt, &mut desk, Call::Ask(&none, ""), 1, &mut output);
+    let later = Call::Execute("UPDATE meta SET amount = 7");
+    let end = desk.make(alloc, later, &mut output);
+    expect(&rt, matches!(end, End::Done), "the version is changed");
+    expect_version(alloc, &rt, &mut desk, Call::Ask(&none, ""), 7, &mut output);
+    expect_version(alloc, &rt, &mut desk, Call::Migrate, 7, &mut output);
 }
 
 // Migrates files of which one fails, stops the machine, and migrates what is left: whether a disk
-// failed. The desk answers as ever.
-fn stops(alloc: Global, stop: &impl Abort, files: TestFiles, list: List<'_>) -> bool {
-    let (mut files, first) = make(alloc, files, Call::Migrate);
-    let failed = stop_machine(&mut files);
-    let is_caused = failed || matches!(first.ended, End::Done);
+// failed.
+fn stops(alloc: Global, stop: &impl Abort, files: &mut FileDesk, output: &mut Vec<u8>) -> bool {
+    let first = files.make(alloc, Call::Migrate, output);
+    let failed = files.stop_machine();
+    let is_caused = failed || matches!(first, End::Done);
     expect(stop, is_caused, "a fault without a cause");
-    let (files, second) = make(alloc, files, Call::Migrate);
-    let is_done = matches!(second.ended, End::Done);
+    let second = files.make(alloc, Call::Migrate, output);
+    let is_done = matches!(second, End::Done);
     expect(stop, is_done, "what is left is migrated");
-    let mut met = Refusals::none();
-    expect_list(alloc, stop, &mut met, &mut FileDesk::of(files), list);
     failed
 }
 
-// Fails from each call of a file on in turn, until no call is left: the log, or the database.
+// Fails from each call of a file on in turn, until no call is left: the log, or the database. The desk
+// in what is left answers as ever.
 fn expect_stops(
     alloc: Global,
     stop: &impl Abort,
-    desk: &FileDesk,
+    given: &FileDesk,
     list: List<'_>,
     is_log: bool,
-) -> Option<()> {
+    output: &mut Vec<u8>,
+) {
     for calls in 0..1_000u64 {
-        let files = desk.copied(alloc, calls, is_log)?;
-        if !stops(alloc, stop, files, list) {
-            return Some(());
+        let mut files = found(stop, given.copied(alloc, calls, is_log), "no files");
+        let failed = stops(alloc, stop, &mut files, output);
+        let mut desk = TestDesk::Files(files);
+        expect_list(alloc, stop, &mut Refusals::none(), &mut desk, list);
+        if !failed {
+            return;
         }
     }
     stop.panic("each run had too few calls")
 }
 
+fn expect_stops_of(alloc: Global, stop: &impl Abort, rows: &str, list: List<'_>) {
+    let mut output = Vec::new(alloc);
+    let given = version_1(alloc, stop, &mut Refusals::none(), rows);
+    expect_stops(alloc, stop, &given, list, true, &mut output);
+    expect_stops(alloc, stop, &given, list, false, &mut output);
+}
+
 #[test]
-fn stops_on_the_way(rt: HostRuntime) -> Result<(), Fail> {
+fn stops_on_the_way(rt: HostRuntime) {
     let alloc = rt.alloc();
-    for (rows, requests) in [(APPLIED_ROWS, APPLIED), (WAITING_ROWS, WAITING)] {
-        let mut desk = FileDesk::new(alloc);
-        put_rows(alloc, &rt, &mut Refusals::none(), &mut desk, rows);
-        let list = list("version 1", requests);
-        expect_stops(alloc, &rt, &desk, list, true).ok_or("no files")?;
-        expect_stops(alloc, &rt, &desk, list, false).ok_or("no files")?;
-    }
-    Ok(())
+    expect_stops_of(alloc, &rt, APPLIED_ROWS, list("applied", APPLIED));
+    expect_stops_of(alloc, &rt, WAITING_ROWS, list("waiting", WAITING));
 }

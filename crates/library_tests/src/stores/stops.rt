@@ -1,10 +1,9 @@
 //! The desk over files of which one fails from some call on: what stands after the machine has stopped, or
 //! the program alone, and that the requests can then be made again.
 
-use crate::asking::{Asked, End};
-use crate::cases::{Step, expect, expect_in, steps_of};
-use crate::disks::{TestFiles, copied, new_files, stop_machine};
-use crate::files::{Call, make};
+use crate::asking::End;
+use crate::cases::{Step, expect, found, made, steps_of};
+use crate::files::{Call, FileDesk};
 use crate::lists::List;
 use crate::lists::changes::CHANGES;
 use crate::lists::late::LATE;
@@ -14,13 +13,13 @@ use crate::lists::waivers::WAIVERS;
 use price_rules::precedence::Precedence;
 use std::alloc::{AllocError, Global};
 use std::process::Abort;
-use std::test::Fail;
 
 // A list whose requests are one batch.
 #[derive(Clone, Copy)]
 struct Batch<'a> {
     list: List<'a>,
     steps: &'a [Step<'a>],
+    rules: &'a Precedence,
     // All requests, and the same between two reports.
     first: &'a str,
     again: &'a str,
@@ -60,26 +59,26 @@ impl<'a> Batch<'a> {
     }
 }
 
-// All requests, one after the other.
-fn requests(alloc: Global, steps: &[Step<'_>]) -> Result<String, AllocError> {
-    let mut text = String::new(alloc);
+// All requests, one after the other, between two reports.
+fn again(alloc: Global, report: &str, steps: &[Step<'_>]) -> Result<String, AllocError> {
+    let mut text = String::from_str(alloc, report)?;
     for step in steps {
         text.push_str(step.given)?;
     }
+    text.push_str(report)?;
     Ok(text)
 }
 
 // How many of the requests were answered before the disk failed, or none where the files were not opened.
-fn count_of(stop: &impl Abort, batch: Batch<'_>, asked: &Asked) -> Option<usize> {
-    let is_caused = matches!(asked.ended, End::Done | End::Disk);
+fn count_of(stop: &impl Abort, batch: Batch<'_>, end: End, output: &[u8]) -> Option<usize> {
+    let is_caused = matches!(end, End::Done | End::Disk | End::Unopened);
     expect(stop, is_caused, "a fault that is not the disk's");
-    if !asked.is_opened {
+    if matches!(end, End::Unopened) {
         return None;
     }
-    match batch.answered(asked.output.as_slice()) {
-        Some(count) => Some(count),
-        None => stop.panic("a wrong answer"),
-    }
+    let count = batch.answered(output);
+    expect(stop, count.is_some(), "a wrong answer");
+    count
 }
 
 // Ends the test unless the report is the one after so many requests, or after one more, and that of no
@@ -88,100 +87,112 @@ fn count_of(stop: &impl Abort, batch: Batch<'_>, asked: &Asked) -> Option<usize>
 fn expect_goes_on(
     alloc: Global,
     stop: &impl Abort,
-    files: TestFiles,
+    desk: &mut FileDesk,
     batch: Batch<'_>,
     count: Option<usize>,
+    output: &mut Vec<u8>,
 ) {
-    let none = Precedence::none(alloc);
-    let (files, asked) = make(alloc, files, Call::Ask(&none, batch.again));
-    drop(files);
-    let output = asked.output.as_slice();
+    let end = desk.make(alloc, Call::Ask(batch.rules, batch.again), output);
+    let reported = output.as_slice();
     let is_left = match count {
         Some(count) => {
-            batch.begins_after(output, count) || batch.begins_after(output, count.saturating_add(1))
+            batch.begins_after(reported, count)
+                || batch.begins_after(reported, count.saturating_add(1))
         }
-        None => batch.begins_after(output, 0),
+        None => batch.begins_after(reported, 0),
     };
-    expect_in(stop, is_left, batch.list.name, "what stands after a stop");
-    let is_done = matches!(asked.ended, End::Done) && batch.ends_at_last(output);
-    expect_in(stop, is_done, batch.list.name, "the requests made again");
+    expect(stop, is_left, "what stands after a stop");
+    let is_done = matches!(end, End::Done) && batch.ends_at_last(reported);
+    expect(stop, is_done, "the requests made again");
 }
 
 // Asks files of which one fails; then the program stops, and the machine: whether a file had failed.
-fn stops(alloc: Global, stop: &impl Abort, files: TestFiles, batch: Batch<'_>) -> bool {
-    let none = Precedence::none(alloc);
-    let (mut files, asked) = make(alloc, files, Call::Ask(&none, batch.first));
-    let count = count_of(stop, batch, &asked);
-    drop(asked);
-    match copied(alloc, &files, u64::MAX, true) {
-        Ok(written) => expect_goes_on(alloc, stop, written, batch, count),
-        Err(_) => stop.panic("files that cannot be copied"),
-    }
-    let failed = stop_machine(&mut files);
+fn stops(
+    alloc: Global,
+    stop: &impl Abort,
+    desk: &mut FileDesk,
+    batch: Batch<'_>,
+    output: &mut Vec<u8>,
+) -> bool {
+    let end = desk.make(alloc, Call::Ask(batch.rules, batch.first), output);
+    let count = count_of(stop, batch, end, output.as_slice());
+    let mut written = found(stop, desk.copied(alloc, u64::MAX, true), "no copy");
+    expect_goes_on(alloc, stop, &mut written, batch, count, output);
+    drop(written);
+    let failed = desk.stop_machine();
     let is_caused = failed || count == Some(batch.steps.len());
     expect(stop, is_caused, "a fault without a cause");
-    expect_goes_on(alloc, stop, files, batch, count);
+    expect_goes_on(alloc, stop, desk, batch, count, output);
     failed
 }
 
 // Fails from each call of a file on in turn, until no call is left.
-fn expect_stops(
+fn expect_stops_of(
     alloc: Global,
     stop: &impl Abort,
-    list: List<'_>,
+    batch: Batch<'_>,
     is_log: bool,
-) -> Result<(), Fail> {
-    let steps = steps_of(alloc, stop, list.requests)?;
-    let first = requests(alloc, steps.as_slice())?;
-    let report = list.report;
-    let again = format!(in alloc; "{report}{first}{report}")?;
-    let batch = Batch {
-        list,
-        steps: steps.as_slice(),
-        first: first.as_str(),
-        again: again.as_str(),
-    };
+    output: &mut Vec<u8>,
+) {
     for calls in 0..2_000u64 {
-        let files = copied(alloc, &new_files(alloc), calls, is_log)?;
-        if !stops(alloc, stop, files, batch) {
-            return Ok(());
+        let mut desk = FileDesk::failing(alloc, calls, is_log);
+        if !stops(alloc, stop, &mut desk, batch, output) {
+            return;
         }
     }
     stop.panic("each run had too few calls")
 }
 
-#[test]
-fn stops_of_the_log(rt: HostRuntime) -> Result<(), Fail> {
-    expect_stops(rt.alloc(), &rt, STEPS, true)
+// The same of a list.
+fn expect_stops(alloc: Global, stop: &impl Abort, list: List<'_>, is_log: bool) {
+    let rules = Precedence::none(alloc);
+    let steps = made(stop, steps_of(alloc, stop, list.requests));
+    expect(stop, !steps.is_empty(), list.name);
+    let again = made(stop, again(alloc, list.report, steps.as_slice()));
+    let first = again.as_str().strip_prefix(list.report).unwrap_or("");
+    let batch = Batch {
+        list,
+        steps: steps.as_slice(),
+        rules: &rules,
+        first: first.strip_suffix(list.report).unwrap_or(""),
+        again: again.as_str(),
+    };
+    let mut output = Vec::new(alloc);
+    expect_stops_of(alloc, stop, batch, is_log, &mut output);
 }
 
 #[test]
-fn stops_of_the_database(rt: HostRuntime) -> Result<(), Fail> {
-    expect_stops(rt.alloc(), &rt, STEPS, false)
+fn stops_of_the_log(rt: HostRuntime) {
+    expect_stops(rt.alloc(), &rt, STEPS, true);
+}
+
+#[test]
+fn stops_of_the_database(rt: HostRuntime) {
+    expect_stops(rt.alloc(), &rt, STEPS, false);
 }
 
 // The same of both files. Each of the shorter lists has a test of its own, since a test has a minute.
-fn expect_stops_of_both(alloc: Global, stop: &impl Abort, list: List<'_>) -> Result<(), Fail> {
-    expect_stops(alloc, stop, list, true)?;
-    expect_stops(alloc, stop, list, false)
+fn expect_stops_of_both(alloc: Global, stop: &impl Abort, list: List<'_>) {
+    expect_stops(alloc, stop, list, true);
+    expect_stops(alloc, stop, list, false);
 }
 
 #[test]
-fn late_messages(rt: HostRuntime) -> Result<(), Fail> {
-    expect_stops_of_both(rt.alloc(), &rt, LATE)
+fn late_messages(rt: HostRuntime) {
+    expect_stops_of_both(rt.alloc(), &rt, LATE);
 }
 
 #[test]
-fn updates_and_deletions(rt: HostRuntime) -> Result<(), Fail> {
-    expect_stops_of_both(rt.alloc(), &rt, CHANGES)
+fn updates_and_deletions(rt: HostRuntime) {
+    expect_stops_of_both(rt.alloc(), &rt, CHANGES);
 }
 
 #[test]
-fn waivers(rt: HostRuntime) -> Result<(), Fail> {
-    expect_stops_of_both(rt.alloc(), &rt, WAIVERS)
+fn waivers(rt: HostRuntime) {
+    expect_stops_of_both(rt.alloc(), &rt, WAIVERS);
 }
 
 #[test]
-fn minimum_order_quantities(rt: HostRuntime) -> Result<(), Fail> {
-    expect_stops_of_both(rt.alloc(), &rt, MINIMUMS)
+fn minimum_order_quantities(rt: HostRuntime) {
+    expect_stops_of_both(rt.alloc(), &rt, MINIMUMS);
 }

@@ -1,8 +1,9 @@
 //! Desks that tests ask.
 
+use crate::cases::expect;
 use catalogue_rules::catalogue::Catalogue;
 use csv_records::records::Records;
-use desk_batch::run_batch;
+use desk_batch::{BatchFault, run_batch};
 use desk_memory::MemoryDesk;
 use desk_terms::{Agreement, StoreFault};
 use onix_terms::isbn13::Isbn13;
@@ -14,22 +15,31 @@ use price_rules::precedence::Precedence;
 use series_rules::answers::{AgreeAnswer, DeliveryAnswer, GapReport, WaiveAnswer};
 use series_rules::desk::Desk;
 use std::alloc::Global;
-use std::test::Fail;
+use std::io::{Read, Write};
+use std::process::Abort;
 
 const AGREEMENTS: &str = "Agree,north,06,4012345000009,06,5012345678900,1
 Agree,south,06,5000000000005,06,5012345678900,5
 Waive,south,7
 ";
 
-/// A desk with the agreements `north`, from number 1 on, and `south`, from number 5 on, of which 7
-/// is waived.
-pub fn agreed_desk(alloc: Global) -> Result<MemoryDesk, Fail> {
-    let mut desk = MemoryDesk::new(alloc);
-    let mut input = AGREEMENTS.as_bytes();
-    let mut output = Vec::new(alloc);
-    let precedence = Precedence::none(alloc);
-    run_batch(alloc, &mut desk, &precedence, &mut input, &mut output)?;
-    Ok(desk)
+/// Asks the desk a batch. All cases ask it here: a function that calls what is generic over a desk with a
+/// known one is dear to prove.
+pub fn run<R: Read, W: Write>(
+    alloc: Global,
+    desk: &mut MemoryDesk,
+    reader: &mut R,
+    writer: &mut W,
+) -> Result<u64, BatchFault> {
+    run_batch(alloc, desk, &Precedence::none(alloc), reader, writer)
+}
+
+/// Makes a desk one with the agreements `north`, from number 1 on, and `south`, from number 5 on, of which
+/// 7 is waived.
+pub fn agree(alloc: Global, stop: &impl Abort, desk: &mut MemoryDesk) {
+    let mut answers = Vec::new(alloc);
+    let ended = run(alloc, desk, &mut AGREEMENTS.as_bytes(), &mut answers);
+    expect(stop, ended.is_ok(), "the agreements");
 }
 
 /// A desk whose store has the same fault each time, by the fault's number.

@@ -2,9 +2,10 @@
 //! reply; and the replies to answers and faults that no request comes to. What is replied is taken from
 //! the desk's written rules.
 
-use crate::cases::{expect, expect_bytes, expect_same};
-use crate::streams::desks::{BrokenDesk, agreed_desk};
+use crate::cases::{expect, expect_bytes, expect_same, made};
+use crate::streams::desks::{BrokenDesk, agree};
 use crate::streams::streams::{FailingReader, FailingWriter, OneByte};
+use crate::tables::words::{is_whole, word};
 use desk_http::{HttpFault, reply_of, serve_one};
 use desk_memory::MemoryDesk;
 use onix_terms::number::Number;
@@ -15,7 +16,6 @@ use series_rules::desk::Desk;
 use std::alloc::{AllocError, Global};
 use std::io::{Read, Write};
 use std::process::Abort;
-use std::test::Fail;
 
 // A byte for each of the head's, one for each of the body's, and the end.
 const MOST_READS: usize = 4_210_689;
@@ -114,42 +114,30 @@ fn expect_slow(
 // The most that an input may have.
 fn most_input(alloc: Global) -> Result<Vec<u8>, AllocError> {
     let mut input = MOST_HEAD.as_bytes().to_vec(alloc)?;
-    let letters = vec![in alloc; b'a'; 4_194_305]?;
-    input.extend_from_slice(letters.as_slice().get(..16_327).unwrap_or("".as_bytes()))?;
+    input.resize(input.len().saturating_add(16_327), b'a')?;
     input.extend_from_slice("\r\n\r\n".as_bytes())?;
-    input.extend_from_slice(letters.as_slice())?;
+    input.resize(input.len().saturating_add(4_194_305), b'a')?;
     Ok(input)
 }
 
 // A head and a body at their limits, one byte a read.
 #[test]
-fn most_reads(rt: HostRuntime) -> Result<(), Fail> {
-    let mut desk = agreed_desk(rt.alloc())?;
-    let input = most_input(rt.alloc())?;
+fn most_reads(rt: HostRuntime) {
+    let input = made(&rt, most_input(rt.alloc()));
+    let mut desk = MemoryDesk::new(rt.alloc());
+    agree(rt.alloc(), &rt, &mut desk);
     let reply = (422, MALFORMED);
     expect_slow(rt.alloc(), &rt, &mut desk, input.as_slice(), reply);
-    Ok(())
 }
 
-// Ends the test unless this is the reply to the answer.
-fn expect_answer(
-    alloc: Global,
-    stop: &impl Abort,
-    answer: Option<Answer>,
-    status: u16,
-    body: &str,
-) {
-    let Some(answer) = answer else {
-        stop.panic(body)
-    };
-    match reply_of(alloc, &answer) {
-        Ok((found, text)) => {
-            expect_same(stop, text.as_str(), body, "a body");
-            expect(stop, found == status, body);
-        }
-        Err(_) => stop.panic(body),
-    }
-}
+// The answers that no request over HTTP has, by names, with the status and the body of the reply to each.
+const REPLIES: &str = "agreed 200 {\"answer\":\"agreed\",\"first\":9,\"series\":\"other\"}
+name-taken 409 {\"answer\":\"refused\",\"reason\":\"name-taken\",\"series\":\"other\"}
+series-taken 409 {\"answer\":\"refused\",\"reason\":\"series-taken\",\"series\":\"north\"}
+waived 200 {\"answer\":\"waived\",\"number\":3,\"series\":\"north\"}
+had 409 {\"answer\":\"refused\",\"number\":3,\"reason\":\"had\",\"series\":\"north\"}
+before-first 422 {\"answer\":\"refused\",\"first\":5,\"number\":3,\"reason\":\"before-first\",\"series\":\"north\"}
+unknown-series 404 {\"answer\":\"refused\",\"reason\":\"unknown-series\"}";
 
 fn agreement(answer: AgreeAnswer) -> Option<Answer> {
     Some(Answer::Agreement {
@@ -167,69 +155,40 @@ fn waiver(answer: WaiveAnswer) -> Option<Answer> {
     })
 }
 
-// The answers that no request over HTTP has.
+fn answer_of(name: &str) -> Option<Answer> {
+    let north = SeriesName::read("north")?;
+    let five = Number::from_value(5)?;
+    match name {
+        "agreed" => agreement(AgreeAnswer::Agreed),
+        "name-taken" => agreement(AgreeAnswer::NameTaken),
+        "series-taken" => agreement(AgreeAnswer::SeriesTaken { name: north }),
+        "waived" => waiver(WaiveAnswer::Waived),
+        "had" => waiver(WaiveAnswer::HasMessage),
+        "before-first" => waiver(WaiveAnswer::BeforeFirst { first: five }),
+        "unknown-series" => waiver(WaiveAnswer::UnknownSeries),
+        _ => None,
+    }
+}
+
+// Ends the test unless this is the reply to the answer.
+fn expect_answer(alloc: Global, stop: &impl Abort, answer: &Answer, line: &str) {
+    match reply_of(alloc, answer) {
+        Ok((status, text)) => {
+            expect_same(stop, text.as_str(), word(line, 2), "a body");
+            expect(stop, is_whole(word(line, 1), u32::from(status)), line);
+        }
+        Err(_) => stop.panic(line),
+    }
+}
+
 #[test]
-fn replies_to_agreements_and_waivers(rt: HostRuntime) -> Result<(), Fail> {
-    let alloc = rt.alloc();
-    let north = SeriesName::read("north").ok_or("no name")?;
-    let five = Number::from_value(5).ok_or("no number")?;
-    let agreed = agreement(AgreeAnswer::Agreed);
-    expect_answer(
-        alloc,
-        &rt,
-        agreed,
-        200,
-        "{\"answer\":\"agreed\",\"first\":9,\"series\":\"other\"}",
-    );
-    let name_taken = agreement(AgreeAnswer::NameTaken);
-    expect_answer(
-        alloc,
-        &rt,
-        name_taken,
-        409,
-        "{\"answer\":\"refused\",\"reason\":\"name-taken\",\"series\":\"other\"}",
-    );
-    let series_taken = agreement(AgreeAnswer::SeriesTaken { name: north });
-    expect_answer(
-        alloc,
-        &rt,
-        series_taken,
-        409,
-        "{\"answer\":\"refused\",\"reason\":\"series-taken\",\"series\":\"north\"}",
-    );
-    let waived = waiver(WaiveAnswer::Waived);
-    expect_answer(
-        alloc,
-        &rt,
-        waived,
-        200,
-        "{\"answer\":\"waived\",\"number\":3,\"series\":\"north\"}",
-    );
-    let had = waiver(WaiveAnswer::HasMessage);
-    expect_answer(
-        alloc,
-        &rt,
-        had,
-        409,
-        "{\"answer\":\"refused\",\"number\":3,\"reason\":\"had\",\"series\":\"north\"}",
-    );
-    let before = waiver(WaiveAnswer::BeforeFirst { first: five });
-    expect_answer(
-        alloc,
-        &rt,
-        before,
-        422,
-        "{\"answer\":\"refused\",\"first\":5,\"number\":3,\"reason\":\"before-first\",\"series\":\"north\"}",
-    );
-    let unknown = waiver(WaiveAnswer::UnknownSeries);
-    expect_answer(
-        alloc,
-        &rt,
-        unknown,
-        404,
-        "{\"answer\":\"refused\",\"reason\":\"unknown-series\"}",
-    );
-    Ok(())
+fn replies_to_agreements_and_waivers(rt: HostRuntime) {
+    for line in REPLIES.lines() {
+        match answer_of(word(line, 0)) {
+            Some(answer) => expect_answer(rt.alloc(), &rt, &answer, line),
+            None => rt.panic(line),
+        }
+    }
 }
 
 // A desk whose store has a fault replies so.
@@ -266,13 +225,14 @@ Connection: close\r
 // Each fault of storage, asked by a delivery and by a question.
 #[test]
 fn faults_of_storage(rt: HostRuntime) {
-    let mut number = 0;
-    for reply in FAULTS.split('|') {
+    let mut rest = FAULTS;
+    for number in 0..4 {
+        let (reply, more) = rest.split_once('|').unwrap_or((rest, ""));
         expect_fault(rt.alloc(), &rt, number, DELIVERY, reply);
         expect_fault(rt.alloc(), &rt, number, GAPS, reply);
-        number = number.saturating_add(1);
+        rest = more;
     }
-    expect(&rt, number == 4, "each fault");
+    expect(&rt, rest.is_empty(), "each fault");
 }
 
 // A delivery of which the read after these bytes fails has no reply.
@@ -280,49 +240,56 @@ fn expect_unread(alloc: Global, stop: &impl Abort, desk: &mut MemoryDesk, begin:
     let mut reader = FailingReader { rest: begin };
     let mut written = Vec::new(alloc);
     let served = serve_memory(alloc, desk, &mut reader, &mut written);
-    expect(
-        stop,
-        matches!(&served, Err(HttpFault::Read)),
-        "a failed read",
-    );
+    let is_read = matches!(&served, Err(HttpFault::Read));
+    expect(stop, is_read, "a failed read");
     expect(stop, written.is_empty(), "a reply after a failed read");
 }
 
-// After each byte; then nothing was delivered, and the whole delivery has its reply.
-#[test]
-fn failing_reads(rt: HostRuntime) -> Result<(), Fail> {
-    let alloc = rt.alloc();
-    let mut desk = agreed_desk(alloc)?;
-    let input = DELIVERY.as_bytes();
+// After each byte.
+fn expect_all_unread(alloc: Global, stop: &impl Abort, desk: &mut MemoryDesk, input: &[u8]) {
     for at in 0..input.len() {
-        let begin = input.get(..at).ok_or("a part of the delivery")?;
-        expect_unread(alloc, &rt, &mut desk, begin);
+        let Some(begin) = input.get(..at) else {
+            stop.panic("a part of the delivery")
+        };
+        expect_unread(alloc, stop, desk, begin);
     }
+}
+
+// Then nothing was delivered, and the whole delivery has its reply.
+#[test]
+fn failing_reads(rt: HostRuntime) {
+    let alloc = rt.alloc();
+    let mut desk = MemoryDesk::new(alloc);
+    agree(alloc, &rt, &mut desk);
+    let input = DELIVERY.as_bytes();
+    expect_all_unread(alloc, &rt, &mut desk, input);
     expect_slow(alloc, &rt, &mut desk, GAPS.as_bytes(), (200, NO_NUMBERS));
     expect_slow(alloc, &rt, &mut desk, input, (200, APPLIED));
-    Ok(())
 }
 
 // A writer that fails, or takes nothing, after these bytes has them alone, and the delivery has had its
 // effect.
-fn expect_written(alloc: Global, stop: &impl Abort, taken: &[u8], fails: bool) -> Result<(), Fail> {
-    let mut desk = agreed_desk(alloc)?;
+fn expect_written(alloc: Global, stop: &impl Abort, taken: &[u8], fails: bool) {
+    let mut desk = MemoryDesk::new(alloc);
+    agree(alloc, stop, &mut desk);
     let mut reader = DELIVERY.as_bytes();
     let mut writer = FailingWriter::new(alloc, taken.len(), fails);
     let served = serve_memory(alloc, &mut desk, &mut reader, &mut writer);
     let is_write = matches!(&served, Err(HttpFault::Write { status: 200 }));
     expect(stop, is_write, "a failed write");
     expect_bytes(stop, writer.written.as_slice(), taken, "what was written");
+    drop(writer);
     expect_slow(alloc, stop, &mut desk, GAPS.as_bytes(), (200, ONE_NUMBER));
-    Ok(())
 }
 
 #[test]
-fn failing_writes(rt: HostRuntime) -> Result<(), Fail> {
-    for at in 0..APPLIED.len() {
-        let taken = APPLIED.as_bytes().get(..at).ok_or("a part of the reply")?;
-        expect_written(rt.alloc(), &rt, taken, true)?;
-        expect_written(rt.alloc(), &rt, taken, false)?;
+fn failing_writes(rt: HostRuntime) {
+    let reply = APPLIED.as_bytes();
+    for at in 0..reply.len() {
+        let Some(taken) = reply.get(..at) else {
+            rt.panic("a part of the reply")
+        };
+        expect_written(rt.alloc(), &rt, taken, true);
+        expect_written(rt.alloc(), &rt, taken, false);
     }
-    Ok(())
 }

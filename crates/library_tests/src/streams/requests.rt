@@ -1,17 +1,19 @@
 //! A list of requests that a desk is asked at once.
 
-use crate::cases::expect_same;
+use crate::cases::{expect_same, made};
 use crate::streams::desks::BrokenDesk;
 use csv_records::reading::RecordReader;
 use desk_memory::MemoryDesk;
 use desk_requests::request_rows::read_requests;
+use desk_terms::StoreFault;
 use desk_text::answer_text::write_answer;
+use onix_terms::items::Items;
 use price_rules::precedence::Precedence;
+use series_rules::answers::Answer;
 use series_rules::desk::Desk;
 use series_rules::run::ask_all;
 use std::alloc::Global;
 use std::process::Abort;
-use std::test::Fail;
 
 // A number that waits, the one before it, and what is left then.
 const REQUESTS: &str = "Agree,north,06,4012345000009,06,5012345678900,1
@@ -35,30 +37,48 @@ memory
 memory
 ";
 
-// The answers are these, one after the other, with the text of each fault on a line.
-fn expect_answers<D: Desk>(
+// Asks a desk all of them.
+fn outcomes_of<D: Desk>(
     alloc: Global,
     stop: &impl Abort,
     desk: &mut D,
-    answers: &str,
-) -> Result<(), Fail> {
-    let mut reader = RecordReader::new(alloc, REQUESTS.as_bytes())?;
-    let requests = read_requests(alloc, &mut reader)?;
-    let outcomes = ask_all(alloc, desk, &Precedence::none(alloc), requests.as_slice())?;
+) -> Items<Result<Answer, StoreFault>> {
+    let mut reader = made(stop, RecordReader::new(alloc, REQUESTS.as_bytes()));
+    let requests = made(stop, read_requests(alloc, &mut reader));
+    drop(reader);
+    let outcomes = ask_all(alloc, desk, &Precedence::none(alloc), requests.as_slice());
+    made(stop, outcomes)
+}
+
+// Adds the text of an answer, or of a fault on a line.
+fn push_outcome(
+    alloc: Global,
+    stop: &impl Abort,
+    text: &mut String,
+    outcome: &Result<Answer, StoreFault>,
+) {
+    match outcome {
+        Ok(answer) => {
+            let written = made(stop, write_answer(alloc, answer));
+            made(stop, text.push_str(written.as_str()));
+        }
+        Err(fault) => made(stop, write!(text, "{fault}\n")),
+    }
+}
+
+// The answers are these, one after the other.
+fn expect_answers<D: Desk>(alloc: Global, stop: &impl Abort, desk: &mut D, answers: &str) {
+    let outcomes = outcomes_of(alloc, stop, desk);
     let mut text = String::new(alloc);
     for outcome in outcomes.as_slice() {
-        match outcome {
-            Ok(answer) => text.push_str(write_answer(alloc, answer)?.as_str())?,
-            Err(fault) => write!(text, "{fault}\n")?,
-        }
+        push_outcome(alloc, stop, &mut text, outcome);
     }
     expect_same(stop, text.as_str(), answers, "the answers");
-    Ok(())
 }
 
 #[test]
-fn lists_of_requests(rt: HostRuntime) -> Result<(), Fail> {
+fn lists_of_requests(rt: HostRuntime) {
     let alloc = rt.alloc();
-    expect_answers(alloc, &rt, &mut MemoryDesk::new(alloc), ANSWERS)?;
-    expect_answers(alloc, &rt, &mut BrokenDesk { number: 0 }, FAULTS)
+    expect_answers(alloc, &rt, &mut MemoryDesk::new(alloc), ANSWERS);
+    expect_answers(alloc, &rt, &mut BrokenDesk { number: 0 }, FAULTS);
 }

@@ -5,6 +5,7 @@ use desk_tables::rows::row_types::{ArticleRow, OfferRow, PriceRow, RecordRow};
 use desk_tables::rows::series::SeriesRow;
 use desk_terms::{Agreement, Effect, StoreFault};
 use onix_records::parts::{Price, Supplier};
+use onix_terms::items::Items;
 use onix_terms::number::Number;
 use onix_terms::party::Party;
 use onix_terms::territory::Territory;
@@ -35,6 +36,17 @@ fn are<T: Answer>(rows: &[T], wanted: &str) -> bool {
 /// Whether a query gives a list of what a text names.
 pub fn are_all<T: Answer + Drop>(
     rows: Result<Vec<T>, StoreFault>,
+    wanted: &str,
+) -> Result<bool, StoreFault> {
+    match rows {
+        Ok(rows) => Ok(are(rows.as_slice(), wanted)),
+        Err(fault) => Err(fault),
+    }
+}
+
+/// The same of items.
+pub fn are_items<T: Answer + Drop>(
+    rows: Result<Items<T>, StoreFault>,
     wanted: &str,
 ) -> Result<bool, StoreFault> {
     match rows {

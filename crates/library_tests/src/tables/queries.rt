@@ -1,6 +1,6 @@
 //! The calls that give something, each with what its line says.
 
-use crate::tables::answers::{are_all, is_found};
+use crate::tables::answers::{are_all, are_items, is_found};
 use crate::tables::sample::{offer, party, record};
 use crate::tables::words::{isbn, name, number, word};
 use desk_tables::work::Work;
@@ -71,10 +71,12 @@ fn ask_record<S: Alter>(
     wanted: &str,
 ) -> Result<bool, StoreFault> {
     let row = record(alloc, word(line, 1))?;
-    match word(line, 0) {
+    let answer = match word(line, 0) {
         "record_articles" => are_all(work.record_articles(&row), wanted),
         _ => are_all(work.record_offers(&row), wanted),
-    }
+    };
+    drop(row);
+    answer
 }
 
 fn offer_prices<S: Alter>(
@@ -88,10 +90,8 @@ fn offer_prices<S: Alter>(
         "offer_prices" => work.offer_prices(&row),
         _ => work.offer_prices_without_minimums(&row),
     };
-    match prices {
-        Ok(prices) => are_all(Ok(prices.into_vec()), wanted),
-        Err(fault) => Err(fault),
-    }
+    drop(row);
+    are_items(prices, wanted)
 }
 
 fn offers_by_article<S: Alter>(
@@ -100,10 +100,7 @@ fn offers_by_article<S: Alter>(
     wanted: &str,
 ) -> Result<bool, StoreFault> {
     let article = isbn(word(line, 1))?;
-    match work.offers_by_article(&article) {
-        Ok(offers) => are_all(Ok(offers.into_vec()), wanted),
-        Err(fault) => Err(fault),
-    }
+    are_items(work.offers_by_article(&article), wanted)
 }
 
 fn version<S: Alter>(work: &mut Work<'_, S>, wanted: &str) -> Result<bool, StoreFault> {

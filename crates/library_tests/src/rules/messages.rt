@@ -131,26 +131,21 @@ fn expect_message(alloc: Global, stop: &impl Abort, met: &mut Refusals, step: St
     }
 }
 
-// Texts of no contents, each behind an empty line: an amount and a minimum that are written otherwise, and
-// what is not written of contents.
+// Texts of no contents, each behind a `|` but the first: an amount and a minimum that are written otherwise,
+// and what is not written of contents.
 const NO_CONTENTS: &str = "Product,R1,03,15,9781234567897
 ProductSupply,GB IE,,
 SupplyDetail,04,06,4012345000009,North Books,21,
 Price,02,12.99,GBP,,WORLD,,,
-
-Product,R1,03,15,9781234567897
+|Product,R1,03,15,9781234567897
 ProductSupply,GB IE,,
 SupplyDetail,04,06,4012345000009,North Books,21,
 Price,02,9.990,GBP,,WORLD,,,,1
-
-Product,R1,03,15,9781234567897
+|Product,R1,03,15,9781234567897
 ProductSupply,GB IE,,
 SupplyDetail,04,06,4012345000009,North Books,21,
 Price,02,9.990,GBP,,WORLD,,,,010
-
-waived
-
-\u{feff}";
+|waived|\u{feff}";
 
 fn expect_no_contents(alloc: Global, stop: &impl Abort, met: &mut Refusals, text: &str) {
     let fault = contents_of(alloc, stop, met, text).err();
@@ -162,7 +157,7 @@ fn expect_no_contents(alloc: Global, stop: &impl Abort, met: &mut Refusals, text
 fn expect_none(alloc: Global, stop: &impl Abort, met: &mut Refusals) {
     let mut rest = NO_CONTENTS;
     for _ in 0..5 {
-        let (text, more) = rest.split_once("\n\n").unwrap_or((rest, ""));
+        let (text, more) = rest.split_once('|').unwrap_or((rest, ""));
         expect_no_contents(alloc, stop, met, text);
         rest = more;
     }

@@ -62,7 +62,7 @@ pub record AreAlike {R A D S T : Type 0} (k : Storage R A D S) (l : Storage R A 
   pub is_question : (r : R) → l.is_question r ≡ k.is_question r
   pub answer_to : (L : List R) (r : R) → l.answer_to L r ≡ k.answer_to L r
 
--- After events h over one kind of store, all explained by L1, for which the database is found that they left, a run over another kind of store begins at that database. One effective list explains the answers of both, and the open desk stands for it, or the database that is left is that of it. Each database may be opened by a store of another kind in turn, since what is left is as at the beginning.
+-- After events h over one kind of store, all explained by one list, for which the database is found that they left, a run over another kind of store begins at that database. One effective list explains the answers of both, and the open desk stands for it, or the database that is left is that of it. Each database may be opened by a store of another kind in turn, since what is left is as at the beginning.
 abbrev pub RunsGoOn : {R A D S T : Type 0} → Storage R A D S → Storage R A D T → Type 0
 RunsGoOn {R = R} {A = A} {D = D} {T = T} k l =
     (L0 L1 : List R) (h next : List (Event R A)) (found : D) → Explains k L0 h L1 → IsFoundFor k found L1

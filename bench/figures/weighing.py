@@ -12,6 +12,8 @@ TICK = os.sysconf("SC_CLK_TCK")
 # What all weights are a multiple of.
 BASE = ("proof of csv_records", "proof of onix_terms")
 
+ELSE = "all else"
+
 LINKERS = {"clang", "ld", "lld", "ld.lld", "rattle-link"}
 
 
@@ -21,7 +23,7 @@ def part_named(words: list[str], folder: str) -> str:
     if tool in LINKERS:
         return "linking"
     if tool != "rattle" or "--crate-name" not in words:
-        return "all else"
+        return ELSE
     crate = words[words.index("--crate-name") + 1]
     if Path(folder).name.startswith("rt-edit-"):
         return f"edits of {crate}"
@@ -70,9 +72,12 @@ class Sampler:
     def take(self, pid: str, began: str, ticks: int) -> None:
         key = (pid, began)
         try:
-            self.parts[key] = part_of(pid)
+            part = part_of(pid)
         except OSError:
-            self.parts.setdefault(key, "all else")
+            part = ELSE
+        # A process that has begun as another, or that is about to end, has no words of its own.
+        if part != ELSE or key not in self.parts:
+            self.parts[key] = part
         self.ticks[key] = max(ticks, self.ticks.get(key, 0))
 
     def minutes(self) -> Counter:

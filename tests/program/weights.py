@@ -3,13 +3,15 @@
 import subprocess
 import sys
 from collections import Counter
+from unittest import mock
 
 from program.examples import ROOT
 from program.room import SECONDS, Group, Outcome
 
 sys.path.append(str(ROOT / "bench"))
 
-from figures.weighing import crates_below, part_named, report
+from figures import weighing
+from figures.weighing import ELSE, Sampler, crates_below, part_named, report
 
 # The words of a process, the folder that it works in, and its part.
 PARTS = [
@@ -37,6 +39,26 @@ def parts(room):
         yield Outcome(f"bench/weight: {part}", part_named(words, folder), part)
 
 
+# What a process was seen to be, look by look, and the part that its time counts for. A process begins as a copy
+# of the one that started it, and has no words any more when it ends.
+LOOKS = [
+    ([ELSE, "proof of price_rules", ELSE], "proof of price_rules"),
+    ([ELSE, "proof of price_rules", OSError()], "proof of price_rules"),
+    ([OSError(), ELSE], ELSE),
+    ([ELSE, "linking", "proof of price_rules"], "proof of price_rules"),
+]
+
+
+def looks(room):
+    for seen, part in LOOKS:
+        with mock.patch.object(weighing, "part_of", side_effect=seen):
+            sampler = Sampler(1)
+            for at, _ in enumerate(seen):
+                sampler.take("7", "20", at * 60 * weighing.TICK)
+        minutes = {name: round(spent) for name, spent in sampler.minutes().items()}
+        yield Outcome(f"bench/weight: seen as {', '.join(map(repr, seen))}", minutes, {part: len(seen) - 1})
+
+
 def a_table(room):
     lines = ["# the crates", "csv_records: csv", "desk_store: csv_records sqlite", "onix_terms: jiff"]
     below = crates_below(lines, "desk_store")
@@ -56,6 +78,7 @@ def a_run(room):
 
 GROUPS = [
     Group("parts of the gate", parts),
+    Group("a process as it begins and ends", looks),
     Group("the table of a weight", a_table),
     Group("what is weighed", a_run),
 ]

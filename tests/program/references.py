@@ -1,6 +1,7 @@
 """What the documents name of the crates, which is to be there."""
 
 import re
+from pathlib import Path
 
 from program.room import Group, Outcome
 from specs.page import ROOT, crates
@@ -9,6 +10,14 @@ from specs.page import ROOT, crates
 REFERENCE = re.compile(r"`(\w+)::([a-z]\w*(?:::[a-z]\w*)*)::(?:([A-Z]\w+)::)?(?:(\w+)|{([\w, ]+)})(?:: ([\w, ]+))?`")
 
 WRONG_BODIES = "## Wrong bodies\n"
+
+CRATES = crates(ROOT)
+
+# A source file, by its path or by its name alone, but not a pattern such as `specs/*Lemmas.antt`.
+SOURCE = re.compile(r"(?<![\w*/])[\w/]+\.(?:rt|antt)\b")
+
+# A word that may be the name of a crate: `price_rules` in the guides, price_rules in other pages.
+WORD = re.compile(r"\w+")
 
 
 def references(text: str) -> list[tuple[str, str, list[str], list[str]]]:
@@ -57,7 +66,7 @@ def proofs(room):
 
 def wrong_bodies(room):
     """Each edit has its line in the README of its crate, and each line its edit."""
-    for crate in crates(ROOT):
+    for crate in CRATES:
         folders = (ROOT / "crates" / crate / "must-fail", ROOT / "wrong-bodies" / crate)
         edits = {path.stem for folder in folders for path in folder.glob("*.edit")}
         readme = ROOT / "crates" / crate / "README.md"
@@ -68,7 +77,36 @@ def wrong_bodies(room):
         yield Outcome(f"crates/{crate}/README.md: its wrong bodies", (unnamed, gone), ([], []))
 
 
+def homes(before: str, home: str | None) -> list[str]:
+    """The folders from which a file may be named that stands behind this text of a section: those of the crate
+    that the page is of, of each crate that was named, or of any where none was, and that of the last path."""
+    named = [word for word in WORD.findall(before) if word in CRATES] or CRATES
+    beside = [path.rpartition("/")[0] for path in SOURCE.findall(before) if path.startswith("crates/")]
+    return ["", "crates", *([home] if home else [f"crates/{crate}" for crate in named]), *beside[-1:]]
+
+
+def lost_sources(text: str, home: str | None) -> list[str]:
+    """The source files that a page names and that are not there. `home` is the folder of the crate that the page
+    is of."""
+    return [
+        found[0]
+        for section in re.split(r"^(?=#)", text, flags=re.MULTILINE)
+        for found in SOURCE.finditer(section)
+        if not any((ROOT / folder / found[0]).is_file() for folder in homes(section[: found.start()], home))
+    ]
+
+
+def sources(room):
+    pages = [ROOT / "README.md", ROOT / "CONTRIBUTING.md", *sorted((ROOT / "docs").glob("*.md"))]
+    pages += [ROOT / "crates" / crate / "README.md" for crate in CRATES]
+    for page in filter(Path.is_file, pages):
+        home = page.parent.relative_to(ROOT) if page.parent.parent.name == "crates" else None
+        lost = lost_sources(page.read_text(encoding="utf-8"), home and str(home))
+        yield Outcome(f"{page.relative_to(ROOT)}: the sources that it names", lost, [])
+
+
 GROUPS = [
     Group("the clauses that docs/PROOFS.md names", proofs),
     Group("the wrong bodies that READMEs name", wrong_bodies),
+    Group("the sources that pages name", sources),
 ]

@@ -1,5 +1,7 @@
-"""`bench/weight`: which part of the gate a process is, the table, and the status of what was run."""
+"""`bench/weight`: which part of the gate a process is, the table, and the status of what was run. `bench/proofs`:
+the functions of a crate by what their proofs took."""
 
+import os
 import subprocess
 import sys
 from collections import Counter
@@ -11,6 +13,7 @@ from program.room import SECONDS, Group, Outcome
 sys.path.append(str(ROOT / "bench"))
 
 from figures import weighing
+from figures.profile import profile
 from figures.weighing import ELSE, Sampler, crates_below, part_named, report
 
 # The words of a process, the folder that it works in, and its part.
@@ -76,9 +79,47 @@ def a_run(room):
     yield Outcome("bench/weight: how long it ran", kept.splitlines()[-1], b"    0.0 min on the clock")
 
 
+# Files that a check keeps, and how long after the one before each was written.
+KEPT = [
+    ("Rattle-desk_terms-specs.Effects.oantt", 0),
+    ("Rattle-desk_terms.below.std.proofs.net.oantt", 20),
+    ("Rattle-desk_terms-proofs.effect.Effect.none.Lts.oantt", 1.5),
+    ("Rattle-desk_terms-proofs.effect.Effect.none.Answers.oantt", 2),
+    ("Rattle-desk_terms-proofs.Sums.oantt", 0.5),
+    ("Rattle-desk_terms-proofs.faults.fault_of.Lts.oantt", 4),
+    ("Rattle-desk_terms-proofs.faults.fault_of.Facts.decls.oantt", 3),
+]
+
+PROFILE = """whole: 31 s, of which certificates 6 s
+     20.0 s  reading and typing
+      5.5 s  Lts
+      3.0 s  Facts
+      2.0 s  Answers
+      0.5 s  lemmas of proofs/
+      0.0 s  lemmas of specs/
+functions, each with its certificate:
+      7.0 s     4.0 s  faults.fault_of
+"""
+
+
+def a_profile(room):
+    folder = room.path("kept")
+    folder.mkdir()
+    yield Outcome("bench/proofs: nothing kept", profile(folder, 1), "")
+    time = 1_000_000_000
+    for name, seconds in KEPT:
+        time += seconds
+        (folder / name).write_bytes(b"")
+        os.utime(folder / name, (time, time))
+    yield Outcome("bench/proofs: the dearest function", profile(folder, 1), PROFILE)
+    done = subprocess.run([ROOT / "bench/proofs"], capture_output=True, timeout=SECONDS)
+    yield Outcome("bench/proofs: no crate", (done.returncode, done.stdout), (2, b""))
+
+
 GROUPS = [
     Group("parts of the gate", parts),
     Group("a process as it begins and ends", looks),
     Group("the table of a weight", a_table),
     Group("what is weighed", a_run),
+    Group("the profile of a proof", a_profile),
 ]

@@ -41,9 +41,7 @@ fn find_route(alloc: Global, path: &str, name: &[u8]) -> Result<Route, InputFaul
     let Ok(router) = routes(alloc) else {
         return Err(InputFault::Memory);
     };
-    let Some(route) = find(&router, path) else {
-        return Err(InputFault::Refused(Refusal::NotFound));
-    };
+    let route = find(&router, path).ok_or(Refusal::NotFound)?;
     let method = method_of(route);
     if name == method_name(method).as_bytes() {
         Ok(route)

@@ -11,15 +11,20 @@ use Rattle.http_requests.specs.declared.refusal.Refusal.TheVariants as refusal
 use Rattle.desk_http.specs.Query.{needed_value, value_of}
 use Rattle.http_requests.specs.Steps.{◌>>=◌, or_refuse}
 
+-- the prices that a query asks for on a day in a country
+unfoldable pub prices_in : List ℕ → List ℕ → List ℕ → Result PriceQuery Refusal
+prices_in day country query = do
+  currency ← needed_value (codes "currency") query
+  price_type ← needed_value (codes "type") query
+  quantity ← value_of (codes "quantity") query
+  or_refuse refusal.BadQuery (price_query day country currency price_type quantity)
+
 -- the prices that a query asks for on the day under this key
 unfoldable pub prices_on : List ℕ → List ℕ → Result PriceQuery Refusal
 prices_on key query = do
   day ← needed_value key query
   country ← needed_value (codes "country") query
-  currency ← needed_value (codes "currency") query
-  price_type ← needed_value (codes "type") query
-  quantity ← value_of (codes "quantity") query
-  or_refuse refusal.BadQuery (price_query day country currency price_type quantity)
+  prices_in day country query
 
 -- an article, and which of its prices
 unfoldable pub prices_asked : List ℕ → List ℕ → Result (List ℕ × PriceQuery) Refusal

@@ -1,7 +1,7 @@
 //! What the path and the query of a GET ask.
 
 ghost use Rattle.std.specs.Prelude.{◌≡◌, option_map};
-ghost use Rattle.desk_http.specs.Questions.{calendar_asked, prices_asked, prices_on, series_asked};
+ghost use Rattle.desk_http.specs.Questions.{calendar_asked, prices_asked, prices_in, prices_on, series_asked};
 ghost use Rattle.http_requests.specs.Steps.{Gives};
 
 use crate::query::{needed_value, value};
@@ -24,6 +24,30 @@ fn as_text(value: &Option<Text>) -> Option<&str>
     }
 }
 
+// The prices that a query asks for on a day in a country. Each function keeps few texts, so that its
+// ways out have few to let go of.
+#[tactic(auto, unfolding(crate::specs::Questions::prices_in))]
+fn read_prices_in(
+    alloc: Global,
+    query: &[u8],
+    day: &str,
+    country: &str,
+) -> Result<PriceQuery, InputFault>
+    ensures { Gives result (prices_in day.now country.now query.now) }
+{
+    let currency = needed_value(alloc, query, "currency")?;
+    let price_type = needed_value(alloc, query, "type")?;
+    let quantity = value(alloc, query, "quantity")?;
+    let prices = PriceQuery::read(
+        day,
+        country,
+        currency.as_str(),
+        price_type.as_str(),
+        as_text(&quantity),
+    );
+    prices.ok_or(InputFault::Refused(Refusal::BadQuery))
+}
+
 // The prices that a query asks for on the day under a key.
 #[tactic(auto, unfolding(crate::specs::Questions::prices_on))]
 fn read_prices(alloc: Global, query: &[u8], key: &str) -> Result<PriceQuery, InputFault>
@@ -31,17 +55,7 @@ fn read_prices(alloc: Global, query: &[u8], key: &str) -> Result<PriceQuery, Inp
 {
     let day = needed_value(alloc, query, key)?;
     let country = needed_value(alloc, query, "country")?;
-    let currency = needed_value(alloc, query, "currency")?;
-    let price_type = needed_value(alloc, query, "type")?;
-    let quantity = value(alloc, query, "quantity")?;
-    let prices = PriceQuery::read(
-        day.as_str(),
-        country.as_str(),
-        currency.as_str(),
-        price_type.as_str(),
-        as_text(&quantity),
-    );
-    Ok(prices.ok_or(Refusal::BadQuery)?)
+    read_prices_in(alloc, query, day.as_str(), country.as_str())
 }
 
 /// The article and the prices that a question about prices or about a choice asks for.

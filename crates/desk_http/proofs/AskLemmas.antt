@@ -7,10 +7,14 @@ use Rattle.httparse.proofs.GrammarLemmas.{ReadsRequest-append}
 use Rattle.series_rules.specs.declared.requests.Request.{Request}
 use Rattle.http_requests.specs.declared.fault.InputFault.{InputFault}
 use Rattle.http_requests.specs.declared.fault.InputFault.TheVariants as fault
+use Rattle.http_requests.specs.declared.parts.Head.{Head}
 use Rattle.http_requests.specs.declared.refusal.Refusal.{Refusal}
-use Rattle.desk_http.specs.Asks.{Asks, IfDecided, asks_of, with_head}
-use Rattle.http_requests.specs.Head.{HasHead}
-use Rattle.http_requests.specs.Steps.{Gives}
+use Rattle.desk_http.specs.declared.exchange.Wanted.{Wanted}
+use Rattle.desk_http.specs.declared.exchange.Wanted.TheVariants.{Refused}
+use Rattle.desk_http.specs.Asks.{Asks, IfDecided, asks_of, wanted_by, with_head, without_head}
+use Rattle.http_requests.specs.Head.{HasHead, IsRefused}
+use Rattle.http_requests.specs.Steps.{Gives, IfRefused}
+use Rattle.http_requests.specs.KnownLemmas.{IfSome-all, IfSome-map}
 
 -- what holds of the bytes that follow says what holds of the input
 pub known_then : (P Q : List ℕ → Type 0) (a b : Option (List ℕ)) (bytes : List ℕ) → Consumes a b bytes
@@ -26,15 +30,23 @@ head_of_more text more rest h reads fits = record {
   fits = omega (arith, ap length reads.1, length-append (print_request h) rest);
 }
 
-pub told : (r : Result Request InputFault) (wanted : Result Request Refusal) (P : Result Request Refusal → Type 0)
-    → Gives r wanted → P wanted → IfDecided r P
-told (Ok x) wanted P is p = subst P is p
-told (Err (fault.Refused why)) wanted P is p = subst P is p
-told (Err fault.Read) wanted P is p = tt
-told (Err fault.Memory) wanted P is p = tt
+pub told : (r : Result Request InputFault) (asked : Result Request Refusal) (P : Wanted → Type 0)
+    → Gives r asked → P (wanted_by asked) → IfDecided r P
+told (Ok x) asked P is p = subst (λ a. P (wanted_by a)) is p
+told (Err (fault.Refused why)) asked P is p = subst (λ a. P (wanted_by a)) is p
+told (Err fault.Read) asked P is p = tt
+told (Err fault.Memory) asked P is p = tt
 
 -- what was made of a head and the bytes behind it was asked for
 pub asked_for : (r : Result Request InputFault) (text behind more : List ℕ) (h : RequestHead) → ReadsRequest text h behind → length text ≤ 16384
     → Gives r (asks_of h (behind ++ more)) → IfDecided r (Asks (text ++ more))
 asked_for r text behind more h reads fits gives =
     told r (asks_of h (behind ++ more)) (Asks (text ++ more)) gives (with_head (head_of_more text more behind h reads fits))
+
+-- where there is no head, an input asks for what it is refused with
+pub refused_at_head : (f : InputFault) (known : Option (List ℕ))
+    → IfRefused {A = Head} (Err f) (λ why. IfSome known (λ input. IsRefused input why)) → IfSome known (λ input. IfDecided (Err f) (Asks input))
+refused_at_head (fault.Refused why) known is =
+    IfSome-map known (λ input. IsRefused input why) (λ input. Asks input (Refused why)) (λ input none. without_head none) is
+refused_at_head fault.Read known is = IfSome-all known _ (λ input. tt)
+refused_at_head fault.Memory known is = IfSome-all known _ (λ input. tt)

@@ -9,7 +9,8 @@ use Rattle.series_rules.specs.declared.requests.Request.{Request}
 use Rattle.desk_http.specs.declared.exchange.HttpFault.{HttpFault}
 use Rattle.desk_http.specs.declared.exchange.HttpFault.TheVariants as fault
 use Rattle.desk_http.specs.declared.exchange.ReplyText.{ReplyText}
-use Rattle.http_requests.specs.declared.refusal.Refusal.{Refusal}
+use Rattle.desk_http.specs.declared.exchange.Wanted.{Wanted}
+use Rattle.desk_http.specs.declared.exchange.Wanted.TheVariants.{Asked, Refused}
 use Rattle.desk_http.specs.AnswerReply.{reply_of_answer}
 use Rattle.desk_http.specs.Asks.{Asks}
 use Rattle.desk_http.specs.Exchange.{AtMostOneMore, Exchanges, LeavesAfter, LeavesAtMostOneMore, LeavesRequestMore, Served, Unsent, answers, faults, refuses}
@@ -22,16 +23,16 @@ pub reply_is : (a : Answer) (status : ℕ) (body : List ℕ) → status ≡ (rep
 unfolding reply_of_answer
 reply_is a status body s b = rw (s, b) refl
 
-exchanged : (rules : List Rule) (may_give : StoreFault → Type 0) (L : List Request) (wanted : Result Request Refusal)
+exchanged : (rules : List Rule) (may_give : StoreFault → Type 0) (L : List Request) (wanted : Wanted)
     (stands left : List Request → Type 0) (reply : Reply) (taken : Bool) → IsReplied rules may_give L wanted stands reply taken
     → (only : Type 0) → (only → AskedLeaves L wanted left taken)
     → (after : List Request) × Exchanges rules may_give L wanted reply after × stands after × (only → LeavesAfter L wanted after left)
-exchanged rules may_give L (Err why) stands left reply taken is only leaves = (L, rw is.0 refuses, is.2, leaves)
-exchanged rules may_give L (Ok r) stands left reply true is only leaves = (r ∷ L, rw is.0 answers, is.1, λ alone M may. inl (leaves alone M may))
-exchanged rules may_give L (Ok r) stands left reply false is only leaves = (L, rw is.0.2 (faults is.0.1), is.1, leaves)
+exchanged rules may_give L (Refused why) stands left reply taken is only leaves = (L, rw is.0 refuses, is.2, leaves)
+exchanged rules may_give L (Asked r) stands left reply true is only leaves = (r ∷ L, rw is.0 answers, is.1, λ alone M may. inl (leaves alone M may))
+exchanged rules may_give L (Asked r) stands left reply false is only leaves = (L, rw is.0.2 (faults is.0.1), is.1, leaves)
 
 -- a reply to what was asked for was written so
-pub served : (rules : List Rule) (may_give : StoreFault → Type 0) (L : List Request) (wanted : Result Request Refusal)
+pub served : (rules : List Rule) (may_give : StoreFault → Type 0) (L : List Request) (wanted : Wanted)
     (stands was left : List Request → Type 0) (reply : Reply) (taken : Bool) → IsReplied rules may_give L wanted stands reply taken
     → (LeavesOnly was L → AskedLeaves L wanted left taken)
     → (written : List ℕ → Type 0) → written (reply_text reply) → (sent : Option (List ℕ)) → IfSome sent (λ input. Asks input wanted)
@@ -51,7 +52,7 @@ served rules may_give L wanted stands was left reply taken is leaves written tex
     }
 
 -- the same where a write failed
-pub served_in_part : (rules : List Rule) (may_give : StoreFault → Type 0) (L : List Request) (wanted : Result Request Refusal)
+pub served_in_part : (rules : List Rule) (may_give : StoreFault → Type 0) (L : List Request) (wanted : Wanted)
     (stands was left : List Request → Type 0) (reply : Reply) (taken : Bool) → IsReplied rules may_give L wanted stands reply taken
     → (LeavesOnly was L → AskedLeaves L wanted left taken)
     → (written : List ℕ → Type 0) (f : HttpFault) → IfWrite {T = Unit {0}} (Err f) (λ status. (status ≡ reply.status) × written (reply_text reply))
@@ -64,20 +65,20 @@ served_in_part rules may_give L wanted stands was left reply taken is leaves wri
 
 -- memory ran out before the desk was asked
 pub fault_before : (f : HttpFault) (known : Option (List ℕ)) (L : List Request) (stands : List Request → Type 0) → stands L
-    → IfMemory {T = Result Request Refusal} (Err f) (λ taken. taken ≡ false)
+    → IfMemory {T = Wanted} (Err f) (λ taken. taken ≡ false)
     → IfMemory {T = ℕ} (Err f) (Unsent L known stands)
 fault_before fault.Read known L stands left h = tt
 fault_before (fault.Write status) known L stands left h = tt
 fault_before (fault.Memory taken) known L stands left h = rw h left
 
 -- while it was asked
-unreplied : (L : List Request) (wanted : Result Request Refusal) (stands : List Request → Type 0) (taken : Bool) → IsUnreplied L wanted stands taken
+unreplied : (L : List Request) (wanted : Wanted) (stands : List Request → Type 0) (taken : Bool) → IsUnreplied L wanted stands taken
     → (known : Option (List ℕ)) → IfSome known (λ input. Asks input wanted) → Unsent L known stands taken
 unreplied L wanted stands false left known asks = left
-unreplied L (Ok r) stands true left known asks = (r, asks, left)
-unreplied L (Err why) stands true left known asks = absurd left
+unreplied L (Asked r) stands true left known asks = (r, asks, left)
+unreplied L (Refused why) stands true left known asks = absurd left
 
-pub fault_between : (rules : List Rule) (may_give : StoreFault → Type 0) (L : List Request) (wanted : Result Request Refusal) (stands : List Request → Type 0) (f : HttpFault)
+pub fault_between : (rules : List Rule) (may_give : StoreFault → Type 0) (L : List Request) (wanted : Wanted) (stands : List Request → Type 0) (f : HttpFault)
     → AskFits rules may_give L wanted stands (Err f) → (known : Option (List ℕ)) → IfSome known (λ input. Asks input wanted)
     → IfMemory {T = ℕ} (Err f) (Unsent L known stands)
 fault_between rules may_give L wanted stands fault.Read fits known asks = tt
@@ -85,13 +86,13 @@ fault_between rules may_give L wanted stands (fault.Write status) fits known ask
 fault_between rules may_give L wanted stands (fault.Memory taken) fits known asks = unreplied L wanted stands taken fits known asks
 
 -- after it was asked
-replied : (rules : List Rule) (may_give : StoreFault → Type 0) (L : List Request) (wanted : Result Request Refusal) (stands : List Request → Type 0) (reply : Reply) (taken : Bool)
+replied : (rules : List Rule) (may_give : StoreFault → Type 0) (L : List Request) (wanted : Wanted) (stands : List Request → Type 0) (reply : Reply) (taken : Bool)
     → IsReplied rules may_give L wanted stands reply taken → (known : Option (List ℕ)) → IfSome known (λ input. Asks input wanted) → Unsent L known stands taken
-replied rules may_give L (Ok r) stands reply true is known asks = (r, asks, is.1)
-replied rules may_give L (Ok r) stands reply false is known asks = is.1
-replied rules may_give L (Err why) stands reply taken is known asks = rw is.1 is.2
+replied rules may_give L (Asked r) stands reply true is known asks = (r, asks, is.1)
+replied rules may_give L (Asked r) stands reply false is known asks = is.1
+replied rules may_give L (Refused why) stands reply taken is known asks = rw is.1 is.2
 
-pub fault_after : (rules : List Rule) (may_give : StoreFault → Type 0) (L : List Request) (wanted : Result Request Refusal) (stands : List Request → Type 0) (reply : Reply) (taken : Bool)
+pub fault_after : (rules : List Rule) (may_give : StoreFault → Type 0) (L : List Request) (wanted : Wanted) (stands : List Request → Type 0) (reply : Reply) (taken : Bool)
     → IsReplied rules may_give L wanted stands reply taken → (f : HttpFault) → IfMemory {T = Unit {0}} (Err f) (λ t. t ≡ taken)
     → (known : Option (List ℕ)) → IfSome known (λ input. Asks input wanted) → IfMemory {T = ℕ} (Err f) (Unsent L known stands)
 fault_after rules may_give L wanted stands reply taken is fault.Read same known asks = tt
@@ -104,29 +105,29 @@ answered_once : (rules : List Rule) (may_give : StoreFault → Type 0) (L : List
 answered_once rules may_give L r stands reply true is = (r ∷ [], omega arith, is.1)
 answered_once rules may_give L r stands reply false is = ([], omega arith, is.1)
 
-pub asked_once : (rules : List Rule) (may_give : StoreFault → Type 0) (L : List Request) (wanted : Result Request Refusal)
+pub asked_once : (rules : List Rule) (may_give : StoreFault → Type 0) (L : List Request) (wanted : Wanted)
     (stands : List Request → Type 0) (result : Result ReplyText HttpFault) → AskFits rules may_give L wanted stands result → AtMostOneMore L stands
-asked_once rules may_give L (Ok r) stands (Ok reply) fits = answered_once rules may_give L r stands (reply_view reply) reply.taken fits
-asked_once rules may_give L (Err why) stands (Ok reply) fits = ([], omega arith, fits.2)
+asked_once rules may_give L (Asked r) stands (Ok reply) fits = answered_once rules may_give L r stands (reply_view reply) reply.taken fits
+asked_once rules may_give L (Refused why) stands (Ok reply) fits = ([], omega arith, fits.2)
 asked_once rules may_give L wanted stands (Err fault.Read) fits = absurd fits
 asked_once rules may_give L wanted stands (Err (fault.Write status)) fits = absurd fits
-asked_once rules may_give L (Ok r) stands (Err (fault.Memory true)) fits = (r ∷ [], omega arith, fits)
-asked_once rules may_give L (Err why) stands (Err (fault.Memory true)) fits = absurd fits
+asked_once rules may_give L (Asked r) stands (Err (fault.Memory true)) fits = (r ∷ [], omega arith, fits)
+asked_once rules may_give L (Refused why) stands (Err (fault.Memory true)) fits = absurd fits
 asked_once rules may_give L wanted stands (Err (fault.Memory false)) fits = ([], omega arith, fits)
 
 -- so it is with what a crash may leave
-asked_leaves : (L : List Request) (wanted : Result Request Refusal) (left : List Request → Type 0) (taken : Bool) → AskedLeaves L wanted left taken → LeavesAtMostOneMore L left
-asked_leaves L (Ok r) left true leaves = (r ∷ [], omega arith, λ M may. inr (leaves M may))
-asked_leaves L (Ok r) left false leaves = (r ∷ [], omega arith, leaves)
-asked_leaves L (Err why) left taken leaves = ([], omega arith, λ M may. inl (leaves M may))
+asked_leaves : (L : List Request) (wanted : Wanted) (left : List Request → Type 0) (taken : Bool) → AskedLeaves L wanted left taken → LeavesAtMostOneMore L left
+asked_leaves L (Asked r) left true leaves = (r ∷ [], omega arith, λ M may. inr (leaves M may))
+asked_leaves L (Asked r) left false leaves = (r ∷ [], omega arith, leaves)
+asked_leaves L (Refused why) left taken leaves = ([], omega arith, λ M may. inl (leaves M may))
 
-pub ask_leaves : (L : List Request) (wanted : Result Request Refusal) (left : List Request → Type 0) (result : Result ReplyText HttpFault) → AskLeaves L wanted left result → LeavesAtMostOneMore L left
+pub ask_leaves : (L : List Request) (wanted : Wanted) (left : List Request → Type 0) (result : Result ReplyText HttpFault) → AskLeaves L wanted left result → LeavesAtMostOneMore L left
 ask_leaves L wanted left (Ok reply) leaves = asked_leaves L wanted left reply.taken leaves
 ask_leaves L wanted left (Err fault.Read) leaves = absurd leaves
 ask_leaves L wanted left (Err (fault.Write status)) leaves = absurd leaves
 ask_leaves L wanted left (Err (fault.Memory taken)) leaves = asked_leaves L wanted left taken leaves
 
 -- whatever it could leave before
-pub ask_adds : (L : List Request) (wanted : Result Request Refusal) (old new : List Request → Type 0) → AskAdds L wanted old new → LeavesRequestMore L old new
-ask_adds L (Ok r) old new adds = (r ∷ [], omega arith, adds)
-ask_adds L (Err why) old new adds = ([], omega arith, λ M may. inl (adds M may))
+pub ask_adds : (L : List Request) (wanted : Wanted) (old new : List Request → Type 0) → AskAdds L wanted old new → LeavesRequestMore L old new
+ask_adds L (Asked r) old new adds = (r ∷ [], omega arith, adds)
+ask_adds L (Refused why) old new adds = ([], omega arith, λ M may. inl (adds M may))

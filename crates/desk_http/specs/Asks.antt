@@ -7,6 +7,8 @@ use Rattle.http_requests.specs.declared.fault.InputFault.{InputFault}
 use Rattle.http_requests.specs.declared.fault.InputFault.TheVariants as fault
 use Rattle.http_requests.specs.declared.refusal.Refusal.{Refusal}
 use Rattle.http_requests.specs.declared.refusal.Refusal.TheVariants as refusal
+use Rattle.desk_http.specs.declared.exchange.Wanted.{Wanted}
+use Rattle.desk_http.specs.declared.exchange.Wanted.TheVariants.{Asked, Refused}
 use Rattle.desk_http.specs.declared.routes.Route.{Route}
 use Rattle.desk_http.specs.declared.routes.Route.TheVariants as route
 use Rattle.http_requests.specs.Head.{HasHead, IsRefused}
@@ -22,8 +24,7 @@ abbrev pub question_of : Route → List ℕ → List ℕ → Result Request Refu
 question_of route.Messages part query = Err refusal.NotFound
 question_of route.Price part query = prices_asked part query >>= λ asked. Ok (request.AskPrice asked.0 asked.1)
 question_of route.Choice part query = prices_asked part query >>= λ asked. Ok (request.AskChoice asked.0 asked.1)
-question_of route.Calendar part query = calendar_asked part query >>= λ asked.
-    Ok (request.AskCalendar asked.0 (record { from = asked.1.day; to = asked.2; country = asked.1.country; currency = asked.1.currency; price_type = asked.1.price_type; quantity = asked.1.quantity }))
+question_of route.Calendar part query = calendar_asked part query >>= λ asked. Ok (request.AskCalendar asked.0 asked.1)
 question_of route.Gaps part query = series_asked part >>= λ name. Ok (request.AskGaps name)
 question_of route.Catalogue part query = series_asked part >>= λ name. Ok (request.AskCatalogue name)
 
@@ -44,14 +45,19 @@ request_at h rest route.Catalogue = question_at route.Catalogue h.target
 unfoldable pub asks_of : RequestHead → List ℕ → Result Request Refusal
 asks_of h rest = route_asked h >>= request_at h rest
 
+-- what is asked for, where these steps came to that
+abbrev pub wanted_by : Result Request Refusal → Wanted
+wanted_by (Ok r) = Asked r
+wanted_by (Err why) = Refused why
+
 -- what an input asks for, by its bytes alone: the refusal of one without a head, or what its head and body ask for, the first step that refuses deciding
-pub data Asks : List ℕ → Result Request Refusal → Type 0 where
-  without_head : {input : List ℕ} {why : Refusal} → IsRefused input why → Asks input (Err why)
-  with_head : {input rest : List ℕ} {h : RequestHead} → HasHead input h rest → Asks input (asks_of h rest)
+pub data Asks : List ℕ → Wanted → Type 0 where
+  without_head : {input : List ℕ} {why : Refusal} → IsRefused input why → Asks input (Refused why)
+  with_head : {input rest : List ℕ} {h : RequestHead} → HasHead input h rest → Asks input (wanted_by (asks_of h rest))
 
 -- P of what was asked for, unless a read failed or memory ran out
-abbrev pub IfDecided : Result Request InputFault → (Result Request Refusal → Type 0) → Type 0
-IfDecided (Ok r) P = P (Ok r)
-IfDecided (Err (fault.Refused why)) P = P (Err why)
+abbrev pub IfDecided : Result Request InputFault → (Wanted → Type 0) → Type 0
+IfDecided (Ok r) P = P (Asked r)
+IfDecided (Err (fault.Refused why)) P = P (Refused why)
 IfDecided (Err fault.Read) P = ⊤
 IfDecided (Err fault.Memory) P = ⊤

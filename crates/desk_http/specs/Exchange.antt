@@ -1,10 +1,12 @@
 -- One exchange: what an input asks for, what is replied, and what the desk stands for then.
-use Rattle.std.specs.Prelude.{◌≡◌, ◌≤◌, ◌++◌, ℕ, Bool, true, false, List, [], ◌∷◌, length, Option, IfSome, Result, Ok, Err}
+use Rattle.std.specs.Prelude.{◌≡◌, ◌≤◌, ◌++◌, ℕ, Bool, true, false, List, [], ◌∷◌, length, Option, IfSome}
 use Rattle.desk_terms.specs.declared.faults.StoreFault.{StoreFault}
 use Rattle.price_rules.specs.declared.precedence.Rule.{Rule}
 use Rattle.series_rules.specs.Answers.{answer_to}
 use Rattle.series_rules.specs.Leaves.{LeavesEither, LeavesOneMore, LeavesOnly}
 use Rattle.series_rules.specs.declared.requests.Request.{Request}
+use Rattle.desk_http.specs.declared.exchange.Wanted.{Wanted}
+use Rattle.desk_http.specs.declared.exchange.Wanted.TheVariants.{Asked, Refused}
 use Rattle.http_requests.specs.declared.refusal.Refusal.{Refusal}
 use Rattle.desk_http.specs.AnswerReply.{reply_of_answer, reply_of_fault}
 use Rattle.desk_http.specs.Asks.{Asks}
@@ -13,26 +15,26 @@ use Rattle.desk_http.specs.Reply.{Reply, reply_text}
 
 -- what a desk that stands for L may make of what is asked for, under the rules of a precedence
 -- table: a reply, and the list that it stands for then
-pub data Exchanges (rules : List Rule) (may_give : StoreFault → Type 0) (L : List Request) : Result Request Refusal → Reply → List Request → Type 0 where
-  refuses : {why : Refusal} → Exchanges rules may_give L (Err why) (reply_of_refusal why) L
-  answers : {r : Request} → Exchanges rules may_give L (Ok r) (reply_of_answer (answer_to rules L r)) (r ∷ L)
-  faults : {r : Request} {f : StoreFault} → may_give f → Exchanges rules may_give L (Ok r) (reply_of_fault f) L
+pub data Exchanges (rules : List Rule) (may_give : StoreFault → Type 0) (L : List Request) : Wanted → Reply → List Request → Type 0 where
+  refuses : {why : Refusal} → Exchanges rules may_give L (Refused why) (reply_of_refusal why) L
+  answers : {r : Request} → Exchanges rules may_give L (Asked r) (reply_of_answer (answer_to rules L r)) (r ∷ L)
+  faults : {r : Request} {f : StoreFault} → may_give f → Exchanges rules may_give L (Asked r) (reply_of_fault f) L
 
 -- inputs were replied to one after the other, by a desk that stood for L at first, and no reply is of a fault of its store. The list is L with each request that was answered
 pub data AreReplied (rules : List Rule) (L : List Request) : List Reply → List Request → Type 0 where
   none : AreReplied rules L [] L
-  further : {replies : List Reply} {kept after : List Request} {wanted : Result Request Refusal} {reply : Reply}
+  further : {replies : List Reply} {kept after : List Request} {wanted : Wanted} {reply : Reply}
       → AreReplied rules L replies kept → Exchanges rules (λ f. ⊥) kept wanted reply after → AreReplied rules L (replies ++ reply ∷ []) after
 
 -- What a crash may leave then of a desk of which it left only L: what the desk stands for. After a fault it may leave the request too
-abbrev pub LeavesAfter : List Request → Result Request Refusal → List Request → (List Request → Type 0) → Type 0
-LeavesAfter L (Ok r) after left = LeavesEither left after (r ∷ L)
-LeavesAfter L (Err why) after left = LeavesOnly left after
+abbrev pub LeavesAfter : List Request → Wanted → List Request → (List Request → Type 0) → Type 0
+LeavesAfter L (Asked r) after left = LeavesEither left after (r ∷ L)
+LeavesAfter L (Refused why) after left = LeavesOnly left after
 
 -- a client was replied to: to what it asked for, as the desk makes it (`Exchanges`). Sent: what the client sent, where that is known. Stands: the desk stands for that list. Was: a crash could leave what that list comes to. Left: it may leave that now. Written: this text was written
 pub record Served (rules : List Rule) (may_give : StoreFault → Type 0) (L : List Request) (sent : Option (List ℕ))
     (stands was left : List Request → Type 0) (written : List ℕ → Type 0) (status : ℕ) : Type 0 where
-  pub wanted : Result Request Refusal
+  pub wanted : Wanted
   pub reply : Reply
   pub after : List Request
   pub asks : IfSome sent (λ input. Asks input wanted)
@@ -45,7 +47,7 @@ pub record Served (rules : List Rule) (may_give : StoreFault → Type 0) (L : Li
 -- an input got no reply: the desk stands for L, or where it has answered for L with the request that the input asks for. Taken: the desk has answered what the input asks for; else it was not asked, or had a fault. Sent: what the input is, where that is known
 abbrev pub Unsent : List Request → Option (List ℕ) → (List Request → Type 0) → Bool → Type 0
 Unsent L sent stands false = stands L
-Unsent L sent stands true = (r : Request) × IfSome sent (λ input. Asks input (Ok r)) × stands (r ∷ L)
+Unsent L sent stands true = (r : Request) × IfSome sent (λ input. Asks input (Asked r)) × stands (r ∷ L)
 
 -- what stands is L, or L and one request more
 abbrev pub AtMostOneMore : List Request → (List Request → Type 0) → Type 0

@@ -9,7 +9,8 @@ use Rattle.series_rules.specs.declared.requests.Request.{Request}
 use Rattle.desk_http.specs.declared.exchange.HttpFault.{HttpFault}
 use Rattle.desk_http.specs.declared.exchange.HttpFault.TheVariants as fault
 use Rattle.desk_http.specs.declared.exchange.ReplyText.{ReplyText}
-use Rattle.http_requests.specs.declared.refusal.Refusal.{Refusal}
+use Rattle.desk_http.specs.declared.exchange.Wanted.{Wanted}
+use Rattle.desk_http.specs.declared.exchange.Wanted.TheVariants.{Asked, Refused}
 use Rattle.desk_http.specs.AnswerReply.{reply_of_answer, reply_of_fault}
 use Rattle.desk_http.specs.Refusals.{reply_of_refusal}
 use Rattle.desk_http.specs.Reply.{Reply}
@@ -24,40 +25,40 @@ IsAnswered rules may_give L r stands reply true = (reply ≡ reply_of_answer (an
 IsAnswered rules may_give L r stands reply false = ((f : StoreFault) × may_give f × (reply ≡ reply_of_fault f)) × stands L
 
 -- the same for what is asked for, which may be a refusal
-abbrev pub IsReplied : List Rule → (StoreFault → Type 0) → List Request → Result Request Refusal → (List Request → Type 0) → Reply → Bool → Type 0
-IsReplied rules may_give L (Ok r) stands reply taken = IsAnswered rules may_give L r stands reply taken
-IsReplied rules may_give L (Err why) stands reply taken = (reply ≡ reply_of_refusal why) × (taken ≡ false) × stands L
+abbrev pub IsReplied : List Rule → (StoreFault → Type 0) → List Request → Wanted → (List Request → Type 0) → Reply → Bool → Type 0
+IsReplied rules may_give L (Asked r) stands reply taken = IsAnswered rules may_give L r stands reply taken
+IsReplied rules may_give L (Refused why) stands reply taken = (reply ≡ reply_of_refusal why) × (taken ≡ false) × stands L
 
 -- memory ran out for the reply to what is asked for
-abbrev pub IsUnreplied : List Request → Result Request Refusal → (List Request → Type 0) → Bool → Type 0
+abbrev pub IsUnreplied : List Request → Wanted → (List Request → Type 0) → Bool → Type 0
 IsUnreplied L wanted stands false = stands L
-IsUnreplied L (Ok r) stands true = stands (r ∷ L)
-IsUnreplied L (Err why) stands true = ⊥
+IsUnreplied L (Asked r) stands true = stands (r ∷ L)
+IsUnreplied L (Refused why) stands true = ⊥
 
 -- how asking can end
-abbrev pub AskFits : List Rule → (StoreFault → Type 0) → List Request → Result Request Refusal → (List Request → Type 0) → Result ReplyText HttpFault → Type 0
+abbrev pub AskFits : List Rule → (StoreFault → Type 0) → List Request → Wanted → (List Request → Type 0) → Result ReplyText HttpFault → Type 0
 AskFits rules may_give L wanted stands (Ok reply) = IsReplied rules may_give L wanted stands (reply_view reply) reply.taken
 AskFits rules may_give L wanted stands (Err fault.Read) = ⊥
 AskFits rules may_give L wanted stands (Err (fault.Write status)) = ⊥
 AskFits rules may_give L wanted stands (Err (fault.Memory taken)) = IsUnreplied L wanted stands taken
 
 -- what a crash may leave, where it left only L: the request once it is taken, or after a fault that or L
-abbrev pub AskedLeaves : List Request → Result Request Refusal → (List Request → Type 0) → Bool → Type 0
-AskedLeaves L (Ok r) left true = LeavesOnly left (r ∷ L)
-AskedLeaves L (Ok r) left false = LeavesEither left L (r ∷ L)
-AskedLeaves L (Err why) left taken = LeavesOnly left L
+abbrev pub AskedLeaves : List Request → Wanted → (List Request → Type 0) → Bool → Type 0
+AskedLeaves L (Asked r) left true = LeavesOnly left (r ∷ L)
+AskedLeaves L (Asked r) left false = LeavesEither left L (r ∷ L)
+AskedLeaves L (Refused why) left taken = LeavesOnly left L
 
 -- the same, however asking ended
-abbrev pub AskLeaves : List Request → Result Request Refusal → (List Request → Type 0) → Result ReplyText HttpFault → Type 0
+abbrev pub AskLeaves : List Request → Wanted → (List Request → Type 0) → Result ReplyText HttpFault → Type 0
 AskLeaves L wanted left (Ok reply) = AskedLeaves L wanted left reply.taken
 AskLeaves L wanted left (Err fault.Read) = ⊥
 AskLeaves L wanted left (Err (fault.Write status)) = ⊥
 AskLeaves L wanted left (Err (fault.Memory taken)) = AskedLeaves L wanted left taken
 
 -- whatever it left before, it leaves that, or a request that was asked
-abbrev pub AskAdds : List Request → Result Request Refusal → (List Request → Type 0) → (List Request → Type 0) → Type 0
-AskAdds L (Ok r) old new = LeavesOneMore old new (r ∷ L)
-AskAdds L (Err why) old new = LeavesNoMore old new
+abbrev pub AskAdds : List Request → Wanted → (List Request → Type 0) → (List Request → Type 0) → Type 0
+AskAdds L (Asked r) old new = LeavesOneMore old new (r ∷ L)
+AskAdds L (Refused why) old new = LeavesNoMore old new
 
 -- what is said after a failed read
 abbrev pub OnRead : {T : Type 0} → Result T HttpFault → Type 0 → Type 0

@@ -1,10 +1,9 @@
 -- Laws of replies and of what is asked for.
-use Rattle.std.specs.Prelude.{◌≡◌, ◌&&◌, ℕ, Bool, false, List, Result, nat_le, codes}
+use Rattle.std.specs.Prelude.{◌≡◌, ◌&&◌, ℕ, Bool, false, List, nat_le, codes}
 use Rattle.std.specs.Str.{bytes_eq}
 use Rattle.serde_json.specs.Data.{Data, member, object, string}
 use Rattle.series_rules.specs.declared.answers.Answer.{Answer}
-use Rattle.series_rules.specs.declared.requests.Request.{Request}
-use Rattle.http_requests.specs.declared.refusal.Refusal.{Refusal}
+use Rattle.desk_http.specs.declared.exchange.Wanted.{Wanted}
 use Rattle.desk_json.specs.AnswerJson.{answer_json}
 use Rattle.desk_http.specs.AnswerReply.{status_of}
 use Rattle.desk_http.specs.Asks.{Asks}
@@ -20,8 +19,8 @@ RefusalsAreErrors = (a : Answer) → nat_le 400 (status_of a) ≡ is_refused (an
 
 -- what an input asks for is one thing
 abbrev pub AsksOnce : Type 0
-AsksOnce = (input : List ℕ) (a b : Result Request Refusal) → Asks input a → Asks input b → a ≡ b
+AsksOnce = (input : List ℕ) (a b : Wanted) → Asks input a → Asks input b → a ≡ b
 
 -- there is no input that asks for nothing
 abbrev pub AsksSomething : Type 0
-AsksSomething = (input : List ℕ) → ¬ ((wanted : Result Request Refusal) → ¬ (Asks input wanted))
+AsksSomething = (input : List ℕ) → ¬ ((wanted : Wanted) → ¬ (Asks input wanted))

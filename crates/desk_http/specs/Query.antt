@@ -1,9 +1,8 @@
 -- The query of a request, as a web form: the values of its keys, and the terms that they write.
-use Rattle.std.specs.Prelude.{ℕ, List, [], ◌∷◌, nat_eq, if◌then◌else◌, Option, Some, None, Result, Ok, Err, codes}
+use Rattle.std.specs.Prelude.{ℕ, List, [], ◌∷◌, nat_eq, if◌then◌else◌, Option, Some, None, Result, Ok, Err}
 use Rattle.std.specs.Cmp.Lexicographic.{pointwise}
 use Rattle.std.specs.Str.Lossy.{utf8_lossy}
 use Rattle.form_urlencoded.specs.Form.{decode, raw_pairs}
-use Rattle.onix_terms.specs.Quantity.{quantity_of}
 use Rattle.http_requests.specs.declared.refusal.Refusal.{Refusal}
 use Rattle.http_requests.specs.declared.refusal.Refusal.TheVariants as refusal
 use Rattle.http_requests.specs.Steps.{◌>>=◌, or_refuse}
@@ -31,20 +30,3 @@ value_of key query = at_most_one (values_under key (raw_pairs query))
 -- the value of a key that a query has to have once
 abbrev pub needed_value : List ℕ → List ℕ → Result (List ℕ) Refusal
 needed_value key query = value_of key query >>= or_refuse refusal.BadQuery
-
--- the term that a value writes
-abbrev pub term : {A : Type 0} → (List ℕ → Option A) → List ℕ → Result A Refusal
-term read text = or_refuse refusal.BadQuery (read text)
-
--- the term under a key that a query has to have once
-abbrev pub needed : {A : Type 0} → (List ℕ → Option A) → List ℕ → List ℕ → Result A Refusal
-needed read key query = needed_value key query >>= term read
-
--- how many copies: 1 where there is no value
-abbrev pub quantity_from : Option (List ℕ) → Result ℕ Refusal
-quantity_from None = Ok 1
-quantity_from (Some text) = term quantity_of text
-
--- for how many copies prices are asked
-abbrev pub quantity_asked : List ℕ → Result ℕ Refusal
-quantity_asked query = value_of (codes "quantity") query >>= quantity_from

@@ -1,39 +1,46 @@
 -- What the path and the query of a GET ask.
-use Rattle.std.specs.Prelude.{ℕ, ℤ, List, Result, Ok, codes}
-use Rattle.onix_terms.specs.Code.{code2_of, country_of, currency_of, isbn13_of}
+use Rattle.std.specs.Prelude.{ℕ, List, Result, Ok, codes}
+use Rattle.onix_terms.specs.Code.{isbn13_of}
 use Rattle.onix_terms.specs.Day.{day_of}
 use Rattle.onix_terms.specs.SeriesName.{series_name_of}
+use Rattle.price_rules.specs.Queries.{price_query, until}
 use Rattle.price_rules.specs.declared.offer.PriceQuery.{PriceQuery}
+use Rattle.price_rules.specs.declared.offer.CalendarQuery.{CalendarQuery}
 use Rattle.http_requests.specs.declared.refusal.Refusal.{Refusal}
 use Rattle.http_requests.specs.declared.refusal.Refusal.TheVariants as refusal
-use Rattle.desk_http.specs.Query.{needed, quantity_asked, term}
+use Rattle.desk_http.specs.Query.{needed_value, value_of}
 use Rattle.http_requests.specs.Steps.{◌>>=◌, or_refuse}
 
--- the prices that a query asks for on that day
-unfoldable pub prices_on : ℤ → List ℕ → Result PriceQuery Refusal
-prices_on day query = do
-  country ← needed country_of (codes "country") query
-  currency ← needed currency_of (codes "currency") query
-  price_type ← needed code2_of (codes "type") query
-  quantity ← quantity_asked query
-  Ok (record { day = day; country = country; currency = currency; price_type = price_type; quantity = quantity })
+-- the prices that a query asks for on a day in a country
+unfoldable pub prices_in : List ℕ → List ℕ → List ℕ → Result PriceQuery Refusal
+prices_in day country query = do
+  currency ← needed_value (codes "currency") query
+  price_type ← needed_value (codes "type") query
+  quantity ← value_of (codes "quantity") query
+  or_refuse refusal.BadQuery (price_query day country currency price_type quantity)
+
+-- the prices that a query asks for on the day under this key
+unfoldable pub prices_on : List ℕ → List ℕ → Result PriceQuery Refusal
+prices_on key query = do
+  day ← needed_value key query
+  country ← needed_value (codes "country") query
+  prices_in day country query
 
 -- an article, and which of its prices
 unfoldable pub prices_asked : List ℕ → List ℕ → Result (List ℕ × PriceQuery) Refusal
 prices_asked part query = do
-  isbn ← term isbn13_of part
-  day ← needed day_of (codes "day") query
-  prices ← prices_on day query
+  isbn ← or_refuse refusal.BadQuery (isbn13_of part)
+  prices ← prices_on (codes "day") query
   Ok (isbn, prices)
 
--- an article, which of its prices on a first day, and the last day
-unfoldable pub calendar_asked : List ℕ → List ℕ → Result (List ℕ × PriceQuery × ℤ) Refusal
+-- an article, and which calendar of it
+unfoldable pub calendar_asked : List ℕ → List ℕ → Result (List ℕ × CalendarQuery) Refusal
 calendar_asked part query = do
-  isbn ← term isbn13_of part
-  from ← needed day_of (codes "from") query
-  to ← needed day_of (codes "to") query
-  prices ← prices_on from query
-  Ok (isbn, prices, to)
+  isbn ← or_refuse refusal.BadQuery (isbn13_of part)
+  first ← prices_on (codes "from") query
+  to ← needed_value (codes "to") query
+  last ← or_refuse refusal.BadQuery (day_of to)
+  Ok (isbn, until first last)
 
 -- a series
 abbrev pub series_asked : List ℕ → Result (List ℕ) Refusal

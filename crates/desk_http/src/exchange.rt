@@ -1,6 +1,17 @@
-//! The reply of an exchange, and why there is none.
+//! What is asked for in an exchange, its reply, and why there is none.
 
+use http_requests::refusal::Refusal;
+use series_rules::requests::Request;
 use thiserror::Error;
+
+/// What an input asks for.
+#[derive(Drop)]
+pub enum Wanted {
+    /// A request to the desk.
+    Asked(Request),
+    /// A refusal, before the desk is asked.
+    Refused(Refusal),
+}
 
 /// Why a request has no reply.
 #[derive(Debug, Drop, Error)]

@@ -12,28 +12,11 @@ use crate::routing::read_route;
 use http_requests::body::read_posted;
 use http_requests::fault::InputFault;
 use http_requests::head::read_head;
-use http_requests::parts::{Head, HeadRead};
+use http_requests::parts::Head;
 use http_requests::refusal::Refusal;
-use price_rules::offer::CalendarQuery;
 use series_rules::requests::Request;
 use std::alloc::Global;
 use std::io::Read;
-
-// What each offer of an article costs from one day to another.
-fn ask_calendar(alloc: Global, part: &str, query: &[u8]) -> Result<Request, InputFault>
-    ensures { Gives result (question_of Route.Calendar part.now query.now) }
-{
-    let (isbn, prices, to) = read_calendar_question(alloc, part, query)?;
-    let query = CalendarQuery {
-        from: prices.day,
-        to,
-        country: prices.country,
-        currency: prices.currency,
-        price_type: prices.price_type,
-        quantity: prices.quantity,
-    };
-    Ok(Request::AskCalendar { isbn, query })
-}
 
 // The question of a GET.
 fn ask(alloc: Global, route: Route, part: &str, query: &[u8]) -> Result<Request, InputFault>
@@ -49,7 +32,10 @@ fn ask(alloc: Global, route: Route, part: &str, query: &[u8]) -> Result<Request,
             let (isbn, query) = read_price_question(alloc, part, query)?;
             Ok(Request::AskChoice { isbn, query })
         }
-        Route::Calendar => ask_calendar(alloc, part, query),
+        Route::Calendar => {
+            let (isbn, query) = read_calendar_question(alloc, part, query)?;
+            Ok(Request::AskCalendar { isbn, query })
+        }
         Route::Gaps => Ok(Request::AskGaps(read_series(part)?)),
         Route::Catalogue => Ok(Request::AskCatalogue(read_series(part)?)),
     }
@@ -108,8 +94,7 @@ pub(crate) fn read_request<R: Read>(alloc: Global, reader: &mut R) -> Result<Req
     ensures { IfSome (R.remaining reader.old) (λ input. IfDecided result (Asks input)) }
 {
     match read_head(alloc, reader) {
-        Ok(HeadRead::Complete(head)) => read_behind(alloc, reader, &head, head.behind()),
-        Ok(HeadRead::Refused(why)) => Err(InputFault::Refused(why)),
+        Ok(head) => read_behind(alloc, reader, &head, head.behind()),
         Err(fault) => Err(fault),
     }
 }

@@ -5,12 +5,14 @@ ghost use Rattle.httparse.specs.Grammar.{RequestHead};
 ghost use Rattle.http_requests.specs.HeadRead.{IsHeadOf};
 ghost use Rattle.desk_http.specs.Keys.{route_at};
 ghost use Rattle.desk_http.specs.Routing.{method_name, method_of, route_asked, route_found};
+ghost use Rattle.desk_http.specs.Table.{table};
 ghost use Rattle.http_requests.specs.Steps.{Gives};
 
 use crate::routes::{Route, cut, find, routes};
 use http_requests::fault::InputFault;
 use http_requests::parts::Head;
 use http_requests::refusal::{Method, Refusal};
+use matchit::Router;
 use std::alloc::Global;
 
 // The method that a route takes.
@@ -35,20 +37,26 @@ pub(crate) fn method_name(method: Method) -> &'static str
 }
 
 // The route of a path, where it is asked by its method.
-fn find_route(alloc: Global, path: &str, name: &[u8]) -> Result<Route, InputFault>
-    ensures { Gives result (route_found path.now name.now) }
+fn take_route(router: &Router<Route>, path: &str, name: &[u8]) -> Result<Route, Refusal>
+    requires { router.now ≡ table }
+    ensures { result ≡ route_found path.now name.now }
 {
-    let Ok(router) = routes(alloc) else {
-        return Err(InputFault::Memory);
-    };
-    let Some(route) = find(&router, path) else {
-        return Err(InputFault::Refused(Refusal::NotFound));
-    };
+    let route = find(router, path).ok_or(Refusal::NotFound)?;
     let method = method_of(route);
     if name == method_name(method).as_bytes() {
         Ok(route)
     } else {
-        Err(InputFault::Refused(Refusal::MethodNotAllowed(method)))
+        Err(Refusal::MethodNotAllowed(method))
+    }
+}
+
+// The same by the routes of the desk.
+fn find_route(alloc: Global, path: &str, name: &[u8]) -> Result<Route, InputFault>
+    ensures { Gives result (route_found path.now name.now) }
+{
+    match routes(alloc) {
+        Ok(router) => Ok(take_route(&router, path, name)?),
+        Err(_) => Err(InputFault::Memory),
     }
 }
 

@@ -1,6 +1,6 @@
 //! One request, one reply.
 
-ghost use Rattle.std.specs.Prelude.{◌≡◌, ◌∷◌, ℕ, List, Ok, Err, IfOk, IfSome, OnOk, false, option_map};
+ghost use Rattle.std.specs.Prelude.{◌≡◌, ◌∷◌, ℕ, List, IfOk, IfSome, OnOk, false, option_map};
 ghost use Rattle.std.specs.Io.KnownBytes.{Appends, Keeps};
 ghost use Rattle.serde_json.specs.Written.{compact_text};
 ghost use Rattle.series_rules.specs.Faults.{IsFaultOf};
@@ -11,12 +11,13 @@ ghost use Rattle.desk_http.specs.Exchange.{AtMostOneMore, LeavesAtMostOneMore, L
 ghost use Rattle.desk_http.specs.ExchangeSteps.{AskAdds, AskFits, AskLeaves, IfMemory, IfWrite, OnRead, reply_view};
 ghost use Rattle.desk_json.specs.Json.{refused};
 ghost use Rattle.desk_http.specs.AnswerReply.{reply_of_fault};
+ghost use Rattle.desk_http.specs.declared.exchange.Wanted.TheVariants.{Asked};
 ghost use Rattle.desk_http.specs.Refusals.{reply_of_refusal};
 ghost use Rattle.desk_http.specs.Reply.{reply_text};
 ghost use Rattle.desk_http.specs.Writing.{AppendsFront};
 
 use crate::answer_reply::{fault_kind, reply_of};
-use crate::exchange::{HttpFault, ReplyText};
+use crate::exchange::{HttpFault, ReplyText, Wanted};
 use crate::reply::reply_text;
 use crate::request::read_request;
 use crate::routing::method_name;
@@ -84,17 +85,14 @@ fn reply_of_fault(alloc: Global, fault: &StoreFault) -> Result<ReplyText, AllocE
 }
 
 // Reads what is asked for.
-fn read_wanted<R: Read>(
-    alloc: Global,
-    reader: &mut R,
-) -> Result<Result<Request, Refusal>, HttpFault>
+fn read_wanted<R: Read>(alloc: Global, reader: &mut R) -> Result<Wanted, HttpFault>
     ensures asks { IfOk result (λ wanted. IfSome (R.remaining reader.old) (λ input. Asks input wanted)) }
     ensures write { IfWrite result (λ _. ⊥) }
     ensures memory { IfMemory result (λ taken. taken ≡ false) }
 {
     match read_request(alloc, reader) {
-        Ok(request) => Ok(Ok(request)),
-        Err(InputFault::Refused(why)) => Ok(Err(why)),
+        Ok(request) => Ok(Wanted::Asked(request)),
+        Err(InputFault::Refused(why)) => Ok(Wanted::Refused(why)),
         Err(InputFault::Read) => Err(HttpFault::Read),
         Err(InputFault::Memory) => Err(HttpFault::Memory { taken: false }),
     }
@@ -109,9 +107,9 @@ fn ask<D: Desk>(
 ) -> Result<ReplyText, HttpFault>
     ensures premise { D.is_sound desk.new → D.is_sound desk.old }
     ensures asked { (L : List Request) → D.stands_for desk.old L → D.is_sound desk.new →
-        AskFits precedence.now (IsFaultOf D.may_give) L (Ok request.now) (D.stands_for desk.new) result }
-    ensures left { (L : List Request) → D.stands_for desk.old L → D.is_sound desk.new → LeavesOnly (D.may_leave desk.old) L → AskLeaves L (Ok request.now) (D.may_leave desk.new) result }
-    ensures crash { (L : List Request) → D.stands_for desk.old L → D.is_sound desk.new → AskAdds L (Ok request.now) (D.may_leave desk.old) (D.may_leave desk.new) }
+        AskFits precedence.now (IsFaultOf D.may_give) L (Asked request.now) (D.stands_for desk.new) result }
+    ensures left { (L : List Request) → D.stands_for desk.old L → D.is_sound desk.new → LeavesOnly (D.may_leave desk.old) L → AskLeaves L (Asked request.now) (D.may_leave desk.new) result }
+    ensures crash { (L : List Request) → D.stands_for desk.old L → D.is_sound desk.new → AskAdds L (Asked request.now) (D.may_leave desk.old) (D.may_leave desk.new) }
 {
     match answer(alloc, desk, precedence, request) {
         Ok(answer) => match reply_of(alloc, &answer) {
@@ -135,7 +133,7 @@ fn perform<D: Desk>(
     alloc: Global,
     desk: &mut D,
     precedence: &Precedence,
-    wanted: &Result<Request, Refusal>,
+    wanted: &Wanted,
 ) -> Result<ReplyText, HttpFault>
     ensures premise { D.is_sound desk.new → D.is_sound desk.old }
     ensures asked { (L : List Request) → D.stands_for desk.old L → D.is_sound desk.new →
@@ -144,8 +142,8 @@ fn perform<D: Desk>(
     ensures crash { (L : List Request) → D.stands_for desk.old L → D.is_sound desk.new → AskAdds L wanted.now (D.may_leave desk.old) (D.may_leave desk.new) }
 {
     match wanted {
-        Ok(request) => ask(alloc, desk, precedence, request),
-        Err(why) => match refuse(alloc, *why) {
+        Wanted::Asked(request) => ask(alloc, desk, precedence, request),
+        Wanted::Refused(why) => match refuse(alloc, *why) {
             Ok(reply) => Ok(reply),
             Err(_) => Err(HttpFault::Memory { taken: false }),
         },

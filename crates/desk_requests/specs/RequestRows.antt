@@ -2,14 +2,14 @@
 use Rattle.std.specs.Prelude.{ℕ, Bool, false, List, [], ◌∷◌, Option, Some, None, if◌then◌else◌, option_map, codes}
 use Rattle.std.specs.List.{list_all}
 use Rattle.std.specs.Str.{bytes_eq}
-use Rattle.onix_terms.specs.Code.{code2_of, country_of, currency_of, isbn13_of}
+use Rattle.onix_terms.specs.Code.{isbn13_of}
 use Rattle.onix_terms.specs.Day.{day_of}
 use Rattle.onix_terms.specs.Number.{number_of}
-use Rattle.onix_terms.specs.Quantity.{quantity_of}
 use Rattle.onix_terms.specs.SeriesName.{series_name_of}
 use Rattle.onix_terms.specs.Options.{◌>>=◌}
 use Rattle.onix_records.specs.Fields.{is_clean, optional_party, party_of}
 use Rattle.desk_terms.specs.declared.agreements.Agreement.{Agreement}
+use Rattle.price_rules.specs.Queries.{price_query, until}
 use Rattle.price_rules.specs.declared.offer.PriceQuery.{PriceQuery}
 use Rattle.price_rules.specs.declared.offer.CalendarQuery.{CalendarQuery}
 use Rattle.series_rules.specs.declared.requests.Request.{Request}
@@ -42,47 +42,27 @@ abbrev pub series_of : List (List ℕ) → Option (List ℕ)
 series_of (series ∷ []) = series_name_of series
 series_of _ = None
 
--- the quantity that the last fields of a question write: 1 where there is no such field
-abbrev pub quantity_asked : List (List ℕ) → Option ℕ
-quantity_asked [] = Some 1
-quantity_asked (quantity ∷ []) = quantity_of quantity
-quantity_asked _ = None
-
--- which prices are asked for: on a day, in a country and a currency, of a type, and for a quantity
-unfoldable pub query_from : List ℕ → List ℕ → List ℕ → List ℕ → List (List ℕ) → Option PriceQuery
-query_from day country currency price_type quantity = do
-  d ← day_of day
-  c ← country_of country
-  u ← currency_of currency
-  t ← code2_of price_type
-  q ← quantity_asked quantity
-  Some (record { day = d; country = c; currency = u; price_type = t; quantity = q })
+-- the prices on a day that these fields ask for: a country, a currency and a type, and perhaps a quantity
+unfoldable pub prices_on : List ℕ → List (List ℕ) → Option PriceQuery
+prices_on day (country ∷ currency ∷ price_type ∷ []) = price_query day country currency price_type None
+prices_on day (country ∷ currency ∷ price_type ∷ quantity ∷ []) = price_query day country currency price_type (Some quantity)
+prices_on day _ = None
 
 -- the article and the prices that the fields after `AskPrice` or `AskChoice` ask for
 unfoldable pub price_question_of : List (List ℕ) → Option (List ℕ × PriceQuery)
-price_question_of (isbn ∷ day ∷ country ∷ currency ∷ price_type ∷ quantity) = do
+price_question_of (isbn ∷ day ∷ fields) = do
   i ← isbn13_of isbn
-  q ← query_from day country currency price_type quantity
+  q ← prices_on day fields
   Some (i, q)
 price_question_of _ = None
 
--- which calendar is asked for: from one day to another, in a country and a currency, of a type, and for a quantity
-unfoldable pub calendar_query_from : List ℕ → List ℕ → List ℕ → List ℕ → List ℕ → List (List ℕ) → Option CalendarQuery
-calendar_query_from from to country currency price_type quantity = do
-  f ← day_of from
-  l ← day_of to
-  c ← country_of country
-  u ← currency_of currency
-  t ← code2_of price_type
-  q ← quantity_asked quantity
-  Some (record { from = f; to = l; country = c; currency = u; price_type = t; quantity = q })
-
 -- the article and the calendar that the fields after `AskCalendar` ask for
 unfoldable pub calendar_question_of : List (List ℕ) → Option (List ℕ × CalendarQuery)
-calendar_question_of (isbn ∷ from ∷ to ∷ country ∷ currency ∷ price_type ∷ quantity) = do
+calendar_question_of (isbn ∷ from ∷ to ∷ fields) = do
   i ← isbn13_of isbn
-  q ← calendar_query_from from to country currency price_type quantity
-  Some (i, q)
+  first ← prices_on from fields
+  last ← day_of to
+  Some (i, until first last)
 calendar_question_of _ = None
 
 -- the question that the fields after a name ask

@@ -3,7 +3,7 @@
 ghost use Rattle.std.specs.Prelude.{◌≡◌, [], IfOk, OnOk, map};
 ghost use Rattle.desk_requests.specs.Pieces.{pieces};
 ghost use Rattle.onix_records.specs.Gives.{Gives};
-ghost use Rattle.desk_requests.specs.RequestRows.{agreement_from, agreement_of, begins_message, calendar_query_from, calendar_question_of, named_request, price_question_of, quantity_asked, question_of, query_from, request_of, row_request, series_of, waiver_of};
+ghost use Rattle.desk_requests.specs.RequestRows.{agreement_from, agreement_of, begins_message, calendar_question_of, named_request, price_question_of, prices_on, question_of, request_of, row_request, series_of, waiver_of};
 
 use crate::pieces::read_pieces;
 use csv_records::buffer::RecordBuffer;
@@ -12,12 +12,10 @@ use csv_records::record::Record;
 use desk_terms::Agreement;
 use onix_records::fields::{read_fields, read_optional_party, read_party};
 use onix_records::row::RowFault;
-use onix_terms::code::{Code2, Country, Currency};
 use onix_terms::day::Day;
 use onix_terms::isbn13::Isbn13;
 use onix_terms::items::Items;
 use onix_terms::number::Number;
-use onix_terms::quantity::Quantity;
 use onix_terms::series_name::SeriesName;
 use price_rules::offer::{CalendarQuery, PriceQuery};
 use series_rules::requests::Request;
@@ -67,140 +65,98 @@ fn read_agreement(alloc: Global, fields: &[&str]) -> Result<Agreement, RowFault>
 }
 
 // The waiver that the fields after its name make.
-fn read_waiver(fields: &[&str]) -> Result<Request, RowFault>
-    ensures { Gives result (waiver_of (map (λ f. f.now) fields.now)) }
+fn read_waiver(fields: &[&str]) -> Option<Request>
+    ensures { result ≡ waiver_of (map (λ f. f.now) fields.now) }
 {
     let [series, number] = fields else {
-        return Err(RowFault::Wrong);
+        return None;
     };
-    let series = SeriesName::read(series).ok_or(RowFault::Wrong)?;
-    let number = Number::read(number).ok_or(RowFault::Wrong)?;
-    Ok(Request::Waive { series, number })
+    let series = SeriesName::read(series)?;
+    let number = Number::read(number)?;
+    Some(Request::Waive { series, number })
 }
 
 // The series that the one field of a question names.
-fn read_series(fields: &[&str]) -> Result<SeriesName, RowFault>
-    ensures { Gives result (series_of (map (λ f. f.now) fields.now)) }
+fn read_series(fields: &[&str]) -> Option<SeriesName>
+    ensures { result ≡ series_of (map (λ f. f.now) fields.now) }
 {
     let [series] = fields else {
-        return Err(RowFault::Wrong);
+        return None;
     };
-    SeriesName::read(series).ok_or(RowFault::Wrong)
+    SeriesName::read(series)
 }
 
-// The quantity that the last fields of a question write: 1 where there is no such field.
-fn read_quantity(fields: &[&str]) -> Result<Quantity, RowFault>
-    ensures { Gives result (quantity_asked (map (λ f. f.now) fields.now)) }
+// The prices on a day that these fields ask for. The last of them, how many copies, may be left out.
+#[tactic(auto, unfolding(crate::specs::RequestRows::prices_on))]
+fn read_prices(day: &str, fields: &[&str]) -> Option<PriceQuery>
+    ensures { result ≡ prices_on day.now (map (λ f. f.now) fields.now) }
 {
-    let quantity = match fields {
-        [] => Quantity::from_value(1),
-        [quantity] => Quantity::read(quantity),
+    match fields {
+        [country, currency, price_type] => PriceQuery::read(
+            day, country, currency, price_type, None,
+        ),
+        [country, currency, price_type, quantity] => PriceQuery::read(
+            day,
+            country,
+            currency,
+            price_type,
+            Some(quantity),
+        ),
         _ => None,
-    };
-    quantity.ok_or(RowFault::Wrong)
-}
-
-#[tactic(auto, unfolding(crate::specs::RequestRows::query_from))]
-fn make_query(
-    day: &str,
-    country: &str,
-    currency: &str,
-    price_type: &str,
-    quantity: &[&str],
-) -> Result<PriceQuery, RowFault>
-    ensures { Gives result (query_from day.now country.now currency.now price_type.now (map (λ f. f.now) quantity.now)) }
-{
-    let day = Day::read(day).ok_or(RowFault::Wrong)?;
-    let country = Country::read(country).ok_or(RowFault::Wrong)?;
-    let currency = Currency::read(currency).ok_or(RowFault::Wrong)?;
-    let price_type = Code2::read(price_type).ok_or(RowFault::Wrong)?;
-    let quantity = read_quantity(quantity)?;
-    Ok(PriceQuery {
-        day,
-        country,
-        currency,
-        price_type,
-        quantity,
-    })
+    }
 }
 
 // The article and the prices that the fields after `AskPrice` or `AskChoice` ask for.
 #[tactic(auto, unfolding(crate::specs::RequestRows::price_question_of))]
-fn read_price_question(fields: &[&str]) -> Result<(Isbn13, PriceQuery), RowFault>
-    ensures { Gives result (price_question_of (map (λ f. f.now) fields.now)) }
+fn read_price_question(fields: &[&str]) -> Option<(Isbn13, PriceQuery)>
+    ensures { result ≡ price_question_of (map (λ f. f.now) fields.now) }
 {
-    let [isbn, day, country, currency, price_type, quantity @ ..] = fields else {
-        return Err(RowFault::Wrong);
+    let [isbn, day, terms @ ..] = fields else {
+        return None;
     };
-    let isbn = Isbn13::read(isbn).ok_or(RowFault::Wrong)?;
-    let query = make_query(day, country, currency, price_type, quantity)?;
-    Ok((isbn, query))
-}
-
-#[tactic(auto, unfolding(crate::specs::RequestRows::calendar_query_from))]
-fn make_calendar_query(
-    from: &str,
-    to: &str,
-    country: &str,
-    currency: &str,
-    price_type: &str,
-    quantity: &[&str],
-) -> Result<CalendarQuery, RowFault>
-    ensures { Gives result (calendar_query_from from.now to.now country.now currency.now price_type.now (map (λ f. f.now) quantity.now)) }
-{
-    let from = Day::read(from).ok_or(RowFault::Wrong)?;
-    let to = Day::read(to).ok_or(RowFault::Wrong)?;
-    let country = Country::read(country).ok_or(RowFault::Wrong)?;
-    let currency = Currency::read(currency).ok_or(RowFault::Wrong)?;
-    let price_type = Code2::read(price_type).ok_or(RowFault::Wrong)?;
-    let quantity = read_quantity(quantity)?;
-    Ok(CalendarQuery {
-        from,
-        to,
-        country,
-        currency,
-        price_type,
-        quantity,
-    })
+    let isbn = Isbn13::read(isbn)?;
+    let query = read_prices(day, terms)?;
+    Some((isbn, query))
 }
 
 // The article and the calendar that the fields after `AskCalendar` ask for. A range that is
 // reversed or too long is asked for too: the answer refuses it.
 #[tactic(auto, unfolding(crate::specs::RequestRows::calendar_question_of))]
-fn read_calendar_question(fields: &[&str]) -> Result<(Isbn13, CalendarQuery), RowFault>
-    ensures { Gives result (calendar_question_of (map (λ f. f.now) fields.now)) }
+fn read_calendar_question(fields: &[&str]) -> Option<(Isbn13, CalendarQuery)>
+    ensures { result ≡ calendar_question_of (map (λ f. f.now) fields.now) }
 {
-    let [isbn, from, to, country, currency, price_type, quantity @ ..] = fields else {
-        return Err(RowFault::Wrong);
+    let [isbn, from, to, terms @ ..] = fields else {
+        return None;
     };
-    let isbn = Isbn13::read(isbn).ok_or(RowFault::Wrong)?;
-    let query = make_calendar_query(from, to, country, currency, price_type, quantity)?;
-    Ok((isbn, query))
+    let isbn = Isbn13::read(isbn)?;
+    let first = read_prices(from, terms)?;
+    let last = Day::read(to)?;
+    Some((isbn, first.until(last)))
 }
 
 // The question that the fields after a name ask.
-fn read_question(name: &str, fields: &[&str]) -> Result<Request, RowFault>
-    ensures { Gives result (question_of name.now (map (λ f. f.now) fields.now)) }
+fn read_question(name: &str, fields: &[&str]) -> Option<Request>
+    ensures { result ≡ question_of name.now (map (λ f. f.now) fields.now) }
 {
     if name == "AskPrice" {
         let (isbn, query) = read_price_question(fields)?;
-        return Ok(Request::AskPrice { isbn, query });
+        return Some(Request::AskPrice { isbn, query });
     }
     if name == "AskChoice" {
         let (isbn, query) = read_price_question(fields)?;
-        return Ok(Request::AskChoice { isbn, query });
+        return Some(Request::AskChoice { isbn, query });
     }
     if name == "AskCalendar" {
         let (isbn, query) = read_calendar_question(fields)?;
-        return Ok(Request::AskCalendar { isbn, query });
+        return Some(Request::AskCalendar { isbn, query });
     }
     if name == "AskGaps" {
-        return Ok(Request::AskGaps(read_series(fields)?));
+        return Some(Request::AskGaps(read_series(fields)?));
     }
     if name == "AskCatalogue" {
-        return Ok(Request::AskCatalogue(read_series(fields)?));
+        return Some(Request::AskCatalogue(read_series(fields)?));
     }
-    Err(RowFault::Wrong)
+    None
 }
 
 // The request that the fields after a name make.
@@ -211,9 +167,9 @@ fn read_named(alloc: Global, name: &str, fields: &[&str]) -> Result<Request, Row
         return Ok(Request::Agree(read_agreement(alloc, fields)?));
     }
     if name == "Waive" {
-        return read_waiver(fields);
+        return read_waiver(fields).ok_or(RowFault::Wrong);
     }
-    read_question(name, fields)
+    read_question(name, fields).ok_or(RowFault::Wrong)
 }
 
 // The request that a record is.

@@ -22,9 +22,13 @@ Gives (Err (fault.Refused why)) wanted = wanted ≡ Err why
 Gives (Err fault.Read) wanted = ⊤
 Gives (Err fault.Memory) wanted = ⊤
 
+-- P of the refusal, where a call refuses
+abbrev pub IfRefused : {A : Type 0} → Result A InputFault → (Refusal → Type 0) → Type 0
+IfRefused (Ok x) P = ⊤
+IfRefused (Err (fault.Refused why)) P = P why
+IfRefused (Err fault.Read) P = ⊤
+IfRefused (Err fault.Memory) P = ⊤
+
 -- where a call fails, it is by a read or by want of memory
 abbrev pub RefusesNothing : {A : Type 0} → Result A InputFault → Type 0
-RefusesNothing (Ok x) = ⊤
-RefusesNothing (Err (fault.Refused why)) = ⊥
-RefusesNothing (Err fault.Read) = ⊤
-RefusesNothing (Err fault.Memory) = ⊤
+RefusesNothing result = IfRefused result (λ why. ⊥)

@@ -7,13 +7,13 @@ ghost use Rattle.httparse.specs.Spans.{IsRequestOf, IsRequestWithin};
 ghost use Rattle.csv_records.specs.RecordTexts.{limit};
 ghost use Rattle.http_requests.specs.Head.{HasNoHead, IsNeverHead, has_empty_line, skip_line_ends, IsRefused};
 ghost use Rattle.http_requests.specs.Fields.{field_values, only_value};
-ghost use Rattle.http_requests.specs.Steps.{RefusesNothing};
+ghost use Rattle.http_requests.specs.Steps.{IfRefused};
 ghost use Rattle.http_requests.specs.Posted.{size_asked};
-ghost use Rattle.http_requests.specs.HeadRead.{IfComplete, IfRefused, head_text, IsHeadOf};
+ghost use Rattle.http_requests.specs.HeadRead.{head_text, IsHeadOf};
 
 use crate::fault::InputFault;
 use crate::fields::{Repeated, body_size, only_value};
-use crate::parts::{Head, HeadRead};
+use crate::parts::Head;
 use crate::reading::read_once;
 use crate::refusal::Refusal;
 use crate::scan::{has_empty_line, refusal_of_full, skip_line_ends};
@@ -128,34 +128,28 @@ fn fill_head<R: Read>(
     reader: &mut R,
     bytes: &mut [u8],
     spans: &mut [HeaderSpan],
-) -> Result<Result<Found, Refusal>, InputFault>
+) -> Result<Found, InputFault>
     requires room { length bytes.old ≡ HEAD_LIMIT }
     requires fields { MOST_FIELDS ≤ length spans.old }
-    ensures filled { IfOk result (λ read. IfOk read (λ found. found.filled ≤ HEAD_LIMIT)) }
-    ensures whole { IfOk result (λ read. IfOk read (λ found.
-        IsRequestOf (take found.filled bytes.new) spans.new found.parts)) }
-    ensures within { IfOk result (λ read. IfOk read (λ found.
-        IsRequestWithin (take found.filled bytes.new) spans.new found.parts)) }
-    ensures read { IfOk result (λ read. IfOk read (λ found.
-        Consumes (R.remaining reader.old) (R.remaining reader.new) (take found.filled bytes.new))) }
-    ensures refused { IfOk result (λ read. IfErr read (λ why.
-        IfSome (R.remaining reader.old) (λ input. IsRefused input why))) }
-    ensures fault { RefusesNothing result }
+    ensures filled { IfOk result (λ found. found.filled ≤ HEAD_LIMIT) }
+    ensures whole { IfOk result (λ found. IsRequestOf (take found.filled bytes.new) spans.new found.parts) }
+    ensures within { IfOk result (λ found. IsRequestWithin (take found.filled bytes.new) spans.new found.parts) }
+    ensures read { IfOk result (λ found.
+        Consumes (R.remaining reader.old) (R.remaining reader.new) (take found.filled bytes.new)) }
+    ensures refused { IfRefused result (λ why. IfSome (R.remaining reader.old) (λ input. IsRefused input why)) }
 {
     let mut filled = 0;
     while filled < HEAD_LIMIT {
         let total = read_once(reader, bytes, filled)?;
         if total == filled {
-            return Ok(Err(Refusal::BadHead));
+            return Err(InputFault::Refused(Refusal::BadHead));
         }
         filled = total;
-        match judge(&bytes[..filled], spans) {
-            Ok(Some(parts)) => return Ok(Ok(Found { filled, parts })),
-            Ok(None) => {}
-            Err(refusal) => return Ok(Err(refusal)),
+        if let Some(parts) = judge(&bytes[..filled], spans)? {
+            return Ok(Found { filled, parts });
         }
     }
-    Ok(Err(refusal_of_full(bytes)))
+    Err(InputFault::Refused(refusal_of_full(bytes)))
 }
 
 // A buffer for a head, all zero.
@@ -173,24 +167,19 @@ fn field_spans(alloc: Global) -> Result<Vec<HeaderSpan>, AllocError>
 }
 
 /// Reads until the head is whole or a refusal is decided.
-pub fn read_head<R: Read>(alloc: Global, reader: &mut R) -> Result<HeadRead, InputFault>
-    ensures whole { IfOk result (λ read. IfComplete read (λ head. (h : RequestHead) × IsHeadOf head h)) }
-    ensures limit { IfOk result (λ read. IfComplete read (λ head. length (head_text head) ≤ HEAD_LIMIT)) }
-    ensures read { IfOk result (λ read. IfComplete read (λ head.
-        Consumes (R.remaining reader.old) (R.remaining reader.new) (head_text head))) }
-    ensures refused { IfOk result (λ read. IfRefused read (λ why.
-        IfSome (R.remaining reader.old) (λ input. IsRefused input why))) }
-    ensures fault { RefusesNothing result }
+pub fn read_head<R: Read>(alloc: Global, reader: &mut R) -> Result<Head, InputFault>
+    ensures whole { IfOk result (λ head. (h : RequestHead) × IsHeadOf head h) }
+    ensures limit { IfOk result (λ head. length (head_text head) ≤ HEAD_LIMIT) }
+    ensures read { IfOk result (λ head. Consumes (R.remaining reader.old) (R.remaining reader.new) (head_text head)) }
+    ensures refused { IfRefused result (λ why. IfSome (R.remaining reader.old) (λ input. IsRefused input why)) }
 {
     let mut bytes = head_buffer(alloc)?;
     let mut spans = field_spans(alloc)?;
-    match fill_head(reader, &mut bytes, &mut spans)? {
-        Ok(Found { filled, parts }) => Ok(HeadRead::Complete(Head {
-            bytes,
-            filled,
-            spans,
-            parts,
-        })),
-        Err(refusal) => Ok(HeadRead::Refused(refusal)),
-    }
+    let Found { filled, parts } = fill_head(reader, &mut bytes, &mut spans)?;
+    Ok(Head {
+        bytes,
+        filled,
+        spans,
+        parts,
+    })
 }

@@ -1,9 +1,8 @@
-//! A head that was read, or why there is none.
+//! A head that was read.
 
 ghost use Rattle.std.specs.Prelude.{◌≤◌, length, take};
 ghost use Rattle.httparse.specs.Spans.{IsRequestWithin};
 
-use crate::refusal::Refusal;
 use httparse::spans::{HeaderSpan, RequestSpans};
 
 /// A head, with all bytes that were read: its own and maybe some of the body. Its parts are known
@@ -16,11 +15,4 @@ pub struct Head {
     pub(crate) parts: RequestSpans,
     ghost known: { filled ≤ length bytes.items },
     ghost within: { IsRequestWithin (take filled bytes.items) spans.items parts },
-}
-
-/// What an input begins with.
-#[derive(Drop)]
-pub enum HeadRead {
-    Complete(Head),
-    Refused(Refusal),
 }

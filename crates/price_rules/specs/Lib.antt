@@ -1,4 +1,5 @@
 pub mod Order
+pub mod Queries
 pub mod Price
 pub mod Current
 pub mod Calendar

@@ -1,5 +1,8 @@
 //! Offers, and what is asked of them.
 
+ghost use Rattle.std.specs.Prelude.{◌≡◌, option_map};
+ghost use Rattle.price_rules.specs.Queries.{copies_asked, price_query, until};
+
 use onix_records::parts::{Price, Supplier};
 use onix_terms::code::{Code2, Country, Currency};
 use onix_terms::day::Day;
@@ -43,4 +46,51 @@ pub struct CalendarQuery {
     pub currency: Currency,
     pub price_type: Code2,
     pub quantity: Quantity,
+}
+
+// For how many copies prices are asked: for one where no text says it.
+fn copies_asked(quantity: Option<&str>) -> Option<Quantity>
+    ensures { result ≡ copies_asked (option_map (λ q. q.now) quantity.entry) }
+{
+    match quantity {
+        None => Quantity::from_value(1),
+        Some(text) => Quantity::read(text),
+    }
+}
+
+impl PriceQuery {
+    /// Which prices these texts ask for: for one copy where none says how many. `None` where one of
+    /// them is outside its grammar.
+    #[tactic(auto, unfolding(crate::specs::Queries::price_query))]
+    pub fn read(
+        day: &str,
+        country: &str,
+        currency: &str,
+        price_type: &str,
+        quantity: Option<&str>,
+    ) -> Option<PriceQuery>
+        ensures { result ≡ price_query day.now country.now currency.now price_type.now (option_map (λ q. q.now) quantity.entry) }
+    {
+        Some(PriceQuery {
+            day: Day::read(day)?,
+            country: Country::read(country)?,
+            currency: Currency::read(currency)?,
+            price_type: Code2::read(price_type)?,
+            quantity: copies_asked(quantity)?,
+        })
+    }
+
+    /// The calendar of these prices, from their day to a last one.
+    pub fn until(&self, last: Day) -> CalendarQuery
+        ensures { result ≡ until self.now last }
+    {
+        CalendarQuery {
+            from: self.day,
+            to: last,
+            country: self.country,
+            currency: self.currency,
+            price_type: self.price_type,
+            quantity: self.quantity,
+        }
+    }
 }

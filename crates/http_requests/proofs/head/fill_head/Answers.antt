@@ -1,6 +1,7 @@
 -- Each exit of the loop is what the definition says of the known input.
 use Rattle.std.proofs.Common.{◌≡◌, ◌≤◌, length, take, ◌<◌, arith, length-take}
 use Rattle.std.proofs.lemmas.List.{take_all}
+use Rattle.std.proofs.lemmas.Result.{err_from_is_err_and}
 use Rattle.std.specs.Io.KnownBytes.{Consumes}
 use Rattle.std.proofs.KnownBytes.{Consumes-nil, Consumes-trans}
 use Rattle.http_requests.specs.Head.{IsRefused}
@@ -26,16 +27,18 @@ returns-then-total-filled-clause-refused g c =
     known_at_end (λ input. IsRefused input BadHead) _ (g.R.Read.remaining c.loop-filled.reader) text c.loop-filled.invariant.read
     (c.in_ok-total.ensures.end c.if-total-filled.true) (refused_short text short c.loop-filled.invariant.none)
 
-pub returns-in-Err-clause-refused : goal.returns-in-Err-clause-refused
-returns-in-Err-clause-refused g c =
+pub returns-in_err-parts-clause-refused : goal.returns-in_err-parts-clause-refused
+returns-in_err-parts-clause-refused g c =
     let text = take c.in_ok-total.total c.read_once.new.buffer in
     let fits : length text ≤ 16384 = omega (arith, length-take c.in_ok-total.total c.read_once.new.buffer) in
     let step = c.in_ok-total.ensures.bytes in
     let before = Consumes-trans _ (g.R.Read.remaining c.loop-filled.reader) (g.R.Read.remaining c.read_once.new.reader) _ step.0 c.loop-filled.invariant.read step.2 in
     let read : Consumes (g.R.Read.remaining c.args.reader.now) (g.R.Read.remaining c.read_once.new.reader) text = rw step.1 before in
-    let ended = c.in-Err.ensures.ended in
-    rw c.in-Err.ensures.why (known_from (λ input. IsRefused input BadHead) _ (g.R.Read.remaining c.read_once.new.reader) text read
-    (λ more. refused_decided text more fits c.in-Err.ensures.never ended))
+    let never = c.in_err-parts.ensures.never in
+    let ended = c.in_err-parts.ensures.ended in
+    let made = err_from_is_err_and c.from_residual-in_err-parts.result c.from_residual-in_err-parts.ensures.1 in
+    rw (made.1, made.2, c.in_err-parts.ensures.why) (known_from (λ input. IsRefused input BadHead) _ (g.R.Read.remaining c.read_once.new.reader) text read
+    (λ more. refused_decided text more fits never ended))
 
 pub returns-clause-refused : goal.returns-clause-refused
 returns-clause-refused g c =

@@ -16,7 +16,7 @@ use Rattle.onix_records.specs.declared.parts.Product.{Product}
 use Rattle.onix_records.specs.declared.parts.ProductIdentifier.{ProductIdentifier}
 use Rattle.onix_records.specs.declared.parts.ProductSupply.{ProductSupply}
 use Rattle.price_rules.specs.declared.offer.Offer.{Offer}
-use Rattle.catalogue_rules.specs.ArticleIndex.{IsIsbn13, ListsAll, ListsArticles, ListsAsBefore, is_listed, is_of_article, offers_there}
+use Rattle.catalogue_rules.specs.ArticleIndex.{ListsAll, ListsArticles, ListsAsBefore, is_listed, is_of_article, offers_there}
 use Rattle.catalogue_rules.specs.Effects.{after, after_product, change_of, entry_after, updated}
 use Rattle.catalogue_rules.specs.Listings.{listing_cmp}
 use Rattle.catalogue_rules.specs.Offers.{entry_offers, has_article, has_article_type, is_article, offers_in}
@@ -34,10 +34,10 @@ use Rattle.catalogue_rules.proofs.Plans.{changes_at-with_entry}
 
 -- of no records all are listed
 pub lists_nothing : (listings : BTreeSet Listing) → ListsAll listings map.empty
-lists_nothing listings isbn reference is h = let none = ap (is_of_article isbn) (get-empty (slice_cmp nat_cmp) reference) in absurd cc
+lists_nothing listings isbn reference h = let none = ap (is_of_article isbn) (get-empty (slice_cmp nat_cmp) reference) in absurd cc
 
 pub lists_more : (was now : BTreeSet Listing) (m : ByReference) → ListsAsBefore was now → ListsAll was m → ListsAll now m
-lists_more was now m as_before lists_all isbn reference is h = as_before isbn reference (lists_all isbn reference is h)
+lists_more was now m as_before lists_all isbn reference h = as_before isbn reference (lists_all isbn reference h)
 
 -- a record of the article after a product was one before, or the product is
 of_article_after : (isbn : List ℕ) (change : Change) (p : Product) (was : Option Entry) → is_of_article isbn (entry_after change p was) ≡ true
@@ -53,16 +53,16 @@ of_article_after isbn Delete p was h = absurd cc
 of_article_after isbn Ignore p was h = inr h
 
 module _ (listings : BTreeSet Listing) (m : ByReference) (p : Product) (lists_all : ListsAll listings m) (listed : ListsArticles listings p.reference p.ids) where
-  there : (isbn q : List ℕ) → IsIsbn13 isbn → (b : Bool) → eq_by_cmp (slice_cmp nat_cmp) q p.reference ≡ b
+  there : (isbn q : List ℕ) (b : Bool) → eq_by_cmp (slice_cmp nat_cmp) q p.reference ≡ b
       → is_of_article isbn (cond b (entry_after (change_of p.notification) p (map.get m p.reference)) (map.get m q)) ≡ true → is_listed listings isbn q ≡ true
-  there isbn q is true t h =
+  there isbn q true t h =
       subst (λ r. is_listed listings isbn r ≡ true) (sym (same_key q p.reference t))
-      (⊎_elim (listed isbn is) (lists_all isbn p.reference is) (of_article_after isbn (change_of p.notification) p (map.get m p.reference) h))
-  there isbn q is false t h = lists_all isbn q is h
+      (⊎_elim (listed isbn) (lists_all isbn p.reference) (of_article_after isbn (change_of p.notification) p (map.get m p.reference) h))
+  there isbn q false t h = lists_all isbn q h
 
   pub lists_product : ListsAll listings (after_product m p)
-  lists_product isbn q is h =
-      there isbn q is (eq_by_cmp (slice_cmp nat_cmp) q p.reference) refl
+  lists_product isbn q h =
+      there isbn q (eq_by_cmp (slice_cmp nat_cmp) q p.reference) refl
       (ap (is_of_article isbn) (sym (changes_at-with_entry m p.reference (entry_after (change_of p.notification) p (map.get m p.reference)) q)) ∙ h)
 
 -- where each product of a message is listed, all records of the catalogue after it are
@@ -88,17 +88,12 @@ of_type_and_value isbn id h =
     ] h
 
 pub articles_more : (was now : BTreeSet Listing) (reference : List ℕ) (ids : List ProductIdentifier) (id : ProductIdentifier) → ListsAsBefore was now → ListsArticles was reference ids
-    → (has_article_type id ≡ true → IsIsbn13 id.id_value → is_listed now id.id_value reference ≡ true) → ListsArticles now reference (ids ++ id ∷ [])
-articles_more was now reference ids id as_before listed here isbn is h =
+    → (has_article_type id ≡ true → is_listed now id.id_value reference ≡ true) → ListsArticles now reference (ids ++ id ∷ [])
+articles_more was now reference ids id as_before listed here isbn h =
     ⊎_elim
-    (λ before. as_before isbn reference (listed isbn is before))
-    (λ last.
-    let at = of_type_and_value isbn id last in
-    subst (λ v. is_listed now v reference ≡ true) at.1 (here at.0 (subst IsIsbn13 (sym at.1) is)))
+    (λ before. as_before isbn reference (listed isbn before))
+    (λ last. let is = of_type_and_value isbn id last in subst (λ v. is_listed now v reference ≡ true) is.1 (here is.0))
     (either_any (is_article isbn) ids id h)
-
-pub articles_still : (was now : BTreeSet Listing) (reference : List ℕ) (ids : List ProductIdentifier) → ListsAsBefore was now → ListsArticles was reference ids → ListsArticles now reference ids
-articles_still was now reference ids as_before listed isbn is h = as_before isbn reference (listed isbn is h)
 
 -- ---- the offers of what is listed
 
@@ -106,7 +101,7 @@ articles_still was now reference ids as_before listed isbn is h = as_before isbn
 abbrev pub offers_at : List ℕ → List ℕ → ByReference → Listing → List Offer
 offers_at series isbn m l = offers_there series isbn l.reference (map.get m l.reference)
 
-module _ (series isbn : List ℕ) (is : IsIsbn13 isbn) (listings : BTreeSet Listing) (m : ByReference) (lists_all : ListsAll listings m) where
+module _ (series isbn : List ℕ) (listings : BTreeSet Listing) (m : ByReference) (lists_all : ListsAll listings m) where
   -- a record that is not listed has no offers of the article
   unlisted : (listed : Bool) (k : List ℕ) (e : Entry) → (is_of_article isbn (map.get m k) ≡ true → listed ≡ true) → map.get m k ≡ Some e → (offers_there series isbn k (Some e) ≡ []) ⊎ (listed ≡ true)
   unlisted listed k e h found =
@@ -121,4 +116,4 @@ module _ (series isbn : List ℕ) (is : IsIsbn13 isbn) (listings : BTreeSet List
       ap (flat_map (offers_at series isbn m)) (from_first isbn listings.keys sorted)
       ∙ ap (λ (found : List ℕ → Option Entry). flat_map (λ (l : Listing). offers_there series isbn l.reference (found l.reference)) (filter (is_of isbn) listings.keys)) (λ i k. get-entries m k i)
       ∙ walk_is_all nat_list_cmp_total (slice_cmp-IsAntisymmetric nat_cmp-IsAntisymmetric) (λ l. l.reference) (offers_there series isbn) (λ k. refl) (records_of m) (filter (is_of isbn) listings.keys) (entries_sorted m) (in_order isbn listings.keys sorted)
-      (λ k e found. unlisted _ k e (λ h. among isbn listings k (lists_all isbn k is h)) (get-entries m k ∙ found))
+      (λ k e found. unlisted _ k e (λ h. among isbn listings k (lists_all isbn k h)) (get-entries m k ∙ found))

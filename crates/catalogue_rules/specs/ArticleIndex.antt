@@ -4,7 +4,6 @@ use Rattle.std.specs.BTreeSet.{BTreeSet, contains}
 use Rattle.std.specs.FinMap as map
 use Rattle.std.specs.List.{list_any}
 use Rattle.onix_records.specs.declared.parts.ProductIdentifier.{ProductIdentifier}
-use Rattle.onix_terms.specs.Code.{isbn13_of}
 use Rattle.price_rules.specs.declared.offer.Offer.{Offer}
 use Rattle.catalogue_rules.specs.Listings.{listing_cmp}
 use Rattle.catalogue_rules.specs.Offers.{has_article, is_article, record_offers}
@@ -17,10 +16,6 @@ use Rattle.catalogue_rules.specs.declared.listing.Listing.{Listing}
 abbrev pub is_listed : BTreeSet Listing → List ℕ → List ℕ → Bool
 is_listed listings isbn reference = contains listing_cmp listings (record { isbn = isbn; reference = reference })
 
--- whether a text is 13 digits, as each article is that can be asked for
-abbrev pub IsIsbn13 : List ℕ → Type 0
-IsIsbn13 text = isbn13_of text ≡ Some text
-
 -- whether a record, if there is one, is of the article
 abbrev pub is_of_article : List ℕ → Option Entry → Bool
 is_of_article isbn None = false
@@ -28,9 +23,9 @@ is_of_article isbn (Some e) = has_article isbn e
 
 -- each record of the catalogue is listed at each article that it has. What is listed beyond that does no harm, since each listed record is looked at
 abbrev pub ListsAll : BTreeSet Listing → ByReference → Type 0
-ListsAll listings m = (isbn reference : List ℕ) → IsIsbn13 isbn → is_of_article isbn (map.get m reference) ≡ true → is_listed listings isbn reference ≡ true
+ListsAll listings m = (isbn reference : List ℕ) → is_of_article isbn (map.get m reference) ≡ true → is_listed listings isbn reference ≡ true
 
--- an index of that catalogue: it lists each record at the value of each of its identifiers of type 03 or 15 that is 13 digits, since no other value can be asked for, and maybe more
+-- an index of that catalogue: it lists each record at the value of each of its identifiers of type 03 or 15, and maybe more
 abbrev pub IsIndexOf : ArticleIndex → ByReference → Type 0
 IsIndexOf index m = ListsAll index.listings m
 
@@ -38,9 +33,9 @@ IsIndexOf index m = ListsAll index.listings m
 abbrev pub ListsAsBefore : BTreeSet Listing → BTreeSet Listing → Type 0
 ListsAsBefore was now = (isbn reference : List ℕ) → is_listed was isbn reference ≡ true → is_listed now isbn reference ≡ true
 
--- a reference is listed at the value of each of these identifiers that is of type 03 or 15 and 13 digits
+-- a reference is listed at the value of each of these identifiers that is of type 03 or 15
 abbrev pub ListsArticles : BTreeSet Listing → List ℕ → List ProductIdentifier → Type 0
-ListsArticles listings reference ids = (isbn : List ℕ) → IsIsbn13 isbn → list_any (is_article isbn) ids ≡ true → is_listed listings isbn reference ≡ true
+ListsArticles listings reference ids = (isbn : List ℕ) → list_any (is_article isbn) ids ≡ true → is_listed listings isbn reference ≡ true
 
 -- the offers that a record, if there is one, has of the article
 abbrev pub offers_there : List ℕ → List ℕ → List ℕ → Option Entry → List Offer

@@ -2,7 +2,7 @@
 
 ghost use Rattle.std.specs.Prelude.{◌≡◌, ◌++◌, ℕ, List, IfOk, OnOk, OnErr, true};
 ghost use Rattle.std.specs.FinMap as map;
-ghost use Rattle.catalogue_rules.specs.ArticleIndex.{IsIndexOf, IsIsbn13, ListsArticles, ListsAsBefore, is_listed, offers_there};
+ghost use Rattle.catalogue_rules.specs.ArticleIndex.{IsIndexOf, ListsArticles, ListsAsBefore, is_listed, offers_there};
 ghost use Rattle.catalogue_rules.specs.Effects.{after};
 ghost use Rattle.catalogue_rules.specs.Offers.{has_article_type, offers_in};
 ghost use Rattle.catalogue_rules.specs.Records.{ByReference};
@@ -20,7 +20,7 @@ use price_rules::offer::Offer;
 use std::alloc::{AllocError, Global};
 use std::collections::BTreeSet;
 
-/// The references of records, each at the articles of its identifiers of types 03 and 15, in one ordered
+/// The references of records, each at the values of its identifiers of types 03 and 15, in one ordered
 /// set. A listing stays where its record no longer has the identifier, so whoever asks looks at each
 /// record.
 #[derive(Drop)]
@@ -58,30 +58,28 @@ impl ArticleIndex {
     }
 
     // Lists a reference at an article.
-    fn list_reference(&mut self, isbn: Isbn13, reference: &str) -> Result<(), AllocError>
+    fn list_reference(&mut self, isbn: &str, reference: &str) -> Result<(), AllocError>
         ensures kept { ListsAsBefore self.old.listings self.new.listings }
-        ensures ok { OnOk result (is_listed self.new.listings isbn reference.now ≡ true) }
+        ensures ok { OnOk result (is_listed self.new.listings isbn.now reference.now ≡ true) }
     {
+        let isbn = Text::from_str(self.alloc, isbn)?;
         let reference = Text::from_str(self.alloc, reference)?;
         self.listings.insert(Listing { isbn, reference })?;
         Ok(())
     }
 
-    // Lists a reference at the value of an identifier, if that is an article: of type 03 or 15, and of 13 digits.
+    // Lists a reference at the value of an identifier, if that is of type 03 or 15.
     fn list_identifier(&mut self, id: &ProductIdentifier, reference: &str) -> Result<(), AllocError>
         ensures kept { ListsAsBefore self.old.listings self.new.listings }
-        ensures ok { OnOk result (has_article_type id.now ≡ true → IsIsbn13 id.now.id_value → is_listed self.new.listings id.now.id_value reference.now ≡ true) }
+        ensures ok { OnOk result (has_article_type id.now ≡ true → is_listed self.new.listings id.now.id_value reference.now ≡ true) }
     {
         if !has_article_type(id) {
             return Ok(());
         }
-        match Isbn13::read(id.id_value.as_str()) {
-            Some(isbn) => self.list_reference(isbn, reference),
-            None => Ok(()),
-        }
+        self.list_reference(id.id_value.as_str(), reference)
     }
 
-    // Lists a product at its articles.
+    // Lists a product at the values of its identifiers of types 03 and 15.
     fn list_product(&mut self, product: &Product) -> Result<(), AllocError>
         ensures kept { ListsAsBefore self.old.listings self.new.listings }
         ensures ok { OnOk result (ListsArticles self.new.listings product.now.reference product.now.ids) }
@@ -116,11 +114,12 @@ impl ArticleIndex {
     {
         let alloc = self.alloc;
         let mut offers = Items::new(alloc);
+        let digits = isbn.as_str();
+        let value = Text::from_str(alloc, digits)?;
         let first = Listing {
-            isbn: *isbn,
+            isbn: value,
             reference: Text::new(alloc),
         };
-        let digits = isbn.as_str();
         for listing in self.listings.range(first..) {
             if !listing.is_at(digits) {
                 break;

@@ -6,7 +6,6 @@ ghost use Rattle.std.specs.Cmp.{partial_equiv_from_equiv, po};
 ghost use Rattle.std.specs.Str.{bytes_eq};
 ghost use Rattle.catalogue_rules.specs.Listings.{is_same_listing, listing_cmp, listing_equiv, listing_ties, listing_total};
 
-use onix_terms::isbn13::Isbn13;
 use onix_terms::text::Text;
 use std::cmp::Ordering;
 
@@ -14,7 +13,7 @@ use std::cmp::Ordering;
 /// and those of an article in order of reference.
 #[derive(Drop)]
 pub(crate) struct Listing {
-    pub(crate) isbn: Isbn13,
+    pub(crate) isbn: Text,
     pub(crate) reference: Text,
 }
 
@@ -24,8 +23,7 @@ impl PartialEq for Listing {
     ghost laws = { partial_equiv_from_equiv listing_equiv };
 
     fn eq(&self, other: &Listing) -> bool {
-        self.isbn.as_str() == other.isbn.as_str()
-            && self.reference.as_str() == other.reference.as_str()
+        self.isbn == other.isbn && self.reference == other.reference
     }
 }
 
@@ -53,7 +51,7 @@ impl Ord for Listing {
     ghost matches_eq = { listing_ties };
 
     fn cmp(&self, other: &Listing) -> Ordering {
-        match self.isbn.as_str().cmp(other.isbn.as_str()) {
+        match self.isbn.compare(&other.isbn) {
             Ordering::Less => Ordering::Less,
             Ordering::Equal => self.reference.compare(&other.reference),
             Ordering::Greater => Ordering::Greater,
@@ -62,7 +60,7 @@ impl Ord for Listing {
 }
 
 impl Listing {
-    /// Whether it is at the article of these digits.
+    /// Whether it is at this article.
     pub(crate) fn is_at(&self, isbn: &str) -> bool
         ensures { result ≡ bytes_eq isbn.now self.now.isbn }
     {

@@ -55,5 +55,5 @@ returns c = λ is.
     ∙ ap (λ ls. flat_map f (at_first isbn ls))
     (c.into_iter-listing-iterator.ensures.into_iter_gives
     ∙ c.range-listing-items.ensures.between tt
-    ∙ ap (λ (r : List ℕ). filter (λ (l : Listing). is_le (listing_cmp (record { isbn = isbn; reference = r }) l) && true) listings.keys) c.new.ensures)
-    ∙ offers_listed series isbn c.as_str-digits.ensures.read listings catalogue is c.range-listing-items.ensures.ordered
+    ∙ ap (λ (k : Listing). filter (λ (l : Listing). is_le (listing_cmp k l) && true) listings.keys) (λ i. record { isbn = (c.in_ok-value.ensures.text ∙ c.as_str-digits.ensures.text) i; reference = c.new.ensures i }))
+    ∙ offers_listed series isbn listings catalogue is c.range-listing-items.ensures.ordered

@@ -6,4 +6,5 @@ pub mod Order
 pub mod Bounds
 pub mod Places
 pub mod Listed
+pub mod Listings
 pub mod ArticleIndexes

@@ -1,7 +1,6 @@
 //! Which records of a catalogue may be of an article.
 
 ghost use Rattle.std.specs.Prelude.{◌≡◌, ◌++◌, ℕ, List, IfOk, OnOk, OnErr, true};
-ghost use Rattle.std.specs.BTreeSet.{contains_text};
 ghost use Rattle.std.specs.FinMap as map;
 ghost use Rattle.catalogue_rules.specs.ArticleIndex.{IsIndexOf, ListsArticles, ListsAsBefore, is_listed, offers_there};
 ghost use Rattle.catalogue_rules.specs.Effects.{after};
@@ -9,38 +8,25 @@ ghost use Rattle.catalogue_rules.specs.Offers.{has_article_type, offers_in};
 ghost use Rattle.catalogue_rules.specs.Records.{ByReference};
 
 use crate::catalogue::Catalogue;
+use crate::listing::Listing;
 use crate::offers::{add_record, has_article_type};
 use onix_message::contents::Contents;
 use onix_records::parts::{Product, ProductIdentifier};
 use onix_terms::isbn13::Isbn13;
 use onix_terms::items::Items;
 use onix_terms::series_name::SeriesName;
+use onix_terms::text::Text;
 use price_rules::offer::Offer;
 use std::alloc::{AllocError, Global};
-use std::collections::{BTreeMap, BTreeSet};
+use std::collections::BTreeSet;
 
-/// The references of records by the values of their identifiers of types 03 and 15. A reference stays
-/// where its record no longer has the identifier, so whoever asks looks at each record.
+/// The references of records, each at the values of its identifiers of types 03 and 15, in one ordered
+/// set. A listing stays where its record no longer has the identifier, so whoever asks looks at each
+/// record.
 #[derive(Drop)]
 pub struct ArticleIndex {
     alloc: Global,
-    references: BTreeMap<String, BTreeSet<String>>,
-}
-
-// Adds a reference to others.
-fn add_reference(
-    alloc: Global,
-    references: &mut BTreeSet<String>,
-    reference: &str,
-) -> Result<(), AllocError>
-    ensures kept { (q : List ℕ) → contains_text references.old q ≡ true → contains_text references.new q ≡ true }
-    ensures ok { OnOk result (contains_text references.new reference.now ≡ true) }
-{
-    if references.contains(reference) {
-        return Ok(());
-    }
-    references.insert(String::from_str(alloc, reference)?)?;
-    Ok(())
+    listings: BTreeSet<Listing>,
 }
 
 // Adds the article's offers of the record that a reference has, if it has one.
@@ -67,30 +53,25 @@ impl ArticleIndex {
     {
         ArticleIndex {
             alloc,
-            references: BTreeMap::new(alloc),
+            listings: BTreeSet::new(alloc),
         }
     }
 
-    // Lists a reference at a value.
+    // Lists a reference at an article.
     fn list_reference(&mut self, isbn: &str, reference: &str) -> Result<(), AllocError>
-        ensures kept { ListsAsBefore self.old.references self.new.references }
-        ensures ok { OnOk result (is_listed self.new.references isbn.now reference.now ≡ true) }
+        ensures kept { ListsAsBefore self.old.listings self.new.listings }
+        ensures ok { OnOk result (is_listed self.new.listings isbn.now reference.now ≡ true) }
     {
-        let alloc = self.alloc;
-        if let Some(references) = self.references.get_mut(isbn) {
-            return add_reference(alloc, references, reference);
-        }
-        let mut references = BTreeSet::new(alloc);
-        add_reference(alloc, &mut references, reference)?;
-        let key = String::from_str(alloc, isbn)?;
-        self.references.insert(key, references)?;
+        let isbn = Text::from_str(self.alloc, isbn)?;
+        let reference = Text::from_str(self.alloc, reference)?;
+        self.listings.insert(Listing { isbn, reference })?;
         Ok(())
     }
 
     // Lists a reference at the value of an identifier, if that is of type 03 or 15.
     fn list_identifier(&mut self, id: &ProductIdentifier, reference: &str) -> Result<(), AllocError>
-        ensures kept { ListsAsBefore self.old.references self.new.references }
-        ensures ok { OnOk result (has_article_type id.now ≡ true → is_listed self.new.references id.now.id_value reference.now ≡ true) }
+        ensures kept { ListsAsBefore self.old.listings self.new.listings }
+        ensures ok { OnOk result (has_article_type id.now ≡ true → is_listed self.new.listings id.now.id_value reference.now ≡ true) }
     {
         if !has_article_type(id) {
             return Ok(());
@@ -100,8 +81,8 @@ impl ArticleIndex {
 
     // Lists a product at the values of its identifiers of types 03 and 15.
     fn list_product(&mut self, product: &Product) -> Result<(), AllocError>
-        ensures kept { ListsAsBefore self.old.references self.new.references }
-        ensures ok { OnOk result (ListsArticles self.new.references product.now.reference product.now.ids) }
+        ensures kept { ListsAsBefore self.old.listings self.new.listings }
+        ensures ok { OnOk result (ListsArticles self.new.listings product.now.reference product.now.ids) }
     {
         for id in product.ids.as_slice() {
             self.list_identifier(id, product.reference.as_str())?;
@@ -133,11 +114,17 @@ impl ArticleIndex {
     {
         let alloc = self.alloc;
         let mut offers = Items::new(alloc);
-        let Some(references) = self.references.get(isbn.as_str()) else {
-            return Ok(offers);
+        let digits = isbn.as_str();
+        let value = Text::from_str(alloc, digits)?;
+        let first = Listing {
+            isbn: value,
+            reference: Text::new(alloc),
         };
-        for reference in references.iter() {
-            let reference = reference.as_str();
+        for listing in self.listings.range(first..) {
+            if !listing.is_at(digits) {
+                break;
+            }
+            let reference = listing.reference.as_str();
             add_listed(alloc, &mut offers, series, isbn, catalogue, reference)?;
         }
         Ok(offers)

@@ -12,5 +12,6 @@ pub mod catalogue;
 pub mod change;
 mod draft;
 pub mod entry;
+mod listing;
 mod offers;
 mod plan;

@@ -9,8 +9,8 @@ pub loop-id-preserved : goal.loop-id-preserved
 loop-id-preserved c =
     let ids = c.args.product.now.ids in
     let reference = c.args.product.now.reference in
-    let was = c.loop-id.self.references in
-    let now = c.list_identifier.new.self.references in
+    let was = c.loop-id.self.listings in
+    let now = c.list_identifier.new.self.listings in
     let i = c.loop-id.id-index in
     let id = c.id-item.result in
     let kept = c.list_identifier.ensures.kept in

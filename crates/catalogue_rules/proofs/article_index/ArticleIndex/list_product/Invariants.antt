@@ -4,6 +4,6 @@ use Rattle.catalogue_rules.proofs.article_index.ArticleIndex.list_product.Given 
 
 abbrev pub invariant-loop-id : goal.invariant-loop-id
 invariant-loop-id l = record {
-  kept : ListsAsBefore l.fn.self.references l.self.references;
-  listed : ListsArticles l.self.references l.product.reference (take l.id-index l.product.ids);
+  kept : ListsAsBefore l.fn.self.listings l.self.listings;
+  listed : ListsArticles l.self.listings l.product.reference (take l.id-index l.product.ids);
 }

@@ -14,10 +14,11 @@ ghost use Rattle.catalogue_store.specs.Achieves.{Achieves};
 ghost use Rattle.catalogue_store.specs.Minimums.{products_have_minimums};
 ghost use Rattle.catalogue_store.specs.AppliedProducts.{IsCatalogueReadAs, IsChanged, IsProductApplied};
 ghost use Rattle.catalogue_store.specs.ReadRows.{IsFound, IsReadAs};
+ghost use Rattle.catalogue_store.specs.declared.reading.FoundRecord.{FoundRecord};
 ghost use Rattle.desk_tables.specs.RecordAnswers.{has_minimums};
 
 use crate::minimums::products_have_minimums;
-use crate::reading::{find_record, has_supplies};
+use crate::reading::{FoundRecord, find_record, has_supplies};
 use crate::records::{remove_record, replace_supplies, write_record};
 use catalogue_rules::change::{Change, counted};
 use desk_tables::rows::row_types::RecordRow;
@@ -49,25 +50,20 @@ fn rewrite_record<S: Alter>(
     write_record(alloc, work, row, ids, supplies)
 }
 
-// Makes a record that is there, with these identifiers or with others, the one with these identifiers
-// and supplies, and writes only where it is not that one.
+// Gives a record with these identifiers these supplies, and writes only where it has others.
 fn keep_record<S: Alter>(
     alloc: Global,
     work: &mut Work<'_, S>,
     row: &RecordRow,
     ids: &[ProductIdentifier],
     supplies: &[ProductSupply],
-    has_ids: bool,
     with_minimums: bool,
 ) -> Result<(), StoreFault>
     ensures same_reference { work.new.tables.ghost_name ≡ work.old.tables.ghost_name }
-    ensures achieves { Achieves (λ rows _ after. IsReadAs with_minimums row.now rows → (e : Entry) → HoldsEntry row.now.series row.now.reference (Some e) rows → IsFound row.now ids.now (Some e) (Some has_ids) → ids.now ≢ [] → AreStorable supplies.now
+    ensures achieves { Achieves (λ rows _ after. IsReadAs with_minimums row.now rows → (e : Entry) → HoldsEntry row.now.series row.now.reference (Some e) rows → IsFound row.now ids.now (Some e) FoundRecord.SameIdentifiers → ids.now ≢ [] → AreStorable supplies.now
         → Became row.now.series row.now.reference (Some (record { ids = ids.now; supplies = supplies.now })) rows after)
         (state S.Store work.old.tables.now.connection) (state S.Store work.new.tables.now.connection) result }
 {
-    if !has_ids {
-        return rewrite_record(alloc, work, row, ids, supplies);
-    }
     let same = match has_supplies(alloc, work, row, supplies, with_minimums) {
         Ok(same) => same,
         Err(fault) => return Err(fault),
@@ -107,7 +103,7 @@ fn replace<S: Alter>(
     work: &mut Work<'_, S>,
     row: &RecordRow,
     product: &Product,
-    found: Option<bool>,
+    found: FoundRecord,
     with_minimums: bool,
 ) -> Result<(), StoreFault>
     ensures same_reference { work.new.tables.ghost_name ≡ work.old.tables.ghost_name }
@@ -117,8 +113,11 @@ fn replace<S: Alter>(
     let ids = product.ids.as_slice();
     let supplies = product.supplies.as_slice();
     match found {
-        Some(has_ids) => keep_record(alloc, work, row, ids, supplies, has_ids, with_minimums),
-        None => write_record(alloc, work, row, ids, supplies),
+        FoundRecord::Absent => write_record(alloc, work, row, ids, supplies),
+        FoundRecord::OtherIdentifiers => rewrite_record(alloc, work, row, ids, supplies),
+        FoundRecord::SameIdentifiers => {
+            keep_record(alloc, work, row, ids, supplies, with_minimums)
+        }
     }
 }
 
@@ -128,7 +127,7 @@ fn update<S: Alter>(
     work: &mut Work<'_, S>,
     row: &RecordRow,
     product: &Product,
-    found: Option<bool>,
+    found: FoundRecord,
     with_minimums: bool,
 ) -> Result<(), StoreFault>
     ensures same_reference { work.new.tables.ghost_name ≡ work.old.tables.ghost_name }
@@ -139,10 +138,11 @@ fn update<S: Alter>(
     if is_empty {
         return Ok(());
     }
-    match found {
-        Some(_) => keep_supplies(alloc, work, row, product.supplies.as_slice(), with_minimums),
-        None => Ok(()),
+    let is_there = found.is_there();
+    if is_there {
+        return keep_supplies(alloc, work, row, product.supplies.as_slice(), with_minimums);
     }
+    Ok(())
 }
 
 // Carries out 05.
@@ -150,16 +150,17 @@ fn delete<S: Alter>(
     work: &mut Work<'_, S>,
     row: &RecordRow,
     product: &Product,
-    found: Option<bool>,
+    found: FoundRecord,
 ) -> Result<(), StoreFault>
     ensures same_reference { work.new.tables.ghost_name ≡ work.old.tables.ghost_name }
     ensures achieves { Achieves (λ rows _ after. IsChanged asked.Delete row.now product.now found rows after)
         (state S.Store work.old.tables.now.connection) (state S.Store work.new.tables.now.connection) result }
 {
-    match found {
-        Some(_) => remove_record(work, row),
-        None => Ok(()),
+    let is_there = found.is_there();
+    if is_there {
+        return remove_record(work, row);
     }
+    Ok(())
 }
 
 // Carries out what the product asks for.
@@ -169,7 +170,7 @@ fn change_record<S: Alter>(
     row: &RecordRow,
     product: &Product,
     change: Change,
-    found: Option<bool>,
+    found: FoundRecord,
     with_minimums: bool,
 ) -> Result<(), StoreFault>
     ensures same_reference { work.new.tables.ghost_name ≡ work.old.tables.ghost_name }
@@ -212,7 +213,7 @@ fn apply_product<S: Alter>(
     };
     let change = Change::of(product.notification);
     match change_record(alloc, work, &row, product, change, found, with_minimums) {
-        Ok(()) => Ok(counted(effect, change, found.is_some())),
+        Ok(()) => Ok(counted(effect, change, found.is_there())),
         Err(fault) => Err(fault),
     }
 }

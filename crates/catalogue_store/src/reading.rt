@@ -1,13 +1,14 @@
 //! The rows of one record, read and compared.
 
-ghost use Rattle.std.specs.Prelude.{◌≡◌, false, IfOk, Some};
+ghost use Rattle.std.specs.Prelude.{◌≡◌, false, IfOk, Some, if◌then◌else◌};
 ghost use Rattle.std.specs.List.{AllZip};
 ghost use Rattle.sqlite.specs.Held.{state};
 ghost use Rattle.catalogue_rules.specs.Records.{HasFewDetails};
 ghost use Rattle.catalogue_rules.specs.declared.entry.Entry.{Entry as TheEntry};
 ghost use Rattle.catalogue_store.specs.Holding.{HoldsEntry};
 ghost use Rattle.catalogue_store.specs.Achieves.{Achieves};
-ghost use Rattle.catalogue_store.specs.ReadRows.{AreReadAs, Finds, HasPricesOf, HoldsSupplies, IsReadAs};
+ghost use Rattle.catalogue_store.specs.ReadRows.{AreReadAs, is_there, Finds, HasPricesOf, HoldsSupplies, IsReadAs};
+ghost use Rattle.catalogue_store.specs.declared.reading.FoundRecord.{FoundRecord};
 ghost use Rattle.desk_tables.specs.RecordChanges.{has_minimums_of};
 
 use crate::assemble::entry_of;
@@ -94,7 +95,41 @@ pub fn read_record<S: Alter>(
     )
 }
 
-/// What is there of a record: `None` where it is not there, else whether its identifiers are these.
+/// What is there of a record, and whether its identifiers are some.
+#[derive(Clone, Copy)]
+pub enum FoundRecord {
+    /// It is not there.
+    Absent,
+    /// It is there, with other identifiers.
+    OtherIdentifiers,
+    /// It is there, with these identifiers.
+    SameIdentifiers,
+}
+
+impl FoundRecord {
+    // A record that is there, with these identifiers or with others.
+    fn with(is_same: bool) -> FoundRecord
+        ensures { result ≡ (if is_same then FoundRecord.SameIdentifiers else FoundRecord.OtherIdentifiers) }
+    {
+        if is_same {
+            FoundRecord::SameIdentifiers
+        } else {
+            FoundRecord::OtherIdentifiers
+        }
+    }
+
+    /// Whether the record is there.
+    pub fn is_there(self) -> bool
+        ensures { result ≡ is_there self }
+    {
+        match self {
+            FoundRecord::Absent => false,
+            FoundRecord::OtherIdentifiers | FoundRecord::SameIdentifiers => true,
+        }
+    }
+}
+
+/// What is there of a record, against these identifiers.
 /// A record has an identifier, so the rows of its identifiers tell that it is there. A fault is one of
 /// the store, or want of memory; `Unusable` where a row cannot be read back.
 pub fn find_record<S: Alter>(
@@ -102,7 +137,7 @@ pub fn find_record<S: Alter>(
     work: &mut Work<'_, S>,
     row: &RecordRow,
     ids: &[ProductIdentifier],
-) -> Result<Option<bool>, StoreFault>
+) -> Result<FoundRecord, StoreFault>
     ensures same_reference { work.new.tables.ghost_name ≡ work.old.tables.ghost_name }
     ensures achieves { Achieves (λ rows found after. (after ≡ rows) × Finds row.now ids.now rows found)
         (state S.Store work.old.tables.now.connection) (state S.Store work.new.tables.now.connection) result }
@@ -113,10 +148,10 @@ pub fn find_record<S: Alter>(
     };
     let is_new = articles.as_slice().is_empty();
     if is_new {
-        return Ok(None);
+        return Ok(FoundRecord::Absent);
     }
     match article_rows(alloc, &row.series, &row.reference, ids) {
-        Ok(wanted) => Ok(Some(same_articles(articles.as_slice(), wanted.as_slice()))),
+        Ok(wanted) => Ok(FoundRecord::with(same_articles(articles.as_slice(), wanted.as_slice()))),
         Err(fault) => Err(fault),
     }
 }

@@ -1,10 +1,12 @@
-use Rattle.std.proofs.Common.{◌≡◌, ◌==◌, ℕ, Bool, true, false, List, [], ◌∷◌, length, Option, Some, None, Ok, Vec, arith, refl, sym, ◌∙◌}
+use Rattle.std.proofs.Common.{◌≡◌, ◌==◌, ℕ, true, false, List, [], ◌∷◌, length, Ok, Vec, arith, refl, sym, ◌∙◌}
 use Rattle.std.proofs.lemmas.Bool.Decides.{nat_tests}
 use Rattle.sqlite.specs.Held.{state}
 use Rattle.desk_tables.specs.ArticleAnswers.{AreArticlesOf}
 use Rattle.desk_tables.specs.Rows.{DeskRows, unchanged}
 use Rattle.catalogue_store.specs.AchievesLemmas.{achieves_as, achieves_call}
 use Rattle.catalogue_store.specs.ReadRows.{Finds}
+use Rattle.catalogue_store.specs.declared.reading.FoundRecord.{FoundRecord}
+use Rattle.catalogue_store.specs.declared.reading.FoundRecord.TheVariants.{Absent}
 use Rattle.catalogue_store.proofs.ReadLemmas.{record_has, record_lacks}
 use Rattle.catalogue_store.proofs.reading.find_record.Goals as goal
 
@@ -28,7 +30,7 @@ returns-then-is_new-clause-achieves g c =
     let none = sym c.as_slice.ensures.value ∙ none_of c.as_slice.result.now (sym c.is_empty-is_new.ensures ∙ c.if-is_new.true) in
     let Articles : DeskRows → Vec _ _ → Type 0 = λ rows got. AreArticlesOf row.series row.reference rows got.items in
     let First : DeskRows → Vec _ _ → DeskRows → Type 0 = λ rows got after. Articles rows got × (after ≡ unchanged rows) in
-    achieves_as First (λ (rows : DeskRows) (found : Option Bool) (after : DeskRows). (after ≡ rows) × Finds row c.args.ids.now rows found) old new articles None
+    achieves_as First (λ (rows : DeskRows) (found : FoundRecord) (after : DeskRows). (after ≡ rows) × Finds row c.args.ids.now rows found) old new articles Absent
     (achieves_call Articles unchanged old new c.args.work.now.spent c.record_articles.new.self.spent (Ok articles) c.in-Ok.ensures.works)
     (λ rows after h n a. (a.1, record_lacks row c.args.ids.now rows articles.items a.0 none))
 
@@ -41,10 +43,11 @@ returns-in-Ok-article_rows-clause-achieves g c =
     let some = λ (none : articles.items ≡ []). some_of c.as_slice.result.now (sym c.is_empty-is_new.ensures ∙ c.if-is_new.false) (c.as_slice.ensures.value ∙ none) in
     let Articles : DeskRows → Vec _ _ → Type 0 = λ rows got. AreArticlesOf row.series row.reference rows got.items in
     let First : DeskRows → Vec _ _ → DeskRows → Type 0 = λ rows got after. Articles rows got × (after ≡ unchanged rows) in
-    achieves_as First (λ (rows : DeskRows) (found : Option Bool) (after : DeskRows). (after ≡ rows) × Finds row c.args.ids.now rows found) old new articles (Some c.same_articles.result)
+    achieves_as First (λ (rows : DeskRows) (found : FoundRecord) (after : DeskRows). (after ≡ rows) × Finds row c.args.ids.now rows found) old new articles c.with.result
     (achieves_call Articles unchanged old new c.args.work.now.spent c.record_articles.new.self.spent (Ok articles) c.in-Ok.ensures.works)
     (λ rows after h n a. (
       a.1,
-      record_has row c.args.ids.now rows articles.items c.in-Ok-article_rows.wanted.items c.same_articles.result a.0 some c.in-Ok-article_rows.ensures
-          (λ told. sym c.as_slice-in-Ok-article_rows.ensures.value ∙ c.same_articles.ensures.0 told ∙ c.as_slice-in-Ok-article_rows-2.ensures.value),
+      record_has row c.args.ids.now rows articles.items c.in-Ok-article_rows.wanted.items c.same_articles.result c.with.result a.0 some c.in-Ok-article_rows.ensures
+          (λ told. sym c.as_slice-in-Ok-article_rows.ensures.value ∙ c.same_articles.ensures.0 told ∙ c.as_slice-in-Ok-article_rows-2.ensures.value)
+          c.with.ensures,
     ))

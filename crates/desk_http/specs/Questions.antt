@@ -11,13 +11,18 @@ use Rattle.http_requests.specs.declared.refusal.Refusal.TheVariants as refusal
 use Rattle.desk_http.specs.Query.{needed_value, value_of}
 use Rattle.http_requests.specs.Steps.{◌>>=◌, or_refuse}
 
+-- the prices that a query asks for, of a type and in a currency, on a day in a country
+unfoldable pub prices_of : List ℕ → List ℕ → List ℕ → List ℕ → List ℕ → Result PriceQuery Refusal
+prices_of day country currency price_type query = do
+  quantity ← value_of (codes "quantity") query
+  or_refuse refusal.BadQuery (price_query day country currency price_type quantity)
+
 -- the prices that a query asks for on a day in a country
 unfoldable pub prices_in : List ℕ → List ℕ → List ℕ → Result PriceQuery Refusal
 prices_in day country query = do
   currency ← needed_value (codes "currency") query
   price_type ← needed_value (codes "type") query
-  quantity ← value_of (codes "quantity") query
-  or_refuse refusal.BadQuery (price_query day country currency price_type quantity)
+  prices_of day country currency price_type query
 
 -- the prices that a query asks for on the day under this key
 unfoldable pub prices_on : List ℕ → List ℕ → Result PriceQuery Refusal

@@ -1,7 +1,7 @@
 //! What the path and the query of a GET ask.
 
 ghost use Rattle.std.specs.Prelude.{◌≡◌, option_map};
-ghost use Rattle.desk_http.specs.Questions.{calendar_asked, prices_asked, prices_in, prices_on, series_asked};
+ghost use Rattle.desk_http.specs.Questions.{calendar_asked, prices_asked, prices_in, prices_of, prices_on, series_asked};
 ghost use Rattle.http_requests.specs.Steps.{Gives};
 
 use crate::query::{needed_value, value};
@@ -24,8 +24,25 @@ fn as_text(value: &Option<Text>) -> Option<&str>
     }
 }
 
-// The prices that a query asks for on a day in a country. Each function keeps few texts, so that its
-// ways out have few to let go of.
+// The prices that a query asks for, of a type and in a currency, on a day in a country. This
+// function and the next two keep two texts at most, so that their ways out have few to let go of.
+#[tactic(auto, unfolding(crate::specs::Questions::prices_of))]
+fn read_prices_of(
+    alloc: Global,
+    query: &[u8],
+    day: &str,
+    country: &str,
+    currency: &str,
+    price_type: &str,
+) -> Result<PriceQuery, InputFault>
+    ensures { Gives result (prices_of day.now country.now currency.now price_type.now query.now) }
+{
+    let quantity = value(alloc, query, "quantity")?;
+    let prices = PriceQuery::read(day, country, currency, price_type, as_text(&quantity));
+    prices.ok_or(InputFault::Refused(Refusal::BadQuery))
+}
+
+// The prices that a query asks for on a day in a country.
 #[tactic(auto, unfolding(crate::specs::Questions::prices_in))]
 fn read_prices_in(
     alloc: Global,
@@ -37,15 +54,14 @@ fn read_prices_in(
 {
     let currency = needed_value(alloc, query, "currency")?;
     let price_type = needed_value(alloc, query, "type")?;
-    let quantity = value(alloc, query, "quantity")?;
-    let prices = PriceQuery::read(
+    read_prices_of(
+        alloc,
+        query,
         day,
         country,
         currency.as_str(),
         price_type.as_str(),
-        as_text(&quantity),
-    );
-    prices.ok_or(InputFault::Refused(Refusal::BadQuery))
+    )
 }
 
 // The prices that a query asks for on the day under a key.

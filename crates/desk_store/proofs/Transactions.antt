@@ -5,8 +5,7 @@ use Rattle.sqlite.specs.State.{State, HasCleanDisk, KeepsCommit, Survives}
 use Rattle.sqlite_trees.specs.Tree.{Trees}
 use Rattle.catalogue_store.specs.Achieves.{Achieves}
 use Rattle.desk_tables.specs.Rows.{DeskRows, Holds}
-use Rattle.desk_tables.specs.Schema.{desk_schema}
-use Rattle.desk_tables.specs.Transactions.{BeginsWork, EndsWork, HasOtherSchema, IsUndone, LeavesOnly, NoTrees}
+use Rattle.desk_tables.specs.Transactions.{BeginsWork, EndsWork, IsUndone, LeavesOnly, NoTrees}
 use Rattle.desk_terms.specs.declared.faults.StoreFault.{StoreFault}
 use Rattle.series_rules.specs.declared.requests.Request.{Request}
 use Rattle.desk_store.specs.Desks.{Answers, AreRowsOf, HoldsRequests, IsAsked, IsQuestioned, KeepsRequests, Tells, changes}
@@ -23,7 +22,6 @@ record IsBegun (L : List Request) (s0 s1 : State) : Type 0 where
   was_open : IsTrue s0.is_open
   now : HoldsRequests s1.now L
   committed : HoldsRequests s1.committed L
-  schema : s1.now.schema ≡ desk_schema
   crash : (d : Trees) → s1.may_leave d → s0.may_leave d
 
 is_begun : {W : Type 0} (w : W) (L : List Request) (s0 s1 : State) → HasCleanDisk s1 → BeginsWork {A = W} {E = StoreFault} s0 s1 (Ok w) → KeepsRequests s0 L → IsBegun L s0 s1
@@ -34,7 +32,6 @@ is_begun w L s0 s1 clean begun keeps =
       was_open = shows.was_open;
       now = subst (λ db. HoldsRequests db L) (sym shows.now_is) kept.1;
       committed = subst (λ db. HoldsRequests db L) (sym shows.committed_is) kept.2;
-      schema = ap (λ (db : Database). db.schema) shows.now_is ∙ kept.1.1.schema;
       crash = λ d may. either (begun.survives.crash clean d may);
     }
 
@@ -50,21 +47,16 @@ undone_keeps L s0 s1 s2 s3 begun kept undone = λ up.
       subst (λ db. HoldsRequests db L) (sym (undone.committed up ∙ committed)) begun.committed,
     )
 
--- a crash in a transaction leaves what it could leave before
-crash_inside : (L : List Request) (s0 s1 s2 : State) (P : Type 0) (d : Trees) → IsBegun L s0 s1 → s1.may_leave d ⊎ HasOtherSchema s1 d → s0.may_leave d ⊎ P
-crash_inside L s0 s1 s2 P d begun (inl may) = inl (begun.crash d may)
-crash_inside L s0 s1 s2 P d begun (inr foreign) = absurd (foreign begun.schema)
-
 -- a fault in it undoes it
 pub asked_failed : {A B W : Type 0} (w : W) (r : Request) (answer : List Request → A) (Post : DeskRows → B → DeskRows → Type 0) (s0 s1 s2 s3 : State) (e : StoreFault) → BeginsWork {A = W} {E = StoreFault} s0 s1 (Ok w) → Achieves {A = B} Post s1 s2 (Err e)
     → (HasCleanDisk s3 → IsUndone s2 s3) → Survives s2 s3 NoTrees → IsAsked {A = A} r answer s0 s3 (Err e)
 asked_failed w r answer Post s0 s1 s2 s3 e begins done undone survives = record {
   premise = λ clean. clean0 (clean1 (clean2 clean));
   ok = λ clean L keeps. tt;
-  err = λ clean L keeps. let begun = is_begun w L s0 s1 (clean1 (clean2 clean)) begins keeps in undone_keeps L s0 s1 s2 s3 begun (done.kept (clean2 clean) begun.schema) (undone clean);
+  err = λ clean L keeps. let begun = is_begun w L s0 s1 (clean1 (clean2 clean)) begins keeps in undone_keeps L s0 s1 s2 s3 begun (done.kept (clean2 clean)) (undone clean);
   crash = λ clean L keeps d may.
       let begun = is_begun w L s0 s1 (clean1 (clean2 clean)) begins keeps in
-      crash_inside L s0 s1 s2 _ d begun (done.survives.crash (clean2 clean) d (either (survives.crash clean d may)));
+      inl (begun.crash d (either (done.survives.crash (clean2 clean) d (either (survives.crash clean d may)))));
   alone = λ clean L keeps change. tt;
 }
   where
@@ -102,7 +94,7 @@ module _ {A W : Type 0} (w : W) (r : Request) (answer : List Request → A) (s0 
       clean2 = omega (arith, ends.survives.clean)
 
       go : s2.may_leave d ⊎ ((spent ≡ false) × (d ≡ s2.now.trees)) → s0.may_leave d ⊎ AreRowsOf d (r ∷ L)
-      go (inl before) = crash_inside L s0 s1 s2 _ d (is_begun w L s0 s1 (clean1 clean2) begins keeps) (done.survives.crash clean2 d before)
+      go (inl before) = inl ((is_begun w L s0 s1 (clean1 clean2) begins keeps).crash d (either (done.survives.crash clean2 d before)))
       go (inr now) = inr (s2.now, sym now.1, (stands_now clean2 L keeps).0)
 
   -- it is committed
@@ -126,7 +118,7 @@ module _ {A W : Type 0} (w : W) (r : Request) (answer : List Request → A) (s0 
   asked_refused e ends = record {
     premise = λ clean. clean0 (clean1 (clean2 clean));
     ok = λ clean L keeps. tt;
-    err = λ clean L keeps. let begun = is_begun w L s0 s1 (clean1 (clean2 clean)) begins keeps in undone_keeps L s0 s1 s2 s3 begun (done.kept (clean2 clean) begun.schema) (ends.undone clean);
+    err = λ clean L keeps. let begun = is_begun w L s0 s1 (clean1 (clean2 clean)) begins keeps in undone_keeps L s0 s1 s2 s3 begun (done.kept (clean2 clean)) (ends.undone clean);
     crash = crash_done (Err e) ends;
     alone = λ clean L keeps change. tt;
   }
@@ -160,19 +152,15 @@ asked_unasked r answer s e = record {
 
 -- ---- questions
 
-crash_unchanged : (L : List Request) (s0 s1 : State) (d : Trees) → IsBegun L s0 s1 → s1.may_leave d ⊎ HasOtherSchema s1 d → s0.may_leave d
-crash_unchanged L s0 s1 d begun (inl may) = begun.crash d may
-crash_unchanged L s0 s1 d begun (inr foreign) = absurd (foreign begun.schema)
-
 pub questioned : {A W : Type 0} (w : W) (answer : List Request → A) (s0 s1 s2 s3 : State) (result : Result A StoreFault) → BeginsWork {A = W} {E = StoreFault} s0 s1 (Ok w) → Achieves (Tells answer) s1 s2 result → (HasCleanDisk s3 → IsUndone s2 s3) → Survives s2 s3 NoTrees
     → IsQuestioned answer s0 s3 result
 questioned {A} w answer s0 s1 s2 s3 result begins done undone survives = record {
   premise = λ clean. clean0 (clean1 (clean2 clean));
   ok = λ clean L keeps. let begun = is_begun w L s0 s1 (clean1 (clean2 clean)) begins keeps in told L begun.now.0 begun.now.2 result (done.gives (clean2 clean) begun.now.0 begun.now.1);
-  left = λ clean L keeps. let begun = is_begun w L s0 s1 (clean1 (clean2 clean)) begins keeps in undone_keeps L s0 s1 s2 s3 begun (done.kept (clean2 clean) begun.schema) (undone clean);
+  left = λ clean L keeps. let begun = is_begun w L s0 s1 (clean1 (clean2 clean)) begins keeps in undone_keeps L s0 s1 s2 s3 begun (done.kept (clean2 clean)) (undone clean);
   crash = λ clean L keeps d may.
       let begun = is_begun w L s0 s1 (clean1 (clean2 clean)) begins keeps in
-      crash_unchanged L s0 s1 d begun (done.survives.crash (clean2 clean) d (either (survives.crash clean d may)));
+      begun.crash d (either (done.survives.crash (clean2 clean) d (either (survives.crash clean d may))));
 }
   where
     clean2 : HasCleanDisk s3 → HasCleanDisk s2

@@ -1,13 +1,12 @@
 -- What a statement in the transaction shows, once its text is known.
-use Rattle.std.proofs.Common.{◌≡◌, ℕ, List, [], Bool, true, false, if◌then◌else◌, None, Some, IsTrue, Ok, Err, Result, inl, inr, refl, sym, ap, subst, ◌∙◌}
+use Rattle.std.proofs.Common.{◌≡◌, ℕ, List, [], Bool, true, false, None, Some, IsTrue, Ok, Err, Result, refl, sym, ap, subst, ◌∙◌}
 use Rattle.sqlite_value.specs.Order.{Row}
-use Rattle.sqlite_trees.specs.Tree.{Trees}
 use Rattle.sqlite_schema.specs.declared.schema.Schema.{Schema}
 use Rattle.sqlite_schema.specs.declared.command.Command.{Command}
 use Rattle.sqlite.specs.Listing.{understood}
 use Rattle.sqlite.specs.Effect.{Database}
 use Rattle.sqlite.specs.Clock.{timed}
-use Rattle.sqlite.specs.State.{State, Survives, Executes, CommitsBy, KeepsCommit, IsUnchanged, Writes, Shows, Shown, ShowsRows, mode_of}
+use Rattle.sqlite.specs.State.{State, Survives, Executes, IsUnchanged, Writes, Shown, ShowsRows, mode_of}
 use Rattle.sqlite.proofs.Callers.{IsPlain, command_of, statement_of, runs_as}
 use Rattle.sqlite.proofs.StateLemmas.{survives_weaker}
 use Rattle.desk_terms.specs.declared.faults.StoreFault.{StoreFault}
@@ -17,33 +16,24 @@ use Rattle.desk_tables.specs.Rows.{DeskRows, Holds}
 use Rattle.sqlite_schema.specs.declared.command.Returning.{Returning}
 use Rattle.desk_tables.proofs.Control.{kept_itself, survives_itself}
 use Rattle.desk_tables.proofs.Returned.{wrote_by}
-use Rattle.desk_tables.proofs.RowWrites.{writes_rows, no_commit, no_release, rows_written, keeps_schema}
+use Rattle.desk_tables.proofs.Endings.{EndsNothing, commits_nothing, ends, goes_on, kept_on, shown_on}
+use Rattle.desk_tables.proofs.RowWrites.{writes_rows, rows_alone, rows_written, keeps_schema}
 use Rattle.desk_tables.proofs.StatementTexts.{returning_of, formats_of}
-use Rattle.desk_tables.specs.Transactions.{RunsIn, ReadsIn, Works, HasOtherSchema, NoTrees}
+use Rattle.desk_tables.specs.Transactions.{RunsIn, ReadsIn, Works, NoTrees}
 
 module _ (sql : List ℕ) (command : Command) (is : command_of (understood desk_schema sql) ≡ command) (plain : IsPlain (understood desk_schema sql)) (rows : writes_rows command ≡ true) where
   wrote : (params : Row) (old new : State) (count : ℕ) → old.now.schema ≡ desk_schema → Executes sql params old new (Ok count) → Writes old new None command (statement_of sql (understood desk_schema sql)) params count
   wrote params old new count has h = rows_written command rows old new _ params count (runs_as sql params old new desk_schema has command is plain count h)
 
-  shows_inside : (params : Row) (old new : State) (count : ℕ) → old.now.schema ≡ desk_schema → IsTrue old.in_transaction → Executes sql params old new (Ok count) → Shows old new new.now old.committed true
-  shows_inside params old new count has inside h = subst (λ b. Shows old new new.now (if b then old.committed else new.now) b) inside (wrote params old new count has h).shown
-
   schema_inside : (params : Row) (old new : State) (count : ℕ) → old.now.schema ≡ desk_schema → Executes sql params old new (Ok count) → new.now.schema ≡ desk_schema
   schema_inside params old new count has h =
       let w = wrote params old new count has h in keeps_schema old.step_limit (mode_of old) params old.now _ None w.tally new.now command rows w.changed ∙ has
 
-  commits_nothing : (params : Row) (old : State) (db : Trees) → old.now.schema ≡ desk_schema → IsTrue old.in_transaction → CommitsBy sql params old db → NoTrees db
-  unfolding CommitsBy
-  commits_nothing params old db has inside h =
-      let known = sym h.1.is ∙ ap (λ s. understood s sql) has in
-      let same : h.0.command ≡ command = ap command_of known ∙ is in
-      elim h.2 [
-        | inl ends ↦ elim ends.0 [ inl e ↦ no_commit command rows (sym same ∙ e) | inr e ↦ no_release command rows e.0 (sym same ∙ e.2) ]
-        | inr wrote ↦ absurd (let x = wrote.0 in cc)
-      ]
+  known : EndsNothing sql desk_schema
+  known = (plain, ap ends is ∙ rows_alone command rows)
 
-  survives_inside : (params : Row) (old new : State) (r : Result ℕ StoreFault) → RunsIn sql params old new r → Survives old new (HasOtherSchema old)
-  survives_inside params old new r ran = survives_weaker old new _ (HasOtherSchema old) (λ _ db may has. commits_nothing params old db has may.0 may.1) ran.survives
+  survives_inside : (params : Row) (old new : State) (r : Result ℕ StoreFault) → RunsIn sql params old new r → Survives old new NoTrees
+  survives_inside params old new r ran = survives_weaker old new _ NoTrees (λ _ db may. commits_nothing sql desk_schema params old db known may.0 may.1) ran.survives
 
   pub works_ok : {A : Type 0} (Answer : DeskRows → A → Type 0) (change : DeskRows → DeskRows) (params : Row) (old new : State) (was now : Bool) (count : ℕ) (a : A) → RunsIn sql params old new (Ok count) → now ≡ false
       → (IsTrue was → ◌≡◌ {A = Result ℕ StoreFault} (Ok count) (Err Unusable))
@@ -53,9 +43,9 @@ module _ (sql : List ℕ) (command : Command) (is : command_of (understood desk_
     refused = λ s. absurd (let x = unspent s in cc);
     inside = ran.inside;
     gives = λ clean rows h. gives rows h (ran.ran clean);
-    goes_on = λ clean has.
-        let shown = shows_inside params old new count has ran.inside (ran.ran clean) in (shown.mode, shown.is_open, schema_inside params old new count has (ran.ran clean));
-    kept = λ clean has. let shown = shows_inside params old new count has ran.inside (ran.ran clean) in record { was_open = λ _. shown.was_open; committed = λ _. shown.committed_is };
+    goes_on = λ clean. (goes_on old new ran.inside sql desk_schema params count known (ran.ran clean)).mode;
+    stays = λ clean has. ((goes_on old new ran.inside sql desk_schema params count known (ran.ran clean)).is_open, schema_inside params old new count has (ran.ran clean));
+    kept = λ clean. kept_on old new (goes_on old new ran.inside sql desk_schema params count known (ran.ran clean));
     survives = survives_inside params old new (Ok count) ran;
   }
 
@@ -66,8 +56,9 @@ module _ (sql : List ℕ) (command : Command) (is : command_of (understood desk_
     refused = λ s. let x = unspent s in cc;
     inside = tt;
     gives = λ clean rows h. tt;
-    goes_on = λ clean has. tt;
-    kept = λ clean has. ran.failed clean;
+    goes_on = λ clean. tt;
+    stays = λ clean has. tt;
+    kept = λ clean. ran.failed clean;
     survives = survives_inside params old new (Err e) ran;
   }
 
@@ -82,9 +73,6 @@ module _ (sql : List ℕ) (plain : IsPlain (understood desk_schema sql)) where
   pub unchanged : (params : Row) (old new : State) (got : List Row) → old.now.schema ≡ desk_schema → Shown sql params old new got → IsUnchanged old new
   unchanged = unchanged_in desk_schema sql plain
 
-  kept_by : (params : Row) (old new : State) (got : List Row) → old.now.schema ≡ desk_schema → Shown sql params old new got → KeepsCommit old new
-  kept_by params old new got has h = let same = unchanged params old new got has h in record { was_open = λ _. same.0.was_open; committed = λ _. same.0.committed_is }
-
   -- a query that was read
   pub reads_ok : {A V : Type 0} (Answer : DeskRows → A → Type 0) (params : Row) (old new : State) (was now : Bool) (rows_of : V → List Row) (got : V) (a : A) → ReadsIn sql params old new rows_of (Ok got) → now ≡ false
       → (IsTrue was → ◌≡◌ {A = Result V StoreFault} (Ok got) (Err Unusable))
@@ -94,10 +82,10 @@ module _ (sql : List ℕ) (plain : IsPlain (understood desk_schema sql)) where
     refused = λ s. absurd (let x = unspent s in cc);
     inside = ran.inside;
     gives = λ clean rows h. let shown = ran.shown clean in (gives rows h shown, subst (λ (d : Database). Holds d rows) (sym (unchanged params old new (rows_of got) h.schema shown).0.now_is) h);
-    goes_on = λ clean has.
-        let same = unchanged params old new (rows_of got) has (ran.shown clean) in (same.0.mode ∙ ran.inside, same.0.is_open, ap (λ (d : Database). d.schema) same.0.now_is ∙ has);
-    kept = λ clean has. kept_by params old new (rows_of got) has (ran.shown clean);
-    survives = survives_weaker old new NoTrees (HasOtherSchema old) (λ _ db none. absurd none) ran.survives;
+    goes_on = λ clean. (shown_on old new ran.inside sql params (rows_of got) (ran.shown clean)).mode;
+    stays = λ clean has. let same = unchanged params old new (rows_of got) has (ran.shown clean) in (same.0.is_open, ap (λ (d : Database). d.schema) same.0.now_is ∙ has);
+    kept = ran.kept;
+    survives = ran.survives;
   }
 
   -- its rows could not be read
@@ -108,9 +96,10 @@ module _ (sql : List ℕ) (plain : IsPlain (understood desk_schema sql)) where
     refused = λ s. absurd (let x = unspent s in cc);
     inside = tt;
     gives = λ clean rows h. tt;
-    goes_on = λ clean has. tt;
-    kept = λ clean has. kept_by params old new (rows_of got) has (ran.shown clean);
-    survives = survives_weaker old new NoTrees (HasOtherSchema old) (λ _ db none. absurd none) ran.survives;
+    goes_on = λ clean. tt;
+    stays = λ clean has. tt;
+    kept = ran.kept;
+    survives = ran.survives;
   }
 
 pub reads_err : {A V : Type 0} (Answer : DeskRows → A → Type 0) (change : DeskRows → DeskRows) (sql : List ℕ) (params : Row) (old new : State) (was now : Bool) (rows_of : V → List Row) (e : StoreFault) → ReadsIn sql params old new rows_of (Err e) → now ≡ true
@@ -120,18 +109,15 @@ reads_err Answer change sql params old new was now rows_of e ran spent unspent =
   refused = λ s. let x = unspent s in cc;
   inside = tt;
   gives = λ clean rows h. tt;
-  goes_on = λ clean has. tt;
-  kept = λ clean has. ran.failed clean;
-  survives = survives_weaker old new NoTrees (HasOtherSchema old) (λ _ db none. absurd none) ran.survives;
+  goes_on = λ clean. tt;
+  stays = λ clean has. tt;
+  kept = ran.kept;
+  survives = ran.survives;
 }
 
 -- a write with RETURNING
 module _ (sql : List ℕ) (command : Command) (what : Returning) (is : command_of (understood desk_schema sql) ≡ command) (returns : returning_of (understood desk_schema sql) ≡ Some what)
     (untimed : formats_of (understood desk_schema sql) ≡ []) (rows : writes_rows command ≡ true) where
-  shows_written : (params : Row) (old new : State) (got : List Row) → old.now.schema ≡ desk_schema → IsTrue old.in_transaction → Shown sql params old new got → Shows old new new.now old.committed true
-  shows_written params old new got has inside h =
-      let wrote = wrote_by sql command what params old new got is returns untimed has h in subst (λ b. Shows old new new.now (if b then old.committed else new.now) b) inside wrote.2.shown
-
   schema_written : (params : Row) (old new : State) (got : List Row) → old.now.schema ≡ desk_schema → Shown sql params old new got → new.now.schema ≡ desk_schema
   schema_written params old new got has h =
       let wrote = wrote_by sql command what params old new got is returns untimed has h in
@@ -145,10 +131,10 @@ module _ (sql : List ℕ) (command : Command) (what : Returning) (is : command_o
     refused = λ s. absurd (let x = unspent s in cc);
     inside = ran.inside;
     gives = λ clean rows h. gives rows h (ran.shown clean);
-    goes_on = λ clean has.
-        let shown = shows_written params old new (rows_of got) has ran.inside (ran.shown clean) in (shown.mode, shown.is_open, schema_written params old new (rows_of got) has (ran.shown clean));
-    kept = λ clean has. let shown = shows_written params old new (rows_of got) has ran.inside (ran.shown clean) in record { was_open = λ _. shown.was_open; committed = λ _. shown.committed_is };
-    survives = survives_weaker old new NoTrees (HasOtherSchema old) (λ _ db none. absurd none) ran.survives;
+    goes_on = λ clean. (shown_on old new ran.inside sql params (rows_of got) (ran.shown clean)).mode;
+    stays = λ clean has. ((shown_on old new ran.inside sql params (rows_of got) (ran.shown clean)).is_open, schema_written params old new (rows_of got) has (ran.shown clean));
+    kept = ran.kept;
+    survives = ran.survives;
   }
 
   pub takes_late : {A V : Type 0} (Answer : DeskRows → A → Type 0) (change : DeskRows → DeskRows) (params : Row) (old new : State) (was now : Bool) (rows_of : V → List Row) (got : V) (e : StoreFault) → ReadsIn sql params old new rows_of (Ok got) → now ≡ true
@@ -158,9 +144,10 @@ module _ (sql : List ℕ) (command : Command) (what : Returning) (is : command_o
     refused = λ s. absurd (let x = unspent s in cc);
     inside = tt;
     gives = λ clean rows h. tt;
-    goes_on = λ clean has. tt;
-    kept = λ clean has. let shown = shows_written params old new (rows_of got) has ran.inside (ran.shown clean) in record { was_open = λ _. shown.was_open; committed = λ _. shown.committed_is };
-    survives = survives_weaker old new NoTrees (HasOtherSchema old) (λ _ db none. absurd none) ran.survives;
+    goes_on = λ clean. tt;
+    stays = λ clean has. tt;
+    kept = ran.kept;
+    survives = ran.survives;
   }
 
 -- a call that does not touch the database, and is refused
@@ -170,8 +157,9 @@ works_refused Answer change s was = record {
   refused = λ _. refl;
   inside = tt;
   gives = λ clean rows h. tt;
-  goes_on = λ clean has. tt;
-  kept = λ clean has. kept_itself s;
+  goes_on = λ clean. tt;
+  stays = λ clean has. tt;
+  kept = λ clean. kept_itself s;
   survives = survives_itself s _;
 }
 
@@ -183,7 +171,8 @@ works_elsewhere Answer change s was a unspent inside other = record {
   refused = λ spent. absurd (let x = spent in cc);
   inside = inside;
   gives = λ clean rows h. absurd (other h.schema);
-  goes_on = λ clean has. absurd (other has);
-  kept = λ clean has. kept_itself s;
+  goes_on = λ clean. inside;
+  stays = λ clean has. absurd (other has);
+  kept = λ clean. kept_itself s;
   survives = survives_itself s _;
 }

@@ -7,6 +7,7 @@ pub mod CastLemmas
 pub mod HeldLemmas
 pub mod RowWrites
 pub mod Control
+pub mod Endings
 pub mod Outside
 pub mod Calls
 pub mod Selects
@@ -57,4 +58,5 @@ pub mod ReadLoops
 pub mod SortedKeys
 pub mod MinimumPlaces
 mod SecondVersion
+mod Refused
 mod Beginnings

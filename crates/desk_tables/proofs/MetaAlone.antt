@@ -1,5 +1,5 @@
 -- The version that a table `meta` of a desk tells, whatever other tables stand beside it.
-use Rattle.std.proofs.Common.{◌≡◌, ℕ, ◌≤◌, pos, codes, List, [], ◌∷◌, length, filter, find, slice_get, Bool, true, false, not, ◌&&◌, IsTrue, Ok, Err, Result, Option, Some, None, option_map, drop, inl, inr, refl, sym, ap, subst, ◌∙◌}
+use Rattle.std.proofs.Common.{◌≡◌, ℕ, ◌≤◌, pos, codes, List, [], ◌∷◌, length, filter, find, slice_get, Bool, true, false, not, ◌&&◌, IsTrue, Ok, Err, Result, option_map, drop, inl, inr, refl, sym, ap, subst, ◌∙◌}
 use Rattle.std.specs.List.{AllByRecursion, list_all, list_any}
 use Rattle.std.specs.Str.{bytes_eq}
 use Rattle.sqlite_value.specs.declared.value.Value.TheVariants.{Int}
@@ -20,7 +20,7 @@ use Rattle.sqlite_trees.specs.Tree.{Trees}
 use Rattle.sqlite_tied.specs.Compute.{everything}
 use Rattle.sqlite.specs.Effect.{Database, IsDatabase}
 use Rattle.sqlite.specs.Listing.{reads_listing, understood}
-use Rattle.sqlite.specs.State.{IsUnchanged, KeepsCommit, Shown, State}
+use Rattle.sqlite.specs.State.{IsUnchanged, Shown, State}
 use Rattle.sqlite.proofs.Callers.{IsPlain, command_of}
 use Rattle.desk_terms.specs.declared.faults.StoreFault.{StoreFault}
 use Rattle.desk_terms.specs.declared.faults.StoreFault.TheVariants.{Unusable}
@@ -28,8 +28,7 @@ use Rattle.desk_tables.specs.Meta.{HoldsMeta}
 use Rattle.desk_tables.specs.Rows.{DeskRows, Holds, HoldsFirst, MetaRow, Stands, is_version, meta_columns}
 use Rattle.desk_tables.specs.Schema.{desk_schema, first_schema, is_meta, meta_table}
 use Rattle.desk_tables.specs.Statements.{program, version_query, version_text}
-use Rattle.desk_tables.specs.Transactions.{Makes, NoTrees, ReadsIn}
-use Rattle.sqlite.proofs.StateLemmas.{survives_weaker}
+use Rattle.desk_tables.specs.Transactions.{Makes, ReadsIn}
 use Rattle.desk_tables.proofs.Calls.{unchanged_in}
 use Rattle.desk_tables.proofs.Control.{kept_itself, survives_itself}
 use Rattle.desk_tables.proofs.KeyLemmas.{item_free, item_tells, key_clash, one_at_most}
@@ -96,7 +95,7 @@ makes_elsewhere Before s was a unspent inside never = record {
   inside = inside;
   made = λ clean before. before;
   goes_on = λ clean before. absurd (never before);
-  kept = λ clean before. kept_itself s;
+  kept = λ clean. kept_itself s;
   survives = survives_itself s _;
 }
 
@@ -108,9 +107,6 @@ module _ (meta : List MetaRow) (old new : State) where
   same_after : (got : List Row) → Before old.now → Shown version_text [] old new got → IsUnchanged old new
   same_after got h shown = unchanged_in (beside h.others old.now.schema.indexes old.now.schema.views) version_text (version_beside_is h.others old.now.schema.indexes old.now.schema.views).2 [] old new got (schema_beside old.now meta h) shown
 
-  kept_after : (got : List Row) → Before old.now → Shown version_text [] old new got → KeepsCommit old new
-  kept_after got h shown = let same = same_after got h shown in record { was_open = λ _. same.0.was_open; committed = λ _. same.0.committed_is }
-
   pub meta_read : {A V : Type 0} (was now : Bool) (rows_of : V → List Row) (got : V) (a : A) → ReadsIn version_text [] old new rows_of (Ok got) → now ≡ false → (IsTrue was → ◌≡◌ {A = Result V StoreFault} (Ok got) (Err Unusable))
       → Makes Before Before old new was now (Ok a)
   meta_read was now rows_of got a ran spent unspent = record {
@@ -119,8 +115,8 @@ module _ (meta : List MetaRow) (old new : State) where
     inside = ran.inside;
     made = λ clean h. subst Before (sym (same_after (rows_of got) h (ran.shown clean)).0.now_is) h;
     goes_on = λ clean h. let same = same_after (rows_of got) h (ran.shown clean) in (same.0.mode ∙ ran.inside, same.0.is_open);
-    kept = λ clean h. kept_after (rows_of got) h (ran.shown clean);
-    survives = survives_weaker old new NoTrees (λ _. ¬ Before old.now) (λ _ db none. absurd none) ran.survives;
+    kept = ran.kept;
+    survives = ran.survives;
   }
 
   -- it is none
@@ -132,8 +128,8 @@ module _ (meta : List MetaRow) (old new : State) where
     inside = tt;
     made = λ clean h. tt;
     goes_on = λ clean h. tt;
-    kept = λ clean h. kept_after (rows_of got) h (ran.shown clean);
-    survives = survives_weaker old new NoTrees (λ _. ¬ Before old.now) (λ _ db none. absurd none) ran.survives;
+    kept = ran.kept;
+    survives = ran.survives;
   }
 
   -- it was not read
@@ -145,6 +141,6 @@ module _ (meta : List MetaRow) (old new : State) where
     inside = tt;
     made = λ clean h. tt;
     goes_on = λ clean h. tt;
-    kept = λ clean h. ran.failed clean;
-    survives = survives_weaker old new NoTrees (λ _. ¬ Before old.now) (λ _ db none. absurd none) ran.survives;
+    kept = ran.kept;
+    survives = ran.survives;
   }

@@ -1,5 +1,5 @@
 -- The row of the version in the table `meta`.
-use Rattle.std.proofs.Common.{◌≡◌, ℕ, ◌≤◌, pos, codes, List, [], ◌∷◌, ◌++◌, length, filter, find, slice_get, Bool, true, false, ◌&&◌, is_err, IsTrue, Ok, Err, Result, Option, Some, None, option_map, refl, sym, subst, ◌∙◌}
+use Rattle.std.proofs.Common.{◌≡◌, ℕ, ◌≤◌, pos, codes, List, [], ◌∷◌, ◌++◌, length, filter, find, slice_get, Bool, true, false, ◌&&◌, is_err, IsTrue, Ok, Err, Result, Option, Some, None, option_map, refl, sym, subst, ◌∙◌, ap}
 use Rattle.std.specs.Str.{bytes_eq}
 use Rattle.sqlite_value.specs.declared.value.Value.TheVariants.{Null, Int}
 use Rattle.sqlite_value.specs.Order.{Row, column}
@@ -19,6 +19,7 @@ use Rattle.desk_tables.specs.Transactions.{RunsIn, Makes}
 use Rattle.desk_tables.proofs.CastLemmas.{cast_null, cast_number}
 use Rattle.desk_tables.proofs.HoldsLemmas.{changed_meta}
 use Rattle.desk_tables.proofs.Inserts.{inserts}
+use Rattle.desk_tables.proofs.Endings.{ends}
 use Rattle.desk_tables.proofs.Makings.{makes_one}
 use Rattle.desk_tables.proofs.StatementTexts.{put_version_is, version_is, version_first_is}
 use Rattle.std.specs.List.{list_any}
@@ -43,7 +44,7 @@ puts_version old new count rows h ran =
 pub step_version : (old new : State) (was now : Bool) (r : Result ℕ StoreFault) → RunsIn put_version_text [] old new r → now ≡ is_err r → (IsTrue was → r ≡ Err Unusable)
     → Makes (λ db. Holds db no_rows) (λ db. Holds db first_rows) old new was now r
 step_version =
-    makes_one put_version_text desk_schema _ put_version_is.0 put_version_is.1 (λ e. cc) (λ name e. cc) (λ old new text params count r. r) (λ db. Holds db no_rows) (λ db. Holds db first_rows) (λ db h. h.schema)
+    makes_one put_version_text desk_schema (put_version_is.1, ap ends put_version_is.0) (λ db. Holds db no_rows) (λ db. Holds db first_rows)
     (λ old new count h ran. puts_version old new count no_rows h ran)
 
 module _ (rows : DeskRows) (old new : State) (got : List Row) where

@@ -1,18 +1,19 @@
 -- What a migration does to tables that are of version 2 already.
 use Rattle.std.proofs.Common.{◌≡◌, ℕ, [], Bool, true, false, is_err, IsTrue, Ok, Err, Result, OnOk, refl, sym, ap, subst, ◌∙◌}
-use Rattle.sqlite_trees.specs.Tree.{Trees}
 use Rattle.sqlite_schema.specs.declared.schema.Schema.{Schema}
 use Rattle.sqlite_resolve.specs.declared.compiled.Compiled.{Compiled}
 use Rattle.sqlite_tied.specs.Compute.{everything}
 use Rattle.sqlite.specs.Effect.{Database}
 use Rattle.sqlite.specs.Listing.{understood}
-use Rattle.sqlite.specs.State.{State, CommitsBy, Executes, ExecutesIn}
+use Rattle.sqlite.specs.State.{State, Executes, ExecutesIn}
 use Rattle.sqlite.proofs.StateLemmas.{survives_weaker}
 use Rattle.desk_terms.specs.declared.faults.StoreFault.{StoreFault}
 use Rattle.desk_terms.specs.declared.faults.StoreFault.TheVariants.{Unusable}
-use Rattle.desk_tables.specs.Schema.{desk_schema, price_minimum_definition}
+use Rattle.desk_tables.proofs.Endings.{EndsNothing, commits_nothing, ends, goes_on, kept_on}
+use Rattle.desk_tables.proofs.SchemaTexts.{price_minimum_is}
+use Rattle.desk_tables.specs.Schema.{desk_schema, first_schema, price_minimum_definition}
 use Rattle.desk_tables.specs.Rows.{DeskRows}
-use Rattle.desk_tables.specs.Transactions.{Makes, RunsIn, Works}
+use Rattle.desk_tables.specs.Transactions.{Makes, NoTrees, RunsIn, Works}
 
 -- the database has the tables of version 2
 abbrev pub IsSecond : Database → Type 0
@@ -38,9 +39,9 @@ never_runs : (old new : State) (count : ℕ) → old.now.schema ≡ desk_schema 
 unfolding ExecutesIn
 never_runs old new count has h = no_statement old h.0 has h.1.is
 
-never_commits : (old : State) (db : Trees) → old.now.schema ≡ desk_schema → CommitsBy price_minimum_definition [] old db → ⊥
-unfolding CommitsBy
-never_commits old db has h = no_statement old h.0 has h.1.is
+-- under the schema of version 1 it is read
+minimum_text : EndsNothing price_minimum_definition first_schema
+minimum_text = (price_minimum_is.2, ap ends price_minimum_is.0)
 
 pub step_again : (old new : State) (was now : Bool) (r : Result ℕ StoreFault) → RunsIn price_minimum_definition [] old new r → now ≡ is_err r → (IsTrue was → r ≡ Err Unusable) → Makes IsSecond NoDatabase old new was now r
 step_again old new was now (Ok count) ran spent unspent = record {
@@ -49,8 +50,8 @@ step_again old new was now (Ok count) ran spent unspent = record {
   inside = ran.inside;
   made = λ clean has. never_runs old new count has (ran.ran clean);
   goes_on = λ clean has. absurd (never_runs old new count has (ran.ran clean));
-  kept = λ clean has. absurd (never_runs old new count has (ran.ran clean));
-  survives = survives_weaker old new _ (λ _. ¬ IsSecond old.now) (λ _ db may has. never_commits old db has may.1) ran.survives;
+  kept = λ clean. kept_on old new (goes_on old new ran.inside price_minimum_definition first_schema [] count minimum_text (ran.ran clean));
+  survives = survives_weaker old new _ NoTrees (λ _ db may. commits_nothing price_minimum_definition first_schema [] old db minimum_text may.0 may.1) ran.survives;
 }
 step_again old new was now (Err e) ran spent unspent = record {
   spent = spent;
@@ -58,8 +59,8 @@ step_again old new was now (Err e) ran spent unspent = record {
   inside = tt;
   made = λ clean has. tt;
   goes_on = λ clean has. tt;
-  kept = λ clean has. ran.failed clean;
-  survives = survives_weaker old new _ (λ _. ¬ IsSecond old.now) (λ _ db may has. never_commits old db has may.1) ran.survives;
+  kept = ran.failed;
+  survives = survives_weaker old new _ NoTrees (λ _ db may. commits_nothing price_minimum_definition first_schema [] old db minimum_text may.0 may.1) ran.survives;
 }
 
 -- what follows a statement that never goes through
@@ -70,8 +71,8 @@ makes_never Before After old new was now r one = record {
   inside = one.inside;
   made = λ clean none. absurd none;
   goes_on = λ clean none. absurd none;
-  kept = λ clean none. absurd none;
-  survives = survives_weaker old new (λ _. ¬ Before old.now) (λ _. ¬ NoDatabase old.now) (λ _ db no none. none) one.survives;
+  kept = one.kept;
+  survives = one.survives;
 }
 
 -- a call on the rows leaves the tables of version 2
@@ -80,16 +81,16 @@ works_second {A} Answer change old new was now r works = record {
   spent = works.spent;
   refused = works.refused;
   inside = works.inside;
-  made = λ clean has. stays r (works.goes_on clean has);
-  goes_on = λ clean has. on r (works.goes_on clean has);
+  made = λ clean has. stays r (works.stays clean has);
+  goes_on = λ clean has. on r (works.goes_on clean) (works.stays clean has);
   kept = works.kept;
   survives = works.survives;
 }
   where
-    stays : (r : Result A StoreFault) → OnOk r (IsTrue new.in_transaction × IsTrue new.is_open × (new.now.schema ≡ desk_schema)) → OnOk r (new.now.schema ≡ desk_schema)
-    stays (Ok a) h = h.2
+    stays : (r : Result A StoreFault) → OnOk r (IsTrue new.is_open × (new.now.schema ≡ desk_schema)) → OnOk r (new.now.schema ≡ desk_schema)
+    stays (Ok a) h = h.1
     stays (Err e) h = tt
 
-    on : (r : Result A StoreFault) → OnOk r (IsTrue new.in_transaction × IsTrue new.is_open × (new.now.schema ≡ desk_schema)) → OnOk r (IsTrue new.in_transaction × IsTrue new.is_open)
-    on (Ok a) h = (h.0, h.1)
-    on (Err e) h = tt
+    on : (r : Result A StoreFault) → OnOk r (IsTrue new.in_transaction) → OnOk r (IsTrue new.is_open × (new.now.schema ≡ desk_schema)) → OnOk r (IsTrue new.in_transaction × IsTrue new.is_open)
+    on (Ok a) inside h = (inside, h.0)
+    on (Err e) inside h = tt

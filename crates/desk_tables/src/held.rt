@@ -2,7 +2,7 @@
 
 ghost use Rattle.std.specs.Prelude.{◌≡◌, Err, IsTrue};
 ghost use Rattle.sqlite.specs.Held.{state};
-ghost use Rattle.desk_tables.specs.Transactions.{Works, NoAnswer};
+ghost use Rattle.desk_tables.specs.Transactions.{IsRefused, NoAnswer, Works};
 ghost use Rattle.desk_tables.specs.Rows.{with_held, without_held, held_at, unchanged, AreHeldNumbers};
 
 use crate::rows::columns::{first_text, numbers};
@@ -23,6 +23,7 @@ impl<S: Alter> Work<'_, S> {
     ) -> Result<(), StoreFault>
         ensures same_reference { self.new.tables.ghost_name ≡ self.old.tables.ghost_name }
         ensures untouched { IsTrue self.old.spent → (result ≡ Err StoreFault.Unusable) × (self.new.tables.now ≡ self.old.tables.now) }
+        ensures refusal { IsRefused (state S.Store self.old.tables.now.connection) (state S.Store self.new.tables.now.connection) result }
         ensures works { Works NoAnswer (with_held (record { series = series.now; number = number; contents = contents.now }))
             (state S.Store self.old.tables.now.connection) (state S.Store self.new.tables.now.connection) self.old.spent self.new.spent result }
     {

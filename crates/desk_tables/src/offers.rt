@@ -2,7 +2,7 @@
 
 ghost use Rattle.std.specs.Prelude.{◌≡◌, Err, IsTrue};
 ghost use Rattle.sqlite.specs.Held.{state};
-ghost use Rattle.desk_tables.specs.Transactions.{Works, NoAnswer};
+ghost use Rattle.desk_tables.specs.Transactions.{IsRefused, IsRefusedOrUnasked, NoAnswer, Works};
 ghost use Rattle.desk_tables.specs.RecordRows.{offer_row};
 ghost use Rattle.desk_tables.specs.Rows.{party_type, party_value, unchanged};
 ghost use Rattle.desk_tables.specs.RecordAnswers.{AreOffersInOrder};
@@ -26,6 +26,7 @@ impl<S: Alter> Work<'_, S> {
     ) -> Result<(), StoreFault>
         ensures same_reference { self.new.tables.ghost_name ≡ self.old.tables.ghost_name }
         ensures untouched { IsTrue self.old.spent → (result ≡ Err StoreFault.Unusable) × (self.new.tables.now ≡ self.old.tables.now) }
+        ensures refusal { IsRefused (state S.Store self.old.tables.now.connection) (state S.Store self.new.tables.now.connection) result }
         ensures works { Works NoAnswer (with_offer (record (offer_row row.now) { included = included.now; excluded = excluded.now }))
             (state S.Store self.old.tables.now.connection) (state S.Store self.new.tables.now.connection) self.old.spent self.new.spent result }
     {
@@ -57,6 +58,7 @@ impl<S: Alter> Work<'_, S> {
     pub fn put_offer(&mut self, row: &OfferRow) -> Result<(), StoreFault>
         ensures same_reference { self.new.tables.ghost_name ≡ self.old.tables.ghost_name }
         ensures untouched { IsTrue self.old.spent → (result ≡ Err StoreFault.Unusable) × (self.new.tables.now ≡ self.old.tables.now) }
+        ensures refusal { IsRefusedOrUnasked (state S.Store self.old.tables.now.connection) (state S.Store self.new.tables.now.connection) result }
         ensures works { Works NoAnswer (with_offer (offer_row row.now))
             (state S.Store self.old.tables.now.connection) (state S.Store self.new.tables.now.connection) self.old.spent self.new.spent result }
     {

@@ -2,7 +2,7 @@
 
 ghost use Rattle.std.specs.Prelude.{◌≡◌, ◌<◌, Err, IsTrue};
 ghost use Rattle.sqlite.specs.Held.{state};
-ghost use Rattle.desk_tables.specs.Transactions.{Works, NoAnswer};
+ghost use Rattle.desk_tables.specs.Transactions.{IsRefused, IsRefusedOrUnasked, NoAnswer, Works};
 ghost use Rattle.desk_tables.specs.RecordRows.{price_row, minimum_row};
 ghost use Rattle.desk_tables.specs.RecordAnswers.{has_minimums, AreMinimums, ArePricesWith, ArePricesInOrder, AreRising};
 ghost use Rattle.desk_tables.specs.Rows.{unchanged};
@@ -27,6 +27,7 @@ impl<S: Alter> Work<'_, S> {
     ) -> Result<(), StoreFault>
         ensures same_reference { self.new.tables.ghost_name ≡ self.old.tables.ghost_name }
         ensures untouched { IsTrue self.old.spent → (result ≡ Err StoreFault.Unusable) × (self.new.tables.now ≡ self.old.tables.now) }
+        ensures refusal { IsRefused (state S.Store self.old.tables.now.connection) (state S.Store self.new.tables.now.connection) result }
         ensures works { Works NoAnswer (with_price (record (price_row row.now) { included = included.now; excluded = excluded.now }))
             (state S.Store self.old.tables.now.connection) (state S.Store self.new.tables.now.connection) self.old.spent self.new.spent result }
     {
@@ -62,6 +63,7 @@ impl<S: Alter> Work<'_, S> {
     fn put_minimum(&mut self, row: &PriceRow) -> Result<(), StoreFault>
         ensures same_reference { self.new.tables.ghost_name ≡ self.old.tables.ghost_name }
         ensures untouched { IsTrue self.old.spent → (result ≡ Err StoreFault.Unusable) × (self.new.tables.now ≡ self.old.tables.now) }
+        ensures refusal { IsRefused (state S.Store self.old.tables.now.connection) (state S.Store self.new.tables.now.connection) result }
         ensures works { Works NoAnswer (with_minimum (minimum_row row.now))
             (state S.Store self.old.tables.now.connection) (state S.Store self.new.tables.now.connection) self.old.spent self.new.spent result }
     {
@@ -85,6 +87,7 @@ impl<S: Alter> Work<'_, S> {
     pub fn put_price(&mut self, row: &PriceRow) -> Result<(), StoreFault>
         ensures same_reference { self.new.tables.ghost_name ≡ self.old.tables.ghost_name }
         ensures untouched { IsTrue self.old.spent → (result ≡ Err StoreFault.Unusable) × (self.new.tables.now ≡ self.old.tables.now) }
+        ensures refusal { IsRefusedOrUnasked (state S.Store self.old.tables.now.connection) (state S.Store self.new.tables.now.connection) result }
         ensures works { Works NoAnswer (with_price_and_minimum row.now)
             (state S.Store self.old.tables.now.connection) (state S.Store self.new.tables.now.connection) self.old.spent self.new.spent result }
     {

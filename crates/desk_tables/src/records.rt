@@ -2,7 +2,7 @@
 
 ghost use Rattle.std.specs.Prelude.{◌≡◌, Err, IsTrue};
 ghost use Rattle.sqlite.specs.Held.{state};
-ghost use Rattle.desk_tables.specs.Transactions.{Works, NoAnswer};
+ghost use Rattle.desk_tables.specs.Transactions.{IsRefused, NoAnswer, Works};
 ghost use Rattle.desk_tables.specs.Rows.{unchanged};
 ghost use Rattle.desk_tables.specs.RecordAnswers.{AreRecordsInOrder};
 ghost use Rattle.desk_tables.specs.RecordChanges.{has_record, with_new_record, with_record, without_record};
@@ -20,6 +20,7 @@ impl<S: Alter> Work<'_, S> {
     pub fn put_record(&mut self, series: &SeriesName, reference: &str) -> Result<(), StoreFault>
         ensures same_reference { self.new.tables.ghost_name ≡ self.old.tables.ghost_name }
         ensures untouched { IsTrue self.old.spent → (result ≡ Err StoreFault.Unusable) × (self.new.tables.now ≡ self.old.tables.now) }
+        ensures refusal { IsRefused (state S.Store self.old.tables.now.connection) (state S.Store self.new.tables.now.connection) result }
         ensures works { Works NoAnswer (with_record (record { series = series.now; reference = reference.now }))
             (state S.Store self.old.tables.now.connection) (state S.Store self.new.tables.now.connection) self.old.spent self.new.spent result }
     {
@@ -37,6 +38,7 @@ impl<S: Alter> Work<'_, S> {
     pub fn add_record(&mut self, series: &SeriesName, reference: &str) -> Result<(), StoreFault>
         ensures same_reference { self.new.tables.ghost_name ≡ self.old.tables.ghost_name }
         ensures untouched { IsTrue self.old.spent → (result ≡ Err StoreFault.Unusable) × (self.new.tables.now ≡ self.old.tables.now) }
+        ensures refusal { IsRefused (state S.Store self.old.tables.now.connection) (state S.Store self.new.tables.now.connection) result }
         ensures works { Works NoAnswer (with_new_record (record { series = series.now; reference = reference.now }))
             (state S.Store self.old.tables.now.connection) (state S.Store self.new.tables.now.connection) self.old.spent self.new.spent result }
     {

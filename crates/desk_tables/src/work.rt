@@ -4,7 +4,7 @@ ghost use Rattle.std.specs.Prelude.{◌≡◌, OnOk, Err, IsTrue, is_err};
 ghost use Rattle.sqlite.specs.Values.{bound};
 ghost use Rattle.sqlite.specs.State.{HasCleanDisk, Survives};
 ghost use Rattle.sqlite.specs.Held.{state};
-ghost use Rattle.desk_tables.specs.Transactions.{EndsWork, RunsIn, ReadsIn, IsUndone, LeavesOnly, NoTrees};
+ghost use Rattle.desk_tables.specs.Transactions.{EndsWork, IsRefused, RunsIn, ReadsIn, IsUndone, LeavesOnly, NoTrees};
 
 use crate::rows::fault::fault_of;
 use crate::tables::Tables;
@@ -27,6 +27,7 @@ impl<S: Alter> Work<'_, S> {
         ensures same_reference { self.new.tables.ghost_name ≡ self.old.tables.ghost_name }
         ensures spent { self.new.spent ≡ is_err result }
         ensures refused { IsTrue self.old.spent → (result ≡ Err StoreFault.Unusable) × (self.new.tables.now ≡ self.old.tables.now) }
+        ensures refusal { IsRefused (state S.Store self.old.tables.now.connection) (state S.Store self.new.tables.now.connection) result }
         ensures runs { RunsIn sql.now (bound params.now) (state S.Store self.old.tables.now.connection) (state S.Store self.new.tables.now.connection) result }
     {
         if self.spent || self.tables.connection.is_autocommit() {

@@ -4,7 +4,7 @@ use Rattle.desk_tables.specs.Rows.{DeskRows}
 use Rattle.desk_tables.specs.RecordRows.{PriceRow, price_row, minimum_row}
 use Rattle.desk_tables.specs.RecordChanges.{with_price, with_minimum}
 use Rattle.desk_tables.specs.Transactions.{Works, NoAnswer}
-use Rattle.desk_tables.proofs.RecordCalls.{works_both, price_with}
+use Rattle.desk_tables.proofs.RecordCalls.{or_unasked, price_with, refused_second, works_both}
 use Rattle.desk_tables.proofs.work.Work.put_price.Goals as goal
 
 pub returns-then-value-gt1-clause-works : goal.returns-then-value-gt1-clause-works
@@ -20,3 +20,11 @@ returns-then-value-gt1-clause-works g c =
     subst (λ (f : DeskRows → DeskRows). Works NoAnswer f old new c.args.self.now.spent c.put_minimum.new.self.spent c.put_minimum.result) (price_with row above)
     (works_both (with_price (price_row row)) (with_minimum (minimum_row row)) old mid new c.args.self.now.spent c.put_price_texts.new.self.spent c.put_minimum.new.self.spent c.in_default.field-0 c.put_minimum.result first
     c.put_minimum.ensures.works)
+
+pub returns-then-value-gt1-clause-refusal : goal.returns-then-value-gt1-clause-refusal
+returns-then-value-gt1-clause-refusal g c =
+    let old = state g.S.Store c.args.self.now.tables.now.connection in
+    let mid = state g.S.Store c.put_price_texts.new.self.tables.now.connection in
+    let new = state g.S.Store c.put_minimum.new.self.tables.now.connection in
+    or_unasked old new c.put_minimum.result
+    (refused_second NoAnswer _ _ old mid new c.args.self.now.spent c.put_price_texts.new.self.spent c.put_minimum.new.self.spent c.in_default.field-0 c.put_minimum.result c.in_default.ensures.works c.put_minimum.ensures.works c.put_minimum.ensures.refusal)

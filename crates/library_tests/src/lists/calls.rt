@@ -1,9 +1,11 @@
 //! Calls of the tables, in one transaction, and each in a transaction of its own with the rows after it.
 
-/// The list.
+/// The list. Its report is an empty transcript, since one of the desk would make tables in new files.
 pub const CALLS: &str = "
 == calls
+tables
 -- wanted
+as told
 
 == in one transaction that is let go
 tables
@@ -33,12 +35,16 @@ article_rows:
 offer_rows: R1 1; R1 2;
 -- wanted
 as told
+-- after
+as told
 
 == create
 commit
 version: none
 create
 -- wanted
+as told
+-- after
 as told
 
 == the sample
@@ -53,6 +59,8 @@ put_price 1 1 1
 put_price 1 2 10
 -- wanted
 as told
+-- after
+as told
 
 == the rows after it: the sample
 tables
@@ -64,11 +72,15 @@ offer_rows: R1 1;
 price_rows: 1 1 1; 1 2 10;
 -- wanted
 as told
+-- after
+as told
 
 == put_series
 commit
 put_series south 1
 -- wanted
+as told
+-- after
 as told
 
 == the rows after it: put_series
@@ -81,11 +93,15 @@ offer_rows: R1 1;
 price_rows: 1 1 1; 1 2 10;
 -- wanted
 as told
+-- after
+as told
 
 == put_held
 commit
 put_held north 3
 -- wanted
+as told
+-- after
 as told
 
 == the rows after it: put_held
@@ -98,11 +114,15 @@ offer_rows: R1 1;
 price_rows: 1 1 1; 1 2 10;
 -- wanted
 as told
+-- after
+as told
 
 == put_applied
 commit
 put_applied north 1
 -- wanted
+as told
+-- after
 as told
 
 == the rows after it: put_applied
@@ -115,11 +135,15 @@ offer_rows: R1 1;
 price_rows: 1 1 1; 1 2 10;
 -- wanted
 as told
+-- after
+as told
 
 == add_record
 commit
 add_record north R2
 -- wanted
+as told
+-- after
 as told
 
 == the rows after it: add_record
@@ -132,11 +156,15 @@ offer_rows: R1 1;
 price_rows: 1 1 1; 1 2 10;
 -- wanted
 as told
+-- after
+as told
 
 == put_article
 commit
 put_article R2 1 15
 -- wanted
+as told
+-- after
 as told
 
 == the rows after it: put_article
@@ -149,11 +177,15 @@ offer_rows: R1 1;
 price_rows: 1 1 1; 1 2 10;
 -- wanted
 as told
+-- after
+as told
 
 == put_offer
 commit
 put_offer R2 1
 -- wanted
+as told
+-- after
 as told
 
 == the rows after it: put_offer
@@ -166,11 +198,15 @@ offer_rows: R1 1; R2 1;
 price_rows: 1 1 1; 1 2 10;
 -- wanted
 as told
+-- after
+as told
 
 == put_price
 commit
 put_price 1 3 100
 -- wanted
+as told
+-- after
 as told
 
 == the rows after it: put_price
@@ -183,11 +219,15 @@ offer_rows: R1 1; R2 1;
 price_rows: 1 1 1; 1 2 10; 1 3 100;
 -- wanted
 as told
+-- after
+as told
 
 == put_record of what is there
 commit
 put_record north R2
 -- wanted
+as told
+-- after
 as told
 
 == the rows after it: put_record of what is there
@@ -200,11 +240,15 @@ offer_rows: R1 1; R2 1;
 price_rows: 1 1 1; 1 2 10; 1 3 100;
 -- wanted
 as told
+-- after
+as told
 
 == delete_articles
 commit
 delete_articles north R2
 -- wanted
+as told
+-- after
 as told
 
 == the rows after it: delete_articles
@@ -216,5 +260,7 @@ article_rows: R1 1 15;
 offer_rows: R1 1; R2 1;
 price_rows: 1 1 1; 1 2 10; 1 3 100;
 -- wanted
+as told
+-- after
 as told
 ";

@@ -2,10 +2,12 @@
 //! one waits, and so does a waiver. They and those of another version are not opened, and stay as they are,
 //! until they are migrated; then the desk in them goes on.
 
-/// From version 1 to version 2, by calls of files.
+/// From version 1 to version 2, by calls of files. Its report is an empty transcript.
 pub const VERSIONS: &str = "
 == versions
+tables
 -- wanted
+as told
 
 == files of version 1
 execute
@@ -42,11 +44,15 @@ INSERT INTO held VALUES ('north', 4, '');
 INSERT INTO held VALUES ('north', 6, 'waived');
 COMMIT;
 -- wanted
+-- after
+as told
 
 == they are not opened
 AskGaps,north
 -- wanted
 version 1
+-- after
+as told
 
 == and keep their rows
 tables
@@ -55,6 +61,8 @@ series_rows: north 3;
 article_rows: R1 1 15; R2 1 15;
 offer_rows: R1 1; R2 1;
 -- wanted
+as told
+-- after
 as told
 
 == the way to version 2, let go
@@ -69,21 +77,29 @@ put_price 1 2 10
 price_rows: 1 1 1; 1 2 10; 1 1 1;
 -- wanted
 as told
+-- after
+as told
 
 == another version
 execute
 UPDATE meta SET amount = 7
 -- wanted
+-- after
+as told
 
 == is not opened
 AskGaps,north
 -- wanted
 another version
+-- after
+as told
 
 == nor migrated
 migrate
 -- wanted
 another version
+-- after
+as told
 
 == and its rows stay
 tables
@@ -93,16 +109,22 @@ article_rows: R1 1 15; R2 1 15;
 offer_rows: R1 1; R2 1;
 -- wanted
 as told
+-- after
+as told
 
 == version 1 again
 execute
 UPDATE meta SET amount = 1
 -- wanted
+-- after
+as told
 
 == is migrated
 migrate
 -- wanted
 version 2
+-- after
+as told
 
 == with its rows, once
 tables
@@ -114,11 +136,15 @@ price_rows: 1 1 1; 1 1 1;
 migrate: unusable
 -- wanted
 as told
+-- after
+as told
 
 == and stays so
 migrate
 -- wanted
 version 2
+-- after
+as told
 ";
 
 /// What the desk is asked then. Each request has the same answers when it is made again.

@@ -8,6 +8,7 @@ from pathlib import Path
 from program import (
     architecture,
     batches,
+    broken_streams,
     clients,
     command_lines,
     commands,
@@ -48,6 +49,7 @@ MODULES = [
     growing,
     inbox,
     batches,
+    broken_streams,
     rules_files,
     inputs,
     command_lines,

@@ -25,9 +25,16 @@ pub enum End {
     Unopened,
     /// A disk may not be used again.
     Lost,
-    /// The tables are of this version.
-    Version(u32),
     Other,
+}
+
+/// How a call ends that gives this text, on a line.
+pub fn end_of_line(text: &str, output: &mut Vec<u8>) -> End {
+    if output.extend_from_slice(text.as_bytes()).is_ok() && output.push(b'\n').is_ok() {
+        End::Done
+    } else {
+        End::Memory
+    }
 }
 
 /// How a fault of a store is told.

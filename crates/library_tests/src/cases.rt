@@ -2,7 +2,7 @@
 //! thirty times as dear to prove as a call; and cases that stand in one text: a function that names a table
 //! of many texts takes as many seconds to prove as one that names the text takes tenths.
 
-use std::alloc::{AllocError, Global};
+use std::alloc::AllocError;
 use std::process::Abort;
 
 /// Ends the test with the name of the case, unless the case holds.
@@ -29,32 +29,9 @@ pub fn found<T>(stop: &impl Abort, found: Option<T>, name: &str) -> T {
     }
 }
 
-/// Ends the test with both and the name of the case, unless two texts are the same.
-pub fn expect_same(stop: &impl Abort, found: &str, wanted: &str, case: &str) {
-    assert_eq!(stop; found, wanted, "{case}");
-}
-
-/// The same of bytes.
+/// Ends the test with both and the name of the case, unless these are the same bytes.
 pub fn expect_bytes(stop: &impl Abort, found: &[u8], wanted: &[u8], case: &str) {
     assert_eq!(stop; found, wanted, "{case}");
-}
-
-/// Ends the test unless a text was made and is as wanted.
-pub fn expect_text<E: Drop>(stop: &impl Abort, found: Result<String, E>, wanted: &str) {
-    match found {
-        Ok(text) => expect_same(stop, text.as_str(), wanted, "a text"),
-        Err(_) => stop.panic(wanted),
-    }
-}
-
-/// Adds a number to a text.
-pub fn push_number(text: &mut String, number: u32) -> Result<(), AllocError> {
-    write!(text, "{number}")
-}
-
-/// The field at this place of a line, from 0, or an empty text.
-pub fn field(line: &str, place: usize) -> &str {
-    line.split(',').nth(place).unwrap_or("")
 }
 
 /// A case of a text of cases: what is given, what is to come of it, and what is to be found after it.
@@ -68,13 +45,9 @@ pub struct Step<'a> {
 
 // The case behind its `== `: a line with its name, what is given, a line `-- wanted`, what is wanted, and
 // where something is looked at after it, a line `-- after` and that.
-fn read_step<'a>(stop: &impl Abort, text: &'a str) -> Step<'a> {
-    let Some((name, rest)) = text.split_once('\n') else {
-        stop.panic(text)
-    };
-    let Some((given, rest)) = rest.split_once("-- wanted\n") else {
-        stop.panic(text)
-    };
+fn read_step(text: &str) -> Step<'_> {
+    let (name, rest) = text.split_once('\n').unwrap_or((text, ""));
+    let (given, rest) = rest.split_once("-- wanted\n").unwrap_or((rest, ""));
     let (wanted, after) = rest.split_once("-- after\n").unwrap_or((rest, ""));
     Step {
         name,
@@ -87,21 +60,21 @@ fn read_step<'a>(stop: &impl Abort, text: &'a str) -> Step<'a> {
 // More cases than any text has.
 const MOST_STEPS: usize = 100;
 
-/// The cases of a text, each behind a line end and `== `. They are found one after the other, since a loop
-/// over the parts of a text is dear to prove.
-pub fn steps_of<'a>(
-    alloc: Global,
+/// Adds the cases of a text, each behind a line end and `== `. They are found one after the other, since a
+/// loop over the parts of a text is dear to prove, and are added to a list that is lent, so that no way out
+/// lets go of them.
+pub fn add_steps<'a>(
     stop: &impl Abort,
     text: &'a str,
-) -> Result<Vec<Step<'a>>, AllocError> {
-    let mut steps = Vec::new(alloc);
+    steps: &mut Vec<Step<'a>>,
+) -> Result<(), AllocError> {
     let mut rest = text.strip_prefix("\n== ").unwrap_or("");
     for _ in 0..MOST_STEPS {
         let (step, more) = rest.split_once("\n== ").unwrap_or((rest, ""));
         if step.is_empty() {
-            return Ok(steps);
+            return Ok(());
         }
-        steps.push(read_step(stop, step))?;
+        steps.push(read_step(step))?;
         rest = more;
     }
     stop.panic("more cases than are read")

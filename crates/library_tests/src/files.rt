@@ -1,12 +1,14 @@
 //! Files that are opened for a call and closed behind it: a request to the desk in them, its way to
-//! version 2, calls of the tables, statements of the test's own.
+//! version 2, calls of the tables, statements of the test's own. What a call is stands in the first line of
+//! its text, and what it gives is written to the output that is lent.
 
 ghost use Rattle.std.specs.Prelude.{IsTrue};
 
-use crate::asking::{End, ask_store, end_of_fault};
+use crate::asking::{End, ask_store, end_of_fault, end_of_line};
+use crate::desks::{StoppedDesk, TestDesk};
 use crate::disks::{OPTIONS, TestFiles, copied, failing_files, stop_machine};
-use crate::tables::transcripts::first_unanswered;
-use desk_store::{DeskStore, MigrateAnswer, OpenFault, migrate_files};
+use crate::tables::transcripts::answer_of;
+use desk_store::{DeskStore, OpenFault, migrate_files};
 use desk_tables::rows::fault::fault_of;
 use desk_tables::tables::Tables;
 use desk_terms::StoreFault;
@@ -20,13 +22,25 @@ use std::alloc::Global;
 pub enum Call<'a> {
     /// A request under rules.
     Ask(&'a Precedence, &'a str),
-    /// To version 2: the answer is the line of the program.
+    /// To version 2, where it is not of that already.
     Migrate,
-    /// A transcript of the tables' calls, in one transaction that is let go. Where they are not answered
-    /// as it says, it ends as `Other`.
-    Tables(&'a str),
+    /// A transcript of the tables' calls, in one transaction, and whether that ends with `commit` or is let
+    /// go.
+    Tables(&'a str, bool),
     /// Statements.
     Execute(&'a str),
+}
+
+// The call of a text: what its first line says, and else a request.
+fn call_of<'a>(rules: &'a Precedence, text: &'a str) -> Call<'a> {
+    let (first, rest) = text.split_once('\n').unwrap_or((text, ""));
+    match first {
+        "migrate" => Call::Migrate,
+        "tables" => Call::Tables(rest, false),
+        "commit" => Call::Tables(rest, true),
+        "execute" => Call::Execute(rest),
+        _ => Call::Ask(rules, text),
+    }
 }
 
 // What a call is made of.
@@ -35,20 +49,13 @@ enum Opened<S: Alter> {
     Connection(Connection<S>),
 }
 
-fn end_of_opening(fault: OpenFault) -> End {
+// Where the tables are of another version, that is what the call gives.
+fn end_of_opening(fault: OpenFault, output: &mut Vec<u8>) -> End {
     match fault {
         OpenFault::Store(StoreFault::Disk) => End::Unopened,
         OpenFault::Store(fault) => end_of_fault(fault),
-        OpenFault::OtherVersion { found } => End::Version(found),
-    }
-}
-
-// Makes a transcript's calls.
-fn end_of_transcript<S: Alter>(alloc: Global, tables: &mut Tables<S>, transcript: &str) -> End {
-    match first_unanswered(alloc, tables, transcript) {
-        Ok(None) => End::Done,
-        Ok(Some(_)) => End::Other,
-        Err(fault) => end_of_fault(fault),
+        OpenFault::OtherVersion { found: 1 } => end_of_line("version 1", output),
+        OpenFault::OtherVersion { .. } => end_of_line("another version", output),
     }
 }
 
@@ -63,11 +70,12 @@ fn act_on<S: Alter + Drop>(
     alloc: Global,
     mut connection: Connection<S>,
     call: Call<'_>,
+    output: &mut Vec<u8>,
 ) -> (Connection<S>, End) {
     match call {
-        Call::Tables(transcript) => {
+        Call::Tables(transcript, is_kept) => {
             let mut tables = Tables::new(connection);
-            let end = end_of_transcript(alloc, &mut tables, transcript);
+            let end = answer_of(alloc, &mut tables, transcript, is_kept, output);
             (tables.into_connection(), end)
         }
         Call::Execute(statements) => {
@@ -93,7 +101,7 @@ fn act<S: Alter + Drop>(
             (Opened::Desk(desk), end)
         }
         Opened::Connection(connection) => {
-            let (connection, end) = act_on(alloc, connection, call);
+            let (connection, end) = act_on(alloc, connection, call, output);
             (Opened::Connection(connection), end)
         }
     }
@@ -145,7 +153,7 @@ fn ask<D: Disk + Drop>(
 {
     match DeskStore::open_files(alloc, files, OPTIONS) {
         Ok(desk) => act_and_close(alloc, Opened::Desk(desk), call, output),
-        Err((fault, left)) => (left.into_files(), end_of_opening(fault)),
+        Err((fault, left)) => (left.into_files(), end_of_opening(fault, output)),
     }
 }
 
@@ -164,24 +172,13 @@ fn connect<D: Disk + Drop>(
     }
 }
 
-fn write_migrated(answer: MigrateAnswer, output: &mut Vec<u8>) -> End {
-    let line = match answer {
-        MigrateAnswer::Migrated => "migrated\n",
-        MigrateAnswer::AlreadyTwo => "schema 2\n",
-    };
-    match output.extend_from_slice(line.as_bytes()) {
-        Ok(()) => End::Done,
-        Err(_) => End::Memory,
-    }
-}
-
 fn migrate<D: Disk + Drop>(alloc: Global, files: Files<D>, output: &mut Vec<u8>) -> (Files<D>, End)
     requires log { IsTrue (D.Disk.is_usable files.log) }
     requires db { IsTrue (D.Disk.is_usable files.db) }
 {
     match migrate_files(alloc, files, OPTIONS) {
-        Ok((answer, files)) => (files, write_migrated(answer, output)),
-        Err((fault, left)) => (left.into_files(), end_of_opening(fault)),
+        Ok((_, files)) => (files, end_of_line("version 2", output)),
+        Err((fault, left)) => (left.into_files(), end_of_opening(fault, output)),
     }
 }
 
@@ -198,7 +195,7 @@ fn opened_for<D: Disk + Drop>(
     match call {
         Call::Ask(..) => ask(alloc, files, call, output),
         Call::Migrate => migrate(alloc, files, output),
-        Call::Tables(_) | Call::Execute(_) => connect(alloc, files, call, output),
+        Call::Tables(..) | Call::Execute(_) => connect(alloc, files, call, output),
     }
 }
 
@@ -239,25 +236,38 @@ pub struct FileDesk {
     may_fail: bool,
 }
 
-impl FileDesk {
-    /// Over new files.
-    pub fn new(alloc: Global) -> FileDesk {
-        FileDesk {
+impl TestDesk for FileDesk {
+    fn open(alloc: Global) -> Result<FileDesk, End> {
+        Ok(FileDesk {
             files: Some(failing_files(alloc, u64::MAX, true)),
             may_fail: false,
-        }
+        })
     }
 
-    /// Over new files of which one fails each call from that one on, the log or the database.
-    pub fn failing(alloc: Global, calls: u64, is_log: bool) -> FileDesk {
+    // Opens its files for the call of a text, and closes them behind it. This is the only place that names
+    // the type of the files, since each further one is proved anew.
+    fn ask(
+        &mut self,
+        alloc: Global,
+        rules: &Precedence,
+        request: &str,
+        output: &mut Vec<u8>,
+    ) -> End {
+        output.clear();
+        let call = call_of(rules, request);
+        make(alloc, &mut self.files, self.may_fail, call, output)
+    }
+}
+
+impl StoppedDesk for FileDesk {
+    fn failing(alloc: Global, calls: u64, is_log: bool) -> FileDesk {
         FileDesk {
             files: Some(failing_files(alloc, calls, is_log)),
             may_fail: true,
         }
     }
 
-    /// Over what was written to its files, whether or not it was synced, in files of which one fails so.
-    pub fn copied(&self, alloc: Global, calls: u64, is_log: bool) -> Option<FileDesk> {
+    fn copied(&self, alloc: Global, calls: u64, is_log: bool) -> Option<FileDesk> {
         let files = self.files.as_ref()?;
         let copied = copied(alloc, files, calls, is_log).ok()?;
         Some(FileDesk {
@@ -266,16 +276,7 @@ impl FileDesk {
         })
     }
 
-    /// Opens its files for a call, and closes them behind it. What is answered is all that the output
-    /// holds then. This is the only place that names the type of the files, since each further one is
-    /// proved anew.
-    pub fn make(&mut self, alloc: Global, call: Call<'_>, output: &mut Vec<u8>) -> End {
-        output.clear();
-        make(alloc, &mut self.files, self.may_fail, call, output)
-    }
-
-    /// Stops the machine: what was not synced is lost. Says whether a file had failed before.
-    pub fn stop_machine(&mut self) -> bool {
+    fn stop_machine(&mut self) -> bool {
         match &mut self.files {
             Some(files) => stop_machine(files),
             None => false,

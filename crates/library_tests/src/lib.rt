@@ -18,10 +18,8 @@ mod lists;
 #[cfg(test)]
 mod refusals;
 #[cfg(test)]
-mod rules;
-#[cfg(test)]
 mod stores;
 #[cfg(test)]
-mod streams;
-#[cfg(test)]
 mod tables;
+#[cfg(test)]
+mod unasked;

@@ -1,43 +1,38 @@
 //! Lists of requests with their answers and what is reported between them, of any desk, where memory may
 //! be refused once: then what is reported is what was reported before the request, or what is to be after
 //! it, and made again it is answered as it is to be.
+//!
+//! A list is a text of cases. The first says what is asked for a report, what is reported of a new desk, and
+//! the text of the rules that all requests are asked under; each other one is a request, with its answer and
+//! the report after it, where one is told.
 
+pub mod calls;
 pub mod changes;
 pub mod drain;
 pub mod exchanges;
 pub mod late;
 pub mod minimums;
 pub mod questions;
+pub mod refused;
 pub mod steps;
 pub mod three;
+pub mod versions;
 pub mod waivers;
 
 use crate::asking::expect_asked;
-use crate::cases::{Step, expect, steps_of};
+use crate::cases::{Step, add_steps, expect};
 use crate::desks::TestDesk;
 use crate::refusals::Refusals;
 use price_rules::precedence::{Precedence, PrecedenceFault};
 use std::alloc::Global;
 use std::process::Abort;
 
-/// Requests, one after the other, as a text of cases.
-#[derive(Clone, Copy)]
-pub struct List<'a> {
-    pub name: &'a str,
-    /// The text of the rules that they are asked under.
-    pub rules: &'a str,
-    /// What is asked for a report after each request of which one is told, and the report before the
-    /// first, or none where any may be.
-    pub report: &'a str,
-    pub before: &'a str,
-    pub requests: &'a str,
-}
-
-// Rules and what is asked for a report.
+// The rules, what is asked for a report, and the report from before a request.
 #[derive(Clone, Copy)]
 struct Between<'a> {
     rules: &'a Precedence,
     report: &'a str,
+    before: &'a str,
 }
 
 // The rules of a text; where memory is refused they are read once more.
@@ -56,114 +51,115 @@ fn rules_of(
     }
 }
 
-// Whether this is the report, where one is told.
-fn is_report(reported: &[u8], report: &str) -> bool {
-    report.is_empty() || reported == report.as_bytes()
+// Whether a report is that from before a request or the one after it.
+fn is_near(reported: &[u8], before: &str, after: &str) -> bool {
+    reported == before.as_bytes() || reported == after.as_bytes()
 }
 
 // Ends the test unless a request that lacked memory left answers that begin as they are to be, and the
 // report from before it or the one after it.
-fn expect_near(
+fn expect_near<D: TestDesk>(
     alloc: Global,
     stop: &impl Abort,
-    desk: &mut TestDesk,
+    desk: &mut D,
     between: Between<'_>,
-    before: &str,
     step: Step<'_>,
     output: &mut Vec<u8>,
 ) {
     let is_begun = step.wanted.as_bytes().starts_with(output.as_slice());
-    expect(stop, is_begun, step.name);
     desk.ask(alloc, between.rules, between.report, output);
-    let reported = output.as_slice();
-    let is_near = is_report(reported, before) || is_report(reported, step.after);
-    expect(stop, is_near, step.name);
+    let is_near = is_near(output.as_slice(), between.before, step.after);
+    expect(stop, is_begun && is_near, step.name);
 }
 
 // Ends the test unless a request is answered as its step says.
-fn expect_answers(
+fn expect_answers<D: TestDesk>(
     alloc: Global,
     stop: &impl Abort,
     refusals: &mut Refusals,
-    desk: &mut TestDesk,
+    desk: &mut D,
     between: Between<'_>,
-    before: &str,
     step: Step<'_>,
     output: &mut Vec<u8>,
 ) {
     let mut ended = desk.ask(alloc, between.rules, step.given, output);
     if refusals.has_met(stop, ended) {
-        expect_near(alloc, stop, desk, between, before, step, output);
+        expect_near(alloc, stop, desk, between, step, output);
         ended = desk.ask(alloc, between.rules, step.given, output);
     }
     expect_asked(stop, ended, output.as_slice(), step.wanted, step.name);
 }
 
 // The same of the report after it.
-fn expect_report(
+fn expect_report<D: TestDesk>(
     alloc: Global,
     stop: &impl Abort,
     refusals: &mut Refusals,
-    desk: &mut TestDesk,
+    desk: &mut D,
     between: Between<'_>,
     step: Step<'_>,
     output: &mut Vec<u8>,
 ) {
-    let reported = Step {
-        name: step.name,
+    let before = step.after;
+    let between = Between { before, ..between };
+    let report = Step {
         given: between.report,
         wanted: step.after,
-        after: step.after,
+        ..step
     };
-    expect_answers(
-        alloc, stop, refusals, desk, between, step.after, reported, output,
-    );
+    expect_answers(alloc, stop, refusals, desk, between, report, output);
 }
 
-/// Asks requests one after the other.
-pub fn expect_steps(
+// Asks requests one after the other.
+fn expect_steps<'a, D: TestDesk>(
     alloc: Global,
     stop: &impl Abort,
     refusals: &mut Refusals,
-    desk: &mut TestDesk,
-    list: List<'_>,
-    steps: &[Step<'_>],
+    desk: &mut D,
+    mut between: Between<'a>,
+    steps: &[Step<'a>],
 ) {
-    let rules = rules_of(alloc, stop, refusals, list.rules);
-    let rules = refusals.own(stop, rules);
-    let between = Between {
-        rules: &rules,
-        report: list.report,
-    };
     let mut output = Vec::new(alloc);
-    let mut before = list.before;
     for step in steps {
-        expect_answers(
-            alloc,
-            stop,
-            refusals,
-            desk,
-            between,
-            before,
-            *step,
-            &mut output,
-        );
+        expect_answers(alloc, stop, refusals, desk, between, *step, &mut output);
         if !step.after.is_empty() {
             expect_report(alloc, stop, refusals, desk, between, *step, &mut output);
         }
-        before = step.after;
+        between.before = step.after;
     }
 }
 
-/// Asks all requests of a list.
-pub fn expect_list(
+// The same under the rules of a list and between its reports.
+fn expect_requests<D: TestDesk>(
     alloc: Global,
     stop: &impl Abort,
     refusals: &mut Refusals,
-    desk: &mut TestDesk,
-    list: List<'_>,
+    desk: &mut D,
+    told: Step<'_>,
+    requests: &[Step<'_>],
 ) {
-    let steps = refusals.own(stop, steps_of(alloc, stop, list.requests));
-    expect(stop, !steps.is_empty(), list.name);
-    expect_steps(alloc, stop, refusals, desk, list, steps.as_slice());
+    let rules = rules_of(alloc, stop, refusals, told.after);
+    let rules = refusals.own(stop, rules);
+    let between = Between {
+        rules: &rules,
+        report: told.given,
+        before: told.wanted,
+    };
+    expect_steps(alloc, stop, refusals, desk, between, requests);
+}
+
+/// Asks all requests of a list.
+pub fn expect_list<D: TestDesk>(
+    alloc: Global,
+    stop: &impl Abort,
+    refusals: &mut Refusals,
+    desk: &mut D,
+    list: &str,
+) {
+    let mut steps = Vec::new(alloc);
+    refusals.own(stop, add_steps(stop, list, &mut steps));
+    match steps.as_slice() {
+        [told, requests @ ..] => expect_requests(alloc, stop, refusals, desk, *told, requests),
+        [] => stop.panic("no cases"),
+    }
 }

@@ -1,8 +1,5 @@
 //! Tests of the desks, and of files with the desk in tables: the lists of requests where memory may be
-//! refused, what stands after a stop, and how files of version 1 go on. `tests/run` has what the program
-//! shows.
+//! refused, the calls of the tables, and what stands after a stop. `tests/run` has what the program shows.
 
-pub mod desks;
-mod files;
-mod migrations;
+mod desks;
 mod stops;

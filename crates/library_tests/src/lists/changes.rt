@@ -1,24 +1,17 @@
 //! Updates and deletions: an update that comes before what it updates, one of a record that is not there,
 //! one that leaves the supplies, another type of notification, and a deletion.
 
-use crate::lists::List;
-
 /// The list, with a report on gaps, a price and the catalogue.
-pub const CHANGES: List<'static> = List {
-    name: "updates and deletions",
-    rules: "",
-    report: "AskGaps,north
+pub const CHANGES: &str = "
+== updates and deletions
+AskGaps,north
 AskPrice,9781234567897,20250301,GB,GBP,02
 AskCatalogue,north
-",
-    before: "refused,unknown-series
+-- wanted
+refused,unknown-series
 price,9781234567897,0
 refused,unknown-series
-",
-    requests: REQUESTS,
-};
 
-const REQUESTS: &str = "
 == the agreement
 Agree,north,06,4012345000009,06,5012345678900,1
 -- wanted

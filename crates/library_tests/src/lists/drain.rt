@@ -1,30 +1,137 @@
 //! Forty messages that wait behind the first of their series, and the first, which lets all be applied.
 
-use crate::cases::push_number;
-use crate::lists::List;
-use std::alloc::{AllocError, Global};
+/// The list, with a report on gaps.
+pub const DRAIN: &str = "
+== drain
+AskGaps,north
+-- wanted
+refused,unknown-series
 
-/// The list, of which the text is that of `waiting`.
-pub fn drain<'a>(requests: &'a str) -> List<'a> {
-    List {
-        name: "drain",
-        rules: "",
-        report: "AskGaps,north\n",
-        before: "",
-        requests,
-    }
-}
-
-const AGREEMENT: &str = "
 == forty that wait
 Agree,north,06,4012345000009,06,5012345678900,1
-";
-
-// What stands before the number of each.
-const MESSAGE: &str = "Message,1,06,4012345000009,06,5012345678900,";
-
-// What lacks before the first, the first with its answer, and what lacks then.
-const FIRST: &str = "-- after
+Message,1,06,4012345000009,06,5012345678900,41,,,,
+EndMessage,1
+Message,1,06,4012345000009,06,5012345678900,40,,,,
+EndMessage,1
+Message,1,06,4012345000009,06,5012345678900,39,,,,
+EndMessage,1
+Message,1,06,4012345000009,06,5012345678900,38,,,,
+EndMessage,1
+Message,1,06,4012345000009,06,5012345678900,37,,,,
+EndMessage,1
+Message,1,06,4012345000009,06,5012345678900,36,,,,
+EndMessage,1
+Message,1,06,4012345000009,06,5012345678900,35,,,,
+EndMessage,1
+Message,1,06,4012345000009,06,5012345678900,34,,,,
+EndMessage,1
+Message,1,06,4012345000009,06,5012345678900,33,,,,
+EndMessage,1
+Message,1,06,4012345000009,06,5012345678900,32,,,,
+EndMessage,1
+Message,1,06,4012345000009,06,5012345678900,31,,,,
+EndMessage,1
+Message,1,06,4012345000009,06,5012345678900,30,,,,
+EndMessage,1
+Message,1,06,4012345000009,06,5012345678900,29,,,,
+EndMessage,1
+Message,1,06,4012345000009,06,5012345678900,28,,,,
+EndMessage,1
+Message,1,06,4012345000009,06,5012345678900,27,,,,
+EndMessage,1
+Message,1,06,4012345000009,06,5012345678900,26,,,,
+EndMessage,1
+Message,1,06,4012345000009,06,5012345678900,25,,,,
+EndMessage,1
+Message,1,06,4012345000009,06,5012345678900,24,,,,
+EndMessage,1
+Message,1,06,4012345000009,06,5012345678900,23,,,,
+EndMessage,1
+Message,1,06,4012345000009,06,5012345678900,22,,,,
+EndMessage,1
+Message,1,06,4012345000009,06,5012345678900,21,,,,
+EndMessage,1
+Message,1,06,4012345000009,06,5012345678900,20,,,,
+EndMessage,1
+Message,1,06,4012345000009,06,5012345678900,19,,,,
+EndMessage,1
+Message,1,06,4012345000009,06,5012345678900,18,,,,
+EndMessage,1
+Message,1,06,4012345000009,06,5012345678900,17,,,,
+EndMessage,1
+Message,1,06,4012345000009,06,5012345678900,16,,,,
+EndMessage,1
+Message,1,06,4012345000009,06,5012345678900,15,,,,
+EndMessage,1
+Message,1,06,4012345000009,06,5012345678900,14,,,,
+EndMessage,1
+Message,1,06,4012345000009,06,5012345678900,13,,,,
+EndMessage,1
+Message,1,06,4012345000009,06,5012345678900,12,,,,
+EndMessage,1
+Message,1,06,4012345000009,06,5012345678900,11,,,,
+EndMessage,1
+Message,1,06,4012345000009,06,5012345678900,10,,,,
+EndMessage,1
+Message,1,06,4012345000009,06,5012345678900,9,,,,
+EndMessage,1
+Message,1,06,4012345000009,06,5012345678900,8,,,,
+EndMessage,1
+Message,1,06,4012345000009,06,5012345678900,7,,,,
+EndMessage,1
+Message,1,06,4012345000009,06,5012345678900,6,,,,
+EndMessage,1
+Message,1,06,4012345000009,06,5012345678900,5,,,,
+EndMessage,1
+Message,1,06,4012345000009,06,5012345678900,4,,,,
+EndMessage,1
+Message,1,06,4012345000009,06,5012345678900,3,,,,
+EndMessage,1
+Message,1,06,4012345000009,06,5012345678900,2,,,,
+EndMessage,1
+-- wanted
+agreed,north,1
+held,north,41,waiting-for=1
+held,north,40,waiting-for=1
+held,north,39,waiting-for=1
+held,north,38,waiting-for=1
+held,north,37,waiting-for=1
+held,north,36,waiting-for=1
+held,north,35,waiting-for=1
+held,north,34,waiting-for=1
+held,north,33,waiting-for=1
+held,north,32,waiting-for=1
+held,north,31,waiting-for=1
+held,north,30,waiting-for=1
+held,north,29,waiting-for=1
+held,north,28,waiting-for=1
+held,north,27,waiting-for=1
+held,north,26,waiting-for=1
+held,north,25,waiting-for=1
+held,north,24,waiting-for=1
+held,north,23,waiting-for=1
+held,north,22,waiting-for=1
+held,north,21,waiting-for=1
+held,north,20,waiting-for=1
+held,north,19,waiting-for=1
+held,north,18,waiting-for=1
+held,north,17,waiting-for=1
+held,north,16,waiting-for=1
+held,north,15,waiting-for=1
+held,north,14,waiting-for=1
+held,north,13,waiting-for=1
+held,north,12,waiting-for=1
+held,north,11,waiting-for=1
+held,north,10,waiting-for=1
+held,north,9,waiting-for=1
+held,north,8,waiting-for=1
+held,north,7,waiting-for=1
+held,north,6,waiting-for=1
+held,north,5,waiting-for=1
+held,north,4,waiting-for=1
+held,north,3,waiting-for=1
+held,north,2,waiting-for=1
+-- after
 gaps,north,first=1,next=1,greatest=41,held=40,missing=1
 missing,1,1
 
@@ -36,44 +143,3 @@ applied,north,1,replaced=0,updated=0,deleted=0,unknown=0,ignored=0
 -- after
 gaps,north,first=1,next=42,greatest=41,held=0,missing=0
 ";
-
-// Adds a text with each number from 41 down to 2 in it.
-fn push_forty(text: &mut String, before: &str, after: &str) -> Result<(), AllocError> {
-    for above in 0..40u32 {
-        text.push_str(before)?;
-        push_number(text, 41u32.saturating_sub(above))?;
-        text.push_str(after)?;
-    }
-    Ok(())
-}
-
-/// The agreement with the messages from 41 down to 2 as one request, and the first message.
-pub fn waiting(alloc: Global) -> Result<String, AllocError> {
-    let mut text = String::from_str(alloc, AGREEMENT)?;
-    push_forty(&mut text, MESSAGE, ",,,,\nEndMessage,1\n")?;
-    text.push_str("-- wanted\nagreed,north,1\n")?;
-    push_forty(&mut text, "held,north,", ",waiting-for=1\n")?;
-    text.push_str(FIRST)?;
-    Ok(text)
-}
-
-/// What the tables answer where the first is next and the others wait, or where all are applied.
-pub fn rows(alloc: Global, are_applied: bool) -> Result<String, AllocError> {
-    let (first, held, applied) = if are_applied {
-        (APPLIED, ": none", ": '' 0 0 0 0 0")
-    } else {
-        (HELD, ": ''", ": none")
-    };
-    let mut text = String::from_str(alloc, first)?;
-    push_forty(&mut text, "\nnext_held ", held)?;
-    push_forty(&mut text, "\napplied_at ", applied)?;
-    Ok(text)
-}
-
-const HELD: &str = "series_by_name north: north 4012345000009 1
-next_held 1: none
-applied_at 1: none";
-
-const APPLIED: &str = "series_by_name north: north 4012345000009 42
-next_held 1: none
-applied_at 1: '' 0 0 0 0 0";

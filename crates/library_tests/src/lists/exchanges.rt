@@ -1,32 +1,26 @@
 //! Exchanges over HTTP: a message that waits, one that lets it be applied, a price, a choice, a calendar.
 //! What is replied is taken from the desk's written rules.
 
-use crate::lists::List;
-
 /// The list, with a report on gaps by an exchange too.
-pub const EXCHANGES: List<'static> = List {
-    name: "exchanges",
-    rules: "[[rule]]
-series = \"south\"
-codes = [\"31\"]
-[[rule]]
-series = \"*\"
-codes = [\"20\", \"21\"]
-",
-    report: "GET /series/north/gaps HTTP/1.1\r
+pub const EXCHANGES: &str = "
+== exchanges
+GET /series/north/gaps HTTP/1.1\r
 \r
-",
-    before: "HTTP/1.1 404 Not Found\r
+-- wanted
+HTTP/1.1 404 Not Found\r
 Content-Type: application/json\r
 Content-Length: 46\r
 Connection: close\r
 \r
 {\"answer\":\"refused\",\"reason\":\"unknown-series\"}
-",
-    requests: REQUESTS,
-};
+-- after
+[[rule]]
+series = \"south\"
+codes = [\"31\"]
+[[rule]]
+series = \"*\"
+codes = [\"20\", \"21\"]
 
-const REQUESTS: &str = "
 == the agreement, by a batch
 Agree,north,06,4012345000009,06,5012345678900,1
 -- wanted

@@ -1,22 +1,15 @@
 //! Late messages: two that wait for the first two, of which one comes again with other contents, and one
 //! that goes on waiting behind a second gap.
 
-use crate::lists::List;
-
 /// The list, with a report on gaps and the catalogue.
-pub const LATE: List<'static> = List {
-    name: "late messages",
-    rules: "",
-    report: "AskGaps,north
+pub const LATE: &str = "
+== late messages
+AskGaps,north
 AskCatalogue,north
-",
-    before: "refused,unknown-series
+-- wanted
 refused,unknown-series
-",
-    requests: REQUESTS,
-};
+refused,unknown-series
 
-const REQUESTS: &str = "
 == the agreement
 Agree,north,06,4012345000009,06,5012345678900,1
 -- wanted

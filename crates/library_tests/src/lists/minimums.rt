@@ -1,24 +1,17 @@
 //! Minimum order quantities: prices with one that wait, that are applied, that an update changes and takes
 //! away, and that go with their record.
 
-use crate::lists::List;
-
 /// The list, with a report on gaps, the price of ten copies and the catalogue.
-pub const MINIMUMS: List<'static> = List {
-    name: "minimum order quantities",
-    rules: "",
-    report: "AskGaps,north
+pub const MINIMUMS: &str = "
+== minimum order quantities
+AskGaps,north
 AskPrice,9781234567897,20250301,GB,GBP,02,10
 AskCatalogue,north
-",
-    before: "refused,unknown-series
+-- wanted
+refused,unknown-series
 price,9781234567897,0
 refused,unknown-series
-",
-    requests: REQUESTS,
-};
 
-const REQUESTS: &str = "
 == the agreement
 Agree,north,06,4012345000009,06,5012345678900,1
 -- wanted

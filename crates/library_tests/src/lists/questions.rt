@@ -1,24 +1,18 @@
 //! Choices of a supplier under rules whose text is read within the test, and calendars.
 
-use crate::lists::List;
-
 /// The list. Each request has the same answers when it is made again.
-pub const QUESTIONS: List<'static> = List {
-    name: "questions",
-    rules: "[[rule]]
+pub const QUESTIONS: &str = "
+== questions
+-- wanted
+-- after
+[[rule]]
 series = \"south\"
 codes = [\"31\"]
 [[rule]]
 series = \"*\"
 codes = [\"20\", \"21\"]
 max = \"12.99\"
-",
-    report: "",
-    before: "",
-    requests: REQUESTS,
-};
 
-const REQUESTS: &str = "
 == an offer of the second rule where the first admits none, of two at one amount
 Agree,north,06,4012345000009,06,5012345678900,1
 Agree,south,06,5000000000005,06,5012345678900,1

@@ -3,24 +3,17 @@
 //! the second gap and one that begins with a waiver, a deletion, updates, products that change nothing,
 //! repeats of what was applied, and what is refused of a number that was waived or had.
 
-use crate::lists::List;
-
 /// The list, with a report on gaps, a price and the catalogue.
-pub const STEPS: List<'static> = List {
-    name: "steps",
-    rules: "",
-    report: "AskGaps,north
+pub const STEPS: &str = "
+== steps
+AskGaps,north
 AskPrice,9781234567897,20250301,GB,GBP,02
 AskCatalogue,north
-",
-    before: "refused,unknown-series
+-- wanted
+refused,unknown-series
 price,9781234567897,0
 refused,unknown-series
-",
-    requests: REQUESTS,
-};
 
-const REQUESTS: &str = "
 == the agreement
 Agree,north,06,4012345000009,06,5012345678900,1
 -- wanted

@@ -1,24 +1,17 @@
 //! Three requests, few enough that each of their requests for memory over the tables is refused in the gate:
 //! an agreement, an update with a minimum that waits, and the message that lets it be applied.
 
-use crate::lists::List;
-
 /// The list, with a report on gaps, the price of ten copies and the catalogue.
-pub const THREE: List<'static> = List {
-    name: "three",
-    rules: "",
-    report: "AskGaps,north
+pub const THREE: &str = "
+== three
+AskGaps,north
 AskPrice,9781234567897,20250301,GB,GBP,02,10
 AskCatalogue,north
-",
-    before: "refused,unknown-series
+-- wanted
+refused,unknown-series
 price,9781234567897,0
 refused,unknown-series
-",
-    requests: REQUESTS,
-};
 
-const REQUESTS: &str = "
 == the agreement
 Agree,north,06,4012345000009,06,5012345678900,1
 -- wanted

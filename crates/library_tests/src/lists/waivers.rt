@@ -1,22 +1,15 @@
 //! Waivers: of a number that lets another be applied, twice, of one that waits, of one that was had, of a
 //! series that is not agreed, and messages of waived numbers.
 
-use crate::lists::List;
-
 /// The list, with a report on gaps and the catalogue.
-pub const WAIVERS: List<'static> = List {
-    name: "waivers",
-    rules: "",
-    report: "AskGaps,north
+pub const WAIVERS: &str = "
+== waivers
+AskGaps,north
 AskCatalogue,north
-",
-    before: "refused,unknown-series
+-- wanted
 refused,unknown-series
-",
-    requests: REQUESTS,
-};
+refused,unknown-series
 
-const REQUESTS: &str = "
 == the agreement
 Agree,north,06,4012345000009,06,5012345678900,1
 -- wanted

@@ -1,65 +1,77 @@
-//! The lists of requests, of the desk in memory and of the desk in tables over a store in memory.
+//! The lists of requests, of desks of all kinds, and the calls of the tables over files.
 //! `tests/refused-memory` and `bench/refused_memory` refuse each request for memory of these tests in turn.
 
 use crate::cases::expect;
-use crate::desks::{Kind, TestDesk};
-use crate::lists::drain::{drain, waiting};
+use crate::desks::{TestDesk, opened};
+use crate::files::FileDesk;
+use crate::lists::calls::CALLS;
+use crate::lists::drain::DRAIN;
 use crate::lists::exchanges::EXCHANGES;
+use crate::lists::expect_list;
 use crate::lists::questions::QUESTIONS;
+use crate::lists::refused::REFUSED;
 use crate::lists::steps::STEPS;
 use crate::lists::three::THREE;
-use crate::lists::{List, expect_list};
+use crate::lists::versions::VERSIONS;
 use crate::refusals::{Refusals, are_chosen};
+use desk_memory::MemoryDesk;
+use desk_store::DeskStore;
+use sqlite::MemStore;
 use std::alloc::Global;
 use std::process::Abort;
 use std::rt::Env;
 
-// Asks a new desk a list that is chosen: whether it is.
-fn ask_list<R: Abort + Env>(
+// Asks a new desk a list, where it is chosen: whether it is.
+fn ask_list<D: TestDesk + Drop, R: Abort + Env>(
     alloc: Global,
     rt: &R,
-    met: &mut Refusals,
-    kind: Kind,
-    list: List<'_>,
+    name: &str,
+    list: &str,
 ) -> bool {
-    if !are_chosen(rt, list.name) {
+    if !are_chosen(rt, name) {
         return false;
     }
-    let mut desk = TestDesk::new(alloc, rt, met, kind);
-    expect_list(alloc, rt, met, &mut desk, list);
+    let mut met = Refusals::of(rt);
+    let mut desk: D = opened(alloc, rt, &mut met);
+    expect_list(alloc, rt, &mut met, &mut desk, list);
     true
 }
 
-/// Asks new desks of a kind the lists that are chosen: whether one is.
-pub fn ask_lists<R: Abort + Env>(alloc: Global, rt: &R, met: &mut Refusals, kind: Kind) -> bool {
-    let steps = ask_list(alloc, rt, met, kind, STEPS);
-    let three = ask_list(alloc, rt, met, kind, THREE);
-    let questions = ask_list(alloc, rt, met, kind, QUESTIONS);
-    let exchanges = ask_list(alloc, rt, met, kind, EXCHANGES);
-    steps || three || questions || exchanges
+// Asks new desks of a kind the lists that are chosen.
+fn ask_lists<D: TestDesk + Drop, R: Abort + Env>(alloc: Global, rt: &R) {
+    let steps = ask_list::<D, R>(alloc, rt, "steps", STEPS);
+    let three = ask_list::<D, R>(alloc, rt, "three", THREE);
+    let questions = ask_list::<D, R>(alloc, rt, "questions", QUESTIONS);
+    let exchanges = ask_list::<D, R>(alloc, rt, "exchanges", EXCHANGES);
+    let drain = ask_list::<D, R>(alloc, rt, "drain", DRAIN);
+    let is_one = steps || three || questions || exchanges || drain;
+    expect(rt, is_one, "no cases of this name");
 }
 
-fn ask_drain<R: Abort + Env>(alloc: Global, rt: &R, met: &mut Refusals, kind: Kind) -> bool {
-    if !are_chosen(rt, "drain") {
-        return false;
-    }
-    let requests = met.own(rt, waiting(alloc));
-    ask_list(alloc, rt, met, kind, drain(requests.as_str()))
-}
-
-fn ask_all<R: Abort + Env>(alloc: Global, rt: &R, kind: Kind) {
-    let mut met = Refusals::of(rt);
-    let are_asked = ask_lists(alloc, rt, &mut met, kind);
-    let is_drained = ask_drain(alloc, rt, &mut met, kind);
-    expect(rt, are_asked || is_drained, "no cases of this name");
+// The lists of calls of the tables, of desks in files.
+fn make_calls<D: TestDesk + Drop, R: Abort + Env>(alloc: Global, rt: &R) {
+    let calls = ask_list::<D, R>(alloc, rt, "calls", CALLS);
+    let refused = ask_list::<D, R>(alloc, rt, "refused", REFUSED);
+    let versions = ask_list::<D, R>(alloc, rt, "versions", VERSIONS);
+    expect(rt, calls || refused || versions, "no cases of this name");
 }
 
 #[test]
 fn desk_in_memory(rt: HostRuntime) {
-    ask_all(rt.alloc(), &rt, Kind::Memory);
+    ask_lists::<MemoryDesk, HostRuntime>(rt.alloc(), &rt);
 }
 
 #[test]
 fn tables_in_memory(rt: HostRuntime) {
-    ask_all(rt.alloc(), &rt, Kind::Tables);
+    ask_lists::<DeskStore<MemStore>, HostRuntime>(rt.alloc(), &rt);
+}
+
+#[test]
+fn desk_in_files(rt: HostRuntime) {
+    ask_lists::<FileDesk, HostRuntime>(rt.alloc(), &rt);
+}
+
+#[test]
+fn tables_in_files(rt: HostRuntime) {
+    make_calls::<FileDesk, HostRuntime>(rt.alloc(), &rt);
 }

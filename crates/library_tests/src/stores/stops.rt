@@ -1,15 +1,19 @@
 //! The desk over files of which one fails from some call on: what stands after the machine has stopped, or
-//! the program alone, and that the requests can then be made again.
+//! the program alone, and that the requests can then be made again; and files of version 1 that are brought to
+//! version 2 so.
 
-use crate::asking::End;
-use crate::cases::{Step, expect, found, made, steps_of};
-use crate::files::{Call, FileDesk};
-use crate::lists::List;
+use crate::asking::{End, expect_asked};
+use crate::cases::{Step, add_steps, expect, found, made};
+use crate::desks::{StoppedDesk, TestDesk};
+use crate::files::FileDesk;
 use crate::lists::changes::CHANGES;
+use crate::lists::expect_list;
 use crate::lists::late::LATE;
 use crate::lists::minimums::MINIMUMS;
 use crate::lists::steps::STEPS;
+use crate::lists::versions::{MIGRATED, VERSIONS};
 use crate::lists::waivers::WAIVERS;
+use crate::refusals::Refusals;
 use price_rules::precedence::Precedence;
 use std::alloc::{AllocError, Global};
 use std::process::Abort;
@@ -17,7 +21,8 @@ use std::process::Abort;
 // A list whose requests are one batch.
 #[derive(Clone, Copy)]
 struct Batch<'a> {
-    list: List<'a>,
+    // The report before the first.
+    before: &'a str,
     steps: &'a [Step<'a>],
     rules: &'a Precedence,
     // All requests, and the same between two reports.
@@ -29,7 +34,7 @@ impl<'a> Batch<'a> {
     // Whether a text begins with the report after so many requests.
     fn begins_after(&self, text: &[u8], count: usize) -> bool {
         let report = match count.checked_sub(1) {
-            None => self.list.before,
+            None => self.before,
             Some(last) => match self.steps.get(last) {
                 Some(step) => step.after,
                 None => return false,
@@ -84,15 +89,15 @@ fn count_of(stop: &impl Abort, batch: Batch<'_>, end: End, output: &[u8]) -> Opt
 // Ends the test unless the report is the one after so many requests, or after one more, and that of no
 // request where the files were not opened; and unless the last report, when all requests are made again,
 // is that of a desk that was never stopped.
-fn expect_goes_on(
+fn expect_goes_on<D: TestDesk>(
     alloc: Global,
     stop: &impl Abort,
-    desk: &mut FileDesk,
+    desk: &mut D,
     batch: Batch<'_>,
     count: Option<usize>,
     output: &mut Vec<u8>,
 ) {
-    let end = desk.make(alloc, Call::Ask(batch.rules, batch.again), output);
+    let end = desk.ask(alloc, batch.rules, batch.again, output);
     let reported = output.as_slice();
     let is_left = match count {
         Some(count) => {
@@ -107,14 +112,14 @@ fn expect_goes_on(
 }
 
 // Asks files of which one fails; then the program stops, and the machine: whether a file had failed.
-fn stops(
+fn stops<D: StoppedDesk + Drop>(
     alloc: Global,
     stop: &impl Abort,
-    desk: &mut FileDesk,
+    desk: &mut D,
     batch: Batch<'_>,
     output: &mut Vec<u8>,
 ) -> bool {
-    let end = desk.make(alloc, Call::Ask(batch.rules, batch.first), output);
+    let end = desk.ask(alloc, batch.rules, batch.first, output);
     let count = count_of(stop, batch, end, output.as_slice());
     let mut written = found(stop, desk.copied(alloc, u64::MAX, true), "no copy");
     expect_goes_on(alloc, stop, &mut written, batch, count, output);
@@ -127,15 +132,15 @@ fn stops(
 }
 
 // Fails from each call of a file on in turn, until no call is left.
-fn expect_stops_of(
+fn expect_stops_of<D: StoppedDesk + Drop, R: Abort>(
     alloc: Global,
-    stop: &impl Abort,
+    stop: &R,
     batch: Batch<'_>,
     is_log: bool,
     output: &mut Vec<u8>,
 ) {
     for calls in 0..2_000u64 {
-        let mut desk = FileDesk::failing(alloc, calls, is_log);
+        let mut desk = D::failing(alloc, calls, is_log);
         if !stops(alloc, stop, &mut desk, batch, output) {
             return;
         }
@@ -144,55 +149,132 @@ fn expect_stops_of(
 }
 
 // The same of a list.
-fn expect_stops(alloc: Global, stop: &impl Abort, list: List<'_>, is_log: bool) {
+fn expect_stops<D: StoppedDesk + Drop, R: Abort>(
+    alloc: Global,
+    stop: &R,
+    list: &str,
+    is_log: bool,
+) {
     let rules = Precedence::none(alloc);
-    let steps = made(stop, steps_of(alloc, stop, list.requests));
-    expect(stop, !steps.is_empty(), list.name);
-    let again = made(stop, again(alloc, list.report, steps.as_slice()));
-    let first = again.as_str().strip_prefix(list.report).unwrap_or("");
+    let mut steps = Vec::new(alloc);
+    made(stop, add_steps(stop, list, &mut steps));
+    let [told, requests @ ..] = steps.as_slice() else {
+        stop.panic("no cases")
+    };
+    let again = made(stop, again(alloc, told.given, requests));
+    let first = again.as_str().strip_prefix(told.given).unwrap_or("");
     let batch = Batch {
-        list,
-        steps: steps.as_slice(),
+        before: told.wanted,
+        steps: requests,
         rules: &rules,
-        first: first.strip_suffix(list.report).unwrap_or(""),
+        first: first.strip_suffix(told.given).unwrap_or(""),
         again: again.as_str(),
     };
     let mut output = Vec::new(alloc);
-    expect_stops_of(alloc, stop, batch, is_log, &mut output);
+    expect_stops_of::<D, R>(alloc, stop, batch, is_log, &mut output);
+}
+
+// The same of files. Each list has a test of its own, since a test has a minute.
+fn expect_file_stops<R: Abort>(alloc: Global, stop: &R, list: &str, is_log: bool) {
+    expect_stops::<FileDesk, R>(alloc, stop, list, is_log);
+}
+
+// The same of both files.
+fn expect_both_stops<R: Abort>(alloc: Global, stop: &R, list: &str) {
+    expect_file_stops(alloc, stop, list, true);
+    expect_file_stops(alloc, stop, list, false);
 }
 
 #[test]
 fn stops_of_the_log(rt: HostRuntime) {
-    expect_stops(rt.alloc(), &rt, STEPS, true);
+    expect_file_stops(rt.alloc(), &rt, STEPS, true);
 }
 
 #[test]
 fn stops_of_the_database(rt: HostRuntime) {
-    expect_stops(rt.alloc(), &rt, STEPS, false);
-}
-
-// The same of both files. Each of the shorter lists has a test of its own, since a test has a minute.
-fn expect_stops_of_both(alloc: Global, stop: &impl Abort, list: List<'_>) {
-    expect_stops(alloc, stop, list, true);
-    expect_stops(alloc, stop, list, false);
+    expect_file_stops(rt.alloc(), &rt, STEPS, false);
 }
 
 #[test]
 fn late_messages(rt: HostRuntime) {
-    expect_stops_of_both(rt.alloc(), &rt, LATE);
+    expect_both_stops(rt.alloc(), &rt, LATE);
 }
 
 #[test]
 fn updates_and_deletions(rt: HostRuntime) {
-    expect_stops_of_both(rt.alloc(), &rt, CHANGES);
+    expect_both_stops(rt.alloc(), &rt, CHANGES);
 }
 
 #[test]
 fn waivers(rt: HostRuntime) {
-    expect_stops_of_both(rt.alloc(), &rt, WAIVERS);
+    expect_both_stops(rt.alloc(), &rt, WAIVERS);
 }
 
 #[test]
 fn minimum_order_quantities(rt: HostRuntime) {
-    expect_stops_of_both(rt.alloc(), &rt, MINIMUMS);
+    expect_both_stops(rt.alloc(), &rt, MINIMUMS);
+}
+
+// Migrates files of which one fails, stops the machine, and migrates what is left: whether a disk failed.
+fn migrates<D: StoppedDesk>(
+    alloc: Global,
+    stop: &impl Abort,
+    desk: &mut D,
+    rules: &Precedence,
+    output: &mut Vec<u8>,
+) -> bool {
+    let first = desk.ask(alloc, rules, "migrate", output);
+    let failed = desk.stop_machine();
+    let second = desk.ask(alloc, rules, "migrate", output);
+    let is_caused = failed || matches!(first, End::Done);
+    expect(stop, is_caused, "a fault without a cause");
+    expect_asked(
+        stop,
+        second,
+        output.as_slice(),
+        "version 2\n",
+        "what is left",
+    );
+    failed
+}
+
+// Fails from each call of a file on in turn, until no call is left: the log, or the database. The desk in
+// what is left goes on.
+fn expect_migrations<D: StoppedDesk + Drop, R: Abort>(
+    alloc: Global,
+    stop: &R,
+    given: &D,
+    rules: &Precedence,
+    is_log: bool,
+    output: &mut Vec<u8>,
+) {
+    for calls in 0..1_000u64 {
+        let mut files = found(stop, given.copied(alloc, calls, is_log), "no files");
+        let failed = migrates(alloc, stop, &mut files, rules, output);
+        expect_list(alloc, stop, &mut Refusals::none(), &mut files, MIGRATED);
+        if !failed {
+            return;
+        }
+    }
+    stop.panic("each run had too few calls")
+}
+
+// Of files that the first call of a list makes.
+fn expect_migrations_of<D: StoppedDesk + Drop, R: Abort>(alloc: Global, stop: &R, list: &str) {
+    let rules = Precedence::none(alloc);
+    let mut steps = Vec::new(alloc);
+    made(stop, add_steps(stop, list, &mut steps));
+    let [_, first, ..] = steps.as_slice() else {
+        stop.panic("no files of version 1")
+    };
+    let mut output = Vec::new(alloc);
+    let mut given: D = made(stop, D::open(alloc));
+    given.ask(alloc, &rules, first.given, &mut output);
+    expect_migrations(alloc, stop, &given, &rules, true, &mut output);
+    expect_migrations(alloc, stop, &given, &rules, false, &mut output);
+}
+
+#[test]
+fn migrations(rt: HostRuntime) {
+    expect_migrations_of::<FileDesk, HostRuntime>(rt.alloc(), &rt, VERSIONS);
 }

@@ -1,5 +1,7 @@
-//! Transcripts: texts of calls, each on a line of its own, and behind a colon what a query answers.
+//! Transcripts: texts of calls, each on a line of its own, and behind a colon what a query answers, or that
+//! the call is `unusable`.
 
+use crate::asking::{End, end_of_fault, end_of_line};
 use crate::tables::changes::change;
 use crate::tables::queries::ask;
 use crate::tables::words::name;
@@ -8,7 +10,9 @@ use desk_tables::work::Work;
 use desk_terms::StoreFault;
 use sqlite::Alter;
 use std::alloc::Global;
-use std::process::Abort;
+
+// Where each line is answered as it says.
+const TOLD: &str = "as told";
 
 // Whether a call is answered so; one that changes rows answers nothing.
 fn has_answer<S: Alter>(
@@ -18,7 +22,7 @@ fn has_answer<S: Alter>(
     wanted: &str,
 ) -> Result<bool, StoreFault> {
     let north = name("north")?;
-    match ask(alloc, work, &north, call, wanted) {
+    match ask(work, &north, call, wanted) {
         Some(answer) => answer,
         None => match change(alloc, work, call) {
             Ok(()) => Ok(wanted.is_empty()),
@@ -27,7 +31,7 @@ fn has_answer<S: Alter>(
     }
 }
 
-// The same of a line, behind whose colon may also stand that the call is `unusable`.
+// The same of a line.
 fn holds<S: Alter>(alloc: Global, work: &mut Work<'_, S>, line: &str) -> Result<bool, StoreFault> {
     let (call, wanted) = line.split_once(':').unwrap_or((line, ""));
     match has_answer(alloc, work, call, wanted) {
@@ -36,52 +40,53 @@ fn holds<S: Alter>(alloc: Global, work: &mut Work<'_, S>, line: &str) -> Result<
     }
 }
 
-/// The first line of a transcript that is not answered as it says.
-pub fn first_wrong<'a, S: Alter>(
+// The first line that is not answered as it says, or TOLD.
+fn first_wrong<'a, S: Alter>(
     alloc: Global,
     work: &mut Work<'_, S>,
     transcript: &'a str,
-) -> Result<Option<&'a str>, StoreFault> {
+) -> Result<&'a str, StoreFault> {
     for line in transcript.lines() {
         if !holds(alloc, work, line)? {
-            return Ok(Some(line));
+            return Ok(line);
         }
     }
-    Ok(None)
+    Ok(TOLD)
 }
 
-/// Whether each line of a transcript is answered as it says, in a transaction of its own that ends
-/// with `commit`.
-pub fn is_right<S: Alter>(
-    alloc: Global,
-    tables: &mut Tables<S>,
-    transcript: &str,
-) -> Result<bool, StoreFault> {
-    let mut work = tables.work()?;
-    let wrong = first_wrong(alloc, &mut work, transcript)?;
-    work.commit()?;
-    Ok(wrong.is_none())
+// Ends a transaction with `commit`, and tells where that is unusable.
+fn kept<'a, S: Alter>(work: Work<'_, S>, told: &'a str) -> Result<&'a str, StoreFault> {
+    match work.commit() {
+        Ok(()) => Ok(told),
+        Err(StoreFault::Unusable) if told == TOLD => Ok("unusable"),
+        Err(StoreFault::Unusable) => Ok(told),
+        Err(fault) => Err(fault),
+    }
 }
 
-/// The first line of a transcript that is not answered as it says. The transaction is let go.
-pub fn first_unanswered<'a, S: Alter>(
+fn told<'a, S: Alter>(
     alloc: Global,
     tables: &mut Tables<S>,
     transcript: &'a str,
-) -> Result<Option<&'a str>, StoreFault> {
+    is_kept: bool,
+) -> Result<&'a str, StoreFault> {
     let mut work = tables.work()?;
-    first_wrong(alloc, &mut work, transcript)
+    let told = first_wrong(alloc, &mut work, transcript)?;
+    if is_kept { kept(work, told) } else { Ok(told) }
 }
 
-/// Ends the test with the first line that is not answered as it says. The transaction is let go.
-pub fn expect_answers<S: Alter>(
+/// Makes the calls of a transcript in one transaction, which ends with `commit` or is let go, and writes
+/// `as told`, the first line that is not answered as it says, or where all are and `commit` is not, that it
+/// is `unusable`.
+pub fn answer_of<S: Alter>(
     alloc: Global,
-    stop: &impl Abort,
     tables: &mut Tables<S>,
     transcript: &str,
-) -> Result<(), StoreFault> {
-    match first_unanswered(alloc, tables, transcript)? {
-        Some(line) => stop.panic(line),
-        None => Ok(()),
+    is_kept: bool,
+    output: &mut Vec<u8>,
+) -> End {
+    match told(alloc, tables, transcript, is_kept) {
+        Ok(line) => end_of_line(line, output),
+        Err(fault) => end_of_fault(fault),
     }
 }

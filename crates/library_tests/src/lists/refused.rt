@@ -1,0 +1,246 @@
+//! Calls of the tables that are refused, since their key is taken, their parent is missing or the tables are
+//! there already: after a call that changes rows each is refused, and so is each later one, `commit` too, and
+//! nothing has changed. So it is with a transaction that is let go, and with what is not there.
+
+/// The list. Its report is what the queries give of the sample.
+pub const REFUSED: &str = "
+== refused
+tables
+version: 2
+series_rows: north 1;
+has_record R1: true
+has_record R3: false
+article_rows: R1 1 15;
+offer_rows: R1 1;
+price_rows: 1 1 1; 1 2 10;
+-- wanted
+version: 2
+
+== files without a byte
+migrate
+-- wanted
+version 2
+-- after
+series_rows: north 1;
+
+== the sample
+commit
+put_series north 4012345000009
+put_held north 1
+put_applied north 2
+put_record north R1
+put_article R1 1 15
+put_offer R1 1
+put_price 1 1 1
+put_price 1 2 10
+-- wanted
+as told
+-- after
+as told
+
+== put_series north 1
+commit
+put_record north R3
+put_series north 1: unusable
+put_record north R4: unusable
+version: unusable
+-- wanted
+unusable
+-- after
+as told
+
+== put_series south 4012345000009
+commit
+put_record north R3
+put_series south 4012345000009: unusable
+put_record north R4: unusable
+version: unusable
+-- wanted
+unusable
+-- after
+as told
+
+== put_held north 1
+commit
+put_record north R3
+put_held north 1: unusable
+put_record north R4: unusable
+version: unusable
+-- wanted
+unusable
+-- after
+as told
+
+== put_applied north 2
+commit
+put_record north R3
+put_applied north 2: unusable
+put_record north R4: unusable
+version: unusable
+-- wanted
+unusable
+-- after
+as told
+
+== put_held west 1
+commit
+put_record north R3
+put_held west 1: unusable
+put_record north R4: unusable
+version: unusable
+-- wanted
+unusable
+-- after
+as told
+
+== put_applied west 1
+commit
+put_record north R3
+put_applied west 1: unusable
+put_record north R4: unusable
+version: unusable
+-- wanted
+unusable
+-- after
+as told
+
+== create
+commit
+put_record north R3
+create: unusable
+put_record north R4: unusable
+version: unusable
+-- wanted
+unusable
+-- after
+as told
+
+== migrate
+commit
+put_record north R3
+migrate: unusable
+put_record north R4: unusable
+version: unusable
+-- wanted
+unusable
+-- after
+as told
+
+== put_record west R1
+commit
+put_record north R3
+put_record west R1: unusable
+put_record north R4: unusable
+version: unusable
+-- wanted
+unusable
+-- after
+as told
+
+== add_record north R1
+commit
+put_record north R3
+add_record north R1: unusable
+put_record north R4: unusable
+version: unusable
+-- wanted
+unusable
+-- after
+as told
+
+== add_record west R1
+commit
+put_record north R3
+add_record west R1: unusable
+put_record north R4: unusable
+version: unusable
+-- wanted
+unusable
+-- after
+as told
+
+== put_article R1 1 03
+commit
+put_record north R3
+put_article R1 1 03: unusable
+put_record north R4: unusable
+version: unusable
+-- wanted
+unusable
+-- after
+as told
+
+== put_article R2 1 03
+commit
+put_record north R3
+put_article R2 1 03: unusable
+put_record north R4: unusable
+version: unusable
+-- wanted
+unusable
+-- after
+as told
+
+== put_offer R1 1
+commit
+put_record north R3
+put_offer R1 1: unusable
+put_record north R4: unusable
+version: unusable
+-- wanted
+unusable
+-- after
+as told
+
+== put_offer R2 1
+commit
+put_record north R3
+put_offer R2 1: unusable
+put_record north R4: unusable
+version: unusable
+-- wanted
+unusable
+-- after
+as told
+
+== put_price 1 2 1
+commit
+put_record north R3
+put_price 1 2 1: unusable
+put_record north R4: unusable
+version: unusable
+-- wanted
+unusable
+-- after
+as told
+
+== put_price 2 1 10
+commit
+put_record north R3
+put_price 2 1 10: unusable
+put_record north R4: unusable
+version: unusable
+-- wanted
+unusable
+-- after
+as told
+
+== what is let go
+tables
+put_series south 1
+add_record north R3
+delete_articles north R1
+article_rows:
+-- wanted
+as told
+-- after
+as told
+
+== what is not there
+commit
+delete_articles north R2
+-- wanted
+as told
+-- after
+as told
+";

@@ -1,0 +1,188 @@
+"""Batches that end within a request, inputs of which a read fails behind some byte, outputs that take part of
+the answers, and disks that are full."""
+
+import os
+import socket
+import subprocess
+from pathlib import Path
+
+from program.clients import RESET
+from program.databases import DATABASE, batch, complaints
+from program.exchange_cases import AGREEMENTS, APPLIED, DELIVERY, NO_NUMBERS
+from program.room import SECONDS, Group, Outcome, Ran, Room
+from program.serving import Exchange, connected, posted, serving
+
+# A batch in parts, and what a batch is answered that ends within this part or at its end. A record whose first
+# field begins no request belongs to the request before it.
+AGREED = b"agreed,north,1\n"
+DELIVERED = AGREED + b"applied,north,1,replaced=1,updated=0,deleted=0,unknown=0,ignored=0\n"
+PARTS = [
+    (b"Agree,north,06,4012345000009,06,5012345678900,", b"refused,malformed,1\n"),
+    (b"1\n", AGREED),
+    (b"Messag", b"refused,malformed,2\n"),
+    (b"e,1,06,4012345000009,06,5012345678900,1,1,20250301,", AGREED + b"refused,malformed,1\n"),
+    (b",\nProduct,R1,03,15,", AGREED + b"refused,malformed,2\n"),
+    (b"9781234567897\nProductSupply,GB IE,", AGREED + b"refused,malformed,3\n"),
+    (b",\nSupplyDetail,04,06,4012345000009,North Books,21", AGREED + b"refused,malformed,4\n"),
+    (b",\nEndMessage,", AGREED + b"refused,malformed,5\n"),
+    (b"4\n", DELIVERED),
+    (b"AskGap", AGREED + b"refused,malformed,6\n"),
+    (b"s,", DELIVERED + b"refused,malformed,1\n"),
+    (b"nort", DELIVERED + b"refused,unknown-series\n"),
+    (b"h\n", DELIVERED + b"gaps,north,first=1,next=2,greatest=1,held=0,missing=0\n"),
+]
+
+BATCH = b"".join(part for part, _ in PARTS)
+ANSWERS = PARTS[-1][1]
+
+ASK_GAPS = b"AskGaps,north\n"
+NOT_AGREED = Ran(1, b"refused,unknown-series\n")
+NONE_APPLIED = Ran(0, b"gaps,north,first=1,next=1,greatest=,held=0,missing=0\n")
+ONE_APPLIED = Ran(0, b"gaps,north,first=1,next=2,greatest=1,held=0,missing=0\n")
+
+OVER_A_FILE = "--db", DATABASE, "batch"
+
+# No file may grow beyond so many blocks of 512 bytes, where it is said so.
+BLOCKS = 8192
+MOST_BYTES = BLOCKS * 512
+
+
+def bytes_of_parts():
+    """How many bytes of the batch are given, and what is answered then."""
+    given = 0
+    for part, answers in PARTS:
+        for _ in part:
+            given += 1
+            yield given, answers
+
+
+def cut_batches(room):
+    """Cut off behind each byte."""
+    for given, answers in bytes_of_parts():
+        came = room.run("batch", given=BATCH[:given])
+        wanted = Ran(1 if b"refused" in answers else 0, answers)
+        yield Outcome(f"a batch cut off behind {given} bytes", came, wanted)
+
+
+def failing_behind(text: bytes) -> socket.socket:
+    """An input of this text, of which the next read fails: who wrote it has closed its end and left a byte
+    unread there."""
+    writer, reader = socket.socketpair()
+    with writer:
+        reader.sendall(b"a")
+        writer.sendall(text)
+    return reader
+
+
+def run_with(room, words, **streams) -> Ran:
+    """Runs a command in a room with an input or an output of another kind."""
+    ways = {"stdout": subprocess.PIPE, "stderr": subprocess.PIPE} | streams
+    done = subprocess.run(words, cwd=room.folder, timeout=SECONDS, **ways)
+    return Ran(done.returncode, done.stdout or b"", done.stderr)
+
+
+def unread_batches(room):
+    """With a failed read behind each byte. Nothing is asked of the desk in a file, not the agreement either,
+    which would stand in it from then on."""
+    for given in range(len(BATCH) + 1):
+        with failing_behind(BATCH[:given]) as reader:
+            came = run_with(room, [room.program, *OVER_A_FILE], stdin=reader)
+        wanted = Ran(3, b"", b"onixdesk: input: read\n")
+        yield Outcome(f"a read that fails behind {given} bytes", came, wanted)
+    yield Outcome("the desk after reads that fail", batch(room, ASK_GAPS), NOT_AGREED)
+
+
+class Limited(Room):
+    """The same room, where no file may grow beyond so many blocks: a write behind them fails."""
+
+    def __init__(self, room: Room, blocks: int):
+        super().__init__(Path("/bin/sh"), room.folder)
+        script = f"trap '' XFSZ; ulimit -f {blocks}; exec \"$0\" \"$@\""
+        self.before = ["-c", script, str(room.program)]
+
+    def run(self, *words, **how) -> Ran:
+        return super().run(*self.before, *words, **how)
+
+    def start(self, *words, **how) -> subprocess.Popen:
+        return super().start(*self.before, *words, **how)
+
+
+def taken_answers(room, count: int) -> tuple[Ran, bytes]:
+    """How a batch ends whose output takes so many bytes, and these: the output is a file that can grow by
+    them alone."""
+    limited = Limited(room, BLOCKS)
+    words = [limited.program, *limited.before, *OVER_A_FILE]
+    start = MOST_BYTES - count
+    with open(room.path("answers"), "w+b") as answers, open(room.path("batch"), "rb") as given:
+        answers.seek(start)
+        came = run_with(room, words, stdin=given, stdout=answers)
+        answers.seek(start)
+        return came, answers.read()
+
+
+def written_in_parts(room):
+    """With outputs that take each part of the answers: they are written, and the requests up to the answer
+    that they end in are asked, and no other."""
+    room.write("batch", BATCH)
+    for count in range(len(ANSWERS)):
+        for file in room.folder.glob(f"{DATABASE}*"):
+            os.remove(file)
+        taken = ANSWERS[:count]
+        wanted = Ran(3, b"", b"onixdesk: output\n"), taken
+        yield Outcome(f"an output that takes {count} bytes", taken_answers(room, count), wanted)
+        report = ONE_APPLIED if b"\n" in taken else NONE_APPLIED
+        yield Outcome(f"the desk after {count} bytes of answers", batch(room, ASK_GAPS), report)
+
+
+def unread_deliveries(room):
+    """Connections that are reset behind each byte of a delivery. Nothing is delivered, and then the whole
+    delivery has its reply."""
+    answers = b"agreed,north,1\nagreed,south,5\nwaived,south,7\n"
+    yield Outcome("the agreements before resets", batch(room, AGREEMENTS), Ran(0, answers))
+    text = DELIVERY.input
+    with serving(room, ["--db", DATABASE], len(text) + 2) as desk:
+        for given in range(len(text)):
+            with connected(desk.port) as peer:
+                peer.sendall(text[:given])
+                peer.setsockopt(socket.SOL_SOCKET, socket.SO_LINGER, RESET)
+        yield Outcome("the gaps after resets", desk.reply([NO_NUMBERS.input]), NO_NUMBERS.reply())
+        yield Outcome("a delivery after resets", desk.reply([text]), APPLIED)
+        wanted = desk.wanted([*["fault"] * len(text), "200", "200"])
+        yield Outcome("the lines of resets", desk.ended(), wanted)
+
+
+# A message with so many records takes more than so many blocks, and a new desk does not.
+RECORDS, FULL = 10_000, 1024
+PRODUCTS = "".join(f"Product,R{number},03,15,9781234567897\n" for number in range(RECORDS))
+LARGE = f"Message,1,06,4012345000009,06,5012345678900,1,,,,\n{PRODUCTS}EndMessage,{RECORDS + 1}\n"
+
+
+def full_disks(room):
+    """A request for which the disk has no room is answered by a fault, and nothing of it is kept; it may be
+    sent again once there is room."""
+    full = Limited(room, FULL)
+    agreement = BATCH.splitlines(keepends=True)[0]
+    yield Outcome("the agreement before the full disk", batch(full, agreement), Ran(0, AGREED))
+    fault = Ran(3, b"", b"onixdesk: storage: disk\n")
+    yield Outcome("a batch on a full disk", batch(full, LARGE.encode()), fault)
+    yield Outcome("the desk after the full disk", batch(room, ASK_GAPS), NONE_APPLIED)
+    line, body = "503 Service Unavailable", '{"answer":"fault","reason":"disk"}'
+    exchange = Exchange("a delivery", posted(LARGE), line, body)
+    with serving(full, ["--db", DATABASE], 2) as desk:
+        yield Outcome("a delivery on a full disk", desk.reply([exchange.input]), exchange.reply())
+        came = desk.reply([NO_NUMBERS.input])
+        yield Outcome("a question on a full disk", came, NO_NUMBERS.reply())
+        yield Outcome("the lines on a full disk", desk.ended(), desk.wanted(["503", "200"]))
+    applied = b"applied,north,1,replaced=%d,updated=0,deleted=0,unknown=0,ignored=0\n" % RECORDS
+    came = batch(room, LARGE.encode()), complaints(room)
+    yield Outcome("the batch once there is room", came, (Ran(0, applied), []))
+    yield Outcome("the desk then", batch(room, ASK_GAPS), ONE_APPLIED)
+
+
+GROUPS = [
+    Group("batches cut off", cut_batches),
+    Group("batches that cannot be read to their ends", unread_batches),
+    Group("answers that are taken in part", written_in_parts),
+    Group("deliveries that cannot be read to their ends", unread_deliveries),
+    Group("full disks", full_disks),
+]

@@ -1,6 +1,5 @@
 //! Calls of `desk_tables` by transcripts: texts with a call on each line, and behind a colon what it answers.
-//! `lists` has the transcripts. Here are the calls that no request makes, and those that can be refused; the
-//! other calls each desk in tables makes.
+//! `lists` has the transcripts.
 
 mod answers;
 mod changes;

@@ -12,27 +12,69 @@ tables
 create
 version: 2
 put_series north 4012345000009
-series_rows: north 1;
+series_by_name north: north 4012345000009 1
+series_by_name south: none
+series_by_parties 4012345000009: north 4012345000009 1
+series_by_parties 5012345678900: none
+series_rows: north 4012345000009 1;
+put_held north 1 later
+next_held 1: later
+next_held 2: none
+gap_rows: 1;
+take_held 1: later
+take_held 1: none
+put_applied north 1 1 2 3 4 5
+applied_at 1: first 1 2 3 4 5
+applied_at 2: none
+set_next north 2
+series_by_name north: north 4012345000009 2
 put_record north R1
 put_record north R1
+record_rows: R1;
 has_record R1: true
 has_record R2: false
 add_record north R2
 has_record R2: true
+delete_record north R2
 put_article R1 1 15
 put_article R1 2 03
 put_article R1 3 01
 article_rows: R1 1 15; R1 2 03; R1 3 01;
+record_articles R1: R1 1 15; R1 2 03; R1 3 01;
+record_articles R2:
 put_offer R1 1
 put_offer R1 2
 offer_rows: R1 1; R1 2;
+record_offers R1: R1 1; R1 2;
+record_offers R2:
 put_price 1 1 1
+has_minimums: false
+offer_prices_without_minimums R1 1: 1;
 put_price 1 2 10
+has_minimums: true
 put_price 2 1 5
 price_rows: 1 1 1; 1 2 10; 2 1 5;
+offer_prices R1 1: 1; 10;
+offer_prices R1 2: 5;
+offers_by_article 9781234567897: R1 1 1 10; R1 2 5;
+offers_by_article 9780000000002:
 delete_articles north R1
 article_rows:
+offers_by_article 9781234567897:
 offer_rows: R1 1; R1 2;
+delete_offers north R1
+offer_rows:
+price_rows:
+has_record R1: true
+put_offer R1 1
+put_price 1 1 1
+put_article R1 1 15
+delete_record north R1
+has_record R1: false
+article_rows:
+offer_rows:
+price_rows:
+series_rows: north 4012345000009 2;
 -- wanted
 as told
 -- after
@@ -50,8 +92,8 @@ as told
 == the sample
 commit
 put_series north 4012345000009
-put_held north 1
-put_applied north 2
+put_held north 1 later
+put_applied north 2 1 2 3 4 5
 put_record north R1
 put_article R1 1 15
 put_offer R1 1
@@ -64,12 +106,24 @@ as told
 
 == the rows after it: the sample
 tables
-series_rows: north 1;
+version: 2
+series_by_name north: north 4012345000009 1
+series_by_parties 4012345000009: north 4012345000009 1
+series_rows: north 4012345000009 1;
+next_held 1: later
+gap_rows: 1;
+applied_at 1: none
+applied_at 2: first 1 2 3 4 5
 has_record R1: true
 has_record R2: false
+record_rows: R1;
 article_rows: R1 1 15;
+record_articles R1: R1 1 15;
 offer_rows: R1 1;
+record_offers R1: R1 1;
 price_rows: 1 1 1; 1 2 10;
+offer_prices R1 1: 1; 10;
+offers_by_article 9781234567897: R1 1 1 10;
 -- wanted
 as told
 -- after
@@ -85,7 +139,7 @@ as told
 
 == the rows after it: put_series
 tables
-series_rows: north 1; south 1;
+series_rows: north 4012345000009 1; south 1 1;
 has_record R1: true
 has_record R2: false
 article_rows: R1 1 15;
@@ -98,7 +152,7 @@ as told
 
 == put_held
 commit
-put_held north 3
+put_held north 3 later
 -- wanted
 as told
 -- after
@@ -106,7 +160,7 @@ as told
 
 == the rows after it: put_held
 tables
-series_rows: north 1; south 1;
+series_rows: north 4012345000009 1; south 1 1;
 has_record R1: true
 has_record R2: false
 article_rows: R1 1 15;
@@ -119,7 +173,7 @@ as told
 
 == put_applied
 commit
-put_applied north 1
+put_applied north 1 1 2 3 4 5
 -- wanted
 as told
 -- after
@@ -127,7 +181,7 @@ as told
 
 == the rows after it: put_applied
 tables
-series_rows: north 1; south 1;
+series_rows: north 4012345000009 1; south 1 1;
 has_record R1: true
 has_record R2: false
 article_rows: R1 1 15;
@@ -148,7 +202,7 @@ as told
 
 == the rows after it: add_record
 tables
-series_rows: north 1; south 1;
+series_rows: north 4012345000009 1; south 1 1;
 has_record R1: true
 has_record R2: true
 article_rows: R1 1 15;
@@ -169,7 +223,7 @@ as told
 
 == the rows after it: put_article
 tables
-series_rows: north 1; south 1;
+series_rows: north 4012345000009 1; south 1 1;
 has_record R1: true
 has_record R2: true
 article_rows: R1 1 15; R2 1 15;
@@ -190,7 +244,7 @@ as told
 
 == the rows after it: put_offer
 tables
-series_rows: north 1; south 1;
+series_rows: north 4012345000009 1; south 1 1;
 has_record R1: true
 has_record R2: true
 article_rows: R1 1 15; R2 1 15;
@@ -211,7 +265,7 @@ as told
 
 == the rows after it: put_price
 tables
-series_rows: north 1; south 1;
+series_rows: north 4012345000009 1; south 1 1;
 has_record R1: true
 has_record R2: true
 article_rows: R1 1 15; R2 1 15;
@@ -232,7 +286,7 @@ as told
 
 == the rows after it: put_record of what is there
 tables
-series_rows: north 1; south 1;
+series_rows: north 4012345000009 1; south 1 1;
 has_record R1: true
 has_record R2: true
 article_rows: R1 1 15; R2 1 15;
@@ -253,7 +307,7 @@ as told
 
 == the rows after it: delete_articles
 tables
-series_rows: north 1; south 1;
+series_rows: north 4012345000009 1; south 1 1;
 has_record R1: true
 has_record R2: true
 article_rows: R1 1 15;

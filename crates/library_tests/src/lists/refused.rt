@@ -7,7 +7,7 @@ pub const REFUSED: &str = "
 == refused
 tables
 version: 2
-series_rows: north 1;
+series_rows: north 4012345000009 1;
 has_record R1: true
 has_record R3: false
 article_rows: R1 1 15;
@@ -21,13 +21,13 @@ migrate
 -- wanted
 version 2
 -- after
-series_rows: north 1;
+series_rows: north 4012345000009 1;
 
 == the sample
 commit
 put_series north 4012345000009
-put_held north 1
-put_applied north 2
+put_held north 1 later
+put_applied north 2 1 2 3 4 5
 put_record north R1
 put_article R1 1 15
 put_offer R1 1
@@ -63,7 +63,7 @@ as told
 == put_held north 1
 commit
 put_record north R3
-put_held north 1: unusable
+put_held north 1 other: unusable
 put_record north R4: unusable
 version: unusable
 -- wanted
@@ -74,7 +74,7 @@ as told
 == put_applied north 2
 commit
 put_record north R3
-put_applied north 2: unusable
+put_applied north 2 0 0 0 0 0: unusable
 put_record north R4: unusable
 version: unusable
 -- wanted
@@ -85,7 +85,7 @@ as told
 == put_held west 1
 commit
 put_record north R3
-put_held west 1: unusable
+put_held west 1 later: unusable
 put_record north R4: unusable
 version: unusable
 -- wanted
@@ -96,7 +96,7 @@ as told
 == put_applied west 1
 commit
 put_record north R3
-put_applied west 1: unusable
+put_applied west 1 1 2 3 4 5: unusable
 put_record north R4: unusable
 version: unusable
 -- wanted

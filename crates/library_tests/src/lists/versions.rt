@@ -57,7 +57,7 @@ as told
 == and keep their rows
 tables
 version: 1
-series_rows: north 3;
+series_rows: north 4012345000009 3;
 article_rows: R1 1 15; R2 1 15;
 offer_rows: R1 1; R2 1;
 -- wanted
@@ -70,7 +70,7 @@ tables
 version: 1
 migrate
 version: 2
-series_rows: north 3;
+series_rows: north 4012345000009 3;
 article_rows: R1 1 15; R2 1 15;
 offer_rows: R1 1; R2 1;
 put_price 1 2 10
@@ -104,7 +104,7 @@ as told
 == and its rows stay
 tables
 version: 7
-series_rows: north 3;
+series_rows: north 4012345000009 3;
 article_rows: R1 1 15; R2 1 15;
 offer_rows: R1 1; R2 1;
 -- wanted
@@ -129,7 +129,7 @@ as told
 == with its rows, once
 tables
 version: 2
-series_rows: north 3;
+series_rows: north 4012345000009 3;
 article_rows: R1 1 15; R2 1 15;
 offer_rows: R1 1; R2 1;
 price_rows: 1 1 1; 1 1 1;

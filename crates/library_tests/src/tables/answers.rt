@@ -1,12 +1,18 @@
-//! What a query gives, beside what the words of a transcript name: the keys of a row. What is compared takes
-//! no memory.
+//! What a query gives, beside what the words of a transcript name. What is compared takes no memory.
 
 use crate::tables::words::{is_whole, word};
-use desk_tables::rows::row_types::{ArticleRow, OfferRow, PriceRow};
+use desk_tables::rows::row_types::{ArticleRow, OfferRow, PriceRow, RecordRow};
 use desk_tables::rows::series::SeriesRow;
-use desk_terms::StoreFault;
+use desk_terms::{Agreement, Effect, StoreFault};
+use onix_records::parts::{Price, Supplier};
+use onix_terms::items::Items;
+use onix_terms::number::Number;
+use onix_terms::party::Party;
+use onix_terms::territory::Territory;
+use onix_terms::text::Text;
+use price_rules::offer::Offer;
 
-/// What a query gives a list of.
+/// What a query gives one of, or a list.
 pub trait Answer {
     /// Whether it is the one that the words of a line name.
     fn is(&self, line: &str) -> bool;
@@ -38,34 +44,175 @@ pub fn are_all<T: Answer + Drop>(
     }
 }
 
-// Whether the first words of a line are this text and this number.
-fn is_key(line: &str, text: &str, number: u32) -> bool {
-    word(line, 0) == text && is_whole(word(line, 1), number)
+/// The same of items.
+pub fn are_items<T: Answer + Drop>(
+    rows: Result<Items<T>, StoreFault>,
+    wanted: &str,
+) -> Result<bool, StoreFault> {
+    match rows {
+        Ok(rows) => Ok(are(rows.as_slice(), wanted)),
+        Err(fault) => Err(fault),
+    }
+}
+
+/// Whether a query gives what a text names, or nothing where the text is `none`.
+pub fn is_found<T: Answer + Drop>(
+    found: Result<Option<T>, StoreFault>,
+    wanted: &str,
+) -> Result<bool, StoreFault> {
+    match found {
+        Ok(Some(one)) => Ok(wanted != " none" && one.is(wanted)),
+        Ok(None) => Ok(wanted == " none"),
+        Err(fault) => Err(fault),
+    }
+}
+
+fn is_party(party: &Party, value: &str) -> bool {
+    party.id_type.as_str() == "06" && party.id_value.as_str() == value
+}
+
+fn is_optional_party(party: &Option<Party>, value: &str) -> bool {
+    match party {
+        Some(party) => is_party(party, value),
+        None => false,
+    }
+}
+
+fn is_agreement(agreement: &Agreement, series: &str, sender: &str) -> bool {
+    agreement.name.as_str() == series
+        && is_party(&agreement.sender, sender)
+        && is_optional_party(&agreement.addressee, "5012345678900")
+        && agreement.first.value() == 1
 }
 
 impl Answer for SeriesRow {
     fn is(&self, line: &str) -> bool {
-        is_key(line, self.agreement.name.as_str(), self.next)
+        is_agreement(&self.agreement, word(line, 0), word(line, 1))
+            && is_whole(word(line, 2), self.next)
+    }
+}
+
+// Whether a word is this text. Two apostrophes are the empty one.
+fn is_text(text: &Text, word: &str) -> bool {
+    let wanted = if word == "''" { "" } else { word };
+    text.as_str() == wanted
+}
+
+impl Answer for Text {
+    fn is(&self, line: &str) -> bool {
+        is_text(self, word(line, 0))
+    }
+}
+
+impl Answer for (Text, Effect) {
+    fn is(&self, line: &str) -> bool {
+        let (contents, counts) = self;
+        is_text(contents, word(line, 0))
+            && is_whole(word(line, 1), counts.replaced)
+            && is_whole(word(line, 2), counts.updated)
+            && is_whole(word(line, 3), counts.deleted)
+            && is_whole(word(line, 4), counts.unknown)
+            && is_whole(word(line, 5), counts.ignored)
+    }
+}
+
+impl Answer for Number {
+    fn is(&self, line: &str) -> bool {
+        is_whole(word(line, 0), self.value())
+    }
+}
+
+impl Answer for RecordRow {
+    fn is(&self, line: &str) -> bool {
+        self.series.as_str() == "north" && self.reference.as_str() == word(line, 0)
     }
 }
 
 impl Answer for ArticleRow {
     fn is(&self, line: &str) -> bool {
-        is_key(line, self.reference.as_str(), self.id_place)
+        self.series.as_str() == "north"
+            && self.reference.as_str() == word(line, 0)
+            && is_whole(word(line, 1), self.id_place)
             && self.id_type.as_str() == word(line, 2)
+            && self.id_value.as_str() == "9781234567897"
     }
+}
+
+// Whether it is GB and IE.
+fn is_market(market: &Territory) -> bool {
+    match market.included.as_slice() {
+        [first, second] => {
+            first.as_str() == "GB"
+                && second.as_str() == "IE"
+                && !market.world
+                && market.excluded.is_empty()
+        }
+        _ => false,
+    }
+}
+
+fn is_world(territory: &Territory) -> bool {
+    territory.included.is_empty() && territory.world && territory.excluded.is_empty()
+}
+
+fn is_supplier(supplier: &Supplier) -> bool {
+    supplier.role.as_str() == "04"
+        && is_optional_party(&supplier.party, "4012345000009")
+        && supplier.name.as_str() == "North Books"
 }
 
 impl Answer for OfferRow {
     fn is(&self, line: &str) -> bool {
-        is_key(line, self.reference.as_str(), self.place)
+        self.series.as_str() == "north"
+            && self.reference.as_str() == word(line, 0)
+            && is_whole(word(line, 1), self.place)
+            && self.supply == 1
+            && is_market(&self.market)
+            && is_supplier(&self.supplier)
+            && self.availability.as_str() == "21"
+            && self.unpriced.is_none()
     }
 }
 
+impl Answer for Price {
+    fn is(&self, line: &str) -> bool {
+        self.price_type.as_str() == "02"
+            && self.amount.thousandths() == 12_990
+            && self.currency.as_str() == "GBP"
+            && is_world(&self.territory)
+            && is_whole(word(line, 0), self.minimum.value())
+            && self.from.is_none()
+            && self.until.is_none()
+    }
+}
+
+// The words are its places and from how many copies on it holds, of whatever record and amount.
 impl Answer for PriceRow {
     fn is(&self, line: &str) -> bool {
         is_whole(word(line, 0), self.place)
             && is_whole(word(line, 1), self.price_place)
             && is_whole(word(line, 2), self.price.minimum.value())
+    }
+}
+
+// The words are its reference, its place and, of each of its prices, from how many copies on.
+impl Answer for Offer {
+    fn is(&self, line: &str) -> bool {
+        self.series.as_str() == "north"
+            && self.reference.as_str() == word(line, 0)
+            && is_whole(word(line, 1), self.place)
+            && self.availability.as_str() == "21"
+            && is_market(&self.market)
+            && is_supplier(&self.supplier)
+            && are_from(self.prices.as_slice(), word(line, 2), word(line, 3))
+    }
+}
+
+// Whether there is one price, or two, from so many copies on.
+fn are_from(prices: &[Price], first: &str, second: &str) -> bool {
+    match prices {
+        [one] => one.is(first) && second == "",
+        [one, two] => one.is(first) && two.is(second),
+        _ => false,
     }
 }

@@ -1,9 +1,9 @@
 //! The calls that change rows, each by its name and what its line gives it.
 
-use crate::tables::sample::{agreement, article, offer, price_row};
-use crate::tables::words::{name, number, word};
+use crate::tables::sample::{agreement, article, effect, offer, price_row};
+use crate::tables::words::{name, number, whole, word};
 use desk_tables::work::Work;
-use desk_terms::{Effect, StoreFault};
+use desk_terms::StoreFault;
 use sqlite::Alter;
 use std::alloc::Global;
 
@@ -56,19 +56,18 @@ fn put_price<S: Alter>(
 
 fn put_held<S: Alter>(work: &mut Work<'_, S>, line: &str) -> Result<(), StoreFault> {
     let series = name(word(line, 1))?;
-    work.put_held(&series, number(word(line, 2))?, "later")
+    work.put_held(&series, number(word(line, 2))?, word(line, 3))
 }
 
 fn put_applied<S: Alter>(work: &mut Work<'_, S>, line: &str) -> Result<(), StoreFault> {
-    let counts = Effect {
-        replaced: 1,
-        updated: 2,
-        deleted: 3,
-        unknown: 4,
-        ignored: 5,
-    };
+    let counts = effect(line)?;
     let series = name(word(line, 1))?;
     work.put_applied(&series, number(word(line, 2))?, "first", &counts)
+}
+
+fn set_next<S: Alter>(work: &mut Work<'_, S>, line: &str) -> Result<(), StoreFault> {
+    let series = name(word(line, 1))?;
+    work.set_next(&series, whole(word(line, 2))?)
 }
 
 // The calls that are given a series and a reference. A name that no call has is a fault that no call
@@ -79,6 +78,8 @@ fn change_record<S: Alter>(work: &mut Work<'_, S>, line: &str) -> Result<(), Sto
         "add_record" => work.add_record(&series, word(line, 2)),
         "put_record" => work.put_record(&series, word(line, 2)),
         "delete_articles" => work.delete_articles(&series, word(line, 2)),
+        "delete_offers" => work.delete_offers(&series, word(line, 2)),
+        "delete_record" => work.delete_record(&series, word(line, 2)),
         _ => Err(StoreFault::Size),
     }
 }
@@ -98,6 +99,7 @@ pub fn change<S: Alter>(
         "put_price" => put_price(alloc, work, line),
         "put_held" => put_held(work, line),
         "put_applied" => put_applied(work, line),
+        "set_next" => set_next(work, line),
         _ => change_record(work, line),
     }
 }

@@ -1,9 +1,9 @@
 //! The rows that transcripts name by few words. What they do not name is the same in all rows: the
 //! market GB and IE, the supplier North Books, the price 12.99 GBP of the world.
 
-use crate::tables::words::{code, name, number, term, whole};
-use desk_tables::rows::row_types::{ArticleRow, OfferRow, PriceRow};
-use desk_terms::{Agreement, StoreFault};
+use crate::tables::words::{code, name, number, term, whole, word};
+use desk_tables::rows::row_types::{ArticleRow, OfferRow, PriceRow, RecordRow};
+use desk_terms::{Agreement, Effect, StoreFault};
 use onix_records::parts::{Price, Supplier};
 use onix_terms::amount::Amount;
 use onix_terms::code::Currency;
@@ -28,8 +28,8 @@ fn territory(alloc: Global, included: &str, regions: &str) -> Result<Territory, 
     }
 }
 
-// The party with this GLN.
-fn party(alloc: Global, value: &str) -> Result<Party, StoreFault> {
+/// The party with this GLN.
+pub fn party(alloc: Global, value: &str) -> Result<Party, StoreFault> {
     Ok(Party {
         id_type: code("06")?,
         id_value: text(alloc, value)?,
@@ -53,6 +53,25 @@ pub fn agreement(alloc: Global, series: &str, sender: &str) -> Result<Agreement,
         }),
         None => Err(StoreFault::Memory),
     }
+}
+
+/// The five counts of an effect, behind the name of the call, the series and the number.
+pub fn effect(line: &str) -> Result<Effect, StoreFault> {
+    Ok(Effect {
+        replaced: whole(word(line, 3))?,
+        updated: whole(word(line, 4))?,
+        deleted: whole(word(line, 5))?,
+        unknown: whole(word(line, 6))?,
+        ignored: whole(word(line, 7))?,
+    })
+}
+
+/// The record of `north` by its reference.
+pub fn record(alloc: Global, reference: &str) -> Result<RecordRow, StoreFault> {
+    Ok(RecordRow {
+        series: name("north")?,
+        reference: text(alloc, reference)?,
+    })
 }
 
 /// The identifier of a record of `north` by the reference, its place and its type.

@@ -22,7 +22,7 @@ fn has_answer<S: Alter>(
     wanted: &str,
 ) -> Result<bool, StoreFault> {
     let north = name("north")?;
-    match ask(work, &north, call, wanted) {
+    match ask(alloc, work, &north, call, wanted) {
         Some(answer) => answer,
         None => match change(alloc, work, call) {
             Ok(()) => Ok(wanted.is_empty()),

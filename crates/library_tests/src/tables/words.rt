@@ -2,6 +2,7 @@
 
 use desk_terms::StoreFault;
 use onix_terms::code::Code2;
+use onix_terms::isbn13::Isbn13;
 use onix_terms::number::Number;
 use onix_terms::series_name::SeriesName;
 
@@ -26,6 +27,10 @@ pub fn name(text: &str) -> Result<SeriesName, StoreFault> {
 
 pub fn number(text: &str) -> Result<Number, StoreFault> {
     term(Number::read(text))
+}
+
+pub fn isbn(text: &str) -> Result<Isbn13, StoreFault> {
+    term(Isbn13::read(text))
 }
 
 pub fn code(text: &str) -> Result<Code2, StoreFault> {

@@ -16,6 +16,7 @@ use Rattle.desk_http.specs.Refusals.{reply_of_refusal}
 use Rattle.desk_http.specs.Reply.{Reply}
 use Rattle.desk_http.specs.ExchangeSteps.{IfMemory, IfWrite, OnRead}
 use Rattle.desk_http.specs.declared.exchange.HttpFault.{HttpFault}
+use Rattle.desk_http.specs.declared.exchange.Wanted.TheVariants.{Asked, Refused}
 use Rattle.desk_http.specs.declared.exchange.HttpFault.TheVariants as fault
 use Rattle.onixdesk.specs.Course.{Course}
 use Rattle.onixdesk.specs.Serving.{AtMostMore, BeginInDoubt, ExchangeEnds, ExchangeFits, KeepsReplied, LeavesAtMostMore, WritesFront, line_of, lines_of}
@@ -116,9 +117,9 @@ exchange_next : (rules : List Rule) (may_give : StoreFault → Type 0) (L : List
     → (reply.status ≡ 503 → KeepsReplied rules L (outcomes ++ Ok reply.status ∷ []) stands left)
     → KeepsReplied rules L (outcomes ++ Ok reply.status ∷ []) stands left
 exchange_next rules may_give L outcomes replies kept stands left replied all wanted reply after (refuses {why = why}) stood leaves doubt =
-    reply_next rules L outcomes replies kept kept (Err why) (reply_of_refusal why) stands left replied all refuses stood leaves
+    reply_next rules L outcomes replies kept kept (Refused why) (reply_of_refusal why) stands left replied all refuses stood leaves
 exchange_next rules may_give L outcomes replies kept stands left replied all wanted reply after (answers {r = r}) stood leaves doubt =
-    reply_next rules L outcomes replies kept (r ∷ kept) (Ok r) (reply_of_answer (answer_to rules kept r)) stands left replied all answers stood (λ M may. either M (leaves M may))
+    reply_next rules L outcomes replies kept (r ∷ kept) (Asked r) (reply_of_answer (answer_to rules kept r)) stands left replied all answers stood (λ M may. either M (leaves M may))
   where
     either : (M : List Request) → SameContent M (r ∷ kept) ⊎ SameContent M (r ∷ kept) → SameContent M (r ∷ kept)
     either M (inl same) = same

@@ -49,9 +49,9 @@ def memory_of_batch(desk: Desk) -> Iterator[Figure]:
     yield Figure("memory at the peak of a batch, to the text", bytes_taken, given.stat().st_size, "bytes")
 
 
-def catalogue(questions: list[str]) -> list[str]:
-    """A batch that makes a catalogue of 5,000 records and asks these questions about it."""
-    return [texts.AGREEMENT, *texts.offers(range(1, 6), RECORDS // 5), *questions]
+def catalogue(questions: list[str], records: int = RECORDS) -> list[str]:
+    """A batch that makes a catalogue of so many records and asks these questions about it."""
+    return [texts.AGREEMENT, *texts.offers(range(1, 6), records // 5), *questions]
 
 
 def catalogue_answer(desk: Desk) -> Path:
@@ -110,6 +110,24 @@ def prices_to_rows(desk: Desk) -> Iterator[Figure]:
         raise BenchmarkFault("SQLite alone gave other answers than the desk")
     one, other = least_of_each(lambda: beyond(asked, plain), lambda: beyond(rows, no_rows))
     yield Figure("10,000 price questions in memory, to the same by SQLite alone", one, other)
+
+
+def first_questions(desk: Desk) -> Iterator[Figure]:
+    """The first 100 price questions, the listing of the articles of 5,000 new records included, to the intake
+    of these."""
+    plain = desk.batch(desk.text("catalogue", catalogue([])))
+    asked = desk.batch(desk.text("asked", catalogue(list(texts.scattered_questions(RECORDS, 100)))))
+    one, other = least_of_each(lambda: beyond(asked, plain), lambda: beyond(plain, desk.empty()))
+    yield Figure("the first 100 price questions, to the intake of 5,000 records", one, other)
+
+
+def memory_of_question(desk: Desk) -> Iterator[Figure]:
+    """The greatest memory of a batch that keeps 20,000 records and asks one price question, to the same
+    without it."""
+    plain = desk.batch(desk.text("catalogue", catalogue([], 20_000)))
+    asked = desk.batch(desk.text("asked", catalogue(list(texts.scattered_questions(20_000, 1)), 20_000)))
+    one, other = kilobytes_of(asked), kilobytes_of(plain)
+    yield Figure("memory at the peak with a price question, to that without", one, other, "KB")
 
 
 def growth(desk: Desk) -> Iterator[Figure]:

@@ -15,6 +15,9 @@ ANSWERS = 40
 # How many records a catalogue has, and how many questions are asked about its prices.
 RECORDS, QUESTIONS = 5_000, 10_000
 
+# How many records a batch keeps whose memory is looked at beside that of one question.
+MANY_RECORDS = 20_000
+
 
 def unknown_messages(desk: Desk) -> tuple[Run, Path]:
     """The run that reads 500 messages of a series that nobody agreed, and refuses each once it has read
@@ -121,11 +124,16 @@ def first_questions(desk: Desk) -> Iterator[Figure]:
     yield Figure("the first 100 price questions, to the intake of 5,000 records", one, other)
 
 
+def one_question() -> list[str]:
+    """A question about the price of one record of many."""
+    return list(texts.scattered_questions(MANY_RECORDS, 1))
+
+
 def memory_of_question(desk: Desk) -> Iterator[Figure]:
     """The greatest memory of a batch that keeps 20,000 records and asks one price question, to the same
     without it."""
-    plain = desk.batch(desk.text("catalogue", catalogue([], 20_000)))
-    asked = desk.batch(desk.text("asked", catalogue(list(texts.scattered_questions(20_000, 1)), 20_000)))
+    plain = desk.batch(desk.text("catalogue", catalogue([], MANY_RECORDS)))
+    asked = desk.batch(desk.text("asked", catalogue(one_question(), MANY_RECORDS)))
     one, other = kilobytes_of(asked), kilobytes_of(plain)
     yield Figure("memory at the peak with a price question, to that without", one, other, "KB")
 

@@ -91,6 +91,7 @@ def sizes(room):
         "greatest messages": [texts.AGREEMENT, *texts.greatest_messages()],
         "catalogues": in_memory.catalogue([texts.PRICE_QUESTION] * 100 * in_memory.ANSWERS),
         "price questions": in_memory.catalogue(in_memory.price_questions()),
+        "one question": in_memory.catalogue(in_memory.one_question(), in_memory.MANY_RECORDS),
         "prices": in_files.prices(),
         "a filling": texts.offers(range(61, 61 + in_files.BATCH), in_files.FILLING),
         "questions": texts.scattered_questions(80_000, in_files.QUESTIONS),

@@ -4,7 +4,8 @@
 #     compare.sh FILE SCHEMA
 # FILE is a copy of the desk's file that nobody else has open, with its log beside it as FILE-wal where there is
 # one. SCHEMA has the tables; which database it is, psql's environment says (PGHOST, PGDATABASE, PGUSER ..).
-# Status 0; 1 where rows differ, or sqlite3 or psql fails; 2 where it cannot begin. It needs both.
+# Status 0; 1 where rows differ; 2 where it cannot begin; another one than 0 where sqlite3 or psql fails. It needs
+# both.
 set -euo pipefail
 . "$(dirname "$(readlink -f "${BASH_SOURCE[0]}")")/tables.sh"
 if [ $# -ne 2 ] || [ ! -f "$1" ]; then
@@ -12,11 +13,16 @@ if [ $# -ne 2 ] || [ ! -f "$1" ]; then
     exit 2
 fi
 file=$1 schema=$2
+names=$(tables)
+if [ -z "$names" ]; then
+    echo "compare.sh: $file has no tables" >&2
+    exit 2
+fi
 room=$(mktemp -d)
 trap 'rm -rf "$room"' EXIT
 
 status=0
-for table in $(tables); do
+for table in $names; do
     count=$(sqlite "SELECT count(*) FROM $table")
     rows_of_desk "$table" >"$room/desk"
     rows_of_postgres "$table" >"$room/postgres"

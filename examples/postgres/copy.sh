@@ -16,12 +16,17 @@ if [ $# -lt 1 ] || [ $# -gt 2 ] || [ ! -f "$1" ]; then
 fi
 file=$1 wanted=${2:-desk}
 schema=${wanted}_next
+names=$(tables)
+if [ -z "$names" ]; then
+    echo "copy.sh: $file has no tables" >&2
+    exit 2
+fi
 
 {
     echo "DROP SCHEMA IF EXISTS $schema CASCADE; CREATE SCHEMA $schema; SET search_path = $schema;"
     definitions
 } | postgres
-for table in $(tables); do
+for table in $names; do
     rows_of_desk "$table" | postgres --command "COPY $schema.$table FROM STDIN (FORMAT csv)"
 done
 "$folder/compare.sh" "$file" "$schema"

@@ -3,7 +3,7 @@
 from html import escape
 
 from drawing.crates import LAYERS, ROOT, read_crates
-from drawing.places import LABEL, MARGIN, WIDTH, Band, Box, Places, Point, Ways
+from drawing.places import MARGIN, WIDTH, Band, Box, Places, Point, Ways
 
 PICTURE = ROOT / "docs/crates.svg"
 

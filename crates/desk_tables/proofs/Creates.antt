@@ -1,5 +1,5 @@
--- What CREATE TABLE does, table by table.
-use Rattle.std.proofs.Common.{◌≡◌, ℕ, List, [], slice_get, false, None, Some, Ok, refl, sym, ap, subst, ◌∙◌}
+-- What CREATE TABLE and CREATE INDEX do.
+use Rattle.std.proofs.Common.{◌≡◌, ℕ, List, [], slice_get, None, Some, Ok, refl, sym, ap, subst, ◌∙◌}
 use Rattle.sqlite_value.specs.Order.{Row}
 use Rattle.sqlite_trees.proofs.ListLemmas.{all-append, all_both}
 use Rattle.sqlite_schema.specs.declared.schema.Schema.{Schema}
@@ -7,7 +7,7 @@ use Rattle.sqlite_schema.specs.declared.schema.Index.{Index}
 use Rattle.sqlite_schema.specs.declared.schema.Table.{Table}
 use Rattle.sqlite_trees.specs.Tree.{Trees}
 use Rattle.sqlite_schema.specs.declared.command.Command.TheVariants.{CreateTable, CreateIndex}
-use Rattle.sqlite_resolve.specs.Compile.{table_defined_by, index_defined_by}
+use Rattle.sqlite_resolve.specs.Compile.{index_defined_by}
 use Rattle.sqlite_catalog.specs.Change.{created, indexed, next_tree, KeepsRows}
 use Rattle.sqlite.specs.Listing.{understood}
 use Rattle.sqlite.specs.Effect.{Database, IsDatabase}
@@ -15,25 +15,24 @@ use Rattle.sqlite.specs.Does.{Tally, AtPlace, Defines, Does, MakesIndex, lacks_s
 use Rattle.sqlite.specs.State.{State, Executes, Writes, mode_of}
 use Rattle.sqlite.proofs.Callers.{IsPlain, command_of, statement_of, runs_as}
 use Rattle.desk_tables.proofs.Inserts.{went, same_value}
-use Rattle.desk_tables.specs.Transactions.{IsEmptied}
-use Rattle.desk_tables.specs.Schema.{meta_table, meta_definition, series_table, series_definition, held_table, held_definition, applied_table, applied_definition, record_table, record_definition, article_table, article_definition, offer_table, offer_definition, price_table, price_definition, price_minimum_table, price_minimum_definition, article_index, article_index_definition, first_schema, schema_0, schema_1, schema_2, schema_3, schema_4, schema_5, schema_6, schema_7, schema_8, schema_9}
+use Rattle.desk_tables.specs.Transactions.{HasNoRows, IsEmptied}
+use Rattle.desk_tables.specs.Schema.{article_table, article_index, article_index_definition, first_schema, price_minimum_definition, price_minimum_table, unindexed_schema}
 use Rattle.desk_tables.specs.RecordRows.{minimum_columns}
 use Rattle.desk_tables.specs.Rows.{AreFirst, DeskRows, Holds, HoldsFirst, Stands, no_rows}
-use Rattle.desk_tables.proofs.SchemaTexts.{meta_defined, meta_is, series_defined, series_is, held_defined, held_is, applied_defined, applied_is, record_defined, record_is, article_defined, article_is, offer_defined, offer_is, price_defined, price_is, price_minimum_defined, price_minimum_is, article_index_defined, article_index_is}
+use Rattle.desk_tables.proofs.SchemaTexts.{CreatesTable, creates_minimum, article_index_defined, article_index_is}
 
 -- CREATE TABLE: the table is there without rows, and the others are as they were
-pub table_made : (text : List ℕ) (schema : Schema) (table : Table) → command_of (understood schema text) ≡ CreateTable → statement_of text (understood schema text) ≡ text → IsPlain (understood schema text)
-    → table_defined_by text ≡ Ok table → lacks_sequence (created schema table) ≡ false → (old new : State) (count : ℕ) → old.now.schema ≡ schema → Executes text [] old new (Ok count)
+pub table_made : (text : List ℕ) (schema : Schema) (table : Table) → CreatesTable schema text table → (old new : State) (count : ℕ) → old.now.schema ≡ schema → Executes text [] old new (Ok count)
     → (new.now.schema ≡ created schema table) × IsDatabase new.now × (new.now.trees (next_tree schema) ≡ []) × KeepsRows schema.tables old.now.trees new.now.trees
-table_made text schema table is whole plain defined uncounted old new count has h =
-    let w = subst (λ t. Writes old new None CreateTable t [] count) whole (runs_as text [] old new schema has CreateTable is plain count h) in
+table_made text schema table creates old new count has h =
+    let w = subst (λ t. Writes old new None CreateTable t [] count) creates.whole (runs_as text [] old new schema has CreateTable creates.command creates.plain count h) in
     let all = went w.changed in
     let first = went all.1 in
     let made = first.1 in
-    let both : Ok made.table ≡ Ok table = sym made.defined ∙ defined in
+    let both : Ok made.table ≡ Ok table = sym made.defined ∙ creates.defined in
     let same : made.table ≡ table = cc in
     let after : first.0.schema ≡ created schema table = made.is ∙ ap (λ s. created s made.table) has ∙ ap (created schema) same in
-    let now : new.now ≡ first.0 = ap (λ (p : Tally × Database). p.1) (same_value all.2) ∙ same_value (rw (ap lacks_sequence after ∙ uncounted) at first.2) in
+    let now : new.now ≡ first.0 = ap (λ (p : Tally × Database). p.1) (same_value all.2) ∙ same_value (rw (ap lacks_sequence after ∙ creates.uncounted) at first.2) in
     let kept = subst (λ (s : Schema). KeepsRows s.tables old.now.trees first.0.trees) has made.others in
     let empty = subst (λ s. first.0.trees (next_tree s) ≡ []) has made.empty in
     (ap (λ (d : Database). d.schema) now ∙ after, w.sound, subst (λ (d : Database). d.trees (next_tree schema) ≡ []) (sym now) empty, subst (λ (d : Database). KeepsRows schema.tables old.now.trees d.trees) (sym now) kept)
@@ -57,41 +56,17 @@ index_made text schema at table index is whole plain listed defined old new coun
       subst (λ (d : Database). KeepsRows schema.tables old.now.trees d.trees) (sym now) made.rows,
     )
 
-pub creates : (text : List ℕ) (schema : Schema) (table : Table) → command_of (understood schema text) ≡ CreateTable → statement_of text (understood schema text) ≡ text → IsPlain (understood schema text)
-    → table_defined_by text ≡ Ok table → lacks_sequence (created schema table) ≡ false → (old new : State) (count : ℕ) → IsEmptied schema old.now → Executes text [] old new (Ok count)
-    → IsEmptied (created schema table) new.now × IsDatabase new.now
-creates text schema table is whole plain defined uncounted old new count was h =
-    let made = table_made text schema table is whole plain defined uncounted old new count was.schema_is h in (
+-- tables without rows, and one more
+pub one_made : (text : List ℕ) (schema : Schema) (table : Table) → CreatesTable schema text table → (old new : State) (count : ℕ) → IsEmptied schema old.now → Executes text [] old new (Ok count)
+    → HasNoRows (created schema table) new.now
+one_made text schema table creates old new count was h =
+    let made = table_made text schema table creates old new count was.schema_is h in (
       record {
         schema_is = made.0;
         empty = all-append (λ (t : Table). new.now.trees t.tree ≡ []) schema.tables _ (all_both _ _ _ (λ t same none. same ∙ none) schema.tables made.3 was.empty) (made.2, tt);
       },
       made.1,
     )
-
-pub makes_meta : (old new : State) (count : ℕ) → IsEmptied schema_0 old.now → Executes meta_definition [] old new (Ok count) → IsEmptied schema_1 new.now × IsDatabase new.now
-makes_meta = creates meta_definition schema_0 (meta_table 0) meta_is.0 meta_is.1 meta_is.2 meta_defined refl
-
-pub makes_series : (old new : State) (count : ℕ) → IsEmptied schema_1 old.now → Executes series_definition [] old new (Ok count) → IsEmptied schema_2 new.now × IsDatabase new.now
-makes_series = creates series_definition schema_1 (series_table 0) series_is.0 series_is.1 series_is.2 series_defined refl
-
-pub makes_held : (old new : State) (count : ℕ) → IsEmptied schema_2 old.now → Executes held_definition [] old new (Ok count) → IsEmptied schema_3 new.now × IsDatabase new.now
-makes_held = creates held_definition schema_2 (held_table 0) held_is.0 held_is.1 held_is.2 held_defined refl
-
-pub makes_applied : (old new : State) (count : ℕ) → IsEmptied schema_3 old.now → Executes applied_definition [] old new (Ok count) → IsEmptied schema_4 new.now × IsDatabase new.now
-makes_applied = creates applied_definition schema_3 (applied_table 0) applied_is.0 applied_is.1 applied_is.2 applied_defined refl
-
-pub makes_record : (old new : State) (count : ℕ) → IsEmptied schema_4 old.now → Executes record_definition [] old new (Ok count) → IsEmptied schema_5 new.now × IsDatabase new.now
-makes_record = creates record_definition schema_4 (record_table 0) record_is.0 record_is.1 record_is.2 record_defined refl
-
-pub makes_article : (old new : State) (count : ℕ) → IsEmptied schema_5 old.now → Executes article_definition [] old new (Ok count) → IsEmptied schema_6 new.now × IsDatabase new.now
-makes_article = creates article_definition schema_5 (article_table 0) article_is.0 article_is.1 article_is.2 article_defined refl
-
-pub makes_offer : (old new : State) (count : ℕ) → IsEmptied schema_6 old.now → Executes offer_definition [] old new (Ok count) → IsEmptied schema_7 new.now × IsDatabase new.now
-makes_offer = creates offer_definition schema_6 (offer_table 0) offer_is.0 offer_is.1 offer_is.2 offer_defined refl
-
-pub makes_price : (old new : State) (count : ℕ) → IsEmptied schema_7 old.now → Executes price_definition [] old new (Ok count) → IsEmptied schema_8 new.now × IsDatabase new.now
-makes_price = creates price_definition schema_7 (price_table 0) price_is.0 price_is.1 price_is.2 price_defined refl
 
 -- ---- from version 1 to version 2
 
@@ -110,7 +85,7 @@ first_kept old new rows kept h = record {
 
 -- the tables of version 2, without the index
 pub record HoldsUnindexed (db : Database) (rows : DeskRows) : Type 0 where
-  pub schema : db.schema ≡ schema_9
+  pub schema : db.schema ≡ unindexed_schema
   pub sound : IsDatabase db
   pub tables : AreFirst db.trees rows
   pub minimums : Stands minimum_columns rows.minimums (db.trees 17)
@@ -120,12 +95,12 @@ no_stand columns rows tree none is = record { shaped = rw is (tt, tt); are = rw 
 
 pub makes_price_minimum : (rows : DeskRows) (old new : State) (count : ℕ) → HoldsFirst old.now rows → Executes price_minimum_definition [] old new (Ok count) → HoldsUnindexed new.now rows
 makes_price_minimum rows old new count h ran =
-    let made = table_made price_minimum_definition schema_8 (price_minimum_table 0) price_minimum_is.0 price_minimum_is.1 price_minimum_is.2 price_minimum_defined refl old new count h.schema ran in
+    let made = table_made price_minimum_definition first_schema (price_minimum_table 0) creates_minimum old new count h.schema ran in
     record { schema = made.0; sound = made.1; tables = first_kept old.now.trees new.now.trees rows made.3 h.tables; minimums = no_stand minimum_columns rows.minimums (new.now.trees 17) h.minimums made.2 }
 
 pub makes_index : (rows : DeskRows) (old new : State) (count : ℕ) → HoldsUnindexed old.now rows → Executes article_index_definition [] old new (Ok count) → Holds new.now rows
 makes_index rows old new count h ran =
-    let made = index_made article_index_definition schema_9 5 (article_table 11) article_index article_index_is.0 article_index_is.1 article_index_is.2 refl article_index_defined old new count h.schema ran in
+    let made = index_made article_index_definition unindexed_schema 5 (article_table 11) article_index article_index_is.0 article_index_is.1 article_index_is.2 refl article_index_defined old new count h.schema ran in
     let kept = made.2 in
     record {
       schema = made.0;

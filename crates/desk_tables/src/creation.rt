@@ -4,7 +4,8 @@ ghost use Rattle.std.specs.Prelude.{◌≡◌, true, false, Err, List, None, Som
 ghost use Rattle.std.specs.List.{list_any};
 ghost use Rattle.sqlite.specs.Held.{state};
 ghost use Rattle.sqlite.specs.State.{HasCleanDisk};
-ghost use Rattle.desk_tables.specs.Schema.{is_meta, is_desk_table, desk_schema, first_schema, schema_0, schema_3, schema_6};
+ghost use Rattle.desk_tables.specs.Schema as spec;
+ghost use Rattle.desk_tables.specs.Schema.{is_meta, is_desk_table, desk_schema, first_schema, schema_0};
 ghost use Rattle.desk_tables.specs.Meta.{HoldsMeta, version_among};
 ghost use Rattle.desk_tables.specs.Rows.{DeskRows, Holds, HoldsFirst, MetaRow, first_rows, no_rows, unchanged, version_in};
 ghost use Rattle.desk_tables.specs.Transactions.{HasNoRows, IsEmptied, Makes, Works};
@@ -14,85 +15,56 @@ use crate::work::Work;
 use desk_terms::StoreFault;
 use sqlite::Alter;
 
+// The text that makes the table of version 1 at a place, counted from 0, and past them an empty one.
+// The tables are of the version, of agreements, of held numbers, of applied numbers, of records, of
+// their identifiers, of offers and of prices, each after those that it refers to.
+#[tactic(auto, unfolding(crate::specs::Schema::definition_at))]
+fn definition_at(place: usize) -> &'static str
+    ensures { result.now ≡ spec.definition_at place }
+{
+    match place {
+        0 => {
+            "CREATE TABLE meta (item TEXT NOT NULL PRIMARY KEY, amount INTEGER NOT NULL) STRICT"
+        }
+        1 => {
+            "CREATE TABLE series (name TEXT NOT NULL PRIMARY KEY, sender_type TEXT NOT NULL, sender_value TEXT NOT NULL, addressee_type TEXT NOT NULL, addressee_value TEXT NOT NULL, first_number INTEGER NOT NULL, next_number INTEGER NOT NULL, UNIQUE (sender_type, sender_value, addressee_type, addressee_value)) STRICT"
+        }
+        2 => {
+            "CREATE TABLE held (series TEXT NOT NULL REFERENCES series (name), number INTEGER NOT NULL, contents TEXT NOT NULL, PRIMARY KEY (series, number)) STRICT"
+        }
+        3 => {
+            "CREATE TABLE applied (series TEXT NOT NULL REFERENCES series (name), number INTEGER NOT NULL, contents TEXT NOT NULL, replaced INTEGER NOT NULL, updated INTEGER NOT NULL, deleted INTEGER NOT NULL, unknown INTEGER NOT NULL, ignored INTEGER NOT NULL, PRIMARY KEY (series, number)) STRICT"
+        }
+        4 => {
+            "CREATE TABLE record (series TEXT NOT NULL REFERENCES series (name), reference TEXT NOT NULL, PRIMARY KEY (series, reference)) STRICT"
+        }
+        5 => {
+            "CREATE TABLE article (series TEXT NOT NULL, reference TEXT NOT NULL, id_place INTEGER NOT NULL, id_type TEXT NOT NULL, id_value TEXT NOT NULL, PRIMARY KEY (series, reference, id_place), FOREIGN KEY (series, reference) REFERENCES record (series, reference) ON DELETE CASCADE) STRICT"
+        }
+        6 => {
+            "CREATE TABLE offer (series TEXT NOT NULL, reference TEXT NOT NULL, place INTEGER NOT NULL, supply INTEGER NOT NULL, included TEXT NOT NULL, world INTEGER NOT NULL, excluded TEXT NOT NULL, role TEXT NOT NULL, supplier_type TEXT NOT NULL, supplier_value TEXT NOT NULL, supplier_name TEXT NOT NULL, availability TEXT NOT NULL, unpriced TEXT NOT NULL, PRIMARY KEY (series, reference, place), FOREIGN KEY (series, reference) REFERENCES record (series, reference) ON DELETE CASCADE) STRICT"
+        }
+        7 => {
+            "CREATE TABLE price (series TEXT NOT NULL, reference TEXT NOT NULL, place INTEGER NOT NULL, price_place INTEGER NOT NULL, price_type TEXT NOT NULL, amount INTEGER NOT NULL, currency TEXT NOT NULL, included TEXT NOT NULL, world INTEGER NOT NULL, excluded TEXT NOT NULL, from_day INTEGER, until_day INTEGER, PRIMARY KEY (series, reference, place, price_place), FOREIGN KEY (series, reference, place) REFERENCES offer (series, reference, place) ON DELETE CASCADE) STRICT"
+        }
+        _ => "",
+    }
+}
+
 impl<S: Alter> Work<'_, S> {
-    // The tables of the version, of agreements and of held numbers.
-    fn create_series(&mut self) -> Result<(), StoreFault>
+    // The tables of version 1.
+    fn create_first_tables(&mut self) -> Result<(), StoreFault>
         ensures same_reference { self.new.tables.ghost_name ≡ self.old.tables.ghost_name }
         ensures untouched { IsTrue self.old.spent → (result ≡ Err StoreFault.Unusable) × (self.new.tables.now ≡ self.old.tables.now) }
-        ensures makes { Makes (IsEmptied schema_0) (HasNoRows schema_3) (state S.Store self.old.tables.now.connection) (state S.Store self.new.tables.now.connection) self.old.spent self.new.spent result }
+        ensures makes { Makes (IsEmptied schema_0) (HasNoRows first_schema) (state S.Store self.old.tables.now.connection) (state S.Store self.new.tables.now.connection) self.old.spent self.new.spent result }
     {
-        match self.run(
-            "CREATE TABLE meta (item TEXT NOT NULL PRIMARY KEY, amount INTEGER NOT NULL) STRICT",
-            &[],
-        ) {
-            Ok(_) => {}
-            Err(fault) => return Err(fault),
+        for place in 0..8 {
+            match self.run(definition_at(place), &[]) {
+                Ok(_) => {}
+                Err(fault) => return Err(fault),
+            }
         }
-        match self.run(
-            "CREATE TABLE series (name TEXT NOT NULL PRIMARY KEY, sender_type TEXT NOT NULL, sender_value TEXT NOT NULL, addressee_type TEXT NOT NULL, addressee_value TEXT NOT NULL, first_number INTEGER NOT NULL, next_number INTEGER NOT NULL, UNIQUE (sender_type, sender_value, addressee_type, addressee_value)) STRICT",
-            &[],
-        ) {
-            Ok(_) => {}
-            Err(fault) => return Err(fault),
-        }
-        match self.run(
-            "CREATE TABLE held (series TEXT NOT NULL REFERENCES series (name), number INTEGER NOT NULL, contents TEXT NOT NULL, PRIMARY KEY (series, number)) STRICT",
-            &[],
-        ) {
-            Ok(_) => Ok(()),
-            Err(fault) => Err(fault),
-        }
-    }
-
-    // The tables of applied numbers, of records and of their identifiers.
-    fn create_records(&mut self) -> Result<(), StoreFault>
-        ensures same_reference { self.new.tables.ghost_name ≡ self.old.tables.ghost_name }
-        ensures untouched { IsTrue self.old.spent → (result ≡ Err StoreFault.Unusable) × (self.new.tables.now ≡ self.old.tables.now) }
-        ensures makes { Makes (HasNoRows schema_3) (HasNoRows schema_6) (state S.Store self.old.tables.now.connection) (state S.Store self.new.tables.now.connection) self.old.spent self.new.spent result }
-    {
-        match self.run(
-            "CREATE TABLE applied (series TEXT NOT NULL REFERENCES series (name), number INTEGER NOT NULL, contents TEXT NOT NULL, replaced INTEGER NOT NULL, updated INTEGER NOT NULL, deleted INTEGER NOT NULL, unknown INTEGER NOT NULL, ignored INTEGER NOT NULL, PRIMARY KEY (series, number)) STRICT",
-            &[],
-        ) {
-            Ok(_) => {}
-            Err(fault) => return Err(fault),
-        }
-        match self.run(
-            "CREATE TABLE record (series TEXT NOT NULL REFERENCES series (name), reference TEXT NOT NULL, PRIMARY KEY (series, reference)) STRICT",
-            &[],
-        ) {
-            Ok(_) => {}
-            Err(fault) => return Err(fault),
-        }
-        match self.run(
-            "CREATE TABLE article (series TEXT NOT NULL, reference TEXT NOT NULL, id_place INTEGER NOT NULL, id_type TEXT NOT NULL, id_value TEXT NOT NULL, PRIMARY KEY (series, reference, id_place), FOREIGN KEY (series, reference) REFERENCES record (series, reference) ON DELETE CASCADE) STRICT",
-            &[],
-        ) {
-            Ok(_) => Ok(()),
-            Err(fault) => Err(fault),
-        }
-    }
-
-    // The tables of offers and of prices.
-    fn create_offers(&mut self) -> Result<(), StoreFault>
-        ensures same_reference { self.new.tables.ghost_name ≡ self.old.tables.ghost_name }
-        ensures untouched { IsTrue self.old.spent → (result ≡ Err StoreFault.Unusable) × (self.new.tables.now ≡ self.old.tables.now) }
-        ensures makes { Makes (HasNoRows schema_6) (HasNoRows first_schema) (state S.Store self.old.tables.now.connection) (state S.Store self.new.tables.now.connection) self.old.spent self.new.spent result }
-    {
-        match self.run(
-            "CREATE TABLE offer (series TEXT NOT NULL, reference TEXT NOT NULL, place INTEGER NOT NULL, supply INTEGER NOT NULL, included TEXT NOT NULL, world INTEGER NOT NULL, excluded TEXT NOT NULL, role TEXT NOT NULL, supplier_type TEXT NOT NULL, supplier_value TEXT NOT NULL, supplier_name TEXT NOT NULL, availability TEXT NOT NULL, unpriced TEXT NOT NULL, PRIMARY KEY (series, reference, place), FOREIGN KEY (series, reference) REFERENCES record (series, reference) ON DELETE CASCADE) STRICT",
-            &[],
-        ) {
-            Ok(_) => {}
-            Err(fault) => return Err(fault),
-        }
-        match self.run(
-            "CREATE TABLE price (series TEXT NOT NULL, reference TEXT NOT NULL, place INTEGER NOT NULL, price_place INTEGER NOT NULL, price_type TEXT NOT NULL, amount INTEGER NOT NULL, currency TEXT NOT NULL, included TEXT NOT NULL, world INTEGER NOT NULL, excluded TEXT NOT NULL, from_day INTEGER, until_day INTEGER, PRIMARY KEY (series, reference, place, price_place), FOREIGN KEY (series, reference, place) REFERENCES offer (series, reference, place) ON DELETE CASCADE) STRICT",
-            &[],
-        ) {
-            Ok(_) => Ok(()),
-            Err(fault) => Err(fault),
-        }
+        Ok(())
     }
 
     // What version 1 lacks: the table of minimums, and the index by which the records of an
@@ -124,15 +96,7 @@ impl<S: Alter> Work<'_, S> {
         ensures untouched { IsTrue self.old.spent → (result ≡ Err StoreFault.Unusable) × (self.new.tables.now ≡ self.old.tables.now) }
         ensures makes { Makes (IsEmptied schema_0) (λ db. Holds db no_rows) (state S.Store self.old.tables.now.connection) (state S.Store self.new.tables.now.connection) self.old.spent self.new.spent result }
     {
-        match self.create_series() {
-            Ok(()) => {}
-            Err(fault) => return Err(fault),
-        }
-        match self.create_records() {
-            Ok(()) => {}
-            Err(fault) => return Err(fault),
-        }
-        match self.create_offers() {
+        match self.create_first_tables() {
             Ok(()) => {}
             Err(fault) => return Err(fault),
         }

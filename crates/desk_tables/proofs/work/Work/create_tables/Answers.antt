@@ -1,6 +1,5 @@
-use Rattle.std.proofs.Common.{Ok, Err}
 use Rattle.sqlite.specs.Held.{state}
-use Rattle.desk_tables.specs.Schema.{schema_0, schema_3, schema_6, first_schema}
+use Rattle.desk_tables.specs.Schema.{schema_0, first_schema}
 use Rattle.desk_tables.specs.Rows.{Holds, HoldsFirst, no_rows}
 use Rattle.desk_tables.specs.Transactions.{IsEmptied, HasNoRows}
 use Rattle.desk_tables.proofs.Creates.{first_made}
@@ -9,39 +8,14 @@ use Rattle.desk_tables.proofs.work.Work.create_tables.Goals as goal
 
 pub returns-in-Err-clause-makes : goal.returns-in-Err-clause-makes
 returns-in-Err-clause-makes g c =
-    makes_no_more (IsEmptied schema_0) (HasNoRows schema_3) (λ db. Holds db no_rows) (state g.S.Store c.args.self.now.tables.now.connection) (state g.S.Store c.create_series.new.self.tables.now.connection) c.args.self.now.spent
-    c.create_series.new.self.spent c.in-Err.fault c.in-Err.ensures.makes
-
-pub returns-in-Err-create_records-clause-makes : goal.returns-in-Err-create_records-clause-makes
-returns-in-Err-create_records-clause-makes g c =
-    let s0 = state g.S.Store c.args.self.now.tables.now.connection in
-    let s1 = state g.S.Store c.create_series.new.self.tables.now.connection in
-    let s2 = state g.S.Store c.create_records.new.self.tables.now.connection in
-    makes_no_more (IsEmptied schema_0) (HasNoRows schema_6) (λ db. Holds db no_rows) s0 s2 c.args.self.now.spent c.create_records.new.self.spent c.in-Err-create_records.fault
-    (makes_then (IsEmptied schema_0) (HasNoRows schema_3) (HasNoRows schema_6) s0 s1 s2 c.args.self.now.spent c.create_series.new.self.spent c.create_records.new.self.spent tt (Err c.in-Err-create_records.fault) c.in-Ok.ensures.makes
-    c.in-Err-create_records.ensures.makes)
-
-pub returns-in-Err-create_offers-clause-makes : goal.returns-in-Err-create_offers-clause-makes
-returns-in-Err-create_offers-clause-makes g c =
-    let s0 = state g.S.Store c.args.self.now.tables.now.connection in
-    let s1 = state g.S.Store c.create_series.new.self.tables.now.connection in
-    let s2 = state g.S.Store c.create_records.new.self.tables.now.connection in
-    let s3 = state g.S.Store c.create_offers.new.self.tables.now.connection in
-    makes_no_more (IsEmptied schema_0) (HasNoRows first_schema) (λ db. Holds db no_rows) s0 s3 c.args.self.now.spent c.create_offers.new.self.spent c.in-Err-create_offers.fault
-    (makes_then (IsEmptied schema_0) (HasNoRows schema_6) (HasNoRows first_schema) s0 s2 s3 c.args.self.now.spent c.create_records.new.self.spent c.create_offers.new.self.spent tt (Err c.in-Err-create_offers.fault)
-    (makes_then (IsEmptied schema_0) (HasNoRows schema_3) (HasNoRows schema_6) s0 s1 s2 c.args.self.now.spent c.create_series.new.self.spent c.create_records.new.self.spent tt (Ok tt) c.in-Ok.ensures.makes
-    c.in-Ok-create_records.ensures.makes) c.in-Err-create_offers.ensures.makes)
+    makes_no_more (IsEmptied schema_0) (HasNoRows first_schema) (λ db. Holds db no_rows) (state g.S.Store c.args.self.now.tables.now.connection) (state g.S.Store c.create_first_tables.new.self.tables.now.connection) c.args.self.now.spent
+    c.create_first_tables.new.self.spent c.in-Err.fault c.in-Err.ensures.makes
 
 pub returns-clause-makes : goal.returns-clause-makes
 returns-clause-makes g c =
     let s0 = state g.S.Store c.args.self.now.tables.now.connection in
-    let s1 = state g.S.Store c.create_series.new.self.tables.now.connection in
-    let s2 = state g.S.Store c.create_records.new.self.tables.now.connection in
-    let s3 = state g.S.Store c.create_offers.new.self.tables.now.connection in
-    let s4 = state g.S.Store c.create_minimums.new.self.tables.now.connection in
-    makes_then (IsEmptied schema_0) (HasNoRows first_schema) (λ db. Holds db no_rows) s0 s3 s4 c.args.self.now.spent c.create_offers.new.self.spent c.create_minimums.new.self.spent tt c.create_minimums.result
-    (makes_then (IsEmptied schema_0) (HasNoRows schema_6) (HasNoRows first_schema) s0 s2 s3 c.args.self.now.spent c.create_records.new.self.spent c.create_offers.new.self.spent tt (Ok tt)
-    (makes_then (IsEmptied schema_0) (HasNoRows schema_3) (HasNoRows schema_6) s0 s1 s2 c.args.self.now.spent c.create_series.new.self.spent c.create_records.new.self.spent tt (Ok tt) c.in-Ok.ensures.makes
-    c.in-Ok-create_records.ensures.makes) c.in-Ok-create_offers.ensures.makes)
-    (makes_from (λ db. HoldsFirst db no_rows) (HasNoRows first_schema) (λ db. Holds db no_rows) s3 s4 c.create_offers.new.self.spent c.create_minimums.new.self.spent c.create_minimums.result (λ db h. first_made db h.0 h.1)
+    let s1 = state g.S.Store c.create_first_tables.new.self.tables.now.connection in
+    let s2 = state g.S.Store c.create_minimums.new.self.tables.now.connection in
+    makes_then (IsEmptied schema_0) (HasNoRows first_schema) (λ db. Holds db no_rows) s0 s1 s2 c.args.self.now.spent c.create_first_tables.new.self.spent c.create_minimums.new.self.spent tt c.create_minimums.result c.in-Ok.ensures.makes
+    (makes_from (λ db. HoldsFirst db no_rows) (HasNoRows first_schema) (λ db. Holds db no_rows) s1 s2 c.create_first_tables.new.self.spent c.create_minimums.new.self.spent c.create_minimums.result (λ db h. first_made db h.0 h.1)
     (c.create_minimums.ensures.makes no_rows))

@@ -78,23 +78,7 @@ abbrev pub IsAddressee : Option Party → Type 0
 IsAddressee None = ⊤
 IsAddressee (Some party) = party.id_type ≢ []
 
--- the database is the desk's, with these rows: it has the schema, obeys it, so that each key stands once and each row that another refers to is there, and each table has its list
-pub record Holds (db : Database) (rows : DeskRows) : Type 0 where
-  pub schema : db.schema ≡ desk_schema
-  -- each rule of the schema holds: each key stands once, and each row that one refers to is there
-  pub sound : IsDatabase db
-  pub meta : Stands meta_columns rows.meta (db.trees 0)
-  pub series : Stands series_columns rows.series (db.trees 2)
-  pub addressees : AllByRecursion (λ (r : SeriesRow). IsAddressee r.agreement.addressee) rows.series
-  pub held : Stands held_columns rows.held (db.trees 5)
-  pub applied : Stands applied_columns rows.applied (db.trees 7)
-  pub records : Stands record_columns rows.records (db.trees 9)
-  pub articles : Stands article_columns rows.articles (db.trees 11)
-  pub offers : Stands offer_columns rows.offers (db.trees 13)
-  pub prices : Stands price_columns rows.prices (db.trees 15)
-  pub minimums : Stands minimum_columns rows.minimums (db.trees 17)
-
--- the tables of version 1 have these rows
+-- the tables that both versions have, with these rows
 pub record AreFirst (trees : Trees) (rows : DeskRows) : Type 0 where
   pub meta : Stands meta_columns rows.meta (trees 0)
   pub series : Stands series_columns rows.series (trees 2)
@@ -105,6 +89,14 @@ pub record AreFirst (trees : Trees) (rows : DeskRows) : Type 0 where
   pub articles : Stands article_columns rows.articles (trees 11)
   pub offers : Stands offer_columns rows.offers (trees 13)
   pub prices : Stands price_columns rows.prices (trees 15)
+
+-- the database is the desk's, with these rows: it has the schema, obeys it, so that each key stands once and each row that another refers to is there, and each table has its list
+pub record Holds (db : Database) (rows : DeskRows) : Type 0 where
+  pub schema : db.schema ≡ desk_schema
+  -- each rule of the schema holds: each key stands once, and each row that one refers to is there
+  pub sound : IsDatabase db
+  pub tables : AreFirst db.trees rows
+  pub minimums : Stands minimum_columns rows.minimums (db.trees 17)
 
 -- the database is one of version 1, with these rows; it has no minimums
 pub record HoldsFirst (db : Database) (rows : DeskRows) : Type 0 where

@@ -18,7 +18,7 @@ returns-in-Ok-first_series-clause-works g c =
     let ran = c.in-Ok.ensures in
     reads_ok series_by_name_text series_by_name_is.2 (λ (rows : DeskRows) (series : Option _). series ≡ series_at c.args.name.now rows) params old new c.args.self.now.spent c.rows.new.self.spent (λ rows. rows.items) c.in-Ok.rows c.in-Ok-first_series.series
     (rw (c.params-to_sql.ensures, c.as_str.ensures.text) at ran.reads) ran.spent (λ s. (ran.refused s).0)
-    (λ rows h shown. first_series_is (is_named c.args.name.now) rows.series _ _ h.addressees c.in-Ok-first_series.ensures.has_type (named_shown old new c.args.name.now rows _ h shown) c.in-Ok-first_series.ensures.columns)
+    (λ rows h shown. first_series_is (is_named c.args.name.now) rows.series _ _ h.tables.addressees c.in-Ok-first_series.ensures.has_type (named_shown old new c.args.name.now rows _ h shown) c.in-Ok-first_series.ensures.columns)
 
 pub returns-clause-works : goal.returns-clause-works
 returns-clause-works g c =

@@ -18,7 +18,7 @@ returns-in-Ok-first_series-clause-works g c =
     let ran = c.in-Ok.ensures in
     reads_ok series_by_parties_text series_by_parties_is.2 (λ (rows : DeskRows) (series : Option _). series ≡ series_between c.args.sender.now c.args.addressee.now rows) params old new c.args.self.now.spent c.rows.new.self.spent (λ rows. rows.items) c.in-Ok.rows c.in-Ok-first_series.series
     (rw (c.params-to_sql.ensures, c.params-to_sql-2.ensures, c.params-to_sql-3.ensures, c.params-to_sql-4.ensures, c.as_str.ensures.text, c.as_str-2.ensures, c.party_type.ensures.text, c.party_value.ensures) at ran.reads) ran.spent (λ s. (ran.refused s).0)
-    (λ rows h shown. first_series_is (has_parties c.args.sender.now c.args.addressee.now) rows.series _ _ h.addressees c.in-Ok-first_series.ensures.has_type (parties_shown old new c.args.sender.now c.args.addressee.now rows _ c.party_type.ensures.has_type h shown) c.in-Ok-first_series.ensures.columns)
+    (λ rows h shown. first_series_is (has_parties c.args.sender.now c.args.addressee.now) rows.series _ _ h.tables.addressees c.in-Ok-first_series.ensures.has_type (parties_shown old new c.args.sender.now c.args.addressee.now rows _ c.party_type.ensures.has_type h shown) c.in-Ok-first_series.ensures.columns)
 
 pub returns-clause-works : goal.returns-clause-works
 returns-clause-works g c =

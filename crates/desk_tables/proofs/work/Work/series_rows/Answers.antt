@@ -17,7 +17,7 @@ returns-in-Ok-all_series-clause-works g c =
     let ran = c.in-Ok.ensures in
     reads_ok series_rows_text series_rows_is.2 (λ (rows : DeskRows) (series : Vec _ _). AreSeriesInOrder rows series.items) params old new c.args.self.now.spent c.rows.new.self.spent (λ rows. rows.items) c.in-Ok.rows c.in-Ok-all_series.series
     ran.reads ran.spent (λ s. (ran.refused s).0)
-    (λ rows h shown. let s = series_shown old new rows _ h shown in series_are rows s.0 _ _ h.addressees c.in-Ok-all_series.ensures.has_type s.1 s.2 s.3 c.in-Ok-all_series.ensures.columns)
+    (λ rows h shown. let s = series_shown old new rows _ h shown in series_are rows s.0 _ _ h.tables.addressees c.in-Ok-all_series.ensures.has_type s.1 s.2 s.3 c.in-Ok-all_series.ensures.columns)
 
 pub returns-clause-works : goal.returns-clause-works
 returns-clause-works g c =

@@ -8,42 +8,32 @@ use Rattle.price_rules.specs.declared.offer.PriceQuery.{PriceQuery}
 use Rattle.price_rules.specs.declared.offer.CalendarQuery.{CalendarQuery}
 use Rattle.http_requests.specs.declared.refusal.Refusal.{Refusal}
 use Rattle.http_requests.specs.declared.refusal.Refusal.TheVariants as refusal
-use Rattle.desk_http.specs.Query.{needed_value, value_of}
+use Rattle.desk_http.specs.Query.{needed_value, pairs_of, value_of}
 use Rattle.http_requests.specs.Steps.{◌>>=◌, or_refuse}
 
--- the prices that a query asks for, of a type and in a currency, on a day in a country
-unfoldable pub prices_of : List ℕ → List ℕ → List ℕ → List ℕ → List ℕ → Result PriceQuery Refusal
-prices_of day country currency price_type query = do
-  quantity ← value_of (codes "quantity") query
+-- the prices that the pairs of a query ask for, on the day under this key
+unfoldable pub prices_on : List ℕ → List (List ℕ × List ℕ) → Result PriceQuery Refusal
+prices_on key pairs = do
+  day ← needed_value key pairs
+  country ← needed_value (codes "country") pairs
+  currency ← needed_value (codes "currency") pairs
+  price_type ← needed_value (codes "type") pairs
+  quantity ← value_of (codes "quantity") pairs
   or_refuse refusal.BadQuery (price_query day country currency price_type quantity)
-
--- the prices that a query asks for on a day in a country
-unfoldable pub prices_in : List ℕ → List ℕ → List ℕ → Result PriceQuery Refusal
-prices_in day country query = do
-  currency ← needed_value (codes "currency") query
-  price_type ← needed_value (codes "type") query
-  prices_of day country currency price_type query
-
--- the prices that a query asks for on the day under this key
-unfoldable pub prices_on : List ℕ → List ℕ → Result PriceQuery Refusal
-prices_on key query = do
-  day ← needed_value key query
-  country ← needed_value (codes "country") query
-  prices_in day country query
 
 -- an article, and which of its prices
 unfoldable pub prices_asked : List ℕ → List ℕ → Result (List ℕ × PriceQuery) Refusal
 prices_asked part query = do
   isbn ← or_refuse refusal.BadQuery (isbn13_of part)
-  prices ← prices_on (codes "day") query
+  prices ← prices_on (codes "day") (pairs_of query)
   Ok (isbn, prices)
 
 -- an article, and which calendar of it
 unfoldable pub calendar_asked : List ℕ → List ℕ → Result (List ℕ × CalendarQuery) Refusal
 calendar_asked part query = do
   isbn ← or_refuse refusal.BadQuery (isbn13_of part)
-  first ← prices_on (codes "from") query
-  to ← needed_value (codes "to") query
+  first ← prices_on (codes "from") (pairs_of query)
+  to ← needed_value (codes "to") (pairs_of query)
   last ← or_refuse refusal.BadQuery (day_of to)
   Ok (isbn, until first last)
 

@@ -3,8 +3,8 @@ use Rattle.std.proofs.Common.{◌<◌, refl, length-append, ◌+◌, ◌-◌, �
 use Rattle.std.proofs.Math.Seq.{take-add}
 use Rattle.std.specs.Prelude.{Some, None}
 use Rattle.std.specs.Io.KnownBytes.{Appends, Consumes}
-use Rattle.csv_records.specs.Streams.{IsTold}
-use Rattle.std.proofs.KnownBytes.{Appends-trans}
+use Rattle.csv_records.specs.Streams.{IsTold, TakesAtMost}
+use Rattle.std.proofs.KnownBytes.{Appends-trans, Consumes-trans}
 use Rattle.std.proofs.lemmas.List.{take_rest}
 
 -- what goes on where the front stops
@@ -25,3 +25,7 @@ pub long_told : (most : ℕ) (old new : Option (List ℕ)) (bytes : List ℕ) �
 long_told most None new bytes gave long = (bytes, tt, long)
 long_told most (Some text) None bytes gave long = absurd gave
 long_told most (Some text) (Some rest) bytes gave long = (text, refl, omega (arith, ap length gave, length-append bytes rest))
+
+-- a reader that gave bytes, and then a piece, gave both together
+pub takes_more : (most : ℕ) (a b c : Option (List ℕ)) (bytes piece : List ℕ) → Consumes a b bytes → Consumes b c piece → length bytes + length piece ≤ most → TakesAtMost most a c
+takes_more most a b c bytes piece first next fits = (bytes ++ piece, Consumes-trans a b c bytes piece first next, omega (arith, length-append bytes piece, fits))

@@ -1,8 +1,8 @@
 //! The reading and the writing of whole streams.
 
-ghost use Rattle.std.specs.Prelude.{◌≡◌, ◌≤◌, ◌++◌, ℕ, List, IfOk, IfErr, OnOk, OnErr, length};
+ghost use Rattle.std.specs.Prelude.{◌≡◌, ◌≤◌, ◌+◌, ◌++◌, ℕ, List, IfOk, IfErr, OnOk, OnErr, length};
 ghost use Rattle.std.specs.Io.KnownBytes.{Appends};
-ghost use Rattle.csv_records.specs.Streams.{InputFits, IsTold};
+ghost use Rattle.csv_records.specs.Streams.{InputFits, IsTold, TakesAtMost};
 
 use std::alloc::Global;
 use std::io::{Read, Write};
@@ -30,7 +30,7 @@ pub struct WriteFault;
 // How many bytes are read at once.
 const CHUNK: usize = 4096;
 
-/// Reads to the end, or to one byte past `most` bytes.
+/// Reads to the end, or to one byte past `most` bytes. Whatever it ends in, no more is taken.
 pub fn read_input<R: Read>(
     alloc: Global,
     reader: &mut R,
@@ -38,6 +38,7 @@ pub fn read_input<R: Read>(
 ) -> Result<Vec<u8>, InputFault>
     ensures ok { IfOk result (λ bytes. (length bytes.items ≤ most) × IsTold (R.remaining reader.old) bytes.items) }
     ensures err { IfErr result (λ f. (text : List ℕ) × IsTold (R.remaining reader.old) text × InputFits most text f) }
+    ensures taken { TakesAtMost (most + 1) (R.remaining reader.old) (R.remaining reader.new) }
 {
     let mut bytes = Vec::new(alloc);
     let mut chunk = [0u8; CHUNK];

@@ -20,6 +20,15 @@ records_in body = if is_utf8 body then Ok (records_of body) else Err refusal.Not
 unfoldable pub size_asked : RequestHead → Result ℕ Refusal
 size_asked h = size_by (only_value (field_values (codes "content-length") h))
 
+-- so many bytes, or none behind a refusal
+abbrev pub size_or_none : Result ℕ Refusal → ℕ
+size_or_none (Ok size) = size
+size_or_none (Err why) = 0
+
+-- how many bytes behind the head are looked at: those of the body, and none where the head refuses it
+unfoldable pub most_posted : RequestHead → ℕ
+most_posted h = size_or_none (size_asked h)
+
 -- the records of the body of so many bytes
 unfoldable pub records_behind : ℕ → List ℕ → Result (List (List (List ℕ))) Refusal
 records_behind size rest = do

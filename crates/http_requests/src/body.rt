@@ -1,39 +1,84 @@
 //! The body of a request.
 
-ghost use Rattle.std.specs.Prelude.{◌≡◌, ◌≤◌, ◌++◌, length, take, IfOk, IfSome};
+ghost use Rattle.std.specs.Prelude.{◌≡◌, ◌≤◌, ◌<◌, ◌-◌, ◌++◌, length, take, vec_len, IfOk, IfSome, OnOk};
 ghost use Rattle.httparse.specs.Grammar.{RequestHead};
 ghost use Rattle.csv_records.specs.RecordTexts.{limit};
+ghost use Rattle.csv_records.specs.Streams.{TakesAtMost};
 ghost use Rattle.http_requests.specs.HeadRead.{IsHeadOf};
 ghost use Rattle.http_requests.specs.Steps.{Gives, RefusesNothing};
-ghost use Rattle.http_requests.specs.Posted.{records_behind, records_in, records_posted};
+ghost use Rattle.http_requests.specs.Posted.{most_posted, records_behind, records_in, records_posted};
 
 use crate::fault::InputFault;
 use crate::parts::Head;
+use crate::reading::read_once;
 use crate::refusal::Refusal;
 use csv_records::buffer::RecordBuffer;
 use csv_records::reading::{RecordFault, read_records};
-use csv_records::streams::{self, read_input};
-use std::alloc::Global;
+use std::alloc::{AllocError, Global};
 use std::io::Read;
 
+// How many bytes of a body there is room for at first.
+const FIRST_ROOM: usize = 16384;
+
+// Makes room behind the filled bytes of a body, where there is none: twice as much, as far as the
+// body goes. So a client takes no more memory than it sends bytes for, whatever it says of them.
+fn make_room(body: &mut Vec<u8>, filled: usize, size: usize) -> Result<(), AllocError>
+    requires most { size ≤ limit }
+    requires short { filled < size }
+    requires within { filled ≤ vec_len body.old }
+    requires fits { vec_len body.old ≤ size }
+    ensures kept { OnOk result (take filled body.new.items ≡ take filled body.old.items) }
+    ensures room { OnOk result (filled < vec_len body.new) }
+    ensures fits { OnOk result (vec_len body.new ≤ size) }
+{
+    if filled < body.len() {
+        return Ok(());
+    }
+    body.resize(size.min(FIRST_ROOM.max(filled * 2)), 0)
+}
+
+// Reads behind the bytes of a body that are there, to its end or to that of the input, and gives how
+// many are filled then. No more than the body has are taken, whatever it ends in.
+fn fill_body<R: Read>(reader: &mut R, body: &mut Vec<u8>, size: usize) -> Result<usize, InputFault>
+    requires most { size ≤ limit }
+    requires within { vec_len body.old ≤ size }
+    ensures front { IfOk result (λ filled. IfSome (R.remaining reader.old) (λ more.
+        take filled body.new.items ≡ take size (body.old.items ++ more))) }
+    ensures filled { IfOk result (λ filled. filled ≤ size) }
+    ensures fault { RefusesNothing result }
+    ensures taken { TakesAtMost (size - vec_len body.old) (R.remaining reader.old) (R.remaining reader.new) }
+{
+    let mut filled = body.len();
+    while filled < size {
+        make_room(body, filled, size)?;
+        let total = read_once(reader, body.as_mut_slice(), filled)?;
+        if total == filled {
+            return Ok(filled);
+        }
+        filled = total;
+    }
+    Ok(filled)
+}
+
 // The first bytes, at most so many, of those that were read behind the head and of those that follow
-// them in the input. No more than these are read.
+// them in the input.
 fn read_front<R: Read>(
     alloc: Global,
     reader: &mut R,
     behind: &[u8],
     size: usize,
 ) -> Result<Vec<u8>, InputFault>
+    requires { size ≤ limit }
     ensures front { IfOk result (λ bytes. IfSome (R.remaining reader.old) (λ more. bytes.items ≡ take size (behind.now ++ more))) }
     ensures size { IfOk result (λ bytes. length bytes.items ≤ size) }
-    ensures fault { IfSome (R.remaining reader.old) (λ _. RefusesNothing result) }
+    ensures fault { RefusesNothing result }
+    ensures taken { TakesAtMost (size - length behind.now) (R.remaining reader.old) (R.remaining reader.new) }
 {
-    match read_input(alloc, &mut behind.chain(reader).take(size as u64), size) {
-        Ok(bytes) => Ok(bytes),
-        Err(streams::InputFault::Read) => Err(InputFault::Read),
-        Err(streams::InputFault::TooLarge) => Err(InputFault::Refused(Refusal::TooLarge)),
-        Err(streams::InputFault::Memory) => Err(InputFault::Memory),
-    }
+    let mut body = Vec::with_capacity(alloc, size.min(FIRST_ROOM))?;
+    body.extend_from_slice(&behind[..size.min(behind.len())])?;
+    let filled = fill_body(reader, &mut body, size)?;
+    body.truncate(filled);
+    Ok(body)
 }
 
 // The records of a body.
@@ -57,7 +102,8 @@ fn read_delivery<R: Read>(
     size: usize,
 ) -> Result<RecordBuffer, InputFault>
     requires { size ≤ limit }
-    ensures { IfSome (R.remaining reader.old) (λ more. Gives result (records_behind size (behind.now ++ more))) }
+    ensures gives { IfSome (R.remaining reader.old) (λ more. Gives result (records_behind size (behind.now ++ more))) }
+    ensures taken { TakesAtMost (size - length behind.now) (R.remaining reader.old) (R.remaining reader.new) }
 {
     let body = match read_front(alloc, reader, behind, size) {
         Ok(body) => body,
@@ -70,15 +116,18 @@ fn read_delivery<R: Read>(
 }
 
 /// The records that a POST delivers, by its head, the bytes that were read behind it and those
-/// that follow in the input.
+/// that follow in the input. Whatever it ends in, no byte behind the body is taken, and none where
+/// the head refuses it.
 pub fn read_posted<R: Read>(
     alloc: Global,
     reader: &mut R,
     head: &Head,
     behind: &[u8],
 ) -> Result<RecordBuffer, InputFault>
-    ensures { (h : RequestHead) → IsHeadOf head.now h → IfSome (R.remaining reader.old) (λ more.
+    ensures gives { (h : RequestHead) → IsHeadOf head.now h → IfSome (R.remaining reader.old) (λ more.
         Gives result (records_posted h (behind.now ++ more))) }
+    ensures taken { (h : RequestHead) → IsHeadOf head.now h →
+        TakesAtMost (most_posted h - length behind.now) (R.remaining reader.old) (R.remaining reader.new) }
 {
     match head.body_size() {
         Ok(size) => read_delivery(alloc, reader, behind, size),

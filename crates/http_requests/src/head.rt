@@ -5,6 +5,7 @@ ghost use Rattle.std.specs.Io.KnownBytes.{Consumes};
 ghost use Rattle.httparse.specs.Grammar.{RequestHead, print_request};
 ghost use Rattle.httparse.specs.Spans.{IsRequestOf, IsRequestWithin};
 ghost use Rattle.csv_records.specs.RecordTexts.{limit};
+ghost use Rattle.csv_records.specs.Streams.{TakesAtMost};
 ghost use Rattle.http_requests.specs.Head.{HasNoHead, IsNeverHead, has_empty_line, skip_line_ends, IsRefused};
 ghost use Rattle.http_requests.specs.Fields.{field_values, only_value};
 ghost use Rattle.http_requests.specs.Steps.{IfRefused};
@@ -137,6 +138,7 @@ fn fill_head<R: Read>(
     ensures read { IfOk result (λ found.
         Consumes (R.remaining reader.old) (R.remaining reader.new) (take found.filled bytes.new)) }
     ensures refused { IfRefused result (λ why. IfSome (R.remaining reader.old) (λ input. IsRefused input why)) }
+    ensures taken { TakesAtMost HEAD_LIMIT (R.remaining reader.old) (R.remaining reader.new) }
 {
     let mut filled = 0;
     while filled < HEAD_LIMIT {
@@ -166,12 +168,14 @@ fn field_spans(alloc: Global) -> Result<Vec<HeaderSpan>, AllocError>
     vec![in alloc; EMPTY_HEADER_SPAN; MOST_FIELDS]
 }
 
-/// Reads until the head is whole or a refusal is decided.
+/// Reads until the head is whole or a refusal is decided. Whatever it ends in, no more is taken than a
+/// head may have.
 pub fn read_head<R: Read>(alloc: Global, reader: &mut R) -> Result<Head, InputFault>
     ensures whole { IfOk result (λ head. (h : RequestHead) × IsHeadOf head h) }
     ensures limit { IfOk result (λ head. length (head_text head) ≤ HEAD_LIMIT) }
     ensures read { IfOk result (λ head. Consumes (R.remaining reader.old) (R.remaining reader.new) (head_text head)) }
     ensures refused { IfRefused result (λ why. IfSome (R.remaining reader.old) (λ input. IsRefused input why)) }
+    ensures taken { TakesAtMost HEAD_LIMIT (R.remaining reader.old) (R.remaining reader.new) }
 {
     let mut bytes = head_buffer(alloc)?;
     let mut spans = field_spans(alloc)?;

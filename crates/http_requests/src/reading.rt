@@ -1,7 +1,7 @@
 //! Reads into a buffer, each of which gives at least a byte, the end or a fault.
 
-ghost use Rattle.std.specs.Prelude.{◌≡◌, ◌<◌, ◌≤◌, ℕ, List, ◌++◌, length, take, IfOk};
-ghost use Rattle.std.specs.Io.KnownBytes.{Consumes, IsAtEnd};
+ghost use Rattle.std.specs.Prelude.{◌≡◌, ◌<◌, ◌≤◌, ℕ, List, ◌++◌, length, take, IfOk, OnErr};
+ghost use Rattle.std.specs.Io.KnownBytes.{Consumes, IsAtEnd, Keeps};
 
 use std::io::{self, Read};
 
@@ -17,6 +17,7 @@ pub(crate) fn read_once<R: Read>(
         × (take total buffer.new ≡ take filled buffer.old ++ piece)
         × Consumes (R.remaining reader.old) (R.remaining reader.new) piece) }
     ensures end { IfOk result (λ total. total ≡ filled → IsAtEnd (R.remaining reader.old)) }
+    ensures err { OnErr result (Keeps (R.remaining reader.old) (R.remaining reader.new)) }
 {
     let count = reader.read(&mut buffer[filled..])?;
     Ok(filled + count)

@@ -6,7 +6,7 @@ use Rattle.std.specs.Io.KnownBytes.{Consumes}
 use Rattle.std.proofs.KnownBytes.{Consumes-nil, Consumes-trans}
 use Rattle.http_requests.specs.Head.{IsRefused}
 use Rattle.http_requests.specs.declared.refusal.Refusal.TheVariants.{BadHead}
-use Rattle.http_requests.proofs.BufferLemmas.{known_from, known_at_end}
+use Rattle.http_requests.proofs.BufferLemmas.{known_from, known_at_end, takes_once}
 use Rattle.http_requests.proofs.HeadLemmas.{no_head_in_nothing}
 use Rattle.http_requests.proofs.RefusalLemmas.{refused_short, refused_decided, refused_full}
 use Rattle.http_requests.proofs.head.fill_head.Goals as goal
@@ -46,3 +46,21 @@ returns-clause-refused g c =
     let inv = c.loop-filled.invariant in
     rw c.refusal_of_full.ensures (known_from _ _ (g.R.Read.remaining c.loop-filled.reader) c.loop-filled.bytes (rw all at inv.read)
     (λ more. refused_full c.loop-filled.bytes more inv.room (rw all at inv.none)))
+
+pub returns-then-total-filled-clause-taken : goal.returns-then-total-filled-clause-taken
+returns-then-total-filled-clause-taken g c =
+    let step = c.in_ok-total.ensures.bytes in
+    takes_once 16384 c.loop-filled.filled c.in_ok-total.total _ (g.R.Read.remaining c.loop-filled.reader) (g.R.Read.remaining c.read_once.new.reader) c.loop-filled.bytes c.read_once.new.buffer step.0
+    c.loop-filled.invariant.read step.1 step.2 (omega (arith, c.in_ok-total.ensures.grows))
+
+pub returns-in_err-parts-clause-taken : goal.returns-in_err-parts-clause-taken
+returns-in_err-parts-clause-taken g c =
+    let step = c.in_ok-total.ensures.bytes in
+    takes_once 16384 c.loop-filled.filled c.in_ok-total.total _ (g.R.Read.remaining c.loop-filled.reader) (g.R.Read.remaining c.read_once.new.reader) c.loop-filled.bytes c.read_once.new.buffer step.0
+    c.loop-filled.invariant.read step.1 step.2 (omega (arith, c.in_ok-total.ensures.grows))
+
+pub returns-in-Some-clause-taken : goal.returns-in-Some-clause-taken
+returns-in-Some-clause-taken g c =
+    let step = c.in_ok-total.ensures.bytes in
+    takes_once 16384 c.loop-filled.filled c.in_ok-total.total _ (g.R.Read.remaining c.loop-filled.reader) (g.R.Read.remaining c.read_once.new.reader) c.loop-filled.bytes c.read_once.new.buffer step.0
+    c.loop-filled.invariant.read step.1 step.2 (omega (arith, c.in_ok-total.ensures.grows))

@@ -12,9 +12,9 @@ pub mod OfferLemmas
 pub mod PriceAnswers
 pub mod Answers
 pub mod Content
-pub mod Leaves
-pub mod LeavesLemmas
+pub mod Changes
+pub mod Views
+pub mod Traces
 pub mod Laws
 pub mod PriceLaws
 pub mod Runs
-pub mod Faults

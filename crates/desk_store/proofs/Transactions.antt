@@ -1,5 +1,5 @@
 -- A request from the beginning of its transaction to its end.
-use Rattle.std.proofs.Common.{◌≡◌, Bool, true, false, List, ◌∷◌, Ok, Err, Result, IfOk, IsTrue, ◌⊎◌, inl, inr, sym, ap, ◌∙◌, subst, arith}
+use Rattle.std.proofs.Common.{◌≡◌, Bool, true, false, List, ◌∷◌, Ok, Err, Result, IfErr, IfOk, IsTrue, ◌⊎◌, inl, inr, sym, ap, ◌∙◌, subst, arith}
 use Rattle.sqlite.specs.Effect.{Database}
 use Rattle.sqlite.specs.State.{State, HasCleanDisk, KeepsCommit, Survives}
 use Rattle.sqlite_trees.specs.Tree.{Trees}
@@ -8,7 +8,10 @@ use Rattle.desk_tables.specs.Rows.{DeskRows, Holds}
 use Rattle.desk_tables.specs.Transactions.{BeginsWork, EndsWork, IsUndone, LeavesOnly, NoTrees}
 use Rattle.desk_terms.specs.declared.faults.StoreFault.{StoreFault}
 use Rattle.series_rules.specs.declared.requests.Request.{Request}
-use Rattle.desk_store.specs.Desks.{Answers, AreRowsOf, HoldsRequests, IsAsked, IsQuestioned, KeepsRequests, Tells, changes}
+use Rattle.series_rules.specs.Changes.{changes, is_question}
+use Rattle.series_rules.specs.Views.{Asks, IsFaultOf, Tells}
+use Rattle.desk_store.specs.Desks.{Answers, AreRowsOf, HoldsRequests, KeepsRequests, OnlyAnswers}
+use Rattle.desk_store.specs.Seen.{in_tables, seen_in}
 use Rattle.desk_store.specs.Stands.{StandsFor}
 
 -- ---- begun
@@ -49,15 +52,16 @@ undone_keeps L s0 s1 s2 s3 begun kept undone = λ up.
 
 -- a fault in it undoes it
 pub asked_failed : {A B W : Type 0} (w : W) (r : Request) (answer : List Request → A) (Post : DeskRows → B → DeskRows → Type 0) (s0 s1 s2 s3 : State) (e : StoreFault) → BeginsWork {A = W} {E = StoreFault} s0 s1 (Ok w) → Achieves {A = B} Post s1 s2 (Err e)
-    → (HasCleanDisk s3 → IsUndone s2 s3) → Survives s2 s3 NoTrees → IsAsked {A = A} r answer s0 s3 (Err e)
+    → (HasCleanDisk s3 → IsUndone s2 s3) → Survives s2 s3 NoTrees → Asks {A = A} r answer (seen_in s0) (seen_in s3) (Err e)
 asked_failed w r answer Post s0 s1 s2 s3 e begins done undone survives = record {
   premise = λ clean. clean0 (clean1 (clean2 clean));
-  ok = λ clean L keeps. tt;
-  err = λ clean L keeps. let begun = is_begun w L s0 s1 (clean1 (clean2 clean)) begins keeps in undone_keeps L s0 s1 s2 s3 begun (done.kept (clean2 clean)) (undone clean);
-  crash = λ clean L keeps d may.
+  ok = λ L keeps clean. tt;
+  err = λ L keeps clean. let begun = is_begun w L s0 s1 (clean1 (clean2 clean)) begins keeps in undone_keeps L s0 s1 s2 s3 begun (done.kept (clean2 clean)) (undone clean);
+  crash = λ L keeps clean d may.
       let begun = is_begun w L s0 s1 (clean1 (clean2 clean)) begins keeps in
       inl (begun.crash d (either (done.survives.crash (clean2 clean) d (either (survives.crash clean d may)))));
-  alone = λ clean L keeps change. tt;
+  changed = λ L keeps clean change. tt;
+  fault = inr tt;
 }
   where
     clean2 : HasCleanDisk s3 → HasCleanDisk s2
@@ -71,7 +75,7 @@ asked_failed w r answer Post s0 s1 s2 s3 e begins done undone survives = record 
 
 -- ---- done
 
-module _ {A W : Type 0} (w : W) (r : Request) (answer : List Request → A) (s0 s1 s2 s3 : State) (a : A) (spent : Bool) (begins : BeginsWork {A = W} {E = StoreFault} s0 s1 (Ok w)) (done : Achieves (Answers r answer) s1 s2 (Ok a)) where
+module _ {A W : Type 0} (w : W) (r : Request) (plain : is_question r ≡ false) (answer : List Request → A) (s0 s1 s2 s3 : State) (a : A) (spent : Bool) (begins : BeginsWork {A = W} {E = StoreFault} s0 s1 (Ok w)) (done : Achieves (Answers r answer) s1 s2 (Ok a)) where
   clean1 : HasCleanDisk s2 → HasCleanDisk s1
   clean1 clean = omega (arith, done.survives.clean)
 
@@ -87,40 +91,42 @@ module _ {A W : Type 0} (w : W) (r : Request) (answer : List Request → A) (s0 
       ((gives.0, gives.1, post.0), post.1)
 
   -- a crash leaves what it could leave before, or the request
-  crash_done : {B E : Type 0} (result : Result B E) → EndsWork s2 s3 spent result → HasCleanDisk s3 → (L : List Request) → KeepsRequests s0 L → (d : Trees) → s3.may_leave d → s0.may_leave d ⊎ AreRowsOf d (r ∷ L)
+  crash_done : {B E : Type 0} (result : Result B E) → EndsWork s2 s3 spent result → HasCleanDisk s3 → (L : List Request) → KeepsRequests s0 L → (d : Trees) → s3.may_leave d → s0.may_leave d ⊎ ((is_question r ≡ false) × AreRowsOf d (r ∷ L))
   crash_done result ends clean L keeps d may = go (ends.survives.crash clean d may)
     where
       clean2 : HasCleanDisk s2
       clean2 = omega (arith, ends.survives.clean)
 
-      go : s2.may_leave d ⊎ ((spent ≡ false) × (d ≡ s2.now.trees)) → s0.may_leave d ⊎ AreRowsOf d (r ∷ L)
+      go : s2.may_leave d ⊎ ((spent ≡ false) × (d ≡ s2.now.trees)) → s0.may_leave d ⊎ ((is_question r ≡ false) × AreRowsOf d (r ∷ L))
       go (inl before) = inl ((is_begun w L s0 s1 (clean1 clean2) begins keeps).crash d (either (done.survives.crash clean2 d before)))
-      go (inr now) = inr (s2.now, sym now.1, (stands_now clean2 L keeps).0)
+      go (inr now) = inr (plain, (s2.now, sym now.1, (stands_now clean2 L keeps).0))
 
   -- it is committed
-  pub asked_done : {B : Type 0} (b : B) → EndsWork {E = StoreFault} s2 s3 spent (Ok b) → (HasCleanDisk s3 → LeavesOnly s3) → IsAsked r answer s0 s3 (Ok a)
+  pub asked_done : {B : Type 0} (b : B) → EndsWork {E = StoreFault} s2 s3 spent (Ok b) → (HasCleanDisk s3 → LeavesOnly s3) → Asks r answer (seen_in s0) (seen_in s3) (Ok a)
   asked_done b ends durable = record {
     premise = λ clean. clean0 (clean1 (clean2 clean));
-    ok = λ clean L keeps.
+    ok = λ L keeps clean.
         let now = stands_now (clean2 clean) L keeps in
         let committed = ends.committed clean in
         (now.1, λ up. (committed.autocommit, subst (λ db. HoldsRequests db (r ∷ L)) (sym committed.now) now.0, subst (λ db. HoldsRequests db (r ∷ L)) (sym committed.committed) now.0));
-    err = λ clean L keeps. tt;
-    crash = crash_done (Ok b) ends;
-    alone = λ clean L keeps change. λ d may. (s2.now, sym (durable clean d may ∙ ap (λ (db : Database). db.trees) (ends.committed clean).committed), (stands_now (clean2 clean) L keeps).0);
+    err = λ L keeps clean. tt;
+    crash = λ L keeps clean. crash_done (Ok b) ends clean L keeps;
+    changed = λ L keeps clean change. λ d may. (s2.now, sym (durable clean d may ∙ ap (λ (db : Database). db.trees) (ends.committed clean).committed), (stands_now (clean2 clean) L keeps).0);
+    fault = tt;
   }
     where
       clean2 : HasCleanDisk s3 → HasCleanDisk s2
       clean2 clean = omega (arith, ends.survives.clean)
 
   -- it is not committed
-  pub asked_refused : (e : StoreFault) {B : Type 0} → EndsWork {A = B} s2 s3 spent (Err e) → IsAsked {A = A} r answer s0 s3 (Err e)
+  pub asked_refused : (e : StoreFault) {B : Type 0} → EndsWork {A = B} s2 s3 spent (Err e) → Asks {A = A} r answer (seen_in s0) (seen_in s3) (Err e)
   asked_refused e ends = record {
     premise = λ clean. clean0 (clean1 (clean2 clean));
-    ok = λ clean L keeps. tt;
-    err = λ clean L keeps. let begun = is_begun w L s0 s1 (clean1 (clean2 clean)) begins keeps in undone_keeps L s0 s1 s2 s3 begun (done.kept (clean2 clean)) (ends.undone clean);
-    crash = crash_done (Err e) ends;
-    alone = λ clean L keeps change. tt;
+    ok = λ L keeps clean. tt;
+    err = λ L keeps clean. let begun = is_begun w L s0 s1 (clean1 (clean2 clean)) begins keeps in undone_keeps L s0 s1 s2 s3 begun (done.kept (clean2 clean)) (ends.undone clean);
+    crash = λ L keeps clean. crash_done (Err e) ends clean L keeps;
+    changed = λ L keeps clean change. tt;
+    fault = inr tt;
   }
     where
       clean2 : HasCleanDisk s3 → HasCleanDisk s2
@@ -129,38 +135,29 @@ module _ {A W : Type 0} (w : W) (r : Request) (answer : List Request → A) (s0 
 -- ---- answered without a transaction
 
 -- a request that puts nothing anywhere is answered by what it is alone
-pub asked_alone : {A : Type 0} (r : Request) (answer : List Request → A) (s : State) (a : A) → ((L : List Request) → a ≡ answer L) → ((L : List Request) → changes L r ≡ false) → ((L : List Request) (rows : DeskRows) → StandsFor rows L → StandsFor rows (r ∷ L)) → IsAsked r answer s s (Ok a)
+pub asked_alone : {A : Type 0} (r : Request) (answer : List Request → A) (s : State) (a : A) → ((L : List Request) → a ≡ answer L) → ((L : List Request) → changes L r ≡ false) → ((L : List Request) (rows : DeskRows) → StandsFor rows L → StandsFor rows (r ∷ L)) → Asks r answer (seen_in s) (seen_in s) (Ok a)
 asked_alone r answer s a is nothing stands = record {
   premise = λ clean. clean;
-  ok = λ clean L keeps. (is L, λ up. let kept = keeps up in (kept.0, (kept.1.0, kept.1.1, stands L kept.1.0 kept.1.2), (kept.2.0, kept.2.1, stands L kept.2.0 kept.2.2)));
-  err = λ clean L keeps. tt;
-  crash = λ clean L keeps d may. inl may;
-  alone = λ clean L keeps change. absurd (differ (sym (nothing L) ∙ change));
+  ok = λ L keeps clean. (is L, λ up. let kept = keeps up in (kept.0, (kept.1.0, kept.1.1, stands L kept.1.0 kept.1.2), (kept.2.0, kept.2.1, stands L kept.2.0 kept.2.2)));
+  err = λ L keeps clean. tt;
+  crash = λ L keeps clean d may. inl may;
+  changed = λ L keeps clean change. absurd (differ (sym (nothing L) ∙ change));
+  fault = tt;
 }
   where
     differ : false ≡ true → ⊥
     differ e = absurd cc
 
-pub asked_unasked : {A : Type 0} (r : Request) (answer : List Request → A) (s : State) (e : StoreFault) → IsAsked {A = A} r answer s s (Err e)
-asked_unasked r answer s e = record {
-  premise = λ clean. clean;
-  ok = λ clean L keeps. tt;
-  err = λ clean L keeps. keeps;
-  crash = λ clean L keeps d may. inl may;
-  alone = λ clean L keeps change. tt;
-}
-
 -- ---- questions
 
-pub questioned : {A W : Type 0} (w : W) (answer : List Request → A) (s0 s1 s2 s3 : State) (result : Result A StoreFault) → BeginsWork {A = W} {E = StoreFault} s0 s1 (Ok w) → Achieves (Tells answer) s1 s2 result → (HasCleanDisk s3 → IsUndone s2 s3) → Survives s2 s3 NoTrees
-    → IsQuestioned answer s0 s3 result
+pub questioned : {A W : Type 0} (w : W) (answer : List Request → A) (s0 s1 s2 s3 : State) (result : Result A StoreFault) → BeginsWork {A = W} {E = StoreFault} s0 s1 (Ok w) → Achieves (OnlyAnswers answer) s1 s2 result → (HasCleanDisk s3 → IsUndone s2 s3) → Survives s2 s3 NoTrees
+    → Tells answer (seen_in s0) (seen_in s3) result
 questioned {A} w answer s0 s1 s2 s3 result begins done undone survives = record {
   premise = λ clean. clean0 (clean1 (clean2 clean));
-  ok = λ clean L keeps. let begun = is_begun w L s0 s1 (clean1 (clean2 clean)) begins keeps in told L begun.now.0 begun.now.2 result (done.gives (clean2 clean) begun.now.0 begun.now.1);
-  left = λ clean L keeps. let begun = is_begun w L s0 s1 (clean1 (clean2 clean)) begins keeps in undone_keeps L s0 s1 s2 s3 begun (done.kept (clean2 clean)) (undone clean);
-  crash = λ clean L keeps d may.
-      let begun = is_begun w L s0 s1 (clean1 (clean2 clean)) begins keeps in
-      begun.crash d (either (done.survives.crash (clean2 clean) d (either (survives.crash clean d may))));
+  ok = λ L keeps clean. let begun = is_begun w L s0 s1 (clean1 (clean2 clean)) begins keeps in told L begun.now.0 begun.now.2 result (done.gives (clean2 clean) begun.now.0 begun.now.1);
+  left = λ L keeps clean. let begun = is_begun w L s0 s1 (clean1 (clean2 clean)) begins keeps in undone_keeps L s0 s1 s2 s3 begun (done.kept (clean2 clean)) (undone clean);
+  crash = λ clean d may. either (begins.survives.crash (clean1 (clean2 clean)) d (either (done.survives.crash (clean2 clean) d (either (survives.crash clean d may)))));
+  fault = may_be result;
 }
   where
     clean2 : HasCleanDisk s3 → HasCleanDisk s2
@@ -172,6 +169,10 @@ questioned {A} w answer s0 s1 s2 s3 result begins done undone survives = record 
     clean0 : HasCleanDisk s1 → HasCleanDisk s0
     clean0 clean = omega (arith, begins.survives.clean)
 
-    told : (L : List Request) (rows : DeskRows) → StandsFor rows L → (r : Result A StoreFault) → IfOk r (λ a. (after : DeskRows) × Holds s2.now after × Tells answer rows a after) → IfOk r (λ a. a ≡ answer L)
+    may_be : (r : Result A StoreFault) → IfErr r (IsFaultOf in_tables)
+    may_be (Ok a) = tt
+    may_be (Err e) = inr tt
+
+    told : (L : List Request) (rows : DeskRows) → StandsFor rows L → (r : Result A StoreFault) → IfOk r (λ a. (after : DeskRows) × Holds s2.now after × OnlyAnswers answer rows a after) → IfOk r (λ a. a ≡ answer L)
     told L rows stands (Ok a) h = h.2.1 L stands
     told L rows stands (Err e) h = tt

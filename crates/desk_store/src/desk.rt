@@ -10,12 +10,9 @@ ghost use Rattle.sqlite_std_file.specs.File.{IsFresh};
 ghost use Rattle.sqlite_trees.specs.Tree.{Trees};
 ghost use Rattle.sqlite_wal.specs.Files.{image_at};
 ghost use Rattle.sqlite_wal.specs.Reads.{AreClean};
-ghost use Rattle.desk_store.specs.Desks.{AreRowsOf, IsAsked, IsQuestioned, KeepsRequests};
-ghost use Rattle.desk_store.specs.Leaves.{MayLeave};
+ghost use Rattle.desk_store.specs.Desks.{AreRowsOf, KeepsRequests};
 ghost use Rattle.desk_store.specs.Openings.{AreFilesOf, AreItsTrees, HasNoMeta, HoldRowsOf, IsFaultFor, IsOther, IsReady, KeepsFiles, KeepsStore, LeavesOne, MakesNothing, ShowsOnly, Spares, TakesFound, TellsFiles, TellsFound, left_in};
-ghost use Rattle.series_rules.specs.Answers.{agree_answer, catalogue_answer, delivery_answer, gaps_answer, waive_answer};
-ghost use Rattle.series_rules.specs.Leaves.{LeavesNoMore, LeavesOneMore, LeavesOnly};
-ghost use Rattle.series_rules.specs.Offers.{offers_after};
+ghost use Rattle.series_rules.specs.Views.{LeavesOnly};
 ghost use Rattle.series_rules.specs.declared.requests.Request.{Request};
 
 use crate::committing::{ask_agree, ask_deliver, ask_waive};
@@ -51,9 +48,17 @@ pub struct DeskStore<S: Alter> {
 impl<S: Alter + Drop> DeskStore<S> {
     // The desk over a connection that was just opened, or its store beside the fault.
     fn over(alloc: Global, connection: Connection<S>) -> Result<DeskStore<S>, (OpenFault, S)>
-        ensures ok { IfOk result (λ d. IsReady (state S.Store connection) (state S.Store d.tables.connection) (Ok tt)) }
-        ensures fault { IfErr result (λ e. IsTrue (S.Store.view e.1).is_clean → HasCleanDisk (state S.Store connection) × (IsTrue (state S.Store connection).is_open → TellsFound IsFaultFor (λ db. ShowsOnly db (state S.Store connection)) (LeavesOne (S.Store.recovers e.1)) (HasNoMeta (state S.Store connection)) e.0)) }
-        ensures left { IfErr result (λ e. IsTrue (S.Store.view e.1).is_clean → IsTrue (state S.Store connection).is_open → Spares MakesNothing (λ db. ShowsOnly db (state S.Store connection)) AreItsTrees (S.Store.recovers e.1)) }
+        ensures ok { IfOk result
+            (λ d. IsReady (state S.Store connection) (state S.Store d.tables.connection) (Ok tt)) }
+        ensures fault { IfErr result (λ e. IsTrue (S.Store.view e.1).is_clean
+            → HasCleanDisk (state S.Store connection)
+            × (IsTrue (state S.Store connection).is_open
+            → TellsFound IsFaultFor (λ db. ShowsOnly db (state S.Store connection))
+            (LeavesOne (S.Store.recovers e.1)) (HasNoMeta (state S.Store connection)) e.0)) }
+        ensures left { IfErr result (λ e. IsTrue (S.Store.view e.1).is_clean
+            → IsTrue (state S.Store connection).is_open
+            → Spares MakesNothing (λ db. ShowsOnly db (state S.Store connection)) AreItsTrees
+            (S.Store.recovers e.1)) }
     {
         let mut tables = Tables::new(connection);
         match prepare(&mut tables) {
@@ -66,13 +71,20 @@ impl<S: Alter + Drop> DeskStore<S> {
 impl<S: Alter> DeskStore<S> {
     /// What the desk is against its tables: its premise is a clean disk, and it stands for a list of
     /// requests exactly where, while its store is open, the tables hold what those come to. A crash
-    /// leaves only a list where it leaves no tables but those that hold the rows of what that comes
-    /// to; so it is with what the desk stands for, while its store is open.
+    /// leaves the trees that it leaves of the store; while that is open, only the rows of what the
+    /// desk stands for.
     pub fn is_by_its_tables(&self)
-        ensures premise { ⟦<DeskStore<S> as Desk>⟧.is_sound self.now ↔ HasCleanDisk (state S.Store self.now.tables.connection) }
-        ensures stands { (L : List Request) → ⟦<DeskStore<S> as Desk>⟧.stands_for self.now L ↔ KeepsRequests (state S.Store self.now.tables.connection) L }
-        ensures leaves { (L : List Request) → ((left : Trees) → (state S.Store self.now.tables.connection).may_leave left → AreRowsOf left L) → LeavesOnly (⟦<DeskStore<S> as Desk>⟧.may_leave self.now) L }
-        ensures durable { IsTrue (state S.Store self.now.tables.connection).is_open → (L : List Request) → KeepsRequests (state S.Store self.now.tables.connection) L → LeavesOnly (⟦<DeskStore<S> as Desk>⟧.may_leave self.now) L }
+        ensures premise { (⟦<DeskStore<S> as Desk>⟧.seen self.now).sound
+            ↔ HasCleanDisk (state S.Store self.now.tables.connection) }
+        ensures stands { (L : List Request)
+            → (⟦<DeskStore<S> as Desk>⟧.seen self.now).stands_for L
+            ↔ KeepsRequests (state S.Store self.now.tables.connection) L }
+        ensures leaves { (left : Trees)
+            → (⟦<DeskStore<S> as Desk>⟧.seen self.now).may_leave left
+            ↔ (state S.Store self.now.tables.connection).may_leave left }
+        ensures durable { IsTrue (state S.Store self.now.tables.connection).is_open
+            → (L : List Request) → KeepsRequests (state S.Store self.now.tables.connection) L
+            → LeavesOnly (⟦<DeskStore<S> as Desk>⟧.seen self.now) L }
     {
         self.leaves_its_requests();
     }
@@ -80,8 +92,9 @@ impl<S: Alter> DeskStore<S> {
     /// While its store is open, a crash leaves the rows of the requests that the desk stands for, and
     /// nothing else.
     pub fn leaves_its_requests(&self)
-        ensures { IsTrue (state S.Store self.now.tables.connection).is_open → (L : List Request) → KeepsRequests (state S.Store self.now.tables.connection) L →
-            (left : Trees) → (state S.Store self.now.tables.connection).may_leave left → AreRowsOf left L }
+        ensures { IsTrue (state S.Store self.now.tables.connection).is_open → (L : List Request)
+            → KeepsRequests (state S.Store self.now.tables.connection) L → (left : Trees)
+            → (state S.Store self.now.tables.connection).may_leave left → AreRowsOf left L }
     {}
 }
 
@@ -89,6 +102,10 @@ impl DeskStore<MemStore> {
     /// A desk whose tables are in memory. It has seen no request.
     pub fn open_in_memory(alloc: Global) -> Result<DeskStore<MemStore>, OpenFault>
         ensures stands { IfOk result (λ d. KeepsRequests (state over_memory d.tables.connection) []) }
+        ensures alone { IfOk result (λ d. (left : Trees)
+            → (state over_memory d.tables.connection).may_leave left
+            → AreRowsOf left []) }
+        ensures is_open { IfOk result (λ d. IsTrue (state over_memory d.tables.connection).is_open) }
         ensures fault { IfErr result (λ e. ¬ IsOther e) }
     {
         let connection = match Connection::open_in_memory(alloc) {
@@ -109,9 +126,16 @@ impl<D: Disk + Drop> DeskStore<FileStore<D>> {
         alloc: Global,
         connection: Connection<FileStore<D>>,
     ) -> Result<DeskStore<FileStore<D>>, (OpenFault, Leftover<D>)>
-        ensures ok { IfOk result (λ d. IsReady (file_state connection) (file_state d.tables.connection) (Ok tt)) }
-        ensures fault { IfErr result (λ e. IsCleanLeft e.1 → HasCleanDisk (file_state connection) × (IsTrue (file_state connection).is_open → TellsFound IsFaultFor (λ db. ShowsOnly db (file_state connection)) (LeavesOne (left_in e.1)) (HasNoMeta (file_state connection)) e.0)) }
-        ensures left { IfErr result (λ e. IsCleanLeft e.1 → IsTrue (file_state connection).is_open → KeepsStore (Spares MakesNothing (λ db. ShowsOnly db (file_state connection)) AreItsTrees) e.1) }
+        ensures ok { IfOk result
+            (λ d. IsReady (file_state connection) (file_state d.tables.connection) (Ok tt)) }
+        ensures fault { IfErr result (λ e. IsCleanLeft e.1 → HasCleanDisk (file_state connection)
+            × (IsTrue (file_state connection).is_open
+            → TellsFound IsFaultFor (λ db. ShowsOnly db (file_state connection))
+            (LeavesOne (left_in e.1)) (HasNoMeta (file_state connection)) e.0)) }
+        ensures left { IfErr result (λ e. IsCleanLeft e.1
+            → IsTrue (file_state connection).is_open
+            → KeepsStore
+            (Spares MakesNothing (λ db. ShowsOnly db (file_state connection)) AreItsTrees) e.1) }
     {
         match DeskStore::over(alloc, connection) {
             Ok(desk) => Ok(desk),
@@ -122,7 +146,8 @@ impl<D: Disk + Drop> DeskStore<FileStore<D>> {
     /// The desk in two files, the database and its log. What they hold stands; in an empty database
     /// the tables are made. A database without a table `meta` of a desk counts as empty, and is
     /// `Unusable` where one of the desk's tables is there. Tables of another version are
-    /// `OtherVersion`, and stay. A fault comes with what is left of the files.
+    /// `OtherVersion`, and stay. Files that are no sound database, and not empty, are refused and
+    /// stay too. A fault comes with what is left of the files.
     pub fn open_files(
         alloc: Global,
         files: Files<D>,
@@ -130,11 +155,20 @@ impl<D: Disk + Drop> DeskStore<FileStore<D>> {
     ) -> Result<DeskStore<FileStore<D>>, (OpenFault, Leftover<D>)>
         requires log { IsTrue (D.Disk.is_usable files.log) }
         requires db { IsTrue (D.Disk.is_usable files.db) }
-        ensures stands { IfOk result (λ d. HasCleanDisk (file_state d.tables.connection) → (L : List Request) → AreFilesOf (image_of D.Disk files) L → KeepsRequests (file_state d.tables.connection) L) }
-        ensures alone { IfOk result (λ d. HasCleanDisk (file_state d.tables.connection) → (L : List Request) → AreFilesOf (image_of D.Disk files) L → (left : Trees) → (file_state d.tables.connection).may_leave left → AreRowsOf left L) }
-        ensures taken { IfOk result (λ d. HasCleanDisk (file_state d.tables.connection) → TakesFound (image_of D.Disk files) (file_state d.tables.connection)) }
-        ensures fault { IfErr result (λ e. IsCleanLeft e.1 → TellsFiles IsFaultFor (image_of D.Disk files) (left_in e.1) e.0) }
-        ensures left { IfErr result (λ e. IsCleanLeft e.1 → KeepsFiles (λ were. were ≡ files) MakesNothing (image_of D.Disk files) e.1) }
+        ensures clean { IfOk result (λ d. HasCleanDisk (file_state d.tables.connection)
+            → AreClean D.Disk files.log files.db) }
+        ensures stands { IfOk result (λ d. HasCleanDisk (file_state d.tables.connection)
+            → (L : List Request) → AreFilesOf (image_of D.Disk files) L
+            → KeepsRequests (file_state d.tables.connection) L) }
+        ensures alone { IfOk result (λ d. HasCleanDisk (file_state d.tables.connection)
+            → (L : List Request) → AreFilesOf (image_of D.Disk files) L → (left : Trees)
+            → (file_state d.tables.connection).may_leave left → AreRowsOf left L) }
+        ensures taken { IfOk result (λ d. HasCleanDisk (file_state d.tables.connection)
+            → TakesFound (image_of D.Disk files) (file_state d.tables.connection)) }
+        ensures fault { IfErr result (λ e. IsCleanLeft e.1
+            → TellsFiles IsFaultFor (image_of D.Disk files) (left_in e.1) e.0) }
+        ensures left { IfErr result (λ e. IsCleanLeft e.1
+            → KeepsFiles (λ were. were ≡ files) MakesNothing (image_of D.Disk files) e.1) }
     {
         same_trees_hold_the_same_rows();
         let connection = match Connection::open_files(alloc, files, options) {
@@ -150,9 +184,13 @@ impl<D: Disk + Drop> DeskStore<FileStore<D>> {
     /// The files, which hold what the desk stood for. The desk is gone, with a fault too, which comes
     /// with what is left of the files: a crash then leaves of them what it could leave before.
     pub fn close_files(self) -> Result<Files<D>, (StoreFault, FileStore<D>)>
-        ensures usable { IfOk result (λ files. IsTrue (D.Disk.is_usable files.log) × IsTrue (D.Disk.is_usable files.db)) }
-        ensures holds { IfOk result (λ files. AreClean D.Disk files.log files.db → (L : List Request) → KeepsRequests (file_state self.tables.connection) L → HoldRowsOf (image_of D.Disk files) L) }
-        ensures copied { IfOk result (λ files. AreClean D.Disk files.log files.db → IsCopied self.tables.connection files) }
+        ensures usable { IfOk result (λ files. IsTrue (D.Disk.is_usable files.log)
+            × IsTrue (D.Disk.is_usable files.db)) }
+        ensures holds { IfOk result (λ files. AreClean D.Disk files.log files.db
+            → (L : List Request) → KeepsRequests (file_state self.tables.connection) L
+            → HoldRowsOf (image_of D.Disk files) L) }
+        ensures copied { IfOk result (λ files. AreClean D.Disk files.log files.db
+            → IsCopied self.tables.connection files) }
         ensures left { IfErr result (λ e. IsClosed self.tables.connection e.1) }
     {
         let DeskStore { alloc: _, tables } = self;
@@ -172,11 +210,19 @@ impl<S: Start> DeskStore<FileStore<FileFrom<S>>> {
         path: &str,
         start: S,
     ) -> Result<DeskStore<FileStore<FileFrom<S>>>, (OpenFault, Option<Leftover<FileFrom<S>>>)>
-        ensures stands { IfOk result (λ d. HasCleanDisk (file_state d.tables.connection) → (L : List Request) → AreFilesOf (image_at S.Start) L → KeepsRequests (file_state d.tables.connection) L) }
-        ensures alone { IfOk result (λ d. HasCleanDisk (file_state d.tables.connection) → (L : List Request) → AreFilesOf (image_at S.Start) L → (left : Trees) → (file_state d.tables.connection).may_leave left → AreRowsOf left L) }
-        ensures taken { IfOk result (λ d. HasCleanDisk (file_state d.tables.connection) → TakesFound (image_at S.Start) (file_state d.tables.connection)) }
-        ensures fault { IfErr result (λ e. IfSome e.1 (λ left. IsCleanLeft left → TellsFiles IsFaultFor (image_at S.Start) (left_in left) e.0)) }
-        ensures left { IfErr result (λ e. IfSome e.1 (λ left. IsCleanLeft left → KeepsFiles (λ were. IsFresh true were.log × IsFresh false were.db) MakesNothing (image_at S.Start) left)) }
+        ensures stands { IfOk result (λ d. HasCleanDisk (file_state d.tables.connection)
+            → (L : List Request) → AreFilesOf (image_at S.Start) L
+            → KeepsRequests (file_state d.tables.connection) L) }
+        ensures alone { IfOk result (λ d. HasCleanDisk (file_state d.tables.connection)
+            → (L : List Request) → AreFilesOf (image_at S.Start) L → (left : Trees)
+            → (file_state d.tables.connection).may_leave left → AreRowsOf left L) }
+        ensures taken { IfOk result (λ d. HasCleanDisk (file_state d.tables.connection)
+            → TakesFound (image_at S.Start) (file_state d.tables.connection)) }
+        ensures fault { IfErr result (λ e. IfSome e.1 (λ left. IsCleanLeft left
+            → TellsFiles IsFaultFor (image_at S.Start) (left_in left) e.0)) }
+        ensures left { IfErr result (λ e. IfSome e.1 (λ left. IsCleanLeft left
+            → KeepsFiles (λ were. IsFresh true were.log × IsFresh false were.db) MakesNothing
+            (image_at S.Start) left)) }
         ensures unopened { IfErr result (λ e. e.1 ≡ None → ¬ IsOther e.0) }
     {
         same_trees_hold_the_same_rows();
@@ -192,74 +238,34 @@ impl<S: Start> DeskStore<FileStore<FileFrom<S>>> {
 }
 
 impl<S: Alter> Desk for DeskStore<S> {
-    ghost use Rattle.std.specs.Prelude.{⊤};
     ghost use Rattle.sqlite.specs.Held.{state};
-    ghost use Rattle.sqlite.specs.State.{HasCleanDisk};
-    ghost use Rattle.desk_store.specs.Desks.{KeepsRequests};
-    ghost use Rattle.desk_store.specs.Leaves.{MayLeave};
-    ghost use Rattle.desk_store.specs.ContentLemmas.{keeps_by_content};
+    ghost use Rattle.desk_store.specs.Seen.{in_tables, seen_in};
 
-    ghost is_sound = { λ d. HasCleanDisk (state S.Store d.tables.connection) };
+    ghost kind = { in_tables };
 
-    ghost stands_for = { λ d L. KeepsRequests (state S.Store d.tables.connection) L };
+    ghost seen = { λ d. seen_in (state S.Store d.tables.connection) };
 
-    ghost may_leave = { λ d M. MayLeave (state S.Store d.tables.connection) M };
-
-    ghost may_give = { λ f. ⊤ };
-
-    ghost by_content = { λ d L M same keeps. keeps_by_content _ _ _ _ L M same keeps };
-
-    fn agree(&mut self, agreement: &Agreement) -> Result<AgreeAnswer, StoreFault>
-        ensures asked { IsAsked (Request.Agree agreement.now) (λ L. agree_answer L agreement.now)
-            (state S.Store self.old.tables.connection) (state S.Store self.new.tables.connection) result }
-        ensures crash { (L : List Request) → KeepsRequests (state S.Store self.old.tables.connection) L → HasCleanDisk (state S.Store self.new.tables.connection) → LeavesOneMore (MayLeave (state S.Store self.old.tables.connection)) (MayLeave (state S.Store self.new.tables.connection)) (Request.Agree agreement.now ∷ L) }
-        ensures alone { (L : List Request) → KeepsRequests (state S.Store self.old.tables.connection) L → HasCleanDisk (state S.Store self.new.tables.connection) → LeavesOnly (MayLeave (state S.Store self.old.tables.connection)) L → OnOk result (LeavesOnly (MayLeave (state S.Store self.new.tables.connection)) (Request.Agree agreement.now ∷ L)) }
-    {
+    fn agree(&mut self, agreement: &Agreement) -> Result<AgreeAnswer, StoreFault> {
         ask_agree(&mut self.tables, agreement)
     }
 
-    fn deliver(&mut self, records: &Records<'_>) -> Result<DeliveryAnswer, StoreFault>
-        ensures asked { IsAsked (Request.Deliver records.now) (λ L. delivery_answer L records.now)
-            (state S.Store self.old.tables.connection) (state S.Store self.new.tables.connection) result }
-        ensures crash { (L : List Request) → KeepsRequests (state S.Store self.old.tables.connection) L → HasCleanDisk (state S.Store self.new.tables.connection) → LeavesOneMore (MayLeave (state S.Store self.old.tables.connection)) (MayLeave (state S.Store self.new.tables.connection)) (Request.Deliver records.now ∷ L) }
-        ensures alone { (L : List Request) → KeepsRequests (state S.Store self.old.tables.connection) L → HasCleanDisk (state S.Store self.new.tables.connection) → LeavesOnly (MayLeave (state S.Store self.old.tables.connection)) L → OnOk result (LeavesOnly (MayLeave (state S.Store self.new.tables.connection)) (Request.Deliver records.now ∷ L)) }
-    {
+    fn deliver(&mut self, records: &Records<'_>) -> Result<DeliveryAnswer, StoreFault> {
         ask_deliver(self.alloc, &mut self.tables, records)
     }
 
-    fn waive(&mut self, series: &SeriesName, number: Number) -> Result<WaiveAnswer, StoreFault>
-        ensures asked { IsAsked (Request.Waive series.now number) (λ L. waive_answer L series.now number)
-            (state S.Store self.old.tables.connection) (state S.Store self.new.tables.connection) result }
-        ensures crash { (L : List Request) → KeepsRequests (state S.Store self.old.tables.connection) L → HasCleanDisk (state S.Store self.new.tables.connection) → LeavesOneMore (MayLeave (state S.Store self.old.tables.connection)) (MayLeave (state S.Store self.new.tables.connection)) (Request.Waive series.now number ∷ L) }
-        ensures alone { (L : List Request) → KeepsRequests (state S.Store self.old.tables.connection) L → HasCleanDisk (state S.Store self.new.tables.connection) → LeavesOnly (MayLeave (state S.Store self.old.tables.connection)) L → OnOk result (LeavesOnly (MayLeave (state S.Store self.new.tables.connection)) (Request.Waive series.now number ∷ L)) }
-    {
+    fn waive(&mut self, series: &SeriesName, number: Number) -> Result<WaiveAnswer, StoreFault> {
         ask_waive(self.alloc, &mut self.tables, series, number)
     }
 
-    fn offers_of(&mut self, isbn: &Isbn13) -> Result<Items<Offer>, StoreFault>
-        ensures left { (L : List Request) → KeepsRequests (state S.Store self.old.tables.connection) L → HasCleanDisk (state S.Store self.new.tables.connection) → KeepsRequests (state S.Store self.new.tables.connection) L }
-        ensures crash { (L : List Request) → KeepsRequests (state S.Store self.old.tables.connection) L → HasCleanDisk (state S.Store self.new.tables.connection) → LeavesNoMore (MayLeave (state S.Store self.old.tables.connection)) (MayLeave (state S.Store self.new.tables.connection)) }
-        ensures questioned { IsQuestioned (λ L. offers_after L isbn.now)
-            (state S.Store self.old.tables.connection) (state S.Store self.new.tables.connection) result }
-    {
+    fn offers_of(&mut self, isbn: &Isbn13) -> Result<Items<Offer>, StoreFault> {
         ask_offers(&mut self.tables, isbn)
     }
 
-    fn gaps(&mut self, series: &SeriesName) -> Result<Option<GapReport>, StoreFault>
-        ensures left { (L : List Request) → KeepsRequests (state S.Store self.old.tables.connection) L → HasCleanDisk (state S.Store self.new.tables.connection) → KeepsRequests (state S.Store self.new.tables.connection) L }
-        ensures crash { (L : List Request) → KeepsRequests (state S.Store self.old.tables.connection) L → HasCleanDisk (state S.Store self.new.tables.connection) → LeavesNoMore (MayLeave (state S.Store self.old.tables.connection)) (MayLeave (state S.Store self.new.tables.connection)) }
-        ensures questioned { IsQuestioned (λ L. gaps_answer L series.now)
-            (state S.Store self.old.tables.connection) (state S.Store self.new.tables.connection) result }
-    {
+    fn gaps(&mut self, series: &SeriesName) -> Result<Option<GapReport>, StoreFault> {
         ask_gaps(self.alloc, &mut self.tables, series)
     }
 
-    fn catalogue(&mut self, series: &SeriesName) -> Result<Option<Catalogue>, StoreFault>
-        ensures left { (L : List Request) → KeepsRequests (state S.Store self.old.tables.connection) L → HasCleanDisk (state S.Store self.new.tables.connection) → KeepsRequests (state S.Store self.new.tables.connection) L }
-        ensures crash { (L : List Request) → KeepsRequests (state S.Store self.old.tables.connection) L → HasCleanDisk (state S.Store self.new.tables.connection) → LeavesNoMore (MayLeave (state S.Store self.old.tables.connection)) (MayLeave (state S.Store self.new.tables.connection)) }
-        ensures questioned { IsQuestioned (λ L. catalogue_answer L series.now)
-            (state S.Store self.old.tables.connection) (state S.Store self.new.tables.connection) result }
-    {
+    fn catalogue(&mut self, series: &SeriesName) -> Result<Option<Catalogue>, StoreFault> {
         ask_catalogue(self.alloc, &mut self.tables, series)
     }
 }

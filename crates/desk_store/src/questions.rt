@@ -3,10 +3,12 @@
 ghost use Rattle.std.specs.Prelude.{◌≡◌, IfOk, IsTrue};
 ghost use Rattle.sqlite.specs.Held.{state};
 ghost use Rattle.catalogue_store.specs.Achieves.{Achieves};
-ghost use Rattle.desk_store.specs.Desks.{IsQuestioned, Reports, Tells};
+ghost use Rattle.desk_store.specs.Desks.{OnlyAnswers, Reports};
+ghost use Rattle.desk_store.specs.Seen.{seen_in};
 ghost use Rattle.series_rules.specs.Answers.{catalogue_answer, gaps_answer};
 ghost use Rattle.series_rules.specs.Gaps.{AreRisingFrom};
 ghost use Rattle.series_rules.specs.Offers.{offers_after};
+ghost use Rattle.series_rules.specs.Views.{Tells};
 
 use catalogue_rules::catalogue::Catalogue;
 use catalogue_store::catalogues::read_catalogue;
@@ -31,8 +33,9 @@ fn catalogue_in<S: Alter>(
     series: &SeriesName,
 ) -> Result<Option<Catalogue>, StoreFault>
     ensures same_reference { work.new.tables.ghost_name ≡ work.old.tables.ghost_name }
-    ensures achieves { Achieves (Tells (λ L. catalogue_answer L series.now))
-        (state S.Store work.old.tables.now.connection) (state S.Store work.new.tables.now.connection) result }
+    ensures achieves { Achieves (OnlyAnswers (λ L. catalogue_answer L series.now))
+        (state S.Store work.old.tables.now.connection)
+        (state S.Store work.new.tables.now.connection) result }
 {
     let found = match work.series_by_name(series) {
         Ok(found) => found,
@@ -53,8 +56,9 @@ pub(crate) fn ask_catalogue<S: Alter>(
     tables: &mut Tables<S>,
     series: &SeriesName,
 ) -> Result<Option<Catalogue>, StoreFault>
-    ensures { IsQuestioned (λ L. catalogue_answer L series.now)
-        (state S.Store tables.old.connection) (state S.Store tables.new.connection) result }
+    ensures { Tells (λ L. catalogue_answer L series.now)
+        (seen_in (state S.Store tables.old.connection))
+        (seen_in (state S.Store tables.new.connection)) result }
 {
     let mut work = tables.work()?;
     catalogue_in(alloc, &mut work, series)
@@ -65,8 +69,9 @@ pub(crate) fn ask_offers<S: Alter>(
     tables: &mut Tables<S>,
     isbn: &Isbn13,
 ) -> Result<Items<Offer>, StoreFault>
-    ensures { IsQuestioned (λ L. offers_after L isbn.now)
-        (state S.Store tables.old.connection) (state S.Store tables.new.connection) result }
+    ensures { Tells (λ L. offers_after L isbn.now)
+        (seen_in (state S.Store tables.old.connection))
+        (seen_in (state S.Store tables.new.connection)) result }
 {
     let mut work = tables.work()?;
     work.offers_by_article(isbn)
@@ -94,7 +99,8 @@ fn report_of(
     row: &SeriesRow,
     held: &[Number],
 ) -> Result<GapReport, StoreFault>
-    ensures { IfOk result (λ report. AreRisingFrom row.now.next held.now × Reports series row.now.agreement.first row.now.next held.now report) }
+    ensures { IfOk result (λ report. AreRisingFrom row.now.next held.now
+        × Reports series row.now.agreement.first row.now.next held.now report) }
 {
     let first = row.agreement.first;
     let next = row.next;
@@ -114,8 +120,9 @@ fn gaps_in<S: Alter>(
     series: &SeriesName,
 ) -> Result<Option<GapReport>, StoreFault>
     ensures same_reference { work.new.tables.ghost_name ≡ work.old.tables.ghost_name }
-    ensures achieves { Achieves (Tells (λ L. gaps_answer L series.now))
-        (state S.Store work.old.tables.now.connection) (state S.Store work.new.tables.now.connection) result }
+    ensures achieves { Achieves (OnlyAnswers (λ L. gaps_answer L series.now))
+        (state S.Store work.old.tables.now.connection)
+        (state S.Store work.new.tables.now.connection) result }
 {
     let found = match work.series_by_name(series) {
         Ok(found) => found,
@@ -140,8 +147,9 @@ pub(crate) fn ask_gaps<S: Alter>(
     tables: &mut Tables<S>,
     series: &SeriesName,
 ) -> Result<Option<GapReport>, StoreFault>
-    ensures { IsQuestioned (λ L. gaps_answer L series.now)
-        (state S.Store tables.old.connection) (state S.Store tables.new.connection) result }
+    ensures { Tells (λ L. gaps_answer L series.now)
+        (seen_in (state S.Store tables.old.connection))
+        (seen_in (state S.Store tables.new.connection)) result }
 {
     let mut work = tables.work()?;
     gaps_in(alloc, &mut work, series)

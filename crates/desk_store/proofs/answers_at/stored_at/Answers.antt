@@ -3,7 +3,6 @@ use Rattle.sqlite.specs.Held.{state}
 use Rattle.catalogue_store.specs.AchievesLemmas.{achieves_as, achieves_call, achieves_call_failed, achieves_then}
 use Rattle.desk_tables.specs.Rows.{DeskRows, applied_at, held_at}
 use Rattle.desk_terms.specs.declared.effects.Effect.{Effect}
-use Rattle.desk_store.specs.Answering.{IsStored}
 use Rattle.desk_store.specs.declared.answers_at.Stored.{Stored}
 use Rattle.desk_store.proofs.Answered.{stored_applied, stored_held}
 use Rattle.desk_store.proofs.answers_at.stored_at.Goals as goal

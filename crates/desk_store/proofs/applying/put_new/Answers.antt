@@ -1,4 +1,4 @@
-use Rattle.std.proofs.Common.{◌≡◌, ◌+◌, ℕ, Ok, sym, ◌∙◌, rules}
+use Rattle.std.proofs.Common.{◌≡◌, ◌+◌, Ok, sym, ◌∙◌, rules}
 use Rattle.sqlite.specs.Held.{state}
 use Rattle.catalogue_store.specs.AchievesLemmas.{achieves_as, achieves_call, achieves_failed, achieves_then}
 use Rattle.desk_tables.specs.Rows.{DeskRows, HeldRow, with_held}

@@ -6,7 +6,7 @@ use Rattle.catalogue_store.specs.AchievesLemmas.{achieves_as, achieves_call, ach
 use Rattle.desk_tables.specs.Rows.{DeskRows, series_at}
 use Rattle.desk_tables.specs.declared.rows.series.SeriesRow.{SeriesRow}
 use Rattle.series_rules.specs.Answers.{catalogue_answer}
-use Rattle.desk_store.specs.Desks.{Tells}
+use Rattle.desk_store.specs.Desks.{OnlyAnswers}
 use Rattle.desk_store.proofs.QuestionRows.{no_catalogue, one_catalogue}
 use Rattle.desk_store.proofs.questions.catalogue_in.Goals as goal
 
@@ -30,7 +30,7 @@ returns-in-Ok-read_catalogue-clause-achieves g c =
     let Found : DeskRows → Option SeriesRow → Type 0 = λ rows row. row ≡ series_at s rows in
     let Asked : DeskRows → Option SeriesRow → DeskRows → Type 0 = λ rows row now. Found rows row × (now ≡ rows) in
     let Read : DeskRows → ByReference → DeskRows → Type 0 = λ rows catalogue after. (after ≡ rows) × ((m : ByReference) → HoldsCatalogue s m rows → catalogue ≡ m) in
-    let Done : DeskRows → ByReference → DeskRows → Type 0 = λ rows m now. Tells (λ L. catalogue_answer L s) rows (Some m) now in
+    let Done : DeskRows → ByReference → DeskRows → Type 0 = λ rows m now. OnlyAnswers (λ L. catalogue_answer L s) rows (Some m) now in
     achieves_as Done _ old new c.in-Ok-read_catalogue.catalogue (Some c.in-Ok-read_catalogue.catalogue)
     (achieves_then Asked Read Done old mid new c.in-Ok.found (Ok c.in-Ok-read_catalogue.catalogue)
     (achieves_call Found (λ rows. rows) old mid c.args.work.now.spent c.series_by_name.new.self.spent (Ok c.in-Ok.found) c.in-Ok.ensures.works) c.in-Ok-read_catalogue.ensures.achieves

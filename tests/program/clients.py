@@ -1,10 +1,12 @@
-"""Clients of a port that close early, fall silent or send more than they said, a port that is taken, and
-one whose lines cannot be written."""
+"""Clients of a port that close early, fall silent, send more than they said or less, a port that is taken,
+and one whose lines cannot be written."""
 
 import contextlib
+import re
 import signal
 import socket
 import struct
+from pathlib import Path
 from typing import NamedTuple
 
 from program.commands import AGREEMENT, APPLIED, FIRST
@@ -110,6 +112,35 @@ def served_until_it_is_stopped(room):
         yield Outcome("the desk that is stopped", desk.stopped(), wanted)
 
 
+# The longest body that is read.
+LARGEST = 4_194_304
+
+SHORT = Exchange("a short body", b"", "400 Bad Request", '{"answer":"refused","reason":"short-body"}')
+
+
+def most_memory(desk) -> int:
+    """The most bytes of memory that the desk has had at once."""
+    status = Path(f"/proc/{desk.process.pid}/status").read_text()
+    return 1024 * int(re.search(r"VmHWM:\s*([0-9]+) kB", status)[1])
+
+
+def bodies_that_do_not_come(room):
+    """A client takes memory for the bytes that it sends, and none for those that it only says."""
+    head = b"POST /messages HTTP/1.1\r\nContent-Length: %d\r\n\r\n" % LARGEST
+    with serving(room, [], 4) as desk:
+        desk.reply([GAPS.input])
+        before = most_memory(desk)
+        yield Outcome("the reply to a body that does not come", desk.reply([head, b"Message"]), SHORT.reply())
+        said = most_memory(desk) - before
+        yield Outcome("memory for a body that does not come", said < LARGEST // 4, True)
+        desk.reply([head, b"\n" * (LARGEST - 1)])
+        sent = most_memory(desk) - before
+        yield Outcome("memory for one that comes but for a byte", sent > LARGEST // 2, True)
+        desk.reply([GAPS.input])
+        wanted = desk.wanted(["404", "400", "400", "404"])
+        yield Outcome("the lines of short bodies", desk.ended(), wanted)
+
+
 def a_port_that_is_taken(room):
     with socket.socket() as listener:
         listener.bind((HOST, 0))
@@ -135,6 +166,7 @@ GROUPS = [
     Group("clients of a port", clients_of_a_port),
     Group("clients that are gone before their turn", clients_that_are_gone),
     Group("a port without a number of connections", served_until_it_is_stopped),
+    Group("bodies that do not come", bodies_that_do_not_come),
     Group("a port that is taken", a_port_that_is_taken),
     Group("a port whose lines cannot be written", unwritten_lines),
 ]

@@ -1,21 +1,26 @@
 -- What the steps of an exchange come to.
-use Rattle.std.proofs.Common.{◌≡◌, ℕ, Bool, true, false, List, [], ◌∷◌, arith, Option, None, Result, Ok, Err, refl, ◌⊎◌, inl, inr}
+use Rattle.std.proofs.Common.{◌≡◌, ◌∷◌, ℕ, Bool, true, false, List, [], None, Option, Result, Ok, Err, inl, inr, refl, sym, subst, ap, arith, length}
 use Rattle.std.specs.Prelude.{IfSome}
 use Rattle.desk_terms.specs.declared.faults.StoreFault.{StoreFault}
 use Rattle.price_rules.specs.declared.precedence.Rule.{Rule}
+use Rattle.series_rules.proofs.TraceLemmas.{trace_premise}
+use Rattle.series_rules.proofs.ViewLemmas.{alone, either}
+use Rattle.series_rules.specs.Answers.{answer_to}
+use Rattle.series_rules.specs.Traces.{Trace}
+use Rattle.series_rules.specs.Views.{Asks, DeskKind, IsFaultOf, LeavesOnly, View}
 use Rattle.series_rules.specs.declared.answers.Answer.{Answer}
-use Rattle.series_rules.specs.Leaves.{LeavesOnly}
 use Rattle.series_rules.specs.declared.requests.Request.{Request}
+use Rattle.desk_http.specs.AnswerReply.{reply_of_answer}
+use Rattle.desk_http.specs.Asks.{AsksFor}
+use Rattle.desk_http.specs.Exchange.{Exchanges, KeepsChange, LeavesAfter, ServeFits, Served, Unsent, answers, faults, refuses}
+use Rattle.desk_http.specs.ExchangeSteps.{AreAsked, AreRepliedTo, AreStepsOf, AskFits, IfMemory, IfWrite, IsReplied, IsUnsent, OnRead}
+use Rattle.desk_http.specs.Reply.{Reply, reply_text}
+use Rattle.desk_http.specs.Serves.{Serves}
+use Rattle.desk_http.specs.Writing.{WritesFront}
 use Rattle.desk_http.specs.declared.exchange.HttpFault.{HttpFault}
 use Rattle.desk_http.specs.declared.exchange.HttpFault.TheVariants as fault
-use Rattle.desk_http.specs.declared.exchange.ReplyText.{ReplyText}
 use Rattle.desk_http.specs.declared.exchange.Wanted.{Wanted}
 use Rattle.desk_http.specs.declared.exchange.Wanted.TheVariants.{Asked, Refused}
-use Rattle.desk_http.specs.AnswerReply.{reply_of_answer}
-use Rattle.desk_http.specs.Asks.{Asks}
-use Rattle.desk_http.specs.Exchange.{AtMostOneMore, Exchanges, LeavesAfter, LeavesAtMostOneMore, LeavesRequestMore, Served, Unsent, answers, faults, refuses}
-use Rattle.desk_http.specs.ExchangeSteps.{AskAdds, AskFits, AskLeaves, AskedLeaves, IsAnswered, IfMemory, IfWrite, IsReplied, IsUnreplied, reply_view}
-use Rattle.desk_http.specs.Reply.{Reply, reply_text}
 
 -- a status and a body are those of an answer
 pub reply_is : (a : Answer) (status : ℕ) (body : List ℕ) → status ≡ (reply_of_answer a).status → body ≡ (reply_of_answer a).body
@@ -23,111 +28,124 @@ pub reply_is : (a : Answer) (status : ℕ) (body : List ℕ) → status ≡ (rep
 unfolding reply_of_answer
 reply_is a status body s b = rw (s, b) refl
 
-exchanged : (rules : List Rule) (may_give : StoreFault → Type 0) (L : List Request) (wanted : Wanted)
-    (stands left : List Request → Type 0) (reply : Reply) (taken : Bool) → IsReplied rules may_give L wanted stands reply taken
-    → (only : Type 0) → (only → AskedLeaves L wanted left taken)
-    → (after : List Request) × Exchanges rules may_give L wanted reply after × stands after × (only → LeavesAfter L wanted after left)
-exchanged rules may_give L (Refused why) stands left reply taken is only leaves = (L, rw is.0 refuses, is.2, leaves)
-exchanged rules may_give L (Asked r) stands left reply true is only leaves = (r ∷ L, rw is.0 answers, is.1, λ alone M may. inl (leaves alone M may))
-exchanged rules may_give L (Asked r) stands left reply false is only leaves = (L, rw is.0.2 (faults is.0.1), is.1, leaves)
+-- one request was asked
+pub one_asked : {D : Type 0} {k : DeskKind} (seen : D → View k) (rules : List Rule) (steps : List (Request × Result Answer StoreFault)) (r : Request) (o : Result Answer StoreFault) (old new : D)
+    → steps ≡ (r, o) ∷ [] → Trace seen rules steps old new → Asks r (λ L. answer_to rules L r) (seen old) (seen new) o
+one_asked seen rules steps r o old new is trace =
+    let only = subst (λ xs. Trace seen rules xs old new) is trace in
+    subst (λ d. Asks r (λ L. answer_to rules L r) (seen old) (seen d) o) (sym only.2) only.1
 
--- a reply to what was asked for was written so
-pub served : (rules : List Rule) (may_give : StoreFault → Type 0) (L : List Request) (wanted : Wanted)
-    (stands was left : List Request → Type 0) (reply : Reply) (taken : Bool) → IsReplied rules may_give L wanted stands reply taken
-    → (LeavesOnly was L → AskedLeaves L wanted left taken)
-    → (written : List ℕ → Type 0) → written (reply_text reply) → (sent : Option (List ℕ)) → IfSome sent (λ input. Asks input wanted)
-    → Served rules may_give L sent stands was left written reply.status
-served rules may_give L wanted stands was left reply taken is leaves written text sent asks =
-    let e = exchanged rules may_give L wanted stands left reply taken is (LeavesOnly was L) leaves in
-    record {
-      wanted = wanted;
-      reply = reply;
-      after = e.0;
-      asks = asks;
-      exchanges = e.1;
-      stands_after = e.2;
-      left_after = e.3;
-      status_is = refl;
-      text = text;
-    }
+-- nothing was asked
+pub none_asked : {D : Type 0} {k : DeskKind} (seen : D → View k) (rules : List Rule) (steps : List (Request × Result Answer StoreFault)) (old new : D)
+    → steps ≡ [] → Trace seen rules steps old new → new ≡ old
+none_asked seen rules steps old new is trace = subst (λ xs. Trace seen rules xs old new) is trace
 
--- the same where a write failed
-pub served_in_part : (rules : List Rule) (may_give : StoreFault → Type 0) (L : List Request) (wanted : Wanted)
-    (stands was left : List Request → Type 0) (reply : Reply) (taken : Bool) → IsReplied rules may_give L wanted stands reply taken
-    → (LeavesOnly was L → AskedLeaves L wanted left taken)
-    → (written : List ℕ → Type 0) (f : HttpFault) → IfWrite {T = Unit {0}} (Err f) (λ status. (status ≡ reply.status) × written (reply_text reply))
-    → (sent : Option (List ℕ)) → IfSome sent (λ input. Asks input wanted)
-    → IfWrite {T = ℕ} (Err f) (Served rules may_give L sent stands was left written)
-served_in_part rules may_give L wanted stands was left reply taken is leaves written fault.Read front sent asks = tt
-served_in_part rules may_give L wanted stands was left reply taken is leaves written (fault.Write status) front sent asks =
-    rw front.0 (served rules may_give L wanted stands was left reply taken is leaves written front.1 sent asks)
-served_in_part rules may_give L wanted stands was left reply taken is leaves written (fault.Memory taken') front sent asks = tt
+-- what follows for each list that the desk stood for
+module _ {D : Type 0} {k : DeskKind} (seen : D → View k) (rules : List Rule) (steps : List (Request × Result Answer StoreFault)) (old new : D) (trace : Trace seen rules steps old new)
+    (L : List Request) (stood : (seen old).stands_for L) (sound : (seen new).sound) where
+  exchanged : (wanted : Wanted) (taken : Bool) (reply : Reply) → AreRepliedTo wanted taken steps reply
+      → (after : List Request) × Exchanges rules (IsFaultOf k) L wanted reply after × (seen new).stands_for after × (LeavesOnly (seen old) L → LeavesAfter L wanted after (seen new)) × KeepsChange L wanted after (seen new)
+  exchanged (Refused why) true reply is = absurd is
+  exchanged (Refused why) false reply is =
+      let same = sym (none_asked seen rules steps old new is.0 trace) in
+      (L, rw is.1 refuses, subst (λ d. (seen d).stands_for L) same stood, λ only. subst (λ d. LeavesOnly (seen d) L) same only, tt)
+  exchanged (Asked r) true reply is =
+      let asked = one_asked seen rules steps r (Ok is.0) old new is.1 trace in
+      let done = asked.ok L stood sound in
+      (r ∷ L, rw (is.2, done.0) answers, done.1, λ only x may. inl (alone r _ (seen old) (seen new) (Ok is.0) asked L stood sound only x may), λ with_it did. asked.changed L stood sound did)
+  exchanged (Asked r) false reply is =
+      let asked = one_asked seen rules steps r (Err is.0) old new is.1 trace in
+      (L, rw is.2 (faults asked.fault), asked.err L stood sound, λ only x may. either r _ (seen old) (seen new) (Err is.0) asked L stood sound only x may, λ with_it did. absurd (omega (arith, ap length with_it)))
 
--- memory ran out before the desk was asked
-pub fault_before : (f : HttpFault) (known : Option (List ℕ)) (L : List Request) (stands : List Request → Type 0) → stands L
-    → IfMemory {T = Wanted} (Err f) (λ taken. taken ≡ false)
-    → IfMemory {T = ℕ} (Err f) (Unsent L known stands)
-fault_before fault.Read known L stands left h = tt
-fault_before (fault.Write status) known L stands left h = tt
-fault_before (fault.Memory taken) known L stands left h = rw h left
+  served : (sent : Option (List ℕ)) (written : List ℕ → Type 0) (status : ℕ) → IsReplied sent steps written status
+      → Served rules (IsFaultOf k) L sent (seen new).stands_for (seen old) (seen new) written status
+  served sent written status is =
+      let e = exchanged is.wanted is.taken is.reply is.replied in
+      record {
+        wanted = is.wanted;
+        reply = is.reply;
+        after = e.0;
+        asks = is.asks;
+        exchanges = e.1;
+        stands_after = e.2;
+        left_after = e.3;
+        kept_after = e.4;
+        status_is = is.status_is;
+        text = is.text;
+      }
 
--- while it was asked
-unreplied : (L : List Request) (wanted : Wanted) (stands : List Request → Type 0) (taken : Bool) → IsUnreplied L wanted stands taken
-    → (known : Option (List ℕ)) → IfSome known (λ input. Asks input wanted) → Unsent L known stands taken
-unreplied L wanted stands false left known asks = left
-unreplied L (Asked r) stands true left known asks = (r, asks, left)
-unreplied L (Refused why) stands true left known asks = absurd left
+  asked_true : (wanted : Wanted) (sent : Option (List ℕ)) → IfSome sent (λ input. AsksFor input wanted) → AreAsked wanted true steps → Unsent L sent (seen new).stands_for true
+  asked_true (Refused why) sent asks is = absurd is
+  asked_true (Asked r) sent asks is =
+      let asked = one_asked seen rules steps r (Ok is.0) old new is.1 trace in
+      (r, asks, (asked.ok L stood sound).1)
 
-pub fault_between : (rules : List Rule) (may_give : StoreFault → Type 0) (L : List Request) (wanted : Wanted) (stands : List Request → Type 0) (f : HttpFault)
-    → AskFits rules may_give L wanted stands (Err f) → (known : Option (List ℕ)) → IfSome known (λ input. Asks input wanted)
-    → IfMemory {T = ℕ} (Err f) (Unsent L known stands)
-fault_between rules may_give L wanted stands fault.Read fits known asks = tt
-fault_between rules may_give L wanted stands (fault.Write status) fits known asks = tt
-fault_between rules may_give L wanted stands (fault.Memory taken) fits known asks = unreplied L wanted stands taken fits known asks
+  asked_false : (wanted : Wanted) → AreAsked wanted false steps → (seen new).stands_for L
+  asked_false (Refused why) is = subst (λ d. (seen d).stands_for L) (sym (none_asked seen rules steps old new is trace)) stood
+  asked_false (Asked r) is = (one_asked seen rules steps r (Err is.0) old new is.1 trace).err L stood sound
 
--- after it was asked
-replied : (rules : List Rule) (may_give : StoreFault → Type 0) (L : List Request) (wanted : Wanted) (stands : List Request → Type 0) (reply : Reply) (taken : Bool)
-    → IsReplied rules may_give L wanted stands reply taken → (known : Option (List ℕ)) → IfSome known (λ input. Asks input wanted) → Unsent L known stands taken
-replied rules may_give L (Asked r) stands reply true is known asks = (r, asks, is.1)
-replied rules may_give L (Asked r) stands reply false is known asks = is.1
-replied rules may_give L (Refused why) stands reply taken is known asks = rw is.1 is.2
+  unsent : (sent : Option (List ℕ)) (taken : Bool) → IsUnsent sent steps taken → Unsent L sent (seen new).stands_for taken
+  unsent sent true (wanted, asks, is) = asked_true wanted sent asks is
+  unsent sent false (inl is) = subst (λ d. (seen d).stands_for L) (sym (none_asked seen rules steps old new is trace)) stood
+  unsent sent false (inr is) = asked_false is.0 is.2
 
-pub fault_after : (rules : List Rule) (may_give : StoreFault → Type 0) (L : List Request) (wanted : Wanted) (stands : List Request → Type 0) (reply : Reply) (taken : Bool)
-    → IsReplied rules may_give L wanted stands reply taken → (f : HttpFault) → IfMemory {T = Unit {0}} (Err f) (λ t. t ≡ taken)
-    → (known : Option (List ℕ)) → IfSome known (λ input. Asks input wanted) → IfMemory {T = ℕ} (Err f) (Unsent L known stands)
-fault_after rules may_give L wanted stands reply taken is fault.Read same known asks = tt
-fault_after rules may_give L wanted stands reply taken is (fault.Write status) same known asks = tt
-fault_after rules may_give L wanted stands reply taken is (fault.Memory t) same known asks = rw same (replied rules may_give L wanted stands reply taken is known asks)
+  fits : (sent : Option (List ℕ)) (written : List ℕ → Type 0) (result : Result ℕ HttpFault) → AreStepsOf sent written steps result
+      → ServeFits rules L sent (seen new).stands_for (seen old) (seen new) written result
+  fits sent written (Ok status) is = served sent written status is
+  fits sent written (Err fault.Read) is = (subst (λ d. (seen d).stands_for L) (sym (none_asked seen rules steps old new is.0 trace)) stood, is.1)
+  fits sent written (Err (fault.Write status)) is = served sent (WritesFront written) status is
+  fits sent written (Err (fault.Memory taken)) is = (unsent sent taken is.0, is.1)
 
--- asking leaves what stood, or one request more
-answered_once : (rules : List Rule) (may_give : StoreFault → Type 0) (L : List Request) (r : Request) (stands : List Request → Type 0)
-    (reply : Reply) (taken : Bool) → IsAnswered rules may_give L r stands reply taken → AtMostOneMore L stands
-answered_once rules may_give L r stands reply true is = (r ∷ [], omega arith, is.1)
-answered_once rules may_give L r stands reply false is = ([], omega arith, is.1)
+-- a connection was served by these steps
+pub serves : {D : Type 0} {k : DeskKind} (seen : D → View k) (rules : List Rule) (sent : Option (List ℕ)) (old new : D) (written : List ℕ → Type 0) (result : Result ℕ HttpFault) (steps : List (Request × Result Answer StoreFault))
+    → Trace seen rules steps old new → AreStepsOf sent written steps result → Serves seen rules sent old new written result
+serves seen rules sent old new written result steps trace are = record {
+  premise = trace_premise seen rules steps old new trace;
+  run = λ L stood sound. fits seen rules steps old new trace L stood sound sent written result are;
+  asked = (steps, trace, are);
+}
 
-pub asked_once : (rules : List Rule) (may_give : StoreFault → Type 0) (L : List Request) (wanted : Wanted)
-    (stands : List Request → Type 0) (result : Result ReplyText HttpFault) → AskFits rules may_give L wanted stands result → AtMostOneMore L stands
-asked_once rules may_give L (Asked r) stands (Ok reply) fits = answered_once rules may_give L r stands (reply_view reply) reply.taken fits
-asked_once rules may_give L (Refused why) stands (Ok reply) fits = ([], omega arith, fits.2)
-asked_once rules may_give L wanted stands (Err fault.Read) fits = absurd fits
-asked_once rules may_give L wanted stands (Err (fault.Write status)) fits = absurd fits
-asked_once rules may_give L (Asked r) stands (Err (fault.Memory true)) fits = (r ∷ [], omega arith, fits)
-asked_once rules may_give L (Refused why) stands (Err (fault.Memory true)) fits = absurd fits
-asked_once rules may_give L wanted stands (Err (fault.Memory false)) fits = ([], omega arith, fits)
+-- nothing was read that asks for something
+pub unread_steps : (sent : Option (List ℕ)) (written : List ℕ → Type 0) (f : HttpFault) → IfWrite {T = Wanted} (Err f) (λ _. ⊥) → IfMemory {T = Wanted} (Err f) (λ taken. taken ≡ false) → written []
+    → AreStepsOf sent written [] (Err f)
+unread_steps sent written fault.Read write memory nothing = (refl, nothing)
+unread_steps sent written (fault.Write status) write memory nothing = absurd write
+unread_steps sent written (fault.Memory taken) write memory nothing = rw memory (inl refl, nothing)
 
--- so it is with what a crash may leave
-asked_leaves : (L : List Request) (wanted : Wanted) (left : List Request → Type 0) (taken : Bool) → AskedLeaves L wanted left taken → LeavesAtMostOneMore L left
-asked_leaves L (Asked r) left true leaves = (r ∷ [], omega arith, λ M may. inr (leaves M may))
-asked_leaves L (Asked r) left false leaves = (r ∷ [], omega arith, leaves)
-asked_leaves L (Refused why) left taken leaves = ([], omega arith, λ M may. inl (leaves M may))
+-- memory ran out while the desk was asked, or for the reply
+unsent_steps : (sent : Option (List ℕ)) (wanted : Wanted) (steps : List (Request × Result Answer StoreFault)) (taken : Bool) → IfSome sent (λ input. AsksFor input wanted) → AreAsked wanted taken steps → IsUnsent sent steps taken
+unsent_steps sent wanted steps true asks are = (wanted, asks, are)
+unsent_steps sent wanted steps false asks are = inr (wanted, asks, are)
 
-pub ask_leaves : (L : List Request) (wanted : Wanted) (left : List Request → Type 0) (result : Result ReplyText HttpFault) → AskLeaves L wanted left result → LeavesAtMostOneMore L left
-ask_leaves L wanted left (Ok reply) leaves = asked_leaves L wanted left reply.taken leaves
-ask_leaves L wanted left (Err fault.Read) leaves = absurd leaves
-ask_leaves L wanted left (Err (fault.Write status)) leaves = absurd leaves
-ask_leaves L wanted left (Err (fault.Memory taken)) leaves = asked_leaves L wanted left taken leaves
+pub unreplied_steps : (sent : Option (List ℕ)) (written : List ℕ → Type 0) (wanted : Wanted) (steps : List (Request × Result Answer StoreFault)) (f : HttpFault) → IfSome sent (λ input. AsksFor input wanted)
+    → AskFits wanted steps (Err f) → written [] → AreStepsOf sent written steps (Err f)
+unreplied_steps sent written wanted steps fault.Read asks fits nothing = absurd fits
+unreplied_steps sent written wanted steps (fault.Write status) asks fits nothing = absurd fits
+unreplied_steps sent written wanted steps (fault.Memory taken) asks fits nothing = (unsent_steps sent wanted steps taken asks fits, nothing)
 
--- whatever it could leave before
-pub ask_adds : (L : List Request) (wanted : Wanted) (old new : List Request → Type 0) → AskAdds L wanted old new → LeavesRequestMore L old new
-ask_adds L (Asked r) old new adds = (r ∷ [], omega arith, adds)
-ask_adds L (Refused why) old new adds = ([], omega arith, λ M may. inl (adds M may))
+-- the reply, and what was asked for it
+asked_of : (wanted : Wanted) (taken : Bool) (steps : List (Request × Result Answer StoreFault)) (reply : Reply) → AreRepliedTo wanted taken steps reply → AreAsked wanted taken steps
+asked_of (Asked r) true steps reply is = (is.0, is.1)
+asked_of (Asked r) false steps reply is = (is.0, is.1)
+asked_of (Refused why) true steps reply is = absurd is
+asked_of (Refused why) false steps reply is = is.0
+
+pub replied_steps : (sent : Option (List ℕ)) (written : List ℕ → Type 0) (wanted : Wanted) (steps : List (Request × Result Answer StoreFault)) (taken : Bool) (reply : Reply) → IfSome sent (λ input. AsksFor input wanted)
+    → AreRepliedTo wanted taken steps reply → written (reply_text reply) → IsReplied sent steps written reply.status
+replied_steps sent written wanted steps taken reply asks is text = record {
+  wanted = wanted;
+  taken = taken;
+  reply = reply;
+  asks = asks;
+  replied = is;
+  status_is = refl;
+  text = text;
+}
+
+-- it was not sent whole
+pub cut_steps : (sent : Option (List ℕ)) (written : List ℕ → Type 0) (wanted : Wanted) (steps : List (Request × Result Answer StoreFault)) (taken : Bool) (reply : Reply) (f : HttpFault) → IfSome sent (λ input. AsksFor input wanted)
+    → AreRepliedTo wanted taken steps reply → (IfMemory {T = Unit {0}} (Err f) (λ t. t ≡ taken)) → (IfWrite {T = Unit {0}} (Err f) (λ status. (status ≡ reply.status) × WritesFront written (reply_text reply)))
+    → OnRead {T = Unit {0}} (Err f) ⊥ → IfMemory {T = Unit {0}} (Err f) (λ _. written []) → AreStepsOf sent written steps (Err f)
+cut_steps sent written wanted steps taken reply fault.Read asks is same part read nothing = absurd read
+cut_steps sent written wanted steps taken reply (fault.Write status) asks is same part read nothing = rw part.0 (replied_steps sent (WritesFront written) wanted steps taken reply asks is part.1)
+cut_steps sent written wanted steps taken reply (fault.Memory t) asks is same part read nothing = (rw same (unsent_steps sent wanted steps taken asks (asked_of wanted taken steps reply is)), nothing)

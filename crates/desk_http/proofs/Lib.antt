@@ -1,6 +1,8 @@
 pub mod AskLemmas
 pub mod AsksLaws
 pub mod ExchangeLemmas
+pub mod ServesLemmas
+pub mod WantedLemmas
 pub mod Statuses
 pub mod InsertLemmas
 pub mod PlaceLemmas

@@ -13,7 +13,7 @@ use Rattle.desk_http.specs.declared.routes.Route.{Route}
 use Rattle.desk_http.specs.declared.routes.Route.TheVariants as route
 use Rattle.http_requests.specs.Head.{HasHead, IsRefused}
 use Rattle.desk_http.specs.Keys.{part_at}
-use Rattle.http_requests.specs.Posted.{records_posted}
+use Rattle.http_requests.specs.Posted.{most_posted, records_posted}
 use Rattle.desk_http.specs.Questions.{calendar_asked, prices_asked, series_asked}
 use Rattle.desk_http.specs.Routing.{path_of, query_of, route_asked}
 use Rattle.http_requests.specs.Steps.{◌>>=◌}
@@ -45,15 +45,33 @@ request_at h rest route.Catalogue = question_at route.Catalogue h.target
 unfoldable pub asks_of : RequestHead → List ℕ → Result Request Refusal
 asks_of h rest = route_asked h >>= request_at h rest
 
+-- how many bytes behind a head are looked at, by the route: those of the body of a delivery, and none for a question
+abbrev pub most_at : RequestHead → Route → ℕ
+most_at h route.Messages = most_posted h
+most_at h route.Price = 0
+most_at h route.Choice = 0
+most_at h route.Calendar = 0
+most_at h route.Gaps = 0
+most_at h route.Catalogue = 0
+
+-- none where there is no route
+abbrev pub most_by : RequestHead → Result Route Refusal → ℕ
+most_by h (Ok route) = most_at h route
+most_by h (Err why) = 0
+
+-- how many bytes behind a head are looked at
+unfoldable pub most_behind : RequestHead → ℕ
+most_behind h = most_by h (route_asked h)
+
 -- what is asked for, where these steps came to that
 abbrev pub wanted_by : Result Request Refusal → Wanted
 wanted_by (Ok r) = Asked r
 wanted_by (Err why) = Refused why
 
 -- what an input asks for, by its bytes alone: the refusal of one without a head, or what its head and body ask for, the first step that refuses deciding
-pub data Asks : List ℕ → Wanted → Type 0 where
-  without_head : {input : List ℕ} {why : Refusal} → IsRefused input why → Asks input (Refused why)
-  with_head : {input rest : List ℕ} {h : RequestHead} → HasHead input h rest → Asks input (wanted_by (asks_of h rest))
+pub data AsksFor : List ℕ → Wanted → Type 0 where
+  without_head : {input : List ℕ} {why : Refusal} → IsRefused input why → AsksFor input (Refused why)
+  with_head : {input rest : List ℕ} {h : RequestHead} → HasHead input h rest → AsksFor input (wanted_by (asks_of h rest))
 
 -- P of what was asked for, unless a read failed or memory ran out
 abbrev pub IfDecided : Result Request InputFault → (Wanted → Type 0) → Type 0

@@ -1,10 +1,11 @@
--- The steps of an exchange.
-use Rattle.std.specs.Prelude.{◌≡◌, ℕ, Bool, true, false, List, ◌∷◌, Result, Ok, Err, ⊤, option_map}
+-- The steps of an exchange: what was asked of the desk, and the reply to that.
+use Rattle.std.specs.Prelude.{◌≡◌, ◌⊎◌, ℕ, Bool, true, false, List, [], ◌∷◌, Option, IfSome, Result, Ok, Err, ⊤, option_map}
 use Rattle.std.specs.String.{string_bytes}
 use Rattle.desk_terms.specs.declared.faults.StoreFault.{StoreFault}
 use Rattle.price_rules.specs.declared.precedence.Rule.{Rule}
-use Rattle.series_rules.specs.Answers.{answer_to}
-use Rattle.series_rules.specs.Leaves.{LeavesEither, LeavesNoMore, LeavesOneMore, LeavesOnly}
+use Rattle.series_rules.specs.Traces.{Trace}
+use Rattle.series_rules.specs.Views.{DeskKind, View}
+use Rattle.series_rules.specs.declared.answers.Answer.{Answer}
 use Rattle.series_rules.specs.declared.requests.Request.{Request}
 use Rattle.desk_http.specs.declared.exchange.HttpFault.{HttpFault}
 use Rattle.desk_http.specs.declared.exchange.HttpFault.TheVariants as fault
@@ -12,53 +13,62 @@ use Rattle.desk_http.specs.declared.exchange.ReplyText.{ReplyText}
 use Rattle.desk_http.specs.declared.exchange.Wanted.{Wanted}
 use Rattle.desk_http.specs.declared.exchange.Wanted.TheVariants.{Asked, Refused}
 use Rattle.desk_http.specs.AnswerReply.{reply_of_answer, reply_of_fault}
+use Rattle.desk_http.specs.Asks.{AsksFor}
 use Rattle.desk_http.specs.Refusals.{reply_of_refusal}
-use Rattle.desk_http.specs.Reply.{Reply}
+use Rattle.desk_http.specs.Reply.{Reply, reply_text}
+use Rattle.desk_http.specs.Writing.{WritesFront}
 
 -- what a reply on its way is
 abbrev pub reply_view : ReplyText → Reply
 reply_view r = record { status = r.status; allow = option_map (λ m. m.now) r.allow; body = string_bytes r.body }
 
--- the reply to a request after L: an answer that the desk has taken up, or a fault that it has not
-abbrev pub IsAnswered : List Rule → (StoreFault → Type 0) → List Request → Request → (List Request → Type 0) → Reply → Bool → Type 0
-IsAnswered rules may_give L r stands reply true = (reply ≡ reply_of_answer (answer_to rules L r)) × stands (r ∷ L)
-IsAnswered rules may_give L r stands reply false = ((f : StoreFault) × may_give f × (reply ≡ reply_of_fault f)) × stands L
+-- the desk was asked what is asked for, and of a refusal nothing. Taken: it answered; else, where it was asked, it had a fault
+abbrev pub AreAsked : Wanted → Bool → List (Request × Result Answer StoreFault) → Type 0
+AreAsked (Asked r) true steps = (a : Answer) × (steps ≡ (r, Ok a) ∷ [])
+AreAsked (Asked r) false steps = (f : StoreFault) × (steps ≡ (r, Err f) ∷ [])
+AreAsked (Refused why) true steps = ⊥
+AreAsked (Refused why) false steps = steps ≡ []
 
--- the same for what is asked for, which may be a refusal
-abbrev pub IsReplied : List Rule → (StoreFault → Type 0) → List Request → Wanted → (List Request → Type 0) → Reply → Bool → Type 0
-IsReplied rules may_give L (Asked r) stands reply taken = IsAnswered rules may_give L r stands reply taken
-IsReplied rules may_give L (Refused why) stands reply taken = (reply ≡ reply_of_refusal why) × (taken ≡ false) × stands L
-
--- memory ran out for the reply to what is asked for
-abbrev pub IsUnreplied : List Request → Wanted → (List Request → Type 0) → Bool → Type 0
-IsUnreplied L wanted stands false = stands L
-IsUnreplied L (Asked r) stands true = stands (r ∷ L)
-IsUnreplied L (Refused why) stands true = ⊥
+-- the same, and this is the reply to it
+abbrev pub AreRepliedTo : Wanted → Bool → List (Request × Result Answer StoreFault) → Reply → Type 0
+AreRepliedTo (Asked r) true steps reply = (a : Answer) × (steps ≡ (r, Ok a) ∷ []) × (reply ≡ reply_of_answer a)
+AreRepliedTo (Asked r) false steps reply = (f : StoreFault) × (steps ≡ (r, Err f) ∷ []) × (reply ≡ reply_of_fault f)
+AreRepliedTo (Refused why) true steps reply = ⊥
+AreRepliedTo (Refused why) false steps reply = (steps ≡ []) × (reply ≡ reply_of_refusal why)
 
 -- how asking can end
-abbrev pub AskFits : List Rule → (StoreFault → Type 0) → List Request → Wanted → (List Request → Type 0) → Result ReplyText HttpFault → Type 0
-AskFits rules may_give L wanted stands (Ok reply) = IsReplied rules may_give L wanted stands (reply_view reply) reply.taken
-AskFits rules may_give L wanted stands (Err fault.Read) = ⊥
-AskFits rules may_give L wanted stands (Err (fault.Write status)) = ⊥
-AskFits rules may_give L wanted stands (Err (fault.Memory taken)) = IsUnreplied L wanted stands taken
+abbrev pub AskFits : Wanted → List (Request × Result Answer StoreFault) → Result ReplyText HttpFault → Type 0
+AskFits wanted steps (Ok reply) = AreRepliedTo wanted reply.taken steps (reply_view reply)
+AskFits wanted steps (Err fault.Read) = ⊥
+AskFits wanted steps (Err (fault.Write status)) = ⊥
+AskFits wanted steps (Err (fault.Memory taken)) = AreAsked wanted taken steps
 
--- what a crash may leave, where it left only L: the request once it is taken, or after a fault that or L
-abbrev pub AskedLeaves : List Request → Wanted → (List Request → Type 0) → Bool → Type 0
-AskedLeaves L (Asked r) left true = LeavesOnly left (r ∷ L)
-AskedLeaves L (Asked r) left false = LeavesEither left L (r ∷ L)
-AskedLeaves L (Refused why) left taken = LeavesOnly left L
+-- the desk was asked what is asked for, as any desk is
+abbrev pub AsksWanted : {D : Type 0} → {k : DeskKind} → (D → View k) → List Rule → Wanted → D → D → Result ReplyText HttpFault → Type 0
+AsksWanted seen rules wanted old new result =
+    (steps : List (Request × Result Answer StoreFault)) × Trace seen rules steps old new × AskFits wanted steps result
 
--- the same, however asking ended
-abbrev pub AskLeaves : List Request → Wanted → (List Request → Type 0) → Result ReplyText HttpFault → Type 0
-AskLeaves L wanted left (Ok reply) = AskedLeaves L wanted left reply.taken
-AskLeaves L wanted left (Err fault.Read) = ⊥
-AskLeaves L wanted left (Err (fault.Write status)) = ⊥
-AskLeaves L wanted left (Err (fault.Memory taken)) = AskedLeaves L wanted left taken
+-- a client was replied to, by these steps. Sent: what the client sent, where that is known. Written: this text was written
+pub record IsReplied (sent : Option (List ℕ)) (steps : List (Request × Result Answer StoreFault)) (written : List ℕ → Type 0) (status : ℕ) : Type 0 where
+  pub wanted : Wanted
+  pub taken : Bool
+  pub reply : Reply
+  pub asks : IfSome sent (λ input. AsksFor input wanted)
+  pub replied : AreRepliedTo wanted taken steps reply
+  pub status_is : status ≡ reply.status
+  pub text : written (reply_text reply)
 
--- whatever it left before, it leaves that, or a request that was asked
-abbrev pub AskAdds : List Request → Wanted → (List Request → Type 0) → (List Request → Type 0) → Type 0
-AskAdds L (Asked r) old new = LeavesOneMore old new (r ∷ L)
-AskAdds L (Refused why) old new = LeavesNoMore old new
+-- memory ran out before the desk was asked, for what it was asked, or for the reply
+abbrev pub IsUnsent : Option (List ℕ) → List (Request × Result Answer StoreFault) → Bool → Type 0
+IsUnsent sent steps true = (wanted : Wanted) × IfSome sent (λ input. AsksFor input wanted) × AreAsked wanted true steps
+IsUnsent sent steps false = (steps ≡ []) ⊎ ((wanted : Wanted) × IfSome sent (λ input. AsksFor input wanted) × AreAsked wanted false steps)
+
+-- the steps of an exchange that ended so: at most one, which asks the desk what the client's bytes ask for
+abbrev pub AreStepsOf : Option (List ℕ) → (List ℕ → Type 0) → List (Request × Result Answer StoreFault) → Result ℕ HttpFault → Type 0
+AreStepsOf sent written steps (Ok status) = IsReplied sent steps written status
+AreStepsOf sent written steps (Err (fault.Write status)) = IsReplied sent steps (WritesFront written) status
+AreStepsOf sent written steps (Err fault.Read) = (steps ≡ []) × written []
+AreStepsOf sent written steps (Err (fault.Memory taken)) = IsUnsent sent steps taken × written []
 
 -- what is said after a failed read
 abbrev pub OnRead : {T : Type 0} → Result T HttpFault → Type 0 → Type 0

@@ -8,6 +8,7 @@ pub mod Questions
 pub mod Refusals
 pub mod Reply
 pub mod Routing
+pub mod Serves
 pub mod Writing
 pub mod Keys
 pub mod Place

@@ -1,6 +1,6 @@
 //! Laws of the definitions.
 
-ghost use Rattle.desk_http.specs.Laws.{AsksOnce, AsksSomething, RefusalsAreErrors};
+ghost use Rattle.desk_http.specs.Laws.{AsksOnce, AsksSomething, RefusalsAreErrors, WantedIsBounded};
 
 /// An answer has one of HTTP's statuses for errors, 400 or above, exactly where its JSON begins
 /// with the member `answer` of value `refused`.
@@ -17,4 +17,9 @@ pub fn asks_once()
 /// request or is refused.
 pub fn asks_something()
     ensures { AsksSomething }
+{}
+
+/// Of no input more than 16,384 bytes of a head and 4,194,304 of a body are wanted.
+pub fn wanted_is_bounded()
+    ensures { WantedIsBounded }
 {}

@@ -6,8 +6,8 @@
 //! which are defined in `http_requests`; `Routing` over `Place`, `Table` and `Keys` (the path and the
 //! method: which paths there are and where each leads, the table of the router of `matchit`, and what
 //! it finds); `Questions` over `Query` (what a GET asks). `AnswerReply` and `Refusals` say what is
-//! replied, `Reply` has the text of a reply, and `Exchange` puts both together. `laws` has what these
-//! definitions come to.
+//! replied, and `Reply` has the text of a reply. `Exchange` puts both together for a list that a desk
+//! stands for, and `Serves` for the desk itself. `laws` has what these definitions come to.
 //!
 //! It stands beside `desk_batch` over the same desks. The bytes of a reply are written by
 //! `csv_records`; the JSON of a reply is that of `desk_json`.

@@ -1,8 +1,10 @@
 //! The request that an input asks for.
 
-ghost use Rattle.std.specs.Prelude.{◌≡◌, ◌++◌, ℕ, List, IfSome};
+ghost use Rattle.std.specs.Prelude.{◌≡◌, ◌++◌, ◌-◌, ℕ, List, length, IfSome};
 ghost use Rattle.httparse.specs.Grammar.{RequestHead};
-ghost use Rattle.desk_http.specs.Asks.{Asks, IfDecided, asks_of, question_at, question_of, request_at};
+ghost use Rattle.csv_records.specs.Streams.{TakesAtMost};
+ghost use Rattle.desk_http.specs.Asks.{AsksFor, IfDecided, asks_of, most_at, most_behind, question_at, question_of, request_at};
+ghost use Rattle.desk_http.specs.Serves.{TakesWanted};
 ghost use Rattle.http_requests.specs.HeadRead.{IsHeadOf};
 ghost use Rattle.http_requests.specs.Steps.{Gives};
 
@@ -58,8 +60,10 @@ fn read_at<R: Read>(
     behind: &[u8],
     route: Route,
 ) -> Result<Request, InputFault>
-    ensures { (h : RequestHead) → IsHeadOf head.now h → IfSome (R.remaining reader.old) (λ more.
+    ensures gives { (h : RequestHead) → IsHeadOf head.now h → IfSome (R.remaining reader.old) (λ more.
         Gives result (request_at h (behind.now ++ more) route)) }
+    ensures taken { (h : RequestHead) → IsHeadOf head.now h →
+        TakesAtMost (most_at h route - length behind.now) (R.remaining reader.old) (R.remaining reader.new) }
 {
     match route {
         Route::Messages => match read_posted(alloc, reader, head, behind) {
@@ -79,8 +83,10 @@ fn read_behind<R: Read>(
     head: &Head,
     behind: &[u8],
 ) -> Result<Request, InputFault>
-    ensures { (h : RequestHead) → IsHeadOf head.now h → IfSome (R.remaining reader.old) (λ more.
+    ensures gives { (h : RequestHead) → IsHeadOf head.now h → IfSome (R.remaining reader.old) (λ more.
         Gives result (asks_of h (behind.now ++ more))) }
+    ensures taken { (h : RequestHead) → IsHeadOf head.now h →
+        TakesAtMost (most_behind h - length behind.now) (R.remaining reader.old) (R.remaining reader.new) }
 {
     match read_route(alloc, head) {
         Ok(route) => read_at(alloc, reader, head, behind, route),
@@ -89,9 +95,10 @@ fn read_behind<R: Read>(
 }
 
 /// Reads the request that an input asks for: its head, and the body of a POST that gets so far. A
-/// refusal comes as soon as the bytes that were read decide it.
+/// refusal comes as soon as the bytes that were read decide it, and no byte behind the body is read.
 pub(crate) fn read_request<R: Read>(alloc: Global, reader: &mut R) -> Result<Request, InputFault>
-    ensures { IfSome (R.remaining reader.old) (λ input. IfDecided result (Asks input)) }
+    ensures asks { IfSome (R.remaining reader.old) (λ input. IfDecided result (AsksFor input)) }
+    ensures taken { TakesWanted (R.remaining reader.old) (R.remaining reader.new) }
 {
     match read_head(alloc, reader) {
         Ok(head) => read_behind(alloc, reader, &head, head.behind()),

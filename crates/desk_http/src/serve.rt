@@ -1,20 +1,17 @@
 //! One request, one reply.
 
-ghost use Rattle.std.specs.Prelude.{◌≡◌, ◌∷◌, ℕ, List, IfOk, IfSome, OnOk, false, option_map};
-ghost use Rattle.std.specs.Io.KnownBytes.{Appends, Keeps};
+ghost use Rattle.std.specs.Prelude.{◌≡◌, [], IfOk, IfSome, OnOk, false, option_map};
+ghost use Rattle.std.specs.Io.KnownBytes.{Appends};
 ghost use Rattle.serde_json.specs.Written.{compact_text};
-ghost use Rattle.series_rules.specs.Faults.{IsFaultOf};
-ghost use Rattle.series_rules.specs.Leaves.{LeavesOnly};
-ghost use Rattle.series_rules.specs.declared.requests.Request.{Request};
-ghost use Rattle.desk_http.specs.Asks.{Asks};
-ghost use Rattle.desk_http.specs.Exchange.{AtMostOneMore, LeavesAtMostOneMore, LeavesRequestMore, Served, Unsent};
-ghost use Rattle.desk_http.specs.ExchangeSteps.{AskAdds, AskFits, AskLeaves, IfMemory, IfWrite, OnRead, reply_view};
 ghost use Rattle.desk_json.specs.Json.{refused};
+ghost use Rattle.desk_http.specs.Asks.{AsksFor};
+ghost use Rattle.desk_http.specs.ExchangeSteps.{AsksWanted, IfMemory, IfWrite, OnRead, reply_view};
 ghost use Rattle.desk_http.specs.AnswerReply.{reply_of_fault};
-ghost use Rattle.desk_http.specs.declared.exchange.Wanted.TheVariants.{Asked};
 ghost use Rattle.desk_http.specs.Refusals.{reply_of_refusal};
 ghost use Rattle.desk_http.specs.Reply.{reply_text};
-ghost use Rattle.desk_http.specs.Writing.{AppendsFront};
+ghost use Rattle.desk_http.specs.Serves.{Serves, TakesWanted};
+ghost use Rattle.desk_http.specs.Writing.{WritesFront};
+ghost use Rattle.desk_http.specs.declared.exchange.Wanted.TheVariants.{Asked};
 
 use crate::answer_reply::{fault_kind, reply_of};
 use crate::exchange::{HttpFault, ReplyText, Wanted};
@@ -86,7 +83,8 @@ fn reply_of_fault(alloc: Global, fault: &StoreFault) -> Result<ReplyText, AllocE
 
 // Reads what is asked for.
 fn read_wanted<R: Read>(alloc: Global, reader: &mut R) -> Result<Wanted, HttpFault>
-    ensures asks { IfOk result (λ wanted. IfSome (R.remaining reader.old) (λ input. Asks input wanted)) }
+    ensures asks { IfOk result (λ wanted. IfSome (R.remaining reader.old) (λ input. AsksFor input wanted)) }
+    ensures taken { TakesWanted (R.remaining reader.old) (R.remaining reader.new) }
     ensures write { IfWrite result (λ _. ⊥) }
     ensures memory { IfMemory result (λ taken. taken ≡ false) }
 {
@@ -105,11 +103,7 @@ fn ask<D: Desk>(
     precedence: &Precedence,
     request: &Request,
 ) -> Result<ReplyText, HttpFault>
-    ensures premise { D.is_sound desk.new → D.is_sound desk.old }
-    ensures asked { (L : List Request) → D.stands_for desk.old L → D.is_sound desk.new →
-        AskFits precedence.now (IsFaultOf D.may_give) L (Asked request.now) (D.stands_for desk.new) result }
-    ensures left { (L : List Request) → D.stands_for desk.old L → D.is_sound desk.new → LeavesOnly (D.may_leave desk.old) L → AskLeaves L (Asked request.now) (D.may_leave desk.new) result }
-    ensures crash { (L : List Request) → D.stands_for desk.old L → D.is_sound desk.new → AskAdds L (Asked request.now) (D.may_leave desk.old) (D.may_leave desk.new) }
+    ensures { AsksWanted D.seen precedence.now (Asked request.now) desk.old desk.new result }
 {
     match answer(alloc, desk, precedence, request) {
         Ok(answer) => match reply_of(alloc, &answer) {
@@ -135,11 +129,7 @@ fn perform<D: Desk>(
     precedence: &Precedence,
     wanted: &Wanted,
 ) -> Result<ReplyText, HttpFault>
-    ensures premise { D.is_sound desk.new → D.is_sound desk.old }
-    ensures asked { (L : List Request) → D.stands_for desk.old L → D.is_sound desk.new →
-        AskFits precedence.now (IsFaultOf D.may_give) L wanted.now (D.stands_for desk.new) result }
-    ensures left { (L : List Request) → D.stands_for desk.old L → D.is_sound desk.new → LeavesOnly (D.may_leave desk.old) L → AskLeaves L wanted.now (D.may_leave desk.new) result }
-    ensures crash { (L : List Request) → D.stands_for desk.old L → D.is_sound desk.new → AskAdds L wanted.now (D.may_leave desk.old) (D.may_leave desk.new) }
+    ensures { AsksWanted D.seen precedence.now wanted.now desk.old desk.new result }
 {
     match wanted {
         Wanted::Asked(request) => ask(alloc, desk, precedence, request),
@@ -154,10 +144,10 @@ fn perform<D: Desk>(
 fn send<W: Write>(alloc: Global, writer: &mut W, reply: &ReplyText) -> Result<(), HttpFault>
     ensures ok { OnOk result (Appends (W.contents writer.old) (W.contents writer.new) (reply_text (reply_view reply.now))) }
     ensures read { OnRead result ⊥ }
-    ensures write { IfWrite result (λ status. (status ≡ reply.now.status)
-        × AppendsFront (W.contents writer.old) (W.contents writer.new) (reply_text (reply_view reply.now))) }
+    ensures write { IfWrite result (λ status. (status ≡ reply.now.status) × WritesFront
+        (Appends (W.contents writer.old) (W.contents writer.new)) (reply_text (reply_view reply.now))) }
     ensures memory { IfMemory result (λ taken. taken ≡ reply.now.taken) }
-    ensures unsent { IfMemory result (λ _. Keeps (W.contents writer.old) (W.contents writer.new)) }
+    ensures unsent { IfMemory result (λ _. Appends (W.contents writer.old) (W.contents writer.new) []) }
 {
     let Ok(text) = reply_text(alloc, reply.status, reply.allow, &reply.body) else {
         return Err(HttpFault::Memory { taken: reply.taken });
@@ -172,9 +162,12 @@ fn send<W: Write>(alloc: Global, writer: &mut W, reply: &ReplyText) -> Result<()
 /// Serves one connection: reads a request, asks the desk under a precedence table, writes one
 /// reply, and gives its status. A refusal that the bytes decide is replied before the desk is
 /// asked; a fault of the desk's store is replied with status 503 and leaves what the desk stands
-/// for. Where a crash left only what the desk stood for, it leaves each request that is answered;
-/// whatever it left before, it leaves that, or what the desk stood for with at most one request more.
-/// Bytes behind the request are not looked at, and the writer is not flushed.
+/// for. Whatever this ends in, the desk is asked what the bytes ask for, once and as any desk is, or
+/// nothing: so where a crash left only what the desk stood for, it leaves each request that is
+/// answered, and an answer that changed something is kept whatever it left before.
+///
+/// No more of the input is taken than a head may have, or than the head and its body. Bytes behind
+/// the request are not looked at, and the writer is not flushed.
 pub fn serve_one<D: Desk, R: Read, W: Write>(
     alloc: Global,
     desk: &mut D,
@@ -182,19 +175,9 @@ pub fn serve_one<D: Desk, R: Read, W: Write>(
     reader: &mut R,
     writer: &mut W,
 ) -> Result<u16, HttpFault>
-    ensures premise { D.is_sound desk.new → D.is_sound desk.old }
-    ensures ok { (L : List Request) → D.stands_for desk.old L → D.is_sound desk.new → IfOk result
-        (Served precedence.now (IsFaultOf D.may_give) L (R.remaining reader.old) (D.stands_for desk.new) (D.may_leave desk.old) (D.may_leave desk.new) (Appends (W.contents writer.old) (W.contents writer.new))) }
-    ensures write { (L : List Request) → D.stands_for desk.old L → D.is_sound desk.new → IfWrite result
-        (Served precedence.now (IsFaultOf D.may_give) L (R.remaining reader.old) (D.stands_for desk.new) (D.may_leave desk.old) (D.may_leave desk.new) (AppendsFront (W.contents writer.old) (W.contents writer.new))) }
-    ensures read { (L : List Request) → D.stands_for desk.old L → D.is_sound desk.new → OnRead result (D.stands_for desk.new L) }
-    ensures unread { OnRead result (Keeps (W.contents writer.old) (W.contents writer.new)) }
-    ensures memory { (L : List Request) → D.stands_for desk.old L → D.is_sound desk.new →
-        IfMemory result (Unsent L (R.remaining reader.old) (D.stands_for desk.new)) }
-    ensures unsent { IfMemory result (λ _. Keeps (W.contents writer.old) (W.contents writer.new)) }
-    ensures one { (L : List Request) → D.stands_for desk.old L → D.is_sound desk.new → AtMostOneMore L (D.stands_for desk.new) }
-    ensures left { (L : List Request) → D.stands_for desk.old L → D.is_sound desk.new → LeavesOnly (D.may_leave desk.old) L → LeavesAtMostOneMore L (D.may_leave desk.new) }
-    ensures crash { (L : List Request) → D.stands_for desk.old L → D.is_sound desk.new → LeavesRequestMore L (D.may_leave desk.old) (D.may_leave desk.new) }
+    ensures served { Serves D.seen precedence.now (R.remaining reader.old) desk.old desk.new
+        (Appends (W.contents writer.old) (W.contents writer.new)) result }
+    ensures taken { TakesWanted (R.remaining reader.old) (R.remaining reader.new) }
 {
     let wanted = match read_wanted(alloc, reader) {
         Ok(wanted) => wanted,

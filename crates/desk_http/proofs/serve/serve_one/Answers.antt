@@ -1,84 +1,36 @@
-use Rattle.std.proofs.Common.{[], arith, inl, Ok, Err}
+use Rattle.std.proofs.KnownBytes.{Appends-nil}
+use Rattle.std.proofs.Common.{refl, [], Ok, Err}
 use Rattle.std.specs.Io.KnownBytes.{Appends}
-use Rattle.series_rules.specs.Faults.{IsFaultOf}
 use Rattle.desk_http.specs.ExchangeSteps.{reply_view}
-use Rattle.desk_http.specs.Writing.{AppendsFront}
-use Rattle.desk_http.proofs.ExchangeLemmas.{ask_adds, ask_leaves, asked_once, fault_after, fault_before, fault_between, served, served_in_part}
+use Rattle.desk_http.proofs.ExchangeLemmas.{cut_steps, replied_steps, serves, unread_steps, unreplied_steps}
 use Rattle.desk_http.proofs.serve.serve_one.Goals as goal
 
-pub returns-in-Err-clause-memory : goal.returns-in-Err-clause-memory
-returns-in-Err-clause-memory g c L stands sound =
-    fault_before c.in-Err.fault (g.R.Read.remaining c.args.reader.now) L (g.D.Desk.stands_for c.args.desk.now) stands c.in-Err.ensures.memory
+pub returns-in-Err-clause-served : goal.returns-in-Err-clause-served
+returns-in-Err-clause-served g c =
+    let written = Appends (g.W.Write.contents c.args.writer.now) (g.W.Write.contents c.args.writer.now) in
+    serves g.D.Desk.seen c.args.precedence.now (g.R.Read.remaining c.args.reader.now) c.args.desk.now c.args.desk.now written (Err c.in-Err.fault) [] refl
+    (unread_steps (g.R.Read.remaining c.args.reader.now) written c.in-Err.fault c.in-Err.ensures.write c.in-Err.ensures.memory (Appends-nil _))
 
-pub returns-in-Err-perform-clause-memory : goal.returns-in-Err-perform-clause-memory
-returns-in-Err-perform-clause-memory g c L stands sound =
-    fault_between c.args.precedence.now (IsFaultOf g.D.Desk.may_give) L c.in-Ok.wanted (g.D.Desk.stands_for c.perform.new.desk) c.in-Err-perform.fault (c.in-Err-perform.ensures.asked L stands sound)
-    (g.R.Read.remaining c.args.reader.now) c.in-Ok.ensures.asks
+pub returns-in-Err-perform-clause-served : goal.returns-in-Err-perform-clause-served
+returns-in-Err-perform-clause-served g c =
+    let written = Appends (g.W.Write.contents c.args.writer.now) (g.W.Write.contents c.args.writer.now) in
+    let asked = c.in-Err-perform.ensures in
+    serves g.D.Desk.seen c.args.precedence.now (g.R.Read.remaining c.args.reader.now) c.args.desk.now c.perform.new.desk written (Err c.in-Err-perform.fault) asked.0 asked.1
+    (unreplied_steps (g.R.Read.remaining c.args.reader.now) written c.in-Ok.wanted asked.0 c.in-Err-perform.fault c.in-Ok.ensures.asks asked.2 (Appends-nil _))
 
-pub returns-clause-memory : goal.returns-clause-memory
-returns-clause-memory g c L stands sound =
+pub returns-in-Ok-send-clause-served : goal.returns-in-Ok-send-clause-served
+returns-in-Ok-send-clause-served g c =
+    let written = Appends (g.W.Write.contents c.args.writer.now) (g.W.Write.contents c.send.new.writer) in
     let reply = c.in-Ok-perform.reply in
-    fault_after c.args.precedence.now (IsFaultOf g.D.Desk.may_give) L c.in-Ok.wanted (g.D.Desk.stands_for c.perform.new.desk) (reply_view reply) reply.taken
-    (c.in-Ok-perform.ensures.asked L stands sound) c.in-Err-send.fault c.in-Err-send.ensures.memory
-    (g.R.Read.remaining c.args.reader.now) c.in-Ok.ensures.asks
+    let asked = c.in-Ok-perform.ensures in
+    serves g.D.Desk.seen c.args.precedence.now (g.R.Read.remaining c.args.reader.now) c.args.desk.now c.perform.new.desk written (Ok reply.status) asked.0 asked.1
+    (replied_steps (g.R.Read.remaining c.args.reader.now) written c.in-Ok.wanted asked.0 reply.taken (reply_view reply) c.in-Ok.ensures.asks asked.2 c.in-Ok-send.ensures.ok)
 
-pub returns-in-Ok-send-clause-ok : goal.returns-in-Ok-send-clause-ok
-returns-in-Ok-send-clause-ok g c L stands sound =
+pub returns-clause-served : goal.returns-clause-served
+returns-clause-served g c =
+    let written = Appends (g.W.Write.contents c.args.writer.now) (g.W.Write.contents c.send.new.writer) in
     let reply = c.in-Ok-perform.reply in
-    served c.args.precedence.now (IsFaultOf g.D.Desk.may_give) L c.in-Ok.wanted (g.D.Desk.stands_for c.perform.new.desk) (g.D.Desk.may_leave c.args.desk.now) (g.D.Desk.may_leave c.perform.new.desk) (reply_view reply) reply.taken
-    (c.in-Ok-perform.ensures.asked L stands sound) (c.in-Ok-perform.ensures.left L stands sound)
-    (Appends (g.W.Write.contents c.args.writer.now) (g.W.Write.contents c.send.new.writer)) c.in-Ok-send.ensures.ok
-    (g.R.Read.remaining c.args.reader.now) c.in-Ok.ensures.asks
-
-pub returns-clause-write : goal.returns-clause-write
-returns-clause-write g c L stands sound =
-    let reply = c.in-Ok-perform.reply in
-    served_in_part c.args.precedence.now (IsFaultOf g.D.Desk.may_give) L c.in-Ok.wanted (g.D.Desk.stands_for c.perform.new.desk) (g.D.Desk.may_leave c.args.desk.now) (g.D.Desk.may_leave c.perform.new.desk) (reply_view reply) reply.taken
-    (c.in-Ok-perform.ensures.asked L stands sound) (c.in-Ok-perform.ensures.left L stands sound)
-    (AppendsFront (g.W.Write.contents c.args.writer.now) (g.W.Write.contents c.send.new.writer)) c.in-Err-send.fault c.in-Err-send.ensures.write
-    (g.R.Read.remaining c.args.reader.now) c.in-Ok.ensures.asks
-
-pub returns-in-Err-clause-one : goal.returns-in-Err-clause-one
-returns-in-Err-clause-one g c L stands sound = ([], omega arith, stands)
-
-pub returns-in-Err-perform-clause-one : goal.returns-in-Err-perform-clause-one
-returns-in-Err-perform-clause-one g c L stands sound =
-    asked_once c.args.precedence.now (IsFaultOf g.D.Desk.may_give) L c.in-Ok.wanted (g.D.Desk.stands_for c.perform.new.desk) (Err c.in-Err-perform.fault) (c.in-Err-perform.ensures.asked L stands sound)
-
-pub returns-in-Ok-send-clause-one : goal.returns-in-Ok-send-clause-one
-returns-in-Ok-send-clause-one g c L stands sound =
-    asked_once c.args.precedence.now (IsFaultOf g.D.Desk.may_give) L c.in-Ok.wanted (g.D.Desk.stands_for c.perform.new.desk) (Ok c.in-Ok-perform.reply) (c.in-Ok-perform.ensures.asked L stands sound)
-
-pub returns-clause-one : goal.returns-clause-one
-returns-clause-one g c L stands sound =
-    asked_once c.args.precedence.now (IsFaultOf g.D.Desk.may_give) L c.in-Ok.wanted (g.D.Desk.stands_for c.perform.new.desk) (Ok c.in-Ok-perform.reply) (c.in-Ok-perform.ensures.asked L stands sound)
-
-pub returns-in-Err-clause-left : goal.returns-in-Err-clause-left
-returns-in-Err-clause-left g c L stands sound only = ([], omega arith, λ M may. inl (only M may))
-
-pub returns-in-Err-perform-clause-left : goal.returns-in-Err-perform-clause-left
-returns-in-Err-perform-clause-left g c L stands sound only =
-    ask_leaves L c.in-Ok.wanted (g.D.Desk.may_leave c.perform.new.desk) (Err c.in-Err-perform.fault) (c.in-Err-perform.ensures.left L stands sound only)
-
-pub returns-in-Ok-send-clause-left : goal.returns-in-Ok-send-clause-left
-returns-in-Ok-send-clause-left g c L stands sound only =
-    ask_leaves L c.in-Ok.wanted (g.D.Desk.may_leave c.perform.new.desk) (Ok c.in-Ok-perform.reply) (c.in-Ok-perform.ensures.left L stands sound only)
-
-pub returns-clause-left : goal.returns-clause-left
-returns-clause-left g c L stands sound only =
-    ask_leaves L c.in-Ok.wanted (g.D.Desk.may_leave c.perform.new.desk) (Ok c.in-Ok-perform.reply) (c.in-Ok-perform.ensures.left L stands sound only)
-
-pub returns-in-Err-clause-crash : goal.returns-in-Err-clause-crash
-returns-in-Err-clause-crash g c L stands sound = ([], omega arith, λ M may. inl may)
-
-pub returns-in-Err-perform-clause-crash : goal.returns-in-Err-perform-clause-crash
-returns-in-Err-perform-clause-crash g c L stands sound =
-    ask_adds L c.in-Ok.wanted (g.D.Desk.may_leave c.args.desk.now) (g.D.Desk.may_leave c.perform.new.desk) (c.in-Err-perform.ensures.crash L stands sound)
-
-pub returns-in-Ok-send-clause-crash : goal.returns-in-Ok-send-clause-crash
-returns-in-Ok-send-clause-crash g c L stands sound =
-    ask_adds L c.in-Ok.wanted (g.D.Desk.may_leave c.args.desk.now) (g.D.Desk.may_leave c.perform.new.desk) (c.in-Ok-perform.ensures.crash L stands sound)
-
-pub returns-clause-crash : goal.returns-clause-crash
-returns-clause-crash g c L stands sound =
-    ask_adds L c.in-Ok.wanted (g.D.Desk.may_leave c.args.desk.now) (g.D.Desk.may_leave c.perform.new.desk) (c.in-Ok-perform.ensures.crash L stands sound)
+    let asked = c.in-Ok-perform.ensures in
+    let failed = c.in-Err-send.ensures in
+    serves g.D.Desk.seen c.args.precedence.now (g.R.Read.remaining c.args.reader.now) c.args.desk.now c.perform.new.desk written (Err c.in-Err-send.fault) asked.0 asked.1
+    (cut_steps (g.R.Read.remaining c.args.reader.now) written c.in-Ok.wanted asked.0 reply.taken (reply_view reply) c.in-Err-send.fault c.in-Ok.ensures.asks asked.2 failed.memory failed.write failed.read failed.unsent)

@@ -3,3 +3,4 @@ pub mod WholeLists
 pub mod ConnectionLaws
 pub mod ClauseLemmas
 pub mod FileLemmas
+mod SessionLemmas

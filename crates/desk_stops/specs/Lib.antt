@@ -4,3 +4,4 @@ pub mod Effective
 pub mod Connections
 pub mod Clauses
 pub mod Files
+pub mod Sessions

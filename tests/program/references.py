@@ -11,6 +11,10 @@ REFERENCE = re.compile(r"`(\w+)::([a-z]\w*(?:::[a-z]\w*)*)::(?:([A-Z]\w+)::)?(?:
 
 WRONG_BODIES = "## Wrong bodies\n"
 
+# A record of the definitions, and a field of one.
+RECORD = re.compile(r"^ *pub record (\w+)\b.*?\bwhere\n((?:[ ]+.*\n|\n)*)", re.MULTILINE)
+FIELD = re.compile(r"^ +pub (\w+) :", re.MULTILINE)
+
 CRATES = crates(ROOT)
 
 # A source file, by its path or by its name alone, but not a pattern such as `specs/*Lemmas.antt`.
@@ -35,6 +39,23 @@ def item(source: str, name: str) -> str | None:
     return re.split(r"\n\s*{}?\n", source[found[-1].start() :])[0] if found else None
 
 
+def record_fields() -> dict[str, set[str]]:
+    """The fields of each record of the definitions, of which some are the whole clause of a function."""
+    fields: dict[str, set[str]] = {}
+    for page in sorted((ROOT / "crates").glob("*/specs/*.antt")):
+        for name, body in RECORD.findall(page.read_text(encoding="utf-8")):
+            fields.setdefault(name, set()).update(FIELD.findall(body))
+    return fields
+
+
+def has_clause(text: str, clause: str, fields: dict[str, set[str]]) -> bool:
+    """Whether an item has a clause of that name, or one clause that is a record with such a field."""
+    if re.search(rf"\bensures\*? {clause} ", text):
+        return True
+    unnamed = "".join(re.findall(r"\bensures\*? {(?:[^{}]|{[^{}]*})*}", text))
+    return any(clause in fields.get(word, ()) for word in re.findall(r"\b[A-Z]\w+", unnamed))
+
+
 def missing(reference: tuple[str, str, list[str], list[str]]) -> list[str]:
     """What a reference names that is not there."""
     crate, module, names, clauses = reference
@@ -45,12 +66,13 @@ def missing(reference: tuple[str, str, list[str], list[str]]) -> list[str]:
     lost = [name for name in names if item(source, name) is None]
     if lost:
         return lost
+    fields = record_fields() if clauses else {}
     return [
         f"{name}: {clause}"
         for name in names
         if not name[0].isupper()
         for clause in clauses
-        if not re.search(rf"\bensures\*? {clause} ", item(source, name))
+        if not has_clause(item(source, name), clause, fields)
     ]
 
 
@@ -105,8 +127,19 @@ def sources(room):
         yield Outcome(f"{page.relative_to(ROOT)}: the sources that it names", lost, [])
 
 
+def pages(room):
+    """README.md leads to each page of docs/, and to nothing that is not there."""
+    text = (ROOT / "README.md").read_text(encoding="utf-8")
+    linked = set(re.findall(r"\]\(([\w/.]+)\)", text))
+    lost = sorted(name for name in linked if not (ROOT / name).exists())
+    yield Outcome("README.md: what it leads to and is not there", lost, [])
+    there = {str(page.relative_to(ROOT)) for page in (ROOT / "docs").glob("*.md")}
+    yield Outcome("README.md: pages that it does not lead to", sorted(there - linked), [])
+
+
 GROUPS = [
     Group("the clauses that docs/PROOFS.md names", proofs),
     Group("the wrong bodies that READMEs name", wrong_bodies),
     Group("the sources that pages name", sources),
+    Group("the pages that README.md leads to", pages),
 ]

@@ -1,9 +1,9 @@
 -- A question about gaps ends as a request, and adds nothing to what a crash leaves.
+use Rattle.series_rules.specs.Views.{DeskKind, View}
 use Rattle.std.proofs.Common.{◌∷◌, ◌⊎◌, inl, inr, ℕ, Bool, List, Some, Result, Ok, Err, refl, sym}
 use Rattle.series_rules.proofs.Questions.{content_left}
 use Rattle.series_rules.specs.Content.{SameContent}
-use Rattle.series_rules.specs.Leaves.{LeavesOnly}
-use Rattle.series_rules.specs.LeavesLemmas.{same_trans}
+use Rattle.series_rules.specs.Views.{LeavesOnly}
 use Rattle.series_rules.specs.declared.requests.Request.{Request}
 use Rattle.series_rules.specs.declared.requests.Request.TheVariants.{AskGaps}
 use Rattle.desk_batch.specs.Leaves.{RequestLeaves}
@@ -13,7 +13,7 @@ use Rattle.desk_batch.specs.declared.batch.RequestFault.TheVariants as fault
 use Rattle.onixdesk.specs.Course.{Course}
 use Rattle.onixdesk.specs.GapsEnd.{QuestionFits}
 
-question_fits : (c : Course) (L : List Request) (series : List ℕ) (result : Result Bool RequestFault)
+question_fits : {k : DeskKind} (c : Course k) (L : List Request) (series : List ℕ) (result : Result Bool RequestFault)
     → RequestFits c.rules L (AskGaps series) c.written c.stands result → QuestionFits c L (Some series) result
 question_fits c L series (Ok b) fits = fits
 question_fits c L series (Err (fault.Store f)) fits = fits
@@ -21,23 +21,23 @@ question_fits c L series (Err fault.Write) fits = fits
 question_fits c L series (Err fault.Memory) fits = fits
 
 -- what comes to a list with the question comes to the list
-without_question : (M L : List Request) (series : List ℕ) → SameContent M (AskGaps series ∷ L) → SameContent M L
-without_question M L series same =
+pub without_question : (k : DeskKind) (x : k.Left) (L : List Request) (series : List ℕ) → k.comes_to x (AskGaps series ∷ L) → k.comes_to x L
+without_question k x L series same =
     let kept = content_left L (AskGaps series) refl refl in
-    same_trans M (AskGaps series ∷ L) L same (record { agreements = λ name. sym (kept.agreements name); firsts = λ s n. sym (kept.firsts s n) })
+    k.by_content x (AskGaps series ∷ L) L (record { agreements = λ name. sym (kept.agreements name); firsts = λ s n. sym (kept.firsts s n) }) same
 
-question_leaves : (L : List Request) (series : List ℕ) (left : List Request → Type 0) (result : Result Bool RequestFault)
+question_leaves : {k : DeskKind} (L : List Request) (series : List ℕ) (left : View k) (result : Result Bool RequestFault)
     → RequestLeaves L (AskGaps series) left result → LeavesOnly left L
-question_leaves L series left (Ok b) leaves = λ M may. without_question M L series (leaves M may)
-question_leaves L series left (Err (fault.Store f)) leaves = λ M may. either M (leaves M may)
+question_leaves {k = k} L series left (Ok b) leaves = λ M may. without_question k M L series (leaves M may)
+question_leaves {k = k} L series left (Err (fault.Store f)) leaves = λ M may. either M (leaves M may)
   where
-    either : (M : List Request) → SameContent M L ⊎ SameContent M (AskGaps series ∷ L) → SameContent M L
+    either : (M : k.Left) → k.comes_to M L ⊎ k.comes_to M (AskGaps series ∷ L) → k.comes_to M L
     either M (inl same) = same
-    either M (inr same) = without_question M L series same
-question_leaves L series left (Err fault.Write) leaves = λ M may. without_question M L series (leaves M may)
-question_leaves L series left (Err fault.Memory) leaves = λ M may. without_question M L series (leaves M may)
+    either M (inr same) = without_question k M L series same
+question_leaves {k = k} L series left (Err fault.Write) leaves = λ M may. without_question k M L series (leaves M may)
+question_leaves {k = k} L series left (Err fault.Memory) leaves = λ M may. without_question k M L series (leaves M may)
 
-pub question_ends : (c : Course) (L : List Request) (series : List ℕ) (result : Result Bool RequestFault)
+pub question_ends : {k : DeskKind} (c : Course k) (L : List Request) (series : List ℕ) (result : Result Bool RequestFault)
     → RequestFits c.rules L (AskGaps series) c.written c.stands result → (LeavesOnly c.was L → RequestLeaves L (AskGaps series) c.left result)
     → QuestionFits c L (Some series) result × (LeavesOnly c.was L → LeavesOnly c.left L)
 question_ends c L series result fits leaves =

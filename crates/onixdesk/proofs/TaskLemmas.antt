@@ -1,6 +1,7 @@
 -- A command that ends from one beginning ends so from each that comes to it.
+use Rattle.series_rules.specs.Views.{DeskKind, View}
 use Rattle.std.proofs.Common.{inl, inr, ℕ, List, Option, length}
-use Rattle.series_rules.specs.Leaves.{LeavesOnly}
+use Rattle.series_rules.specs.Views.{LeavesOnly}
 use Rattle.series_rules.specs.declared.requests.Request.{Request}
 use Rattle.onixdesk.specs.Course.{Course}
 use Rattle.onixdesk.specs.Deliveries.{DeliveriesEnd}
@@ -10,13 +11,13 @@ use Rattle.onixdesk.specs.declared.command_line.Task.{Task}
 use Rattle.onixdesk.specs.declared.command_line.Task.TheVariants as task
 
 -- the same, begun otherwise
-abbrev pub begun : Course → (List Request → Type 0) → (List Request → Type 0) → Course
+abbrev pub begun : {k : DeskKind} → Course k → (List Request → Type 0) → View k → Course k
 begun c stood was = record c { stood = stood; was = was }
 
-batch_begun : (c : Course) (stood was : List Request → Type 0) (L : List Request) (text : List ℕ) (status : ℕ) → Ends c L text status → Ends (begun c stood was) L text status
-batch_begun c stood was L text status (inl answered) = inl answered
-batch_begun c stood was L text status (inr (inr unread)) = inr (inr unread)
-batch_begun c stood was L text status (inr (inl s)) = inr (inl record {
+batch_begun : {k : DeskKind} (c : Course k) (stood : List Request → Type 0) (was : View k) (L : List Request) (text : List ℕ) (status : ℕ) → LeavesOnly c.was L → Ends c L text status → Ends (begun c stood was) L text status
+batch_begun c stood was L text status from (inl a) = inl (a.0, a.1, a.2, a.3, λ only. a.4 from)
+batch_begun c stood was L text status from (inr (inr u)) = inr (inr (u.0, u.1, u.2, λ only. u.3 from))
+batch_begun c stood was L text status from (inr (inl s)) = inr (inl record {
   status_is = s.status_is;
   has_records = s.has_records;
   done = s.done;
@@ -29,9 +30,10 @@ batch_begun c stood was L text status (inr (inl s)) = inr (inl record {
   last_is = s.last_is;
   answers_are = s.answers_are;
   stands_after = s.stands_after;
+  left_after = λ only. s.left_after from;
 })
 
-deliveries_begun : (c : Course) (stood was : List Request → Type 0) (L : List Request) (count : ℕ) (texts last : List (List ℕ)) (status : ℕ)
+deliveries_begun : {k : DeskKind} (c : Course k) (stood : List Request → Type 0) (was : View k) (L : List Request) (count : ℕ) (texts last : List (List ℕ)) (status : ℕ)
     → DeliveriesEnd c L count texts last status → DeliveriesEnd (begun c stood was) L count texts last status
 deliveries_begun c stood was L count texts last status (inl (d, none)) = inl (
   record {
@@ -57,7 +59,7 @@ deliveries_begun c stood was L count texts last status (inr s) = inr record {
 }
 
 -- where each list of the one beginning is one of the other, of which a crash left it alone
-pub task_begun : (c : Course) (stood was : List Request → Type 0) (task : Task) (told : Option (List ℕ)) (status : ℕ)
+pub task_begun : {k : DeskKind} (c : Course k) (stood : List Request → Type 0) (was : View k) (task : Task) (told : Option (List ℕ)) (status : ℕ)
     → TaskEnds c task told status → ((L : List Request) → stood L → c.sound → c.stood L × LeavesOnly c.was L)
     → TaskEnds (begun c stood was) task told status
 task_begun c stood was task.Batch told status ended begins = (
@@ -66,7 +68,7 @@ task_begun c stood was task.Batch told status ended begins = (
   λ L began sound.
       let from = begins L began sound in
       let end = ended.2 L from.0 sound in
-      (batch_begun c stood was L ended.0 status end.0, λ only. end.1 from.1),
+      (batch_begun c stood was L ended.0 status from.1 end.0, λ only. end.1 from.1),
 )
 task_begun c stood was (task.Deliver names) told status ended begins = (
   ended.0,
@@ -90,4 +92,5 @@ task_begun c stood was (task.Serve port requests) told status ended begins = (
         (end.0, λ only. end.1 from.1),
   ),
   ended.2,
+  ended.3,
 )

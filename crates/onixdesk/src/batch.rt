@@ -2,7 +2,7 @@
 
 ghost use Rattle.std.specs.Prelude.{◌≤◌};
 ghost use Rattle.std.specs.Io.KnownBytes.{Appends};
-ghost use Rattle.onixdesk.specs.Course.{Course};
+ghost use Rattle.onixdesk.specs.Course.{Course, course};
 ghost use Rattle.onixdesk.specs.TaskEnds.{BatchEnds};
 
 use crate::fault::{Fault, report};
@@ -35,20 +35,13 @@ pub fn run<D: Desk, R: Read, W: Write, E: Write>(
     errors: &mut E,
 ) -> u8
     ensures status { result ≤ 3 }
-    ensures premise { D.is_sound desk.new → D.is_sound desk.old }
+    ensures premise { (D.seen desk.new).sound → (D.seen desk.old).sound }
     // There is a text, that of the input where it tells its bytes, of which this is the status. All
     // its requests have taken effect, and all answers are written; or the first of them have, and
     // all answers to these are written, but perhaps a part of the last or the whole of it; or none.
     // Whatever is written is of requests that each crash leaves, where one left only what the desk stood for.
-    ensures end { BatchEnds (record {
-      rules = precedence.now;
-      written = Appends (W.contents output.old) (W.contents output.new);
-      stood = D.stands_for desk.old;
-      was = D.may_leave desk.old;
-      sound = D.is_sound desk.new;
-      stands = D.stands_for desk.new;
-      left = D.may_leave desk.new;
-    }) (R.remaining input.old) result }
+    ensures end { BatchEnds (course precedence.now (D.seen desk.old) (D.seen desk.new)
+        (Appends (W.contents output.old) (W.contents output.new))) (R.remaining input.old) result }
 {
     match run_batch(alloc, desk, precedence, input, output) {
         Ok(0) => 0,

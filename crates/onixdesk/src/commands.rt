@@ -5,7 +5,7 @@ use clap::{Arg, ArgAction, Command};
 use std::alloc::{AllocError, Global};
 
 /// The version that `--version` prints.
-const VERSION: &str = "0.1.0";
+const VERSION: &str = "0.2.0";
 
 fn batch<'a>(alloc: Global) -> Command<'a> {
     Command::new(alloc, "batch")

@@ -1,42 +1,76 @@
-//! One connection of the command `serve`.
+//! One connection of the command `serve`, and the line of it.
 
-ghost use Rattle.std.specs.Prelude.{ℕ, List, OnOk, Result};
-ghost use Rattle.std.specs.Io.KnownBytes.{Appends};
-ghost use Rattle.desk_http.specs.Exchange.{AtMostOneMore, LeavesRequestMore};
-ghost use Rattle.desk_http.specs.declared.exchange.HttpFault.{HttpFault};
-ghost use Rattle.series_rules.specs.Faults.{IsFaultOf};
-ghost use Rattle.series_rules.specs.declared.requests.Request.{Request};
-ghost use Rattle.onixdesk.specs.Course.{Course};
-ghost use Rattle.onixdesk.specs.Serving.{ExchangeEnds, line_of};
+ghost use Rattle.std.specs.Fmt.{decimal};
+ghost use Rattle.std.specs.Io.KnownBytes.{Appends, Keeps};
+ghost use Rattle.std.specs.Prelude.{◌++◌, ◌∷◌, []};
+ghost use Rattle.onixdesk.specs.Serving.{ServesConnection, WritesWhole, line_of};
 
 use crate::fault::Fault;
+use csv_records::streams::{WriteFault, write_whole};
 use desk_http::{HttpFault, serve_one};
+use itoa::Buffer;
 use price_rules::precedence::Precedence;
 use series_rules::desk::Desk;
 use std::alloc::Global;
-use std::io::{self, Read, Write};
+use std::io::{Read, Write};
 
-// Writes the line of a connection.
-fn write_line<O: Write>(outcome: &Result<u16, HttpFault>, output: &mut O) -> io::Result<()>
-    ensures { OnOk result (Appends (O.contents output.old) (O.contents output.new) (line_of outcome.now)) }
+// Writes a number and the end of its line, or, with a fault, a first part of that.
+fn write_digits<O: Write>(number: u16, output: &mut O) -> Result<(), WriteFault>
+    ensures { WritesWhole (Appends (O.contents output.old) (O.contents output.new))
+        (decimal number ++ 10 ∷ []) result }
 {
-    match outcome {
-        Ok(status) => write!(output, "{status}\n"),
-        Err(_) => write!(output, "fault\n"),
+    let mut digits = Buffer::new();
+    match write_whole(output, digits.format(number).as_bytes()) {
+        Ok(()) => write_whole(output, b"\n"),
+        Err(fault) => Err(fault),
+    }
+}
+
+// Writes a line that ends in a number, or, with a fault, a first part of it.
+fn write_number<O: Write>(before: &str, number: u16, output: &mut O) -> Result<(), WriteFault>
+    ensures { WritesWhole (Appends (O.contents output.old) (O.contents output.new))
+        (before.now ++ decimal number ++ 10 ∷ []) result }
+{
+    match write_whole(output, before.as_bytes()) {
+        Ok(()) => write_digits(number, output),
+        Err(fault) => Err(fault),
+    }
+}
+
+// Hands on what was written: whoever reads the lines sees each as it comes.
+fn flush<O: Write>(output: &mut O) -> Result<(), Fault>
+    ensures { Keeps (O.contents output.old) (O.contents output.new) }
+{
+    match output.flush() {
+        Ok(()) => Ok(()),
+        Err(_) => Err(Fault::Output),
+    }
+}
+
+/// Writes a line that ends in a number at once. The fault is `Output`, and then a first part of the
+/// line is written.
+pub fn print_number<O: Write>(before: &str, number: u16, output: &mut O) -> Result<(), Fault>
+    ensures { WritesWhole (Appends (O.contents output.old) (O.contents output.new))
+        (before.now ++ decimal number ++ 10 ∷ []) result }
+{
+    match write_number(before, number, output) {
+        Ok(()) => flush(output),
+        Err(WriteFault) => Err(Fault::Output),
     }
 }
 
 /// Writes the line of a connection at once: the status of the reply, or `fault` where no reply was
-/// sent whole. The fault is `Output`.
+/// sent whole. The fault is `Output`, and then a first part of the line is written.
 pub fn print_line<O: Write>(outcome: &Result<u16, HttpFault>, output: &mut O) -> Result<(), Fault>
-    ensures { OnOk result (Appends (O.contents output.old) (O.contents output.new) (line_of outcome.now)) }
+    ensures { WritesWhole (Appends (O.contents output.old) (O.contents output.new))
+        (line_of outcome.now) result }
 {
-    if write_line(outcome, output).is_err() {
-        return Err(Fault::Output);
-    }
-    match output.flush() {
-        Ok(()) => Ok(()),
-        Err(_) => Err(Fault::Output),
+    match outcome {
+        Ok(status) => print_number("", *status, output),
+        Err(_) => match write_whole(output, b"fault\n") {
+            Ok(()) => flush(output),
+            Err(WriteFault) => Err(Fault::Output),
+        },
     }
 }
 
@@ -49,20 +83,9 @@ pub fn serve_connection<D: Desk, R: Read, W: Write, O: Write>(
     writer: &mut W,
     output: &mut O,
 ) -> Result<(), Fault>
-    ensures premise { D.is_sound desk.new → D.is_sound desk.old }
-    ensures one { (L : List Request) → D.stands_for desk.old L → D.is_sound desk.new → AtMostOneMore L (D.stands_for desk.new) }
-    ensures crash { (L : List Request) → D.stands_for desk.old L → D.is_sound desk.new → LeavesRequestMore L (D.may_leave desk.old) (D.may_leave desk.new) }
-    // There is an outcome of the exchange whose line is written.
-    ensures line { (outcome : Result ℕ HttpFault) × ExchangeEnds (record {
-      rules = precedence.now;
-      written = Appends (W.contents writer.old) (W.contents writer.new);
-      stood = D.stands_for desk.old;
-      was = D.may_leave desk.old;
-      sound = D.is_sound desk.new;
-      stands = D.stands_for desk.new;
-      left = D.may_leave desk.new;
-    }) (IsFaultOf D.may_give) (R.remaining reader.old) outcome
-        × OnOk result (Appends (O.contents output.old) (O.contents output.new) (line_of outcome)) }
+    ensures { ServesConnection D.seen precedence.now (R.remaining reader.old) desk.old desk.new
+        (Appends (W.contents writer.old) (W.contents writer.new))
+        (Appends (O.contents output.old) (O.contents output.new)) result }
 {
     let outcome = serve_one(alloc, desk, precedence, reader, writer);
     print_line(&outcome, output)

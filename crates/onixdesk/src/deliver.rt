@@ -3,7 +3,7 @@
 ghost use Rattle.std.specs.Prelude.{◌≡◌, ◌≤◌, ℕ, List, length, if◌then◌else◌};
 ghost use Rattle.std.specs.Io.KnownBytes.{Appends};
 ghost use Rattle.csv_records.specs.Streams.{IsTold};
-ghost use Rattle.onixdesk.specs.Course.{Course};
+ghost use Rattle.onixdesk.specs.Course.{Course, course};
 ghost use Rattle.onixdesk.specs.Deliveries.{DeliveryEnds, IsUnasked, ReadFits};
 ghost use Rattle.onixdesk.specs.TaskEnds.{DeliverEnds};
 
@@ -60,17 +60,11 @@ pub fn deliver_one<D: Desk, R: Read, W: Write>(
     reader: &mut R,
     writer: &mut W,
 ) -> Result<bool, DeliveryFault>
-    ensures premise { D.is_sound desk.new → D.is_sound desk.old }
+    ensures premise { (D.seen desk.new).sound → (D.seen desk.old).sound }
     // There is a text, that of the reader where it tells its bytes, whose delivery ends as the definitions have it.
-    ensures run { (text : List ℕ) × IsTold (R.remaining reader.old) text × DeliveryEnds (record {
-      rules = precedence.now;
-      written = Appends (W.contents writer.old) (W.contents writer.new);
-      stood = D.stands_for desk.old;
-      was = D.may_leave desk.old;
-      sound = D.is_sound desk.new;
-      stands = D.stands_for desk.new;
-      left = D.may_leave desk.new;
-    }) text result }
+    ensures run { (text : List ℕ) × IsTold (R.remaining reader.old) text × DeliveryEnds
+        (course precedence.now (D.seen desk.old) (D.seen desk.new)
+        (Appends (W.contents writer.old) (W.contents writer.new))) text result }
 {
     let request = match read_delivery(alloc, reader) {
         Ok(request) => request,
@@ -102,17 +96,11 @@ fn deliver_file<D: Desk, W: Write>(
     name: &str,
     writer: &mut W,
 ) -> Result<bool, DeliveryFault>
-    ensures premise { D.is_sound desk.new → D.is_sound desk.old }
+    ensures premise { (D.seen desk.new).sound → (D.seen desk.old).sound }
     // Of some text: no clause can say what a file holds.
-    ensures run { (text : List ℕ) × DeliveryEnds (record {
-      rules = precedence.now;
-      written = Appends (W.contents writer.old) (W.contents writer.new);
-      stood = D.stands_for desk.old;
-      was = D.may_leave desk.old;
-      sound = D.is_sound desk.new;
-      stands = D.stands_for desk.new;
-      left = D.may_leave desk.new;
-    }) text result }
+    ensures run { (text : List ℕ) × DeliveryEnds
+        (course precedence.now (D.seen desk.old) (D.seen desk.new)
+        (Appends (W.contents writer.old) (W.contents writer.new))) text result }
 {
     match File::open(rt, name) {
         Ok(mut file) => deliver_one(rt.alloc(), desk, precedence, &mut file, writer),
@@ -129,16 +117,10 @@ fn deliver_named<D: Desk, R: Read, W: Write>(
     input: &mut R,
     writer: &mut W,
 ) -> Result<bool, DeliveryFault>
-    ensures premise { D.is_sound desk.new → D.is_sound desk.old }
-    ensures run { (text : List ℕ) × DeliveryEnds (record {
-      rules = precedence.now;
-      written = Appends (W.contents writer.old) (W.contents writer.new);
-      stood = D.stands_for desk.old;
-      was = D.may_leave desk.old;
-      sound = D.is_sound desk.new;
-      stands = D.stands_for desk.new;
-      left = D.may_leave desk.new;
-    }) text result }
+    ensures premise { (D.seen desk.new).sound → (D.seen desk.old).sound }
+    ensures run { (text : List ℕ) × DeliveryEnds
+        (course precedence.now (D.seen desk.old) (D.seen desk.new)
+        (Appends (W.contents writer.old) (W.contents writer.new))) text result }
 {
     if name == "-" {
         deliver_one(rt.alloc(), desk, precedence, input, writer)
@@ -181,18 +163,11 @@ pub fn run<D: Desk, R: Read, W: Write, E: Write>(
     errors: &mut E,
 ) -> u8
     ensures status { result ≤ 3 }
-    ensures premise { D.is_sound desk.new → D.is_sound desk.old }
+    ensures premise { (D.seen desk.new).sound → (D.seen desk.old).sound }
     // There are texts, one for each file that was delivered: no clause can say what a file holds.
     // Where a crash left only what the desk stood for, it leaves the deliveries that were answered.
-    ensures end { DeliverEnds (record {
-      rules = precedence.now;
-      written = Appends (W.contents output.old) (W.contents output.new);
-      stood = D.stands_for desk.old;
-      was = D.may_leave desk.old;
-      sound = D.is_sound desk.new;
-      stands = D.stands_for desk.new;
-      left = D.may_leave desk.new;
-    }) (length names.now) result }
+    ensures end { DeliverEnds (course precedence.now (D.seen desk.old) (D.seen desk.new)
+        (Appends (W.contents output.old) (W.contents output.new))) (length names.now) result }
 {
     let mut has_refusal = false;
     for name in names {

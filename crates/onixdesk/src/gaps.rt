@@ -3,7 +3,7 @@
 ghost use Rattle.std.specs.Prelude.{◌≤◌};
 ghost use Rattle.std.specs.Io.KnownBytes.{Appends};
 ghost use Rattle.onix_terms.specs.SeriesName.{series_name_of};
-ghost use Rattle.onixdesk.specs.Course.{Course};
+ghost use Rattle.onixdesk.specs.Course.{Course, course};
 ghost use Rattle.onixdesk.specs.GapsEnd.{QuestionEnds, UnknownFits};
 ghost use Rattle.onixdesk.specs.TaskEnds.{GapsEnds};
 
@@ -40,16 +40,10 @@ fn ask<D: Desk, W: Write>(
     name: &str,
     writer: &mut W,
 ) -> Result<bool, RequestFault>
-    ensures premise { D.is_sound desk.new → D.is_sound desk.old }
-    ensures run { QuestionEnds (record {
-      rules = precedence.now;
-      written = Appends (W.contents writer.old) (W.contents writer.new);
-      stood = D.stands_for desk.old;
-      was = D.may_leave desk.old;
-      sound = D.is_sound desk.new;
-      stands = D.stands_for desk.new;
-      left = D.may_leave desk.new;
-    }) (series_name_of name.now) result }
+    ensures premise { (D.seen desk.new).sound → (D.seen desk.old).sound }
+    ensures run { QuestionEnds (course precedence.now (D.seen desk.old) (D.seen desk.new)
+        (Appends (W.contents writer.old) (W.contents writer.new)))
+        (series_name_of name.now) result }
 {
     match SeriesName::read(name) {
         Some(series) => run_request(alloc, desk, precedence, &Request::AskGaps(series), writer),
@@ -69,17 +63,11 @@ pub fn run<D: Desk, W: Write, E: Write>(
     errors: &mut E,
 ) -> u8
     ensures status { result ≤ 3 }
-    ensures premise { D.is_sound desk.new → D.is_sound desk.old }
+    ensures premise { (D.seen desk.new).sound → (D.seen desk.old).sound }
     // The question adds nothing to what a crash leaves, where one left only what the desk stood for.
-    ensures end { GapsEnds (record {
-      rules = precedence.now;
-      written = Appends (W.contents output.old) (W.contents output.new);
-      stood = D.stands_for desk.old;
-      was = D.may_leave desk.old;
-      sound = D.is_sound desk.new;
-      stands = D.stands_for desk.new;
-      left = D.may_leave desk.new;
-    }) (series_name_of name.now) result }
+    ensures end { GapsEnds (course precedence.now (D.seen desk.old) (D.seen desk.new)
+        (Appends (W.contents output.old) (W.contents output.new)))
+        (series_name_of name.now) result }
 {
     match ask(alloc, desk, precedence, name, output) {
         Ok(false) => 0,

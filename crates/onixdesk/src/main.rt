@@ -14,6 +14,7 @@ mod connection;
 mod database;
 mod deliver;
 mod fault;
+mod files;
 mod gaps;
 mod migrate;
 mod program;
@@ -26,6 +27,7 @@ ghost use Rattle.std.specs.Prelude.{◌≤◌, IfOk};
 use crate::command_line::print_wrong;
 use crate::fault::{Fault, report};
 use crate::program::run;
+use sqlite::Unknown;
 use std::alloc::AllocError;
 use std::io::ErrorKind;
 use std::process::ExitCode;
@@ -37,13 +39,16 @@ fn run_words(rt: &HostRuntime, words: std::env::Args) -> Result<u8, AllocError>
     let alloc = rt.alloc();
     let owned: Vec<String> = words.collect(alloc)?;
     let words: Vec<&str> = owned.iter().map(|word| word.as_str()).collect(alloc)?;
-    Ok(run(
+    let (status, left) = run(
         rt,
         words.as_slice(),
+        Unknown,
         &mut rt.stdin(),
         &mut rt.stdout(),
         &mut rt.stderr(),
-    ))
+    );
+    drop(left);
+    Ok(status)
 }
 
 fn main(rt: HostRuntime) -> std::io::Result<ExitCode> {

@@ -1,25 +1,24 @@
 //! The program run on its words: the command line, the rules file, the desk, and then the command.
 
-ghost use Rattle.std.specs.Prelude.{◌≡◌, ◌≤◌, ◌⊎◌, ℕ, []};
+ghost use Rattle.std.specs.Prelude.{◌≤◌, IfErr, IfOk};
 ghost use Rattle.std.specs.Io.KnownBytes.{Appends};
-ghost use Rattle.onixdesk.specs.Course.{Course};
-ghost use Rattle.onixdesk.specs.FileEnds.{AreFilesAlone, FileEnds};
+ghost use Rattle.onixdesk.specs.Course.{course};
+ghost use Rattle.onixdesk.specs.FileEnds.{ActionEnds, AreRulesOf, Closes, FileEnds, InvocationEnds, IsUnruled, EndsLeaving, MigrateEnds, NewDeskEnds, RunEnds, path_of};
+ghost use Rattle.onixdesk.specs.FileViews.{seen_left};
 ghost use Rattle.onixdesk.specs.TaskEnds.{TaskEnds};
-ghost use Rattle.desk_store.specs.Openings.{AreFilesOf};
-ghost use Rattle.sqlite_wal.specs.Files.{image_at};
-ghost use Rattle.desk_memory.specs.declared.desk.MemoryDesk.{MemoryDesk};
 
 use crate::command_line::{self, Action, Database, Invocation, Reading, Task};
 use crate::database::look_at;
 use crate::fault::{Fault, report};
-use crate::rules::{open_table, report_rules};
+use crate::files::{FilesLeft, unopened};
+use crate::rules::{RulesFault, open_table, report_rules};
 use crate::{batch, deliver, gaps, migrate, serve};
 use desk_memory::MemoryDesk;
 use desk_store::DeskStore;
 use desk_terms::StoreFault;
 use price_rules::precedence::Precedence;
 use series_rules::desk::Desk;
-use sqlite::{FileFrom, FileStore, Start, Unknown};
+use sqlite::{FileFrom, FileStore, Start};
 use sqlite_disk::Disk;
 use std::io::{Read, Write};
 use std::rt::HostRuntime;
@@ -35,16 +34,10 @@ fn run_task<D: Desk, R: Read, W: Write, E: Write>(
     errors: &mut E,
 ) -> u8
     ensures status { result ≤ 3 }
-    ensures premise { D.is_sound desk.new → D.is_sound desk.old }
-    ensures end { TaskEnds (record {
-      rules = precedence.now;
-      written = Appends (W.contents output.old) (W.contents output.new);
-      stood = D.stands_for desk.old;
-      was = D.may_leave desk.old;
-      sound = D.is_sound desk.new;
-      stands = D.stands_for desk.new;
-      left = D.may_leave desk.new;
-    }) task.now (R.remaining input.old) result }
+    ensures premise { (D.seen desk.new).sound → (D.seen desk.old).sound }
+    ensures end { TaskEnds (course precedence.now (D.seen desk.old) (D.seen desk.new)
+        (Appends (W.contents output.old) (W.contents output.new)))
+        task.now (R.remaining input.old) result }
 {
     match task {
         Task::Batch => batch::run(rt.alloc(), desk, precedence, input, output, errors),
@@ -76,17 +69,9 @@ fn run_in_memory<R: Read, W: Write, E: Write>(
     errors: &mut E,
 ) -> u8
     ensures status { result ≤ 3 }
-    // Over a desk that has seen no request, and whose store is sound.
-    ensures end { (new left : MemoryDesk) × ⟦<MemoryDesk as Desk>⟧.stands_for new [] × ⟦<MemoryDesk as Desk>⟧.is_sound left
-        × TaskEnds (record {
-          rules = precedence.now;
-          written = Appends (W.contents output.old) (W.contents output.new);
-          stood = ⟦<MemoryDesk as Desk>⟧.stands_for new;
-          was = ⟦<MemoryDesk as Desk>⟧.may_leave new;
-          sound = ⟦<MemoryDesk as Desk>⟧.is_sound left;
-          stands = ⟦<MemoryDesk as Desk>⟧.stands_for left;
-          left = ⟦<MemoryDesk as Desk>⟧.may_leave left;
-        }) task.now (R.remaining input.old) result }
+    ensures end { NewDeskEnds ⟦<MemoryDesk as Desk>⟧.seen precedence.now
+        (Appends (W.contents output.old) (W.contents output.new))
+        task.now (R.remaining input.old) result }
 {
     let mut desk = MemoryDesk::new(rt.alloc());
     let status = run_task(rt, &mut desk, precedence, task, input, output, errors);
@@ -94,21 +79,17 @@ fn run_in_memory<R: Read, W: Write, E: Write>(
     status
 }
 
-// Closes the files of a desk, and lets go of them, or of what is left of them.
-fn close<D: Disk + Drop>(desk: DeskStore<FileStore<D>>) -> Result<(), StoreFault> {
+// Closes the files of a desk, and gives what is left of them, beside the fault where they could not be.
+fn close<D: Disk + Drop>(desk: DeskStore<FileStore<D>>) -> (Result<(), StoreFault>, FilesLeft<D>)
+    ensures { Closes desk.tables.connection result.0 result.1 }
+{
     match desk.close_files() {
-        Ok(files) => {
-            drop(files);
-            Ok(())
-        }
-        Err((fault, left)) => {
-            drop(left);
-            Err(fault)
-        }
+        Ok(files) => (Ok(()), FilesLeft::Closed(files)),
+        Err((fault, store)) => (Err(fault), FilesLeft::Unclosed(store)),
     }
 }
 
-// Runs a command over a desk in a file, and closes the file.
+// Runs a command over a desk in two files, and closes them.
 fn run_and_close<D: Disk + Drop, R: Read, W: Write, E: Write>(
     rt: &HostRuntime,
     mut desk: DeskStore<FileStore<D>>,
@@ -117,30 +98,25 @@ fn run_and_close<D: Disk + Drop, R: Read, W: Write, E: Write>(
     input: &mut R,
     output: &mut W,
     errors: &mut E,
-) -> u8
-    ensures status { result ≤ 3 }
-    // The command ends as over any desk, but that the status is 3 where the file cannot be closed.
-    // The desk is let go of here, so that this clause cannot name it as it was left, and where its
-    // disk is not clean it binds nothing; that of `run_task` names it.
-    ensures end { (left : _) × (status : ℕ) × ((result ≡ status) ⊎ (result ≡ 3)) × (⟦<DeskStore<FileStore<D>> as Desk>⟧.is_sound left → ⟦<DeskStore<FileStore<D>> as Desk>⟧.is_sound desk)
-        × TaskEnds (record {
-          rules = precedence.now;
-          written = Appends (W.contents output.old) (W.contents output.new);
-          stood = ⟦<DeskStore<FileStore<D>> as Desk>⟧.stands_for desk;
-          was = ⟦<DeskStore<FileStore<D>> as Desk>⟧.may_leave desk;
-          sound = ⟦<DeskStore<FileStore<D>> as Desk>⟧.is_sound left;
-          stands = ⟦<DeskStore<FileStore<D>> as Desk>⟧.stands_for left;
-          left = ⟦<DeskStore<FileStore<D>> as Desk>⟧.may_leave left;
-        }) task.now (R.remaining input.old) status }
+) -> (u8, FilesLeft<D>)
+    ensures status { result.0 ≤ 3 }
+    ensures premise { (seen_left result.1).sound →
+        (⟦<DeskStore<FileStore<D>> as Desk>⟧.seen desk).sound }
+    // The command ends over the files that are left as over any desk, but that the status is 3 where they
+    // could not be closed.
+    ensures end { EndsLeaving precedence.now (⟦<DeskStore<FileStore<D>> as Desk>⟧.seen desk)
+        (Appends (W.contents output.old) (W.contents output.new))
+        task.now (R.remaining input.old) result.0 result.1 }
 {
     let status = run_task(rt, &mut desk, precedence, task, input, output, errors);
-    match close(desk) {
-        Ok(()) => status,
-        Err(fault) => report(&Fault::from(fault), errors),
+    let (closed, left) = close(desk);
+    match closed {
+        Ok(()) => (status, left),
+        Err(fault) => (report(&Fault::from(fault), errors), left),
     }
 }
 
-// Runs a command over the desk in a database file, which `start` stands for.
+// Runs a command over the desk in a database file, where `start` says what that and its log hold.
 fn run_in_file<S: Start, R: Read, W: Write, E: Write>(
     rt: &HostRuntime,
     db: &Database<'_>,
@@ -150,94 +126,152 @@ fn run_in_file<S: Start, R: Read, W: Write, E: Write>(
     input: &mut R,
     output: &mut W,
     errors: &mut E,
-) -> u8
-    ensures status { result ≤ 3 }
-    // A desk that was opened stood for what its files hold, and a crash left that alone. It is let go
-    // of, so that the clause says of some desk, not which one was left, and where the disk of that
-    // one is not clean it binds nothing.
-    ensures end { FileEnds (λ status. (left : _) × TaskEnds (record {
-      rules = precedence.now;
-      written = Appends (W.contents output.old) (W.contents output.new);
-      stood = AreFilesOf (image_at S.Start);
-      was = AreFilesAlone (image_at S.Start);
-      sound = ⟦<DeskStore<FileStore<FileFrom<S>>> as Desk>⟧.is_sound left;
-      stands = ⟦<DeskStore<FileStore<FileFrom<S>>> as Desk>⟧.stands_for left;
-      left = ⟦<DeskStore<FileStore<FileFrom<S>>> as Desk>⟧.may_leave left;
-    }) task.now (R.remaining input.old) status) (Appends (W.contents output.old) (W.contents output.new)) result }
+) -> (u8, Option<FilesLeft<FileFrom<S>>>)
+    ensures status { result.0 ≤ 3 }
+    ensures end { FileEnds (path_of S.Start) precedence.now
+        (Appends (W.contents output.old) (W.contents output.new))
+        task.now (R.remaining input.old) result.0 result.1 }
 {
     if let Err(fault) = look_at(rt, db, errors) {
-        return report(&fault, errors);
+        return (report(&fault, errors), None);
     }
     match DeskStore::open(rt, db.name, start) {
-        Ok(desk) => run_and_close(rt, desk, precedence, task, input, output, errors),
-        Err((fault, _)) => report(&Fault::from(fault), errors),
+        Ok(desk) => {
+            let (status, left) = run_and_close(rt, desk, precedence, task, input, output, errors);
+            (status, Some(left))
+        }
+        Err((fault, left)) => (report(&Fault::from(fault), errors), unopened(left)),
     }
 }
 
 // Brings the desk in a database file to the present version.
-fn migrate_file<W: Write, E: Write>(
+fn migrate_file<S: Start, W: Write, E: Write>(
     rt: &HostRuntime,
     db: &Database<'_>,
+    start: S,
     output: &mut W,
     errors: &mut E,
-) -> u8
-    ensures { result ≤ 3 }
+) -> (u8, Option<FilesLeft<FileFrom<S>>>)
+    ensures status { result.0 ≤ 3 }
+    ensures end { MigrateEnds (path_of S.Start)
+        (Appends (W.contents output.old) (W.contents output.new)) result.0 result.1 }
 {
     match look_at(rt, db, errors) {
-        Ok(()) => migrate::run(rt, db.name, Unknown, output, errors),
-        Err(fault) => report(&fault, errors),
+        Ok(()) => migrate::run(rt, db.name, start, output, errors),
+        Err(fault) => (report(&fault, errors), None),
     }
 }
 
-// Runs a command under the rules of a file or under none.
-fn run_invocation<R: Read, W: Write, E: Write>(
+// Does what is asked under the rules of a precedence table.
+fn run_action<S: Start, R: Read, W: Write, E: Write>(
     rt: &HostRuntime,
-    invocation: &Invocation<'_>,
+    action: &Action<'_>,
+    start: S,
+    precedence: &Precedence,
     input: &mut R,
     output: &mut W,
     errors: &mut E,
-) -> u8
-    ensures { result ≤ 3 }
+) -> (u8, Option<FilesLeft<FileFrom<S>>>)
+    ensures status { result.0 ≤ 3 }
+    ensures end { ActionEnds ⟦<MemoryDesk as Desk>⟧.seen (path_of S.Start) precedence.now
+        (Appends (W.contents output.old) (W.contents output.new))
+        (R.remaining input.old) action.now result.0 result.1 }
 {
-    let precedence = match invocation.rules {
-        None => Precedence::none(rt.alloc()),
-        Some(name) => match open_table(rt, name) {
-            Ok(precedence) => precedence,
-            Err(fault) => return report_rules(&fault, name, errors),
-        },
-    };
-    let status = match &invocation.action {
-        Action::InMemory(task) => run_in_memory(rt, &precedence, task, input, output, errors),
-        Action::InFile { db, task } => {
-            run_in_file(rt, db, Unknown, &precedence, task, input, output, errors)
+    match action {
+        Action::InMemory(task) => {
+            (
+                run_in_memory(rt, precedence, task, input, output, errors),
+                None,
+            )
         }
-        Action::Migrate { db } => migrate_file(rt, db, output, errors),
+        Action::InFile { db, task } => {
+            run_in_file(rt, db, start, precedence, task, input, output, errors)
+        }
+        Action::Migrate { db } => migrate_file(rt, db, start, output, errors),
+    }
+}
+
+// The rules of the file of that name, or none where none is named.
+fn rules_of(rt: &HostRuntime, name: Option<&str>) -> Result<Precedence, RulesFault>
+    ensures ok { IfOk result (AreRulesOf name.entry) }
+    ensures err { IfErr result (IsUnruled name.entry) }
+{
+    match name {
+        None => Ok(Precedence::none(rt.alloc())),
+        Some(name) => open_table(rt, name),
+    }
+}
+
+/// Does what a command line asks, under the rules of a file or under none. `start` says what the
+/// database file and its log hold. Gives the exit status, and what is left of the two files, where a
+/// command opened them.
+///
+/// Each list of requests that the files held, with those that took effect, is what they hold then;
+/// what is written is of their answers; and a crash leaves just that.
+pub fn run_invocation<S: Start, R: Read, W: Write, E: Write>(
+    rt: &HostRuntime,
+    invocation: &Invocation<'_>,
+    start: S,
+    input: &mut R,
+    output: &mut W,
+    errors: &mut E,
+) -> (u8, Option<FilesLeft<FileFrom<S>>>)
+    ensures status { result.0 ≤ 3 }
+    ensures end { InvocationEnds ⟦<MemoryDesk as Desk>⟧.seen (path_of S.Start)
+        (Appends (W.contents output.old) (W.contents output.new))
+        (R.remaining input.old) invocation.now result.0 result.1 }
+{
+    let precedence = match rules_of(rt, invocation.rules) {
+        Ok(precedence) => precedence,
+        Err(fault) => {
+            let name = invocation.rules.unwrap_or("");
+            return (report_rules(&fault, name, errors), None);
+        }
     };
+    let ended = run_action(
+        rt,
+        &invocation.action,
+        start,
+        &precedence,
+        input,
+        output,
+        errors,
+    );
     drop(precedence);
-    status
+    ended
 }
 
 /// Runs the program on these words, of which the first is its name, and gives its exit status:
 /// 0, or 1 where an answer was a refusal, 2 for a bad command line or rules file, 3 for a fault of
 /// storage, a file, input, output or the port, or for want of memory. The command line is judged first,
-/// then the rules file, then what the command itself meets.
-pub fn run<R: Read, W: Write, E: Write>(
+/// then the rules file, then what the command itself meets. `start` says what the database file and its
+/// log hold; beside the status comes what is left of them.
+pub fn run<S: Start, R: Read, W: Write, E: Write>(
     rt: &HostRuntime,
     words: &[&str],
+    start: S,
     input: &mut R,
     output: &mut W,
     errors: &mut E,
-) -> u8
-    ensures { result ≤ 3 }
+) -> (u8, Option<FilesLeft<FileFrom<S>>>)
+    ensures status { result.0 ≤ 3 }
+    // Which command the words are read as no clause says.
+    ensures end { RunEnds ⟦<MemoryDesk as Desk>⟧.seen (path_of S.Start)
+        (Appends (W.contents output.old) (W.contents output.new))
+        (R.remaining input.old) result.0 result.1 }
 {
     let alloc = rt.alloc();
     match command_line::read(alloc, words) {
-        Reading::Run(invocation) => run_invocation(rt, &invocation, input, output, errors),
-        Reading::Help(text) => command_line::print_help(text.as_str(), output, errors),
-        Reading::Wrong(text) => command_line::print_wrong(text.as_str(), errors),
+        Reading::Run(invocation) => run_invocation(rt, &invocation, start, input, output, errors),
+        Reading::Help(text) => (
+            command_line::print_help(text.as_str(), output, errors),
+            None,
+        ),
+        Reading::Wrong(text) => (command_line::print_wrong(text.as_str(), errors), None),
         Reading::NoDatabase => {
-            command_line::print_wrong("onixdesk: migrate needs --db\n", errors)
+            let status = command_line::print_wrong("onixdesk: migrate needs --db\n", errors);
+            (status, None)
         }
-        Reading::Memory => report(&Fault::Memory, errors),
+        Reading::Memory => (report(&Fault::Memory, errors), None),
     }
 }

@@ -1,16 +1,13 @@
 //! The command `serve`: the desk over HTTP on a port of 127.0.0.1.
 
-ghost use Rattle.std.specs.Prelude.{◌≡◌, ◌≤◌, ℕ, List, None, OnOk, Result, length, ⊤};
+ghost use Rattle.std.specs.Prelude.{◌≡◌, ◌≤◌, ℕ, List, None, OnErr, OnOk, Result, length, ⊤};
 ghost use Rattle.std.specs.Io.KnownBytes.{Appends};
-ghost use Rattle.desk_http.specs.Exchange.{AtMostOneMore, LeavesRequestMore};
 ghost use Rattle.desk_http.specs.declared.exchange.HttpFault.{HttpFault};
-ghost use Rattle.series_rules.specs.Faults.{IsFaultOf};
-ghost use Rattle.series_rules.specs.declared.requests.Request.{Request};
-ghost use Rattle.onixdesk.specs.Course.{Course};
-ghost use Rattle.onixdesk.specs.Serving.{ExchangeEnds, line_of, lines_of, listening_line};
-ghost use Rattle.onixdesk.specs.TaskEnds.{ConnectionsEnd, ServeEnds};
+ghost use Rattle.onixdesk.specs.Course.{Course, course};
+ghost use Rattle.onixdesk.specs.Serving.{ServesConnection, WritesWhole, listening_line};
+ghost use Rattle.onixdesk.specs.TaskEnds.{ConnectionsServed, ServeEnds};
 
-use crate::connection::{print_line, serve_connection};
+use crate::connection::{print_line, print_number, serve_connection};
 use crate::fault::{Fault, report};
 use crate::timed::Timed;
 use desk_http::HttpFault;
@@ -56,20 +53,9 @@ fn serve_stream<D: Desk, O: Write>(
     limit: Duration,
     output: &mut O,
 ) -> Result<(), Fault>
-    ensures premise { D.is_sound desk.new → D.is_sound desk.old }
-    ensures one { (L : List Request) → D.stands_for desk.old L → D.is_sound desk.new → AtMostOneMore L (D.stands_for desk.new) }
-    ensures crash { (L : List Request) → D.stands_for desk.old L → D.is_sound desk.new → LeavesRequestMore L (D.may_leave desk.old) (D.may_leave desk.new) }
-    // The line is that of an exchange; of what a client sends and is sent no clause can say which bytes they are.
-    ensures line { (outcome : Result ℕ HttpFault) × ExchangeEnds (record {
-      rules = precedence.now;
-      written = λ _. ⊤;
-      stood = D.stands_for desk.old;
-      was = D.may_leave desk.old;
-      sound = D.is_sound desk.new;
-      stands = D.stands_for desk.new;
-      left = D.may_leave desk.new;
-    }) (IsFaultOf D.may_give) None outcome
-        × OnOk result (Appends (O.contents output.old) (O.contents output.new) (line_of outcome)) }
+    // Of what a client sends and is sent no clause can say which bytes they are.
+    ensures { ServesConnection D.seen precedence.now None desk.old desk.new (λ _. ⊤)
+        (Appends (O.contents output.old) (O.contents output.new)) result }
 {
     let mut reader = Timed::new(rt, &stream, limit);
     let mut writer = Timed::new(rt, &stream, limit);
@@ -93,6 +79,18 @@ fn is_lost(error: &io::Error) -> bool {
     )
 }
 
+// Writes the line of a client that was gone: nothing was read of it, and nothing asked of the desk.
+fn serve_lost<D: Desk, O: Write>(
+    desk: &mut D,
+    precedence: &Precedence,
+    output: &mut O,
+) -> Result<(), Fault>
+    ensures { ServesConnection D.seen precedence.now None desk.old desk.new (λ _. ⊤)
+        (Appends (O.contents output.old) (O.contents output.new)) result }
+{
+    print_line(&Err(HttpFault::Read), output)
+}
+
 // Waits for a connection and serves it.
 fn serve_next<D: Desk, O: Write>(
     rt: &HostRuntime,
@@ -101,20 +99,9 @@ fn serve_next<D: Desk, O: Write>(
     port: &Port,
     output: &mut O,
 ) -> Result<(), Fault>
-    ensures premise { D.is_sound desk.new → D.is_sound desk.old }
-    ensures one { (L : List Request) → D.stands_for desk.old L → D.is_sound desk.new → AtMostOneMore L (D.stands_for desk.new) }
-    ensures crash { (L : List Request) → D.stands_for desk.old L → D.is_sound desk.new → LeavesRequestMore L (D.may_leave desk.old) (D.may_leave desk.new) }
-    // The line is that of an exchange; of what a client sends and is sent no clause can say which bytes they are.
-    ensures line { (outcome : Result ℕ HttpFault) × ExchangeEnds (record {
-      rules = precedence.now;
-      written = λ _. ⊤;
-      stood = D.stands_for desk.old;
-      was = D.may_leave desk.old;
-      sound = D.is_sound desk.new;
-      stands = D.stands_for desk.new;
-      left = D.may_leave desk.new;
-    }) (IsFaultOf D.may_give) None outcome
-        × OnOk result (Appends (O.contents output.old) (O.contents output.new) (line_of outcome)) }
+    // Of what a client sends and is sent no clause can say which bytes they are.
+    ensures { ServesConnection D.seen precedence.now None desk.old desk.new (λ _. ⊤)
+        (Appends (O.contents output.old) (O.contents output.new)) result }
 {
     match port.listener.accept() {
         Ok((stream, _)) => serve_stream(rt, desk, precedence, stream, port.limit, output),
@@ -122,7 +109,7 @@ fn serve_next<D: Desk, O: Write>(
             if !is_lost(&error) {
                 return Err(Fault::Port(port.number));
             }
-            print_line(&Err(HttpFault::Read), output)
+            serve_lost(desk, precedence, output)
         }
     }
 }
@@ -140,20 +127,12 @@ pub fn serve_port<D: Desk, O: Write, E: Write>(
     errors: &mut E,
 ) -> u8
     ensures status { result ≤ 3 }
-    ensures premise { D.is_sound desk.new → D.is_sound desk.old }
+    ensures premise { (D.seen desk.new).sound → (D.seen desk.old).sound }
     // At most one request of each connection has had an effect, and what was answered before the first
     // fault of the store, or the first reply that was not sent whole, is in whatever a crash leaves.
-    // With 0 each connection has its line.
-    ensures end { (outcomes : List (Result ℕ HttpFault)) × ConnectionsEnd (record {
-      rules = precedence.now;
-      written = Appends (O.contents output.old) (O.contents output.new);
-      stood = D.stands_for desk.old;
-      was = D.may_leave desk.old;
-      sound = D.is_sound desk.new;
-      stands = D.stands_for desk.new;
-      left = D.may_leave desk.new;
-    }) requests outcomes
-        × (result ≡ 0 → (length outcomes ≡ requests) × Appends (O.contents output.old) (O.contents output.new) (lines_of outcomes)) }
+    // The lines are written, each whole but perhaps the last; with 0 they are all.
+    ensures end { ConnectionsServed (course precedence.now (D.seen desk.old) (D.seen desk.new)
+        (Appends (O.contents output.old) (O.contents output.new))) requests result }
 {
     'serving: for _served in 0..requests {
         match serve_next(rt, desk, precedence, port, output) {
@@ -164,28 +143,16 @@ pub fn serve_port<D: Desk, O: Write, E: Write>(
     0
 }
 
-// Says which port is listened at.
-fn print_listening<O: Write>(number: u16, output: &mut O) -> Result<(), Fault>
-    ensures { OnOk result (Appends (O.contents output.old) (O.contents output.new) (listening_line number)) }
-{
-    if write!(output, "listening {number}\n").is_err() {
-        return Err(Fault::Output);
-    }
-    match output.flush() {
-        Ok(()) => Ok(()),
-        Err(_) => Err(Fault::Output),
-    }
-}
-
 // Listens at a port of 127.0.0.1, and says so.
 fn listen<O: Write>(rt: &HostRuntime, number: u16, output: &mut O) -> Result<Port, Fault>
-    ensures { OnOk result (Appends (O.contents output.old) (O.contents output.new) (listening_line number)) }
+    ensures { WritesWhole (Appends (O.contents output.old) (O.contents output.new))
+        (listening_line number) result }
 {
     let address = SocketAddr::V4(SocketAddrV4::new(Ipv4Addr::LOCALHOST, number));
     let Ok(listener) = TcpListener::bind(rt, address) else {
         return Err(Fault::Port(number));
     };
-    match print_listening(number, output) {
+    match print_number("listening ", number, output) {
         Ok(()) => Ok(Port {
             number,
             listener,
@@ -207,17 +174,10 @@ pub fn run<D: Desk, O: Write, E: Write>(
     errors: &mut E,
 ) -> u8
     ensures status { result ≤ 3 }
-    ensures premise { D.is_sound desk.new → D.is_sound desk.old }
+    ensures premise { (D.seen desk.new).sound → (D.seen desk.old).sound }
     // As `serve_port`, behind the line of the port.
-    ensures end { ServeEnds (record {
-      rules = precedence.now;
-      written = Appends (O.contents output.old) (O.contents output.new);
-      stood = D.stands_for desk.old;
-      was = D.may_leave desk.old;
-      sound = D.is_sound desk.new;
-      stands = D.stands_for desk.new;
-      left = D.may_leave desk.new;
-    }) number requests result }
+    ensures end { ServeEnds (course precedence.now (D.seen desk.old) (D.seen desk.new)
+        (Appends (O.contents output.old) (O.contents output.new))) number requests result }
 {
     match listen(rt, number, output) {
         Ok(port) => serve_port(rt, desk, precedence, &port, requests, output, errors),

@@ -1,46 +1,39 @@
-use Rattle.std.proofs.Common.{List, inl, inr}
 use Rattle.std.proofs.KnownBytes.{Appends-nil}
 use Rattle.std.specs.Io.KnownBytes.{Appends}
 use Rattle.sqlite.specs.Files.{file_state}
-use Rattle.sqlite.specs.State.{HasCleanDisk}
 use Rattle.sqlite_wal.specs.Files.{image_at}
-use Rattle.series_rules.specs.Leaves.{LeavesOnly}
-use Rattle.series_rules.specs.declared.requests.Request.{Request}
-use Rattle.desk_store.specs.Desks.{KeepsRequests}
-use Rattle.desk_store.specs.Leaves.{MayLeave}
-use Rattle.desk_store.specs.Openings.{AreFilesOf}
-use Rattle.onixdesk.specs.Course.{Course}
-use Rattle.onixdesk.specs.FileEnds.{AreFilesAlone}
+use Rattle.desk_store.specs.ContentLemmas.{rows_by_content}
+use Rattle.desk_store.specs.Seen.{seen_in}
+use Rattle.onixdesk.proofs.ClosingLemmas.{file_ended, file_unopened}
 use Rattle.onixdesk.proofs.TaskLemmas.{task_begun}
+use Rattle.onixdesk.specs.Course.{course}
+use Rattle.onixdesk.specs.FileEnds.{path_of}
+use Rattle.onixdesk.specs.FileViews.{seen_image, seen_left}
 use Rattle.onixdesk.proofs.program.run_in_file.Goals as goal
+
+pub returns-in-Err-clause-end : goal.returns-in-Err-clause-end
+returns-in-Err-clause-end g c = (c.report.ensures, Appends-nil (g.W.Write.contents c.args.output.now))
 
 pub returns-in-Ok-clause-end : goal.returns-in-Ok-clause-end
 returns-in-Ok-clause-end g c =
-    let ended = c.run_and_close.ensures.end in
+    let ran = c.run_and_close-status.ensures in
     let opened = c.in-Ok.ensures in
-    let state = file_state c.in-Ok.desk.tables.connection in
-    let last = file_state ended.0.tables.connection in
-    let image = image_at g.S.Start in
-    let alone : HasCleanDisk state → (L : List Request) → AreFilesOf image L → LeavesOnly (MayLeave state) L =
-    λ clean L files M may. may.2 L (opened.alone clean L files may.0 may.1) in
-    let course : Course = record {
-      rules = c.args.precedence.now;
-      stood = KeepsRequests state;
-      was = MayLeave state;
-      written = Appends (g.W.Write.contents c.args.output.now) (g.W.Write.contents c.run_and_close.new.output);
-      sound = HasCleanDisk last;
-      stands = KeepsRequests last;
-      left = MayLeave last;
-    } in
-    inr (
-      ended.1,
-      ended.2,
-      (
-        ended.0,
-        task_begun course (AreFilesOf image) (AreFilesAlone image) c.args.task.now (g.R.Read.remaining c.args.input.now) ended.1 ended.4
-            (λ L files sound. (opened.stands (ended.3 sound) L files, alone (ended.3 sound) L files)),
-      ),
+    let desk = seen_in (file_state c.in-Ok.desk.tables.connection) in
+    let left = c.run_and_close-status.result.1 in
+    let written = Appends (g.W.Write.contents c.args.output.now) (g.W.Write.contents c.run_and_close-status.new.output) in
+    let image = seen_image (image_at g.S.Start) in
+    file_ended (path_of g.S.Start) c.args.precedence.now written c.args.task.now (g.R.Read.remaining c.args.input.now) c.run_and_close-status.result.0 left (
+      ran.end.0,
+      ran.end.1,
+      task_begun (course c.args.precedence.now desk (seen_left left) written) image.stands_for image c.args.task.now (g.R.Read.remaining c.args.input.now) ran.end.0 ran.end.2
+          (λ L files sound. (
+            desk.by_content files.0 L files.2 (opened.stands (ran.premise sound) files.0 files.1),
+            λ d may. rows_by_content d files.0 L files.2 (opened.alone (ran.premise sound) files.0 files.1 d may),
+          )),
     )
 
-pub returns-clause-end : goal.returns-clause-end
-returns-clause-end g c = inl (c.report-in-Err-open.ensures, Appends-nil (g.W.Write.contents c.args.output.now))
+pub returns-in-Err-open-clause-end : goal.returns-in-Err-open-clause-end
+returns-in-Err-open-clause-end g c =
+    file_unopened (path_of g.S.Start) c.in-Err-open.left c.unopened.result c.unopened.ensures c.args.precedence.now
+    (Appends (g.W.Write.contents c.args.output.now) (g.W.Write.contents c.args.output.now)) c.args.task.now (g.R.Read.remaining c.args.input.now)
+    c.report-in-Err-open.result c.report-in-Err-open.ensures (Appends-nil (g.W.Write.contents c.args.output.now)) c.in-Err-open.ensures.left

@@ -1,0 +1,43 @@
+-- Lines that are written, of which the last may be cut.
+use Rattle.std.proofs.Common.{◌≡◌, ◌≤◌, ◌++◌, ◌∷◌, ◌∙◌, [], ℕ, List, Option, Result, append-nil, append_assoc, ap, arith, length, refl, subst, sym, Ok, Err}
+use Rattle.std.specs.Prelude.{OnErr, OnOk}
+use Rattle.std.specs.Io.KnownBytes.{Appends}
+use Rattle.std.proofs.KnownBytes.{Appends-trans}
+use Rattle.desk_http.specs.declared.exchange.HttpFault.{HttpFault}
+use Rattle.desk_http.specs.Writing.{WritesFront}
+use Rattle.onixdesk.specs.Serving.{WritesLines, WritesWhole, line_of, lines_of}
+
+-- a first part of a text is one of more
+pub front_begins : (written : List ℕ → Type 0) (a b : List ℕ) → WritesFront written a → WritesFront written (a ++ b)
+front_begins written a b (part, rest, is, wrote) = (part, rest ++ b, sym (append_assoc part rest b) ∙ ap (λ t. t ++ b) is, wrote)
+
+module _ (was before holds : Option (List ℕ)) where
+  -- so it is behind a text that was written
+  pub front_behind : (a b : List ℕ) → Appends was before a → WritesFront (Appends before holds) b → WritesFront (Appends was holds) (a ++ b)
+  front_behind a b first (part, rest, is, wrote) =
+      (a ++ part, rest, append_assoc a part rest ∙ ap (λ t. a ++ t) is, Appends-trans was before holds _ _ first wrote)
+
+  -- lines behind a text
+  pub lines_behind : (a : List ℕ) (outcomes : List (Result ℕ HttpFault)) → Appends was before a → WritesLines (Appends before holds) outcomes → WritesLines (λ lines. Appends was holds (a ++ lines)) outcomes
+  lines_behind a outcomes first (lines, last, is, few, (part, rest, cut, wrote)) = (lines, last, is, few, (part, rest, cut, Appends-trans was before holds _ _ first wrote))
+
+  -- a first part of one line more
+  pub cut_line : (outcomes : List (Result ℕ HttpFault)) (outcome : Result ℕ HttpFault) → Appends was before (lines_of outcomes) → WritesFront (Appends before holds) (line_of outcome)
+      → WritesLines (Appends was holds) (outcomes ++ outcome ∷ [])
+  cut_line outcomes outcome lines (part, rest, is, wrote) =
+      (outcomes, outcome ∷ [], refl, omega arith, (part, rest, is ∙ sym (append-nil (line_of outcome)), Appends-trans was before holds _ _ lines wrote))
+
+-- all lines, each whole
+pub whole_lines : (was holds : Option (List ℕ)) (outcomes : List (Result ℕ HttpFault)) → Appends was holds (lines_of outcomes) → WritesLines (Appends was holds) outcomes
+whole_lines was holds outcomes wrote =
+    (outcomes, [], append-nil outcomes, omega arith, ([], [], refl, subst (Appends was holds) (sym (append-nil (lines_of outcomes))) wrote))
+
+-- what was written whole or in part is so behind a text
+pub all_behind : {T F : Type 0} (was before holds : Option (List ℕ)) (a b : List ℕ) (result : Result T F) → Appends was before a → WritesWhole (Appends before holds) b result → WritesWhole (Appends was holds) (a ++ b) result
+all_behind was before holds a b (Ok x) first whole = Appends-trans was before holds a b first whole
+all_behind was before holds a b (Err f) first front = front_behind was before holds a b first front
+
+pub whole_behind : {T F : Type 0} (was before holds : Option (List ℕ)) (a b : List ℕ) (result : Result T F) → Appends was before a → OnOk result (Appends before holds b) → OnErr result (WritesFront (Appends before holds) b)
+    → WritesWhole (Appends was holds) (a ++ b) result
+whole_behind was before holds a b (Ok x) first ok err = Appends-trans was before holds a b first ok
+whole_behind was before holds a b (Err f) first ok err = front_behind was before holds a b first err

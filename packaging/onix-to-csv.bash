@@ -3,11 +3,11 @@ _onix_to_csv() {
     local cur prev words cword
     _init_completion || return
     case $prev in
-        --parts | --number | --addressee | --id-type) return ;;
+        --parts | --number | --number-offset | --sender | --addressee | --id-type) return ;;
         -o) _filedir -d; return ;;
     esac
     case $cur in
-        -*) COMPREPLY=($(compgen -W "--parts --number --addressee --id-type --leave-out-wrong -o --help" -- "$cur")) ;;
+        -*) COMPREPLY=($(compgen -W "--parts --number --number-offset --sender --addressee --id-type --leave-out-wrong -o --help" -- "$cur")) ;;
         *) _filedir ;;
     esac
 } && complete -F _onix_to_csv onix-to-csv

@@ -12,10 +12,12 @@ from onix_to_csv.faults import FileFault, Refusal, shown
 from onix_to_csv.headers import Choices
 from onix_to_csv.identifiers import GLN
 from onix_to_csv.inputs import STANDARD_INPUT, Input, stem
+from onix_to_csv.notes import Notes, Summary
 from onix_to_csv.outputs import Folder, StandardOutput
+from onix_to_csv.parts import MOST_PARTS
 from onix_to_csv.progress import Progress
 from onix_to_csv.reading import OLDEST_EXPAT
-from onix_to_csv.terms import CODE, NUMBER
+from onix_to_csv.terms import CODE, FIELD_BYTES, MOST_NUMBER, NUMBER, REPEAT
 
 PROGRAM = "onix-to-csv"
 
@@ -30,23 +32,54 @@ Status 0; 1 where a FILE was refused or a wrong product left out; 2 for a bad co
 cannot be read or written. docs/ONIX.md says what is read, left out and refused."""
 
 
+# A character that is no UTF-8 is given as one of the last of these.
+is_field = re.compile("[^\\0-\x1f\x7f\ud800-\udfff]+").fullmatch
+
+
+def bad(word: str, words: str) -> argparse.ArgumentTypeError:
+    return argparse.ArgumentTypeError(f"{shown(word)} is not {words}")
+
+
 def number(word: str) -> int:
     if not NUMBER.keeps(word):
-        raise argparse.ArgumentTypeError(f"{word} is not {NUMBER.words}")
+        raise bad(word, NUMBER.words)
+    return int(word)
+
+
+def parts(word: str) -> int:
+    if not NUMBER.keeps(word) or int(word) > MOST_PARTS:
+        raise bad(word, f"1 to {MOST_PARTS}")
+    return int(word)
+
+
+def offset(word: str) -> int:
+    if not REPEAT.keeps(word) or int(word) >= MOST_NUMBER:
+        raise bad(word, f"0 to {MOST_NUMBER - 1} in 1 to 9 digits")
     return int(word)
 
 
 def code(word: str) -> str:
     if not CODE.keeps(word):
-        raise argparse.ArgumentTypeError(f"{word} is not {CODE.words}")
+        raise bad(word, CODE.words)
     return word
 
 
 def identifier(word: str) -> tuple[str, str]:
     found = re.fullmatch("([0-9]{2}),(.+)", word)
     if not found:
-        raise argparse.ArgumentTypeError(f"{word} is not TYPE,VALUE with a TYPE of {CODE.words}")
+        raise bad(word, f"TYPE,VALUE with a TYPE of {CODE.words}")
     return found[1], found[2]
+
+
+def sender(word: str) -> tuple[str, str]:
+    """An identifier that is written, and so has to be what a field may have."""
+    id_type, value = identifier(word)
+    if not is_field(value) or len(value.encode()) > FIELD_BYTES:
+        raise bad(
+            word,
+            f"TYPE,VALUE with a VALUE in UTF-8 of at most {FIELD_BYTES} bytes without control characters",
+        )
+    return id_type, value
 
 
 def command_line() -> argparse.ArgumentParser:
@@ -58,10 +91,16 @@ def command_line() -> argparse.ArgumentParser:
         allow_abbrev=False,
     )
     add = parser.add_argument
-    add("--parts", metavar="P", type=number, default=1,
-        help="make P messages of each, numbered on from one message to the next; 1 without it")
-    add("--number", metavar="N", type=number,
+    add("--parts", metavar="P", type=parts, default=1,
+        help="make P messages of each, numbered on from one message to the next; 1 without it, at most"
+        f" {MOST_PARTS}; agreed with the series, so that P stays what it is")
+    numbers = parser.add_mutually_exclusive_group()
+    numbers.add_argument("--number", metavar="N", type=number,
         help="the number of the message, in place of its own; for one FILE alone")
+    numbers.add_argument("--number-offset", metavar="K", type=offset,
+        help="add K to the number of each FILE, whose sender began again at 1; not with --number")
+    add("--sender", metavar="TYPE,VALUE", type=sender,
+        help="the identifier of the sender, for a FILE whose Header has none with a type and a value")
     add("--addressee", metavar="TYPE,VALUE", type=identifier,
         help="of several addressees take the one that has this identifier")
     add("--id-type", metavar="TT", type=code, default=GLN,
@@ -71,7 +110,7 @@ def command_line() -> argparse.ArgumentParser:
     add("-o", metavar="FOLDER", type=Path, dest="folder",
         help="write each message into a file of its own in FOLDER, in place of standard output")
     add("files", metavar="FILE", nargs="*", default=[STANDARD_INPUT],
-        help="a message, unpacked where its name ends in .gz; - or none is standard input")
+        help="a message, unpacked where its name ends in .gz or .zip; - or none is standard input")
     return parser
 
 
@@ -86,6 +125,8 @@ def main(words: list[str] | None = None) -> int:
     choices = Choices(
         options.parts,
         options.number,
+        options.number_offset or 0,
+        options.sender,
         options.addressee,
         options.id_type,
         options.leave_out_wrong,
@@ -100,9 +141,9 @@ class Run:
         self.choices = choices
         self.folder = folder
         self.errors = errors
-        self.notes = 0
+        self.summary = Summary()
 
-    def say(self, text: str):
+    def say(self, text: str) -> None:
         self.errors.write(f"{PROGRAM}: {text}\n")
 
     def convert_all(self, names: list[str]) -> int:
@@ -114,8 +155,8 @@ class Run:
             self.say(f"{shown(str(self.folder))}: no folder")
             return FAULT
         status = max(self.convert(name) for name in names)
-        if self.notes:
-            self.say(f"{self.notes} notes" if self.notes > 1 else "1 note")
+        for line in self.summary.lines():
+            self.say(line)
         return status
 
     def convert(self, name: str) -> int:
@@ -124,7 +165,7 @@ class Run:
             with Input(name) as file:
                 return self.convert_input(file)
         except Refusal as refusal:
-            self.say(f"{shown(name)}:{refusal.line}: refused: {refusal.why}")
+            self.say(f"{shown(name)}:{refusal.place}: refused: {refusal.why}")
             return REFUSED
         except FileFault as fault:
             self.say(f"{shown(fault.name)}: {fault.why}")
@@ -139,14 +180,17 @@ class Run:
             output.place()
         except OSError as error:
             # The input's own faults are FileFaults.
-            raise FileFault(error.filename or "a temporary file", error.strerror) from None
+            raise FileFault(error.filename or output.name, error.strerror) from None
         finally:
             progress.clear()
             output.discard()
-        for line in conversion.notes.lines():
-            self.say(line.rstrip("\n"))
-        self.notes += conversion.notes.count
+        self.tell(conversion.notes)
         return REFUSED if conversion.wrong else DONE
+
+    def tell(self, notes: Notes) -> None:
+        for line in notes.lines:
+            self.say(line)
+        self.summary.add(notes.summary)
 
     def output(self, name: str) -> StandardOutput | Folder:
         if self.folder is None:

@@ -4,17 +4,16 @@ from collections.abc import Callable
 from typing import Any
 
 from onix_to_csv.elements import Values, Word
+from onix_to_csv.faults import Place
 
 # The most composites and texts that a Header or Product may hold at once, and the most characters that
 # its texts may have together. No message has room for more, but for elements that are not written.
 ITEMS = 65_536
 CHARACTERS = 4_194_304
 
-# A longer text is wrong wherever it is written, and is kept no further.
+# A longer text is wrong wherever it is written, and is kept no further. Regions are not written.
 KEPT = 1_025
-
-# The key of a Header or Product that goes beyond these bounds.
-TOO_LARGE = "too large"
+KEPT_WHOLE = {"RegionsIncluded", "RegionsExcluded"}
 
 
 class Composites:
@@ -28,21 +27,23 @@ class Composites:
         self.closers = closers
         # Of each composite that is open: the one around it with its Values, and how many items are free
         # but for those that it holds.
-        self.around: list[tuple[Word, Values | None, int]] = []
-        self.values: Values | None = None
+        self.around: list[tuple[Word, Values, int]] = []
+        # Those of the composite that is open. The message itself holds nothing.
+        self.values = Values()
         # The Header or Product, and what is free of its bounds.
-        self.top: Values | None = None
+        self.top = self.values
         self.items = self.characters = 0
 
-    def open(self, word: Word, around: Word, line: int) -> bool:
-        """Opens a composite that begins at that line, unless it does not count."""
+    def open(self, word: Word, around: Word, place: Place) -> bool:
+        """Opens a composite that begins at that place, unless it does not count."""
         parent = self.values
         values = Values()
-        values.line = line
-        if parent is None:
+        values.place = place
+        if not self.around:
+            values.is_too_large = False
             self.top, self.items, self.characters = values, ITEMS, CHARACTERS
         elif self.items == 0:
-            self.top[TOO_LARGE] = True
+            self.top.is_too_large = True
             return False
         elif word.is_repeatable:
             if word.name in parent:
@@ -63,7 +64,7 @@ class Composites:
         if closer:
             closed = closer(self.values)
             self.items = items
-            if parent is not None:
+            if self.around:
                 parent[word.name][-1] = closed
         self.values = parent
         return around
@@ -74,13 +75,13 @@ class Composites:
         values = self.values
         if name in values:
             return False
-        if len(text) > KEPT:
+        if len(text) > KEPT and name not in KEPT_WHOLE:
             text = text[:KEPT]
         self.items -= 1
         self.characters -= len(text)
         if self.items < 0 or self.characters < 0:
             self.items = max(self.items, 0)
-            self.top[TOO_LARGE] = True
+            self.top.is_too_large = True
             return False
         values[name] = text
         return True

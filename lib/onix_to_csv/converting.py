@@ -5,15 +5,19 @@ from typing import BinaryIO
 
 from onix_to_csv.composites import Composites
 from onix_to_csv.elements import Values
-from onix_to_csv.faults import Refusal, Wrong, shown
-from onix_to_csv.headers import Choices, Header, read_header
+from onix_to_csv.faults import BEGINNING, Place, Refusal, Wrong, shown
+from onix_to_csv.headers import NO_HEADER, Choices, read_header
 from onix_to_csv.inputs import Input
-from onix_to_csv.notes import LeftOut, Notes
+from onix_to_csv.notes import Judged, LeftOut, Notes
 from onix_to_csv.parts import Parts
-from onix_to_csv.prices import Unwritten, judge_price
-from onix_to_csv.products import product_lines
+from onix_to_csv.prices import JudgedPrice, judge_price
+from onix_to_csv.products import judge_product
 from onix_to_csv.reading import MessageReader
-from onix_to_csv.supplies import DetailLines, judge_detail
+from onix_to_csv.supplies import JudgedDetail, judge_detail
+
+
+# What can be done about a wrong product.
+MENDED = "the sender has to mend it, or --leave-out-wrong leaves the product out"
 
 
 class Conversion:
@@ -23,47 +27,48 @@ class Conversion:
         self.file = file
         self.choices = choices
         self.open_part = open_part
-        self.header: Header | None = None
         self.parts: Parts | None = None
         self.notes = Notes(file.name)
         self.wrong = 0
 
-    def run(self, on_piece: Callable[[], None]):
+    def run(self, on_piece: Callable[[], None]) -> None:
         """Refusal where nothing of the file may be written."""
         closers = {
-            "Header": self.begin,
+            "Header": self.on_header,
             "Price": self.on_price,
             "SupplyDetail": self.on_detail,
             "Product": self.on_product,
         }
         MessageReader(Composites(closers)).read(self.file, on_piece)
-        self.begin(None)
-        self.parts.finish()
+        self.begun_parts(BEGINNING).finish()
 
-    def begin(self, values: Values | None):
+    def on_header(self, values: Values) -> None:
         """Begins the message with its Header, which is the first one before the first Product."""
-        if self.header is None:
-            self.header = read_header(values, self.choices)
-            self.parts = Parts(self.header, self.choices.parts, self.open_part)
+        if self.parts is None:
+            header = read_header(values, self.choices)
+            self.parts = Parts(header, self.choices.parts, self.open_part)
 
-    def on_price(self, price: Values) -> bytes | Unwritten:
-        if self.header is None:
-            self.begin(None)
-        return judge_price(price, self.header)
+    def begun_parts(self, place: Place) -> Parts:
+        """The parts, which the Header has begun before that place."""
+        if self.parts is None:
+            raise Refusal(place, NO_HEADER)
+        return self.parts
 
-    def on_detail(self, detail: Values) -> DetailLines | Wrong:
+    def on_price(self, price: Values) -> JudgedPrice:
+        return judge_price(price, self.begun_parts(price.place).header)
+
+    def on_detail(self, detail: Values) -> JudgedDetail:
         return judge_detail(detail, self.choices.id_type)
 
-    def on_product(self, product: Values):
-        self.begin(None)
+    def on_product(self, product: Values) -> None:
+        parts = self.begun_parts(product.place)
         reference = product.get("RecordReference", "no RecordReference")
         try:
-            lines, missing = product_lines(product)
-            self.parts.add(lines, product.line)
+            judged = judge_product(product)
+            parts.add(judged.lines, product.place)
         except Wrong as wrong:
             if not self.choices.leaves_out_wrong:
-                raise Refusal(wrong.line, f"{shown(reference)}: {wrong.why}") from None
+                raise Refusal(wrong.place, f"{shown(reference)}: {wrong.why}; {MENDED}") from None
             self.wrong += 1
-            missing = [LeftOut(wrong.line, "Product", wrong.why)]
-        for left_out in missing:
-            self.notes.add(reference, left_out)
+            judged = Judged(missing=[LeftOut(product.place, "Product", wrong.why)])
+        self.notes.add(reference, judged)

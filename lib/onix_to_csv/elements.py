@@ -4,7 +4,9 @@ A composite is read as `Values`: the texts of its elements and the Values of its
 reference names. `vocabulary` gives the same elements as the names in which a feed is written.
 """
 
-from typing import NamedTuple
+from typing import Any, NamedTuple
+
+from onix_to_csv.faults import Place
 
 
 class Element(NamedTuple):
@@ -18,12 +20,14 @@ class Element(NamedTuple):
     attribute: str | None = None
 
 
-class Values(dict):
+class Values(dict[str, Any]):
     """What was read of a composite: each text, composite or list of repeatable composites by the
-    reference name of its element, an attribute by its own name, and the line where it begins."""
+    reference name of its element, an attribute by its own name, and the place where it begins."""
 
-    __slots__ = ("line",)
-    line: int
+    __slots__ = ("place", "is_too_large")
+    place: Place
+    # Of a Header or Product: whether it goes beyond the bounds of what is held of one.
+    is_too_large: bool
 
 
 class Word:
@@ -77,6 +81,9 @@ PRICE = repeatable(
     text("UnpricedItemType", "j192"),
     text("CurrencyCode", "j152"),
     text("CurrencyZone", "x475"),
+    text("PriceStatus", "j266"),
+    text("EpubTechnicalProtection", "x317"),
+    composite("EpubLicense"),
     TERRITORY,
     repeatable(
         "PriceDate",
@@ -115,7 +122,7 @@ PRODUCT = repeatable(
     text("RecordReference", "a001"),
     text("NotificationType", "a002"),
     identifiers("ProductIdentifier", text("ProductIDType", "b221")),
-    repeatable("ProductSupply", repeatable("Market", TERRITORY), SUPPLY_DETAIL),
+    repeatable("ProductSupply", repeatable("Market", TERRITORY, composite("SalesRestriction")), SUPPLY_DETAIL),
 )
 
 MESSAGE = composite("ONIXMessage", HEADER, PRODUCT, short_tag="ONIXmessage")

@@ -1,4 +1,4 @@
-"""The named character entities of HTML 5 as the declarations of a DTD."""
+"""The named character entities of HTML 5."""
 
 from html.entities import html5
 
@@ -9,12 +9,18 @@ OF_XML = {"amp", "lt", "gt", "quot", "apos"}
 MARKUP = {"&": "&#38;#38;", "<": "&#38;#60;"}
 
 
+def characters_of(name: str) -> str | None:
+    """What the entity of that name stands for."""
+    # html5 has some names without their semicolon too, which XML has not.
+    return html5.get(f"{name};")
+
+
 def declaration(name: str, characters: str) -> str:
     text = "".join(MARKUP.get(character, f"&#{ord(character)};") for character in characters)
     return f'<!ENTITY {name} "{text}">'
 
 
-# html5 has some names without their semicolon too, which XML has not.
+# As a DTD.
 DECLARATIONS = "".join(
     declaration(name[:-1], characters)
     for name, characters in html5.items()

@@ -1,25 +1,60 @@
 """What ends the conversion of a file: a refusal of what it says, or a fault of reading or writing."""
 
+from typing import NamedTuple
+
 # How much of a text from a feed a line of a fault or a note shows.
 SHOWN = 100
 
+# What stands in a summary in the place of a text from a feed.
+ANY_TEXT = ".."
+
+
+class Place(NamedTuple):
+    """A place in a file: its line, and its column in characters, both counted from 1."""
+
+    line: int
+    column: int
+
+    def __str__(self) -> str:
+        return f"{self.line}:{self.column}"
+
+
+BEGINNING = Place(1, 1)
+
+
+class Reason(NamedTuple):
+    """Why something is left out or refused: words, with `{}` where a text of the feed stands, that text,
+    and what else a line tells of it."""
+
+    words: str
+    text: str = ""
+    more: str = ""
+
+    def __str__(self) -> str:
+        return self.words.format(shown(self.text)) + self.more
+
+    def code(self) -> str:
+        """The text where it is a code of two digits, of which there are few, or else what stands for it."""
+        is_code = len(self.text) == 2 and self.text.isascii() and self.text.isdigit()
+        return self.text if is_code else ANY_TEXT
+
 
 class Refusal(Exception):
-    """A file that is refused, with the line of the file, counted from 1, and why."""
+    """A file that is refused, with the place in it and why."""
 
-    def __init__(self, line: int, why: str):
-        super().__init__(line, why)
-        self.line = line
+    def __init__(self, place: Place, why: str):
+        super().__init__(place, why)
+        self.place = place
         self.why = why
 
 
 class Wrong(Exception):
-    """A record that the desk would call malformed, with the line of the file and why."""
+    """A record that the desk would call malformed, with the place in the file and why."""
 
-    def __init__(self, line: int, why: str):
-        super().__init__(line, why)
-        self.line = line
-        self.why = why
+    def __init__(self, place: Place, words: str, text: str = "", more: str = ""):
+        super().__init__(place, words, text, more)
+        self.place = place
+        self.why = Reason(words, text, more)
 
 
 class FileFault(Exception):

@@ -2,23 +2,25 @@
 
 from typing import NamedTuple
 
-from onix_to_csv.composites import TOO_LARGE
 from onix_to_csv.elements import Values
-from onix_to_csv.faults import Refusal, Wrong
-from onix_to_csv.identifiers import ADDRESSEE, GLN, SENDER, party
-from onix_to_csv.terms import CODE, CURRENCY, NUMBER, REPEAT, field, optional_term, term
+from onix_to_csv.faults import Refusal, Wrong, shown
+from onix_to_csv.identifiers import ADDRESSEE, GLN, SENDER, has_pair, party
+from onix_to_csv.terms import CODE, CURRENCY, MOST_NUMBER, NUMBER, REPEAT, field, optional_term, term
 
 FORM = "2"
 
-MOST_NUMBER = 999_999_999
+NO_HEADER = "no Header before the first Product, and so neither a sender nor a number"
 
 
 class Choices(NamedTuple):
-    """What the caller of the converter chooses: parts of a message, a number in place of the Header's, the
-    type and value of the addressee that is meant, the type of identifier that is preferred."""
+    """What the caller of the converter chooses: parts of a message, a number in place of the Header's or
+    what is added to that one, the type and value of a sender for a Header without one and of the
+    addressee that is meant, the type of identifier that is preferred."""
 
     parts: int = 1
     number: int | None = None
+    number_offset: int = 0
+    sender: tuple[str, str] | None = None
     addressee: tuple[str, str] | None = None
     id_type: str = GLN
     leaves_out_wrong: bool = False
@@ -39,30 +41,25 @@ class Header(NamedTuple):
         return ["Message", FORM, *self.before, str(self.first + part), *self.behind]
 
 
-def read_header(values: Values | None, choices: Choices) -> Header:
+def read_header(values: Values, choices: Choices) -> Header:
     """The Header as it is written; Refusal where the desk would call its record malformed or could not
     tell whose message it is."""
-    if values is None:
-        raise Refusal(1, "no sender identifier: no Header before the first Product")
-    if TOO_LARGE in values:
-        raise Refusal(values.line, "a Header too large")
+    if values.is_too_large:
+        raise Refusal(values.place, "a Header too large")
     try:
         return header_of(values, choices)
     except Wrong as wrong:
-        raise Refusal(wrong.line, wrong.why) from None
+        raise Refusal(wrong.place, str(wrong.why)) from None
 
 
 def header_of(values: Values, choices: Choices) -> Header:
-    line = values.line
-    sender = party(values.get("Sender"), SENDER, choices.id_type)
-    if sender == ["", ""]:
-        raise Refusal(line, "no sender identifier")
+    sender = sender_of(values, choices)
     addressee = party(addressee_of(values, choices), ADDRESSEE, choices.id_type)
     default_type = optional_term(CODE, values, "DefaultPriceType")
     default_currency = optional_term(CURRENCY, values, "DefaultCurrencyCode")
     behind = [
         optional_term(REPEAT, values, "MessageRepeat"),
-        field(values.get("SentDateTime", ""), "SentDateTime", line),
+        field(values.get("SentDateTime", ""), "SentDateTime", values.place),
         default_type,
         default_currency,
     ]
@@ -70,20 +67,45 @@ def header_of(values: Values, choices: Choices) -> Header:
     return Header(sender + addressee, first, behind, bool(default_type), bool(default_currency))
 
 
+def sender_of(values: Values, choices: Choices) -> list[str]:
+    """Type and value of the sender's identifier, those that the caller chooses where the Header has none
+    with both."""
+    sender = values.get("Sender")
+    if choices.sender and not has_pair(sender, SENDER):
+        return list(choices.sender)
+    fields = party(sender, SENDER, choices.id_type)
+    if fields == ["", ""]:
+        raise Refusal(values.place, "no sender identifier; --sender TYPE,VALUE gives one")
+    return fields
+
+
 def first_number(values: Values, choices: Choices) -> int:
     """The number of the first part: after the parts of the messages before."""
-    number = choices.number
-    if number is None:
-        if "MessageNumber" not in values:
-            raise Refusal(values.line, "no MessageNumber; --number gives one")
-        number = int(term(NUMBER, values, "MessageNumber"))
-    if number * choices.parts > MOST_NUMBER:
+    number = message_number(values, choices)
+    last = number * choices.parts
+    if last > MOST_NUMBER:
         raise Refusal(
-            values.line,
-            f"message {number} in {choices.parts} parts would end with number"
-            f" {number * choices.parts}, above {MOST_NUMBER}",
+            values.place,
+            f"message {number} in {choices.parts} parts would end with number {last},"
+            f" above {MOST_NUMBER}",
         )
-    return (number - 1) * choices.parts + 1
+    return last - choices.parts + 1
+
+
+def message_number(values: Values, choices: Choices) -> int:
+    if choices.number is not None:
+        return choices.number
+    if "MessageNumber" not in values:
+        raise Refusal(values.place, "no MessageNumber; --number N gives one")
+    number = int(term(NUMBER, values, "MessageNumber"))
+    offset = choices.number_offset
+    if number + offset > MOST_NUMBER:
+        raise Refusal(
+            values.place,
+            f"MessageNumber {number} with --number-offset {offset} is {number + offset},"
+            f" above {MOST_NUMBER}",
+        )
+    return number + offset
 
 
 def addressee_of(values: Values, choices: Choices) -> Values | None:
@@ -94,13 +116,14 @@ def addressee_of(values: Values, choices: Choices) -> Values | None:
         return addressees[0] if addressees else None
     if choices.addressee is None:
         raise Refusal(
-            values.line, f"{len(addressees)} addressees; --addressee TYPE,VALUE picks one"
+            values.place, f"{len(addressees)} addressees; --addressee TYPE,VALUE picks one"
         )
     for addressee in addressees:
         for identifier in addressee.get(ADDRESSEE.name, []):
             if (identifier.get(ADDRESSEE.id_type), identifier.get("IDValue")) == choices.addressee:
                 return addressee
     raise Refusal(
-        values.line,
-        f"none of {len(addressees)} addressees has the identifier {','.join(choices.addressee)}",
+        values.place,
+        f"none of {len(addressees)} addressees has the identifier"
+        f" {shown(','.join(choices.addressee))} of --addressee",
     )

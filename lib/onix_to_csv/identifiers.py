@@ -31,11 +31,17 @@ def chosen(identifiers: list[Values], kind: Identifier, preferred: str) -> Value
     return identifiers[0]
 
 
+def has_pair(parent: Values | None, kind: Identifier) -> bool:
+    """Whether one of the composite's identifiers has both a type and a value."""
+    identifiers = parent.get(kind.name, []) if parent else []
+    return any(kind.id_type in identifier and "IDValue" in identifier for identifier in identifiers)
+
+
 def pair(identifier: Values, kind: Identifier) -> list[str]:
     """The type and the value of an identifier; Wrong where one is absent or none."""
     return [
         term(CODE, identifier, kind.id_type),
-        needed(identifier.get("IDValue"), kind.value, identifier.line),
+        needed(identifier.get("IDValue"), kind.value, identifier.place),
     ]
 
 

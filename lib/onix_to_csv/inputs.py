@@ -1,37 +1,60 @@
 """The files that are converted, as streams of XML."""
 
-import gzip
+import errno
 import os
 import stat
-import zlib
 from pathlib import PurePath
 from typing import BinaryIO
 
-from onix_to_csv.faults import Damage, FileFault
+from onix_to_csv.faults import FileFault
+from onix_to_csv.packed import Unpacked, ending_of
 
 STANDARD_INPUT = "-"
 STANDARD_INPUT_NUMBER = 0
-PACKED = ".gz"
+
+
+class Counted:
+    """A stream that is no regular file, with how many bytes were read of it."""
+
+    def __init__(self, stream: BinaryIO):
+        self.stream = stream
+        self.count = 0
+
+    def read(self, size: int = -1) -> bytes:
+        data = self.stream.read(size)
+        self.count += len(data)
+        return data
+
+    def tell(self) -> int:
+        return self.count
+
+    def seek(self, *_):
+        raise OSError(errno.ESPIPE, os.strerror(errno.ESPIPE))
+
+    def close(self):
+        self.stream.close()
 
 
 class Input:
-    """A FILE, unpacked as it is read. What cannot be read is a FileFault, what is no whole gzip file is
+    """A FILE, unpacked as it is read. What cannot be read is a FileFault, what cannot be unpacked is
     Damage."""
 
     def __init__(self, name: str):
         self.name = name
         try:
-            self.raw: BinaryIO = (
+            stream = (
                 open(STANDARD_INPUT_NUMBER, "rb", closefd=False)
                 if name == STANDARD_INPUT
                 else open(name, "rb")
             )
-            state = os.fstat(self.raw.fileno())
+            state = os.fstat(stream.fileno())
         except OSError as error:
             raise FileFault(name, error.strerror) from None
-        self.size = state.st_size if stat.S_ISREG(state.st_mode) else None
-        self.taken = 0
-        self.stream = gzip.GzipFile(fileobj=self.raw) if name.endswith(PACKED) else self.raw
+        is_regular = stat.S_ISREG(state.st_mode)
+        self.size = state.st_size if is_regular else None
+        self.raw = stream if is_regular else Counted(stream)
+        ending = ending_of(name)
+        self.stream = Unpacked(self.raw, ending, self.packed_size) if ending else self.raw
 
     def __enter__(self) -> "Input":
         return self
@@ -41,21 +64,22 @@ class Input:
 
     def read(self, size: int) -> bytes:
         try:
-            data = self.stream.read(size)
-        except (gzip.BadGzipFile, EOFError, zlib.error) as error:
-            raise Damage(f"no whole gzip file: {error}") from None
+            return self.stream.read(size)
         except OSError as error:
             raise FileFault(self.name, error.strerror) from None
-        self.taken += len(data)
-        return data
 
     def position(self) -> int:
-        """How many bytes were read of the file, packed as it is, or else of the stream."""
-        return self.taken if self.size is None else self.raw.tell()
+        """How many bytes were read of the file, packed as it is."""
+        return self.raw.tell()
+
+    def packed_size(self) -> int:
+        return self.position() if self.size is None else self.size
 
 
 def stem(name: str) -> str:
     """The NAME of the files that a FILE gives."""
     if name == STANDARD_INPUT:
         return "message"
-    return PurePath(PurePath(name).name.removesuffix(PACKED)).stem
+    last = PurePath(name).name
+    ending = ending_of(last) or ""
+    return PurePath(last[: len(last) - len(ending)]).stem

@@ -1,20 +1,51 @@
-"""Notes on what is left out of a message."""
+"""Notes on what is left out of a message, and their summary."""
 
-import tempfile
-from typing import NamedTuple, TextIO
+from collections import Counter
+from collections.abc import Iterator
+from dataclasses import dataclass, field
+from typing import NamedTuple, Protocol, TypeVar
 
-from onix_to_csv.faults import shown
+from onix_to_csv.faults import Place, Reason, shown
 
-# What is kept in memory of the notes, before a file takes them.
-IN_MEMORY = 1_048_576
+# The most lines of notes on a file. Those behind them are only counted.
+MOST_LINES = 1_000
+
+Key = TypeVar("Key", str, tuple[str, str, str])
 
 
 class LeftOut(NamedTuple):
-    """What of a product is left out: the line where it begins, the name of its element, and why."""
+    """What of a product is left out: the place where it begins, its name, and why."""
 
-    line: int
+    place: Place
     name: str
-    why: str
+    why: Reason
+
+    def __str__(self) -> str:
+        return f"{self.name} left out: {self.why}"
+
+    def each(self) -> Iterator["LeftOut"]:
+        yield self
+
+
+class Missing(Protocol):
+    """One thing that is left out, or several."""
+
+    def each(self) -> Iterator[LeftOut]: ...
+
+
+@dataclass(slots=True)
+class Judged:
+    """What comes of a composite: its lines, what is left out of it, and the names of what else it says
+    that is only counted."""
+
+    lines: list[bytes] = field(default_factory=list)
+    missing: list[Missing] = field(default_factory=list)
+    counted: list[str] = field(default_factory=list)
+
+    def add(self, other: "Judged") -> None:
+        self.lines += other.lines
+        self.missing += other.missing
+        self.counted += other.counted
 
 
 class Notes:
@@ -22,15 +53,44 @@ class Notes:
 
     def __init__(self, file_name: str):
         self.file_name = shown(file_name)
-        self.count = 0
-        self.spool = tempfile.SpooledTemporaryFile(IN_MEMORY, "w+", encoding="utf-8")
+        self.lines: list[str] = []
+        self.summary = Summary()
 
-    def add(self, reference: str, left_out: LeftOut):
-        line, name, why = left_out
-        self.count += 1
-        self.spool.write(f"{self.file_name}:{line}: {shown(reference)}: {name} left out: {why}\n")
+    def add(self, reference: str, judged: Judged) -> None:
+        """Adds what is left out of the product with that reference, and what is counted of it."""
+        for missing in judged.missing:
+            for left_out in missing.each():
+                self.summary.reasons[left_out.name, left_out.why.words, left_out.why.code()] += 1
+                if len(self.lines) < MOST_LINES:
+                    self.lines.append(
+                        f"{self.file_name}:{left_out.place}: {shown(reference)}: {left_out}"
+                    )
+        if judged.counted:
+            self.summary.counted.update(judged.counted)
 
-    def lines(self) -> TextIO:
-        """All notes, one in each line."""
-        self.spool.seek(0)
-        return self.spool
+
+class Summary:
+    """How many notes there are for each reason, and how often what is only counted was said."""
+
+    def __init__(self) -> None:
+        # Of each reason the name of what is left out, the words, and a code or what stands for a text.
+        self.reasons: Counter[tuple[str, str, str]] = Counter()
+        self.counted: Counter[str] = Counter()
+
+    def add(self, other: "Summary") -> None:
+        self.reasons.update(other.reasons)
+        self.counted.update(other.counted)
+
+    def lines(self) -> Iterator[str]:
+        """A line for each reason, the most frequent first, and the count of all notes."""
+        for thing, count in by_count(self.counted):
+            yield f"{thing}, not looked at: {count}"
+        for (name, words, code), count in by_count(self.reasons):
+            yield f"{name} left out: {words.format(code)}: {count}"
+        notes = self.reasons.total()
+        if notes:
+            yield f"{notes} notes" if notes > 1 else "1 note"
+
+
+def by_count(counts: Counter[Key]) -> list[tuple[Key, int]]:
+    return sorted(counts.items(), key=lambda item: (-item[1], item[0]))

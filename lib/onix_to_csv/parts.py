@@ -3,7 +3,7 @@
 from collections.abc import Callable
 from typing import BinaryIO
 
-from onix_to_csv.faults import Refusal
+from onix_to_csv.faults import Place, Refusal
 from onix_to_csv.headers import Header
 from onix_to_csv.lines import line_of
 from onix_to_csv.terms import MOST_BYTES, MOST_RECORDS, too_large
@@ -11,6 +11,10 @@ from onix_to_csv.terms import MOST_BYTES, MOST_RECORDS, too_large
 
 def end_line(records: int) -> bytes:
     return f"EndMessage,{records}\n".encode()
+
+
+# The most parts of a message: 40 GB of records.
+MOST_PARTS = 9_999
 
 
 class Parts:
@@ -27,22 +31,22 @@ class Parts:
         self.begun = 0
         self.stream: BinaryIO | None = None
         self.records = self.bytes = 0
-        # The line of the first product for which there was no part.
-        self.beyond: int | None = None
+        # The place of the first product for which there was no part.
+        self.beyond: Place | None = None
         self.begin()
 
-    def begin(self):
+    def begin(self) -> None:
         opening = line_of(self.header.record(self.begun))
         self.begun += 1
         self.records, self.bytes = 1, len(opening)
         self.stream = self.open_part() if self.begun <= self.count else None
         self.write(opening)
 
-    def write(self, data: bytes):
+    def write(self, data: bytes) -> None:
         if self.stream:
             self.stream.write(data)
 
-    def end(self):
+    def end(self) -> None:
         self.write(end_line(self.records))
 
     def fits(self, records: int, size: int, opening_records: int, opening_size: int) -> bool:
@@ -52,8 +56,8 @@ class Parts:
             and opening_size + size + len(end_line(records)) <= MOST_BYTES
         )
 
-    def add(self, lines: list[bytes], at: int):
-        """Writes the lines of the product that begins at that line of the file; Wrong where no message has
+    def add(self, lines: list[bytes], at: Place) -> None:
+        """Writes the lines of the product that begins at that place of the file; Wrong where no message has
         room for them."""
         records, size = len(lines), sum(map(len, lines))
         if not self.fits(records, size, self.records, self.bytes):
@@ -68,12 +72,14 @@ class Parts:
         self.records += records
         self.bytes += size
 
-    def finish(self):
+    def finish(self) -> None:
         """Ends the message, and writes the parts that are left over; Refusal where it needs more."""
         if self.beyond is not None:
             raise Refusal(
                 self.beyond,
-                f"the message needs {self.begun} parts, not {self.count}; --parts {self.begun} makes them",
+                f"the message needs {self.begun} parts, not {self.count}; the number of parts is a part"
+                " of the agreement on the series, and with another one its numbers no longer follow"
+                " each other (ONIX.md)",
             )
         self.end()
         while self.begun < self.count:

@@ -1,59 +1,82 @@
 """The lines of a Product, with those of its supplies."""
 
-from onix_to_csv.composites import TOO_LARGE
 from onix_to_csv.elements import Values
-from onix_to_csv.faults import Wrong
+from onix_to_csv.faults import Reason, Wrong
 from onix_to_csv.identifiers import PRODUCT, pair
 from onix_to_csv.lines import Record, line_of
-from onix_to_csv.notes import LeftOut
-from onix_to_csv.supplies import detail_lines, market_lines
-from onix_to_csv.terms import CODE, FIELD_BYTES, MOST_BYTES, MOST_RECORDS, needed, term, too_large
+from onix_to_csv.notes import Judged, LeftOut, Missing
+from onix_to_csv.supplies import judge_supply
+from onix_to_csv.terms import CODE, FIELD_BYTES, MOST_BYTES, needed, term, too_large
 
+# What the desk makes of these: the record is replaced, or deleted.
+REPLACING = ("01", "02", "03")
 DELETION = "05"
+
+# What stands for a deletion that has no identifier.
+OWN_TYPE = "01"
 
 # A record of so many fields has room in a message.
 SURE_FIELDS = MOST_BYTES // (2 * FIELD_BYTES)
 
-
-def product_lines(product: Values) -> tuple[list[bytes], list[LeftOut]]:
-    """The lines of a product, and what is left out of it; Wrong where the desk would call one of its
-    records malformed, or where none of its supplies is left."""
-    if TOO_LARGE in product:
-        raise too_large(product.line)
-    lines = [line_of(product_record(product))]
-    missing: list[LeftOut] = []
-    supplies = product.get("ProductSupply", [])
-    if product["NotificationType"] == DELETION or not supplies:
-        return lines, missing
-    for supply in supplies:
-        markets, missing_markets = market_lines(supply)
-        missing += missing_markets
-        if not markets:
-            continue
-        details, missing_below = detail_lines(supply)
-        missing += missing_below
-        if len(lines) + len(markets) * (1 + len(details)) > MOST_RECORDS:
-            raise too_large(product.line)
-        for market in markets:
-            lines.append(market)
-            lines += details
-    if len(lines) == 1:
-        raise Wrong(product.line, "no Market of its ProductSupply is left")
-    return lines, missing
+# How many of the things that are left out a reason names.
+NAMED = 3
 
 
-def product_record(product: Values) -> Record:
-    line = product.line
+def judge_product(product: Values) -> Judged:
+    """What comes of a product; Wrong where the desk would call one of its records malformed, or where it
+    would not say what the product says."""
+    if product.is_too_large:
+        raise too_large(product.place)
+    judged = Judged()
+    judged.lines.append(line_of(product_record(product, judged.missing)))
+    if product["NotificationType"] == DELETION:
+        return judged
+    for supply in product.get("ProductSupply", []):
+        judged.add(judge_supply(supply))
+    if "ProductSupply" in product and len(judged.lines) == 1:
+        judged.missing.append(all_supplies(product, judged.missing))
+    return judged
+
+
+def all_supplies(product: Values, missing: list[Missing]) -> LeftOut:
+    """The note on a product of which no supply is left; Wrong where the desk would then keep the supplies
+    that it has."""
+    if product["NotificationType"] in REPLACING:
+        why = Reason("the Product is written without supplies")
+        return LeftOut(product.place, "every ProductSupply", why)
+    names = [str(left_out) for each in missing[:NAMED] for left_out in each.each()]
+    if len(missing) > NAMED:
+        names.append(f"and {len(missing) - NAMED} more")
+    raise Wrong(product.place, "no ProductSupply is left", more=f" ({'; '.join(names)})")
+
+
+def product_record(product: Values, missing: list[Missing]) -> Record:
+    """The record `Product`; what of its identifiers is left out is added to `missing`."""
+    place = product.place
     record = [
         "Product",
-        needed(product.get("RecordReference"), "RecordReference", line),
+        needed(product.get("RecordReference"), "RecordReference", place),
         term(CODE, product, "NotificationType"),
     ]
-    if PRODUCT.name not in product:
-        raise Wrong(line, f"no {PRODUCT.name}")
-    for identifier in product[PRODUCT.name]:
-        record += pair(identifier, PRODUCT)
+    if product["NotificationType"] == DELETION:
+        record += deletion_identifiers(product, missing)
+    elif PRODUCT.name not in product:
+        raise Wrong(place, f"no {PRODUCT.name}")
+    else:
+        for identifier in product[PRODUCT.name]:
+            record += pair(identifier, PRODUCT)
     # Its line would be made in memory.
     if len(record) > SURE_FIELDS and sum(len(text.encode()) for text in record) > MOST_BYTES:
-        raise too_large(line)
+        raise too_large(place)
     return record
+
+
+def deletion_identifiers(product: Values, missing: list[Missing]) -> list[str]:
+    """The identifiers of a deletion that are right, or what stands for them: they decide nothing."""
+    pairs: list[str] = []
+    for identifier in product.get(PRODUCT.name, []):
+        try:
+            pairs += pair(identifier, PRODUCT)
+        except Wrong as wrong:
+            missing.append(LeftOut(identifier.place, PRODUCT.name, wrong.why))
+    return pairs or [OWN_TYPE, product["RecordReference"]]

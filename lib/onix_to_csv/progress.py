@@ -17,14 +17,14 @@ class Progress:
         self.next = time.monotonic() + SECONDS
         self.has_line = False
 
-    def show(self, file: Input):
+    def show(self, file: Input) -> None:
         if self.is_shown and time.monotonic() >= self.next:
             self.next = time.monotonic() + SECONDS
             self.has_line = True
             self.stream.write(f"{CLEAR}{shown(file.name)}: {how_far(file)}")
             self.stream.flush()
 
-    def clear(self):
+    def clear(self) -> None:
         if self.has_line:
             self.stream.write(CLEAR)
             self.has_line = False

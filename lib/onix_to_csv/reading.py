@@ -1,21 +1,22 @@
 """Reads an ONIX message from XML by expat, piece by piece.
 
-No other file and no address is opened, and a file that goes past one of the bounds below is refused, so
-that neither its length, nor its depth, nor what it declares makes the memory grow.
+No other file and no address is opened, and a file that goes past one of the bounds below or in `bounds` is
+refused, so that neither its length, nor its depth, nor what it declares makes the memory grow.
 """
 
-import codecs
 import re
 from collections.abc import Callable
-from typing import BinaryIO
+from functools import partial
+from typing import BinaryIO, NoReturn
 from xml.parsers import expat
+from xml.parsers.expat import errors
 
+from onix_to_csv.bounds import STRETCH, Bounds
 from onix_to_csv.composites import Composites
 from onix_to_csv.elements import Word, vocabulary
-from onix_to_csv.entities import DECLARATIONS
-from onix_to_csv.faults import Damage, Refusal, shown
-
-RELEASES = ("3.0", "3.1")
+from onix_to_csv.entities import DECLARATIONS, characters_of
+from onix_to_csv.faults import Damage, Place, Refusal, shown
+from onix_to_csv.prolog import RELEASES, is_of_single_bytes, other_kind, prepared, wrong_release
 
 # The encodings that expat knows itself. Of the others pyexpat takes those of single bytes from Python.
 OF_EXPAT = {"UTF-8", "UTF-16", "UTF-16BE", "UTF-16LE", "ISO-8859-1", "US-ASCII"}
@@ -23,65 +24,50 @@ OF_EXPAT = {"UTF-8", "UTF-16", "UTF-16BE", "UTF-16LE", "ISO-8859-1", "US-ASCII"}
 # The first version of expat that bounds what entities give.
 OLDEST_EXPAT = (2, 4, 0)
 
-# How many bytes are read at once.
-PIECE = 131_072
-
-# The most bytes without the beginning or end of an element, and the most characters of a text.
-STRETCH = 4_194_304
-
-# The fewest bytes of an element, and how many elements a piece may have beyond that, by its entities.
-ELEMENT_BYTES = 4
-ENTITY_ELEMENTS = 10_000
-
 # The most elements within one another below an element that is passed over.
 DEPTH = 1_000
 
-# The most names of elements, attributes and prefixes, and the most characters that they have together.
-NAMES = 20_000
-NAME_CHARACTERS = 1_048_576
+# How many pieces of a text are kept, where they are counted, before they are made one.
+TEXT_PIECES = 16_384
+
+TOO_MUCH = "it takes more memory than a message may"
+
+# What expat says where a file ends too early.
+CUT = {
+    errors.codes[text]
+    for text in (
+        errors.XML_ERROR_NO_ELEMENTS,
+        errors.XML_ERROR_UNCLOSED_TOKEN,
+        errors.XML_ERROR_PARTIAL_CHAR,
+        errors.XML_ERROR_UNCLOSED_CDATA_SECTION,
+    )
+}
+# What it says where one of its own bounds is passed.
+BEYOND = {
+    errors.codes[errors.XML_ERROR_NO_MEMORY]: TOO_MUCH,
+    errors.codes[errors.XML_ERROR_AMPLIFICATION_LIMIT_BREACH]:
+        "its entities give more than a hundred times the bytes of the file",
+}
+
+# How many of the first bytes are kept, to tell what a file is that is no XML.
+HEAD = 1_024
 
 # Between a namespace and a name. No namespace has a space.
 SEPARATOR = " "
 
 WHITE_SPACE = re.compile("[ \t\r\n]+")
 
-# expat lets a document that stands alone use no entity that is declared outside of it, as those of HTML
-# are; what else the word says is nothing to a parser that does not validate.
-STANDALONE = re.compile("""<\\?xml[^>]*?(\\sstandalone\\s*=\\s*(?:"yes"|'yes'))\\s*\\?>""")
-
-# What the first two bytes of a file say of its encoding: a byte order mark, or `<` in two bytes.
-ENCODING_SIGNS = {
-    codecs.BOM_UTF16_LE: "utf-16-le",
-    codecs.BOM_UTF16_BE: "utf-16-be",
-    codecs.BOM_UTF8[:2]: "utf-8",
-    "<".encode("utf-16-le"): "utf-16-le",
-    "<".encode("utf-16-be"): "utf-16-be",
-}
-
-DECLARED_WITHIN = 512
-
-
 StartHandler = Callable[[str, dict[str, str]], None]
+
+# Each composite has a Place, and a call of the class takes three times as long.
+new_place: Callable[[tuple[int, int]], Place] = partial(tuple.__new__, Place)
+
 
 def normalized(text: str) -> str:
     """The text with each run of white space made one space, and none at the ends."""
     if text.isascii():
         return " ".join(text.split())
     return WHITE_SPACE.sub(" ", text).strip(" ")
-
-
-def not_standalone(data: bytes) -> bytes:
-    """The beginning of a file, with spaces where its XML declaration says that it stands alone."""
-    codec = ENCODING_SIGNS.get(data[:2], "latin-1")
-    head = data[:DECLARED_WITHIN].decode(codec, "replace")
-    found = STANDALONE.match(head.removeprefix("\ufeff"))
-    if not found:
-        return data
-    mark = head[: len(head) - len(head.removeprefix("\ufeff"))]
-    first, last = found.span(1)
-    declaration = mark + found[0][:first] + " " * (last - first) + found[0][last:]
-    declaration = declaration.encode(codec)
-    return declaration + data[len(declaration) :]
 
 
 class MessageReader:
@@ -97,17 +83,22 @@ class MessageReader:
         self.pieces: list[str] = []
         # How many elements are open from the one on that is passed over.
         self.depth = 0
-        # How many bytes have come without an element.
-        self.stretch = 0
-        # How many elements may still begin in this piece. It is counted where entities may give some.
-        self.elements = 0
+        # The first bytes; the address that the document type names; the name of the root, while it is open.
+        self.head = b""
+        self.doctype = ""
+        self.root: str | None = None
+        self.has_root = False
         # The handlers are bound once, since they are set at many elements.
         self.add_piece = self.pieces.append
         self.start, self.end = self.on_start, self.on_end
         self.start_below, self.end_below = self.on_start_below, self.on_end_below
         # The one of the two that is set.
         self.present_start = self.on_root
+        self.is_counting = False
+        # How many characters of texts came since it was last looked at, where they are counted.
+        self.characters = 0
         self.parser = self.new_parser()
+        self.bounds = Bounds(self.parser, self.refuse)
 
     def new_parser(self):
         parser = expat.ParserCreate(namespace_separator=SEPARATOR)
@@ -119,96 +110,133 @@ class MessageReader:
         parser.EntityDeclHandler = self.on_entity_declaration
         parser.SkippedEntityHandler = self.on_unknown_entity
         parser.XmlDeclHandler = self.on_xml_declaration
-        # So that prefixes are among the names that are counted.
-        parser.StartNamespaceDeclHandler = lambda _prefix, _address: None
+        parser.StartDoctypeDeclHandler = self.on_document_type
         return parser
 
     def read(self, stream: BinaryIO, on_piece: Callable[[], None]):
         """Reads the stream to its end, and calls `on_piece` after each piece. Refusal where it holds no
         ONIX message."""
         try:
-            data = not_standalone(stream.read(PIECE))
+            data = prepared(stream.read(self.bounds.next_size()))
+            self.head = data[:HEAD]
             while data:
                 self.parse(data)
                 on_piece()
-                data = stream.read(PIECE)
-            self.parser.Parse(b"", True)
+                data = stream.read(self.bounds.next_size())
+            self.parse(b"", is_last=True)
         except Damage as damage:
             self.refuse(str(damage))
+        except MemoryError:
+            self.refuse(TOO_MUCH)
         except expat.ExpatError as error:
-            raise Refusal(error.lineno, f"no well-formed XML: {reason(error)}") from None
+            raise Refusal(Place(error.lineno, error.offset + 1), self.reason(error)) from None
 
-    def parse(self, data: bytes):
-        self.stretch += len(data)
-        self.elements = len(data) // ELEMENT_BYTES + ENTITY_ELEMENTS
+    def parse(self, data: bytes, is_last: bool = False):
+        self.bounds.look_before(data)
+        if self.bounds.may_give_many():
+            self.count()
         self.parser.StartElementHandler = self.on_first_start
-        self.parser.Parse(data, False)
-        self.look_at_bounds()
+        self.parser.Parse(data, is_last)
+        self.bounds.look_behind()
+        self.look_at_text()
 
-    def refuse(self, why: str):
-        raise Refusal(self.parser.CurrentLineNumber, why)
+    def place(self) -> Place:
+        """Where the start tag, or what else the parser is at, begins."""
+        return new_place((self.parser.CurrentLineNumber, self.parser.CurrentColumnNumber + 1))
 
-    def look_at_bounds(self):
-        if self.stretch > STRETCH:
-            self.refuse(f"more than {STRETCH} bytes without an element")
-        names = list(filter(None, self.parser.intern))
-        if len(names) > NAMES or sum(map(len, names)) > NAME_CHARACTERS:
-            self.refuse("too many or too long names of elements, attributes and prefixes")
+    def refuse(self, why: str) -> NoReturn:
+        raise Refusal(self.place(), why)
+
+    def reason(self, error: expat.ExpatError) -> str:
+        """Why a file is refused that is no XML to expat."""
+        if error.code in BEYOND:
+            return BEYOND[error.code]
+        if kind := None if self.has_root else other_kind(self.head):
+            return f"no XML, but {kind}"
+        if error.code in CUT and (self.root or not self.has_root):
+            return f"the file ends before {f'</{shown(self.root)}>' if self.root else 'its root element'}"
+        text = expat.ErrorString(error.code) or str(error)
+        return f"no well-formed XML: {text}, at byte {self.parser.ErrorByteIndex + 1}"
+
+    def look_at_text(self):
         if self.word and self.word.is_text:
             self.pieces[:] = ["".join(self.pieces)]
-            if len(self.pieces[0]) > STRETCH:
+            self.characters = len(self.pieces[0])
+            if self.characters > STRETCH:
                 self.refuse(f"{self.word.name} has more than {STRETCH} characters")
 
-    # The prolog, and entities.
+    # Counting, where one piece of the file may give more than it has bytes for.
 
-    def on_xml_declaration(self, _version: str, encoding: str | None, _standalone: int):
-        if encoding is None or encoding.upper() in OF_EXPAT:
+    def count(self):
+        """From here on each element and each piece of a text is counted."""
+        if self.is_counting:
             return
-        try:
-            is_known = len(bytes(range(256)).decode(encoding, "replace")) == 256
-        except (LookupError, ValueError):
-            is_known = False
-        if not is_known:
-            self.refuse(f"encoding {shown(encoding)} is neither expat's nor of single bytes")
-
-    def on_entity_declaration(self, name, is_parameter, _value, _base, address, _public, _notation):
-        if is_parameter and address is not None:
-            self.refuse(f"entity %{shown(name)}; is declared by an address")
-        if not is_parameter and self.start == self.on_start:
-            self.start, self.start_below = self.counted(self.start), self.counted(self.start_below)
+        self.is_counting = True
+        counted = {handler: self.counted(handler) for handler in (self.start, self.start_below)}
+        self.start, self.start_below = counted.values()
+        self.present_start = counted.get(self.present_start, self.present_start)
+        self.add_piece = self.add_counted
+        if self.parser.CharacterDataHandler:
+            self.parser.CharacterDataHandler = self.add_piece
 
     def counted(self, on_start: StartHandler) -> StartHandler:
-        """The handler, for a document whose entities may give more elements than it has bytes for."""
-
         def counted_start(name: str, attributes: dict[str, str]):
-            self.elements -= 1
-            if self.elements < 0:
-                self.refuse(f"entities give more than {ENTITY_ELEMENTS} elements at once")
+            self.bounds.count_element()
             on_start(name, attributes)
 
         return counted_start
 
+    def add_counted(self, text: str):
+        self.pieces.append(text)
+        self.characters += len(text)
+        if len(self.pieces) > TEXT_PIECES or self.characters > STRETCH:
+            self.look_at_text()
+
+    # The prolog, and entities.
+
+    def on_xml_declaration(self, _version: str, encoding: str | None, _standalone: int):
+        if encoding and encoding.upper() not in OF_EXPAT and not is_of_single_bytes(encoding):
+            self.refuse(f"encoding {shown(encoding)} is neither expat's nor of single bytes")
+
+    def on_document_type(self, _name: str, address: str | None, _public, _has_subset):
+        self.doctype = address or ""
+
+    def on_entity_declaration(self, _name, is_parameter, text, _base, _address, _public, _notation):
+        self.bounds.look_at_entity(text or "")
+        if not is_parameter:
+            self.count()
+
     def on_external_entity(self, context: str | None, _base, _address, _public) -> int:
         if context is not None:
             self.refuse("an entity that is declared by an address")
-        self.parser.EntityDeclHandler = None
-        self.parser.ExternalEntityParserCreate(None).Parse(DECLARATIONS, True)
+        # What is not read ends the declarations that count. That of a parameter entity is not.
+        if b"%" not in self.parser.GetInputContext()[:2]:
+            self.parser.EntityDeclHandler = None
+            self.parser.ExternalEntityParserCreate(None).Parse(DECLARATIONS, True)
         return 1
 
     def on_unknown_entity(self, name: str, is_parameter: int):
-        self.refuse(f"entity {'%' if is_parameter else '&'}{shown(name)}; is not known")
+        if is_parameter:
+            return
+        # Behind a parameter entity that was not read expat takes none of the names that it is given.
+        characters = characters_of(name)
+        if characters is None:
+            self.refuse(f"entity &{shown(name)}; is not known")
+        if self.parser.CharacterDataHandler:
+            self.add_piece(characters)
 
     # Elements that count.
 
     def on_root(self, name: str, attributes: dict[str, str]):
         namespace, separator, local_name = name.rpartition(SEPARATOR)
+        self.root, self.has_root = local_name, True
         self.word = vocabulary(local_name, namespace + separator)
         if self.word is None:
-            self.refuse(f"root {shown(local_name)} is neither ONIXMessage nor ONIXmessage")
+            what = "; this is a web page" if local_name.lower() == "html" else ""
+            self.refuse(f"root {shown(local_name)} is neither ONIXMessage nor ONIXmessage{what}")
         release = attributes.get("release")
         if release not in RELEASES:
-            found = "no release" if release is None else f"release {shown(release)}"
-            self.refuse(f"{found}, not {' or '.join(RELEASES)}")
+            self.refuse(wrong_release(release, namespace + self.doctype))
         self.listen(self.start, self.end)
 
     def listen(self, start: StartHandler, end: Callable[[str], None]):
@@ -218,7 +246,7 @@ class MessageReader:
 
     def on_first_start(self, name: str, attributes: dict[str, str]):
         """Stands in for the handler that is set, until the first element begins in a piece."""
-        self.stretch = 0
+        self.bounds.begin_element(attributes)
         self.parser.StartElementHandler = self.present_start
         self.present_start(name, attributes)
 
@@ -230,7 +258,7 @@ class MessageReader:
             self.outer, self.word = self.word, word
             self.attributes = attributes
             self.parser.CharacterDataHandler = self.add_piece
-        elif self.composites.open(word, self.word, self.parser.CurrentLineNumber):
+        elif self.composites.open(word, self.word, self.place()):
             self.word = word
         else:
             self.pass_over()
@@ -248,6 +276,8 @@ class MessageReader:
                 self.keep_attribute(word.attribute)
         elif self.composites.around:
             self.word = self.composites.close(word)
+        else:
+            self.root = None
 
     def keep_attribute(self, name: str):
         if name in self.attributes:
@@ -269,11 +299,7 @@ class MessageReader:
     def on_end_below(self, _name: str):
         self.depth -= 1
         if self.depth == 0:
-            self.stretch = 0
+            self.bounds.stretch = 0
             self.listen(self.start, self.end)
             if self.word.is_text:
                 self.parser.CharacterDataHandler = self.add_piece
-
-
-def reason(error: expat.ExpatError) -> str:
-    return expat.ErrorString(error.code) or str(error)

@@ -7,9 +7,11 @@ from datetime import date
 from functools import lru_cache
 
 from onix_to_csv.elements import Values
-from onix_to_csv.faults import Wrong, shown
+from onix_to_csv.faults import Place, Wrong
 
 FIELD_BYTES = 1_024
+
+MOST_NUMBER = 999_999_999
 
 # What a message may have, its first and its last record among them.
 MOST_RECORDS = 20_000
@@ -64,35 +66,35 @@ AMOUNT = pattern("1 to 9 digits, and at most 3 behind a point", "[0-9]{1,9}([.][
 DAY = Rule("a day YYYYMMDD", known(is_day))
 
 
-def field(text: str, name: str, line: int) -> str:
+def field(text: str, name: str, place: Place) -> str:
     """The text, which any field may have; Wrong where none may."""
     if CONTROL in text:
-        raise Wrong(line, f"{name} has the control character U+007F")
+        raise Wrong(place, f"{name} has the control character U+007F")
     # A character has at most 4 bytes.
     if len(text) * 4 > FIELD_BYTES and len(text.encode()) > FIELD_BYTES:
-        raise Wrong(line, f"{name} has more than {FIELD_BYTES} bytes")
+        raise Wrong(place, f"{name} has more than {FIELD_BYTES} bytes")
     return text
 
 
-def needed(text: str | None, name: str, line: int) -> str:
+def needed(text: str | None, name: str, place: Place) -> str:
     """A text that is not empty; Wrong where it is absent or no field may have it."""
     if not text:
-        raise Wrong(line, f"no {name}")
-    return field(text, name, line)
+        raise Wrong(place, f"no {name}")
+    return field(text, name, place)
 
 
-def kept(rule: Rule, text: str, name: str, line: int) -> str:
+def kept(rule: Rule, text: str, name: str, place: Place) -> str:
     """The text, which keeps to that rule; Wrong where it does not."""
     if not rule.keeps(text):
-        needed(text, name, line)
-        raise Wrong(line, f"{name} {shown(text)} is not {rule.words}")
+        needed(text, name, place)
+        raise Wrong(place, f"{name} {{}} is not {rule.words}", text)
     return text
 
 
 def term(rule: Rule, values: Values, name: str) -> str:
     """The text of that name, which keeps to that rule; Wrong where it is absent or does not."""
     text = values.get(name, "")
-    return text if rule.keeps(text) else kept(rule, text, name, values.line)
+    return text if rule.keeps(text) else kept(rule, text, name, values.place)
 
 
 def optional_term(rule: Rule, values: Values, name: str) -> str:
@@ -101,8 +103,8 @@ def optional_term(rule: Rule, values: Values, name: str) -> str:
     return term(rule, values, name) if name in values else ""
 
 
-def too_large(line: int) -> Wrong:
+def too_large(place: Place) -> Wrong:
     """Of a product that has no room in a message, even alone."""
     return Wrong(
-        line, f"a Product too large for a message of {MOST_RECORDS} records and {MOST_BYTES} bytes"
+        place, f"a Product too large for a message of {MOST_RECORDS} records and {MOST_BYTES} bytes"
     )

@@ -1,33 +1,117 @@
 """The territories of Markets and Prices."""
 
+import re
+from collections.abc import Iterable, Iterator
+from functools import lru_cache
+from typing import NamedTuple
+
 from onix_to_csv.elements import Values
-from onix_to_csv.faults import shown
+from onix_to_csv.faults import Place, Reason
+from onix_to_csv.notes import LeftOut
 from onix_to_csv.terms import COUNTRIES, optional_term
 
 WORLD = "WORLD"
 
+# The regions of a text, one after the other: a list of them all could be large.
+each_region = re.compile("[^ ]+").finditer
 
-def region_fault(parent: Values) -> str | None:
-    """Why the territory of a Market or a Price cannot be written: the desk knows no region but the
-    world."""
-    territory = parent.get("Territory")
-    if territory is None:
+is_part_of_a_country = re.compile("[A-Z]{2}-[A-Z0-9]+").fullmatch
+
+# The fields of a territory: the countries included, the regions included, the countries excluded.
+Fields = list[str]
+
+
+class RegionsLeftOut(NamedTuple):
+    """The regions of a territory's element, all but the world, each of them left out."""
+
+    place: Place
+    name: str
+    regions: str
+    words: str
+
+    def each(self) -> Iterator[LeftOut]:
+        name = f"region of {self.name}"
+        for found in each_region(self.regions):
+            if found[0] != WORLD:
+                yield LeftOut(self.place, name, Reason(self.words, found[0]))
+
+
+def regions_of(territory: Values, name: str) -> Iterator[str]:
+    return (found[0] for found in each_region(territory.get(name, "")))
+
+
+def has_world(territory: Values) -> bool:
+    return WORLD in regions_of(territory, "RegionsIncluded")
+
+
+def has_regions(territory: Values | None) -> bool:
+    return territory is not None and ("RegionsIncluded" in territory or "RegionsExcluded" in territory)
+
+
+def unheld(territory: Values | None) -> Reason | None:
+    """Why the desk cannot hold a territory, whatever is left out of it: it would be another one, and not
+    only a smaller one or one without whole countries."""
+    if territory is None or not has_regions(territory):
         return None
-    regions = territory.get("RegionsIncluded", WORLD)
-    if regions != WORLD and set(regions.split(" ")) != {WORLD}:
-        return f"RegionsIncluded {shown(regions)}"
-    if "RegionsExcluded" in territory:
-        return f"RegionsExcluded {shown(territory['RegionsExcluded'])}"
+    if "CountriesIncluded" not in territory and not has_world(territory):
+        for region in regions_of(territory, "RegionsIncluded"):
+            return Reason(f"RegionsIncluded {{}} without a country or {WORLD}", region)
+    for region in regions_of(territory, "RegionsExcluded"):
+        if not is_part_of_a_country(region):
+            return Reason("RegionsExcluded {}, which is no part of a country", region)
     return None
 
 
-def territory_fields(territory: Values | None) -> list[str]:
-    """The countries included, the regions included and the countries excluded, all empty where there is
-    no territory; Wrong where the desk would call them malformed."""
+def regions_left_out(territory: Values | None) -> list[RegionsLeftOut]:
+    """The regions that are left out of a territory that the desk can hold."""
+    if territory is None or not has_regions(territory):
+        return []
+    place = territory.place
+    missing = []
+    if "RegionsIncluded" in territory:
+        words = f"{{}} beside a country or {WORLD}"
+        regions = territory["RegionsIncluded"]
+        missing.append(RegionsLeftOut(place, "RegionsIncluded", regions, words))
+    if "RegionsExcluded" in territory:
+        words = "{} is a part of a country"
+        regions = territory["RegionsExcluded"]
+        missing.append(RegionsLeftOut(place, "RegionsExcluded", regions, words))
+    return missing
+
+
+def territory_fields(territory: Values | None) -> Fields:
+    """The fields of a territory that the desk can hold, all empty where there is none; Wrong where the desk
+    would call them malformed."""
     if territory is None:
         return ["", "", ""]
     return [
         optional_term(COUNTRIES, territory, "CountriesIncluded"),
-        WORLD if "RegionsIncluded" in territory else "",
+        WORLD if "RegionsIncluded" in territory and has_world(territory) else "",
         optional_term(COUNTRIES, territory, "CountriesExcluded"),
     ]
+
+
+@lru_cache(256)
+def countries(text: str) -> frozenset[str]:
+    return frozenset(text.split())
+
+
+def list_of(codes: Iterable[str]) -> str:
+    return " ".join(sorted(codes))
+
+
+def union(territories: list[Fields]) -> Fields:
+    """The fields of one territory that has each country of the territories, and no other."""
+    inside: frozenset[str] = frozenset()
+    # What the world is without, where one of them is the world or a part of it.
+    outside: frozenset[str] | None = None
+    for included, world, excluded in territories:
+        if world or not included:
+            without = countries(excluded)
+            outside = without if outside is None else outside & without
+        else:
+            inside |= countries(included) - countries(excluded)
+    if outside is not None:
+        return ["", WORLD, list_of(outside - inside)]
+    # Empty fields would be the world.
+    return [list_of(inside), "", ""] if inside else territories[0]

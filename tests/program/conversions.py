@@ -10,11 +10,14 @@ parts that begin with a line `-- `:
                   count of EndMessage are added
     -- all-records, of a file, or where those around the place are others
     -- notes      the notes, behind the name of the file
-    -- refused    the line of the file, and why
+    -- summary    the lines behind the notes, where they are not only added up
+    -- refused    the place in the file, and why
+    -- wrong      the same of a product, without what can be done about it
     -- status N   1, where a wrong product is left out
 
-Each case is converted in reference names without a namespace and, but for whole files, in short tags in
-their namespace.
+A place is a line and a column, as `2:7`, or a line and the first start tag of an element there, as
+`2:<Price>`. Each case is converted in reference names without a namespace and, but for whole files, in
+short tags in their namespace, in which columns are others.
 """
 
 import re
@@ -44,7 +47,8 @@ SHORT_TAGS = dict(
     UnpricedItemType=j192 Price=price PriceType=x462 PriceQualifier=j261 PricePer=j239
     PriceCondition=pricecondition PriceConditionType=x463 PriceConstraint=priceconstraint
     PriceConstraintType=x529 MinimumOrderQuantity=j263 PriceCoded=pricecoded PriceAmount=j151
-    CurrencyCode=j152 CurrencyZone=x475 PriceDate=pricedate PriceDateRole=x476 DateFormat=j260 Date=b306
+    CurrencyCode=j152 CurrencyZone=x475 PriceStatus=j266 EpubTechnicalProtection=x317
+    EpubLicense=epublicense SalesRestriction=salesrestriction PriceDate=pricedate PriceDateRole=x476 DateFormat=j260 Date=b306
     """.split()
 )
 
@@ -111,6 +115,16 @@ FRAMES["price"] = within(
 )
 
 
+# What the line of a refusal says behind a wrong product.
+MENDED = "; the sender has to mend it, or --leave-out-wrong leaves the product out"
+
+PLACE = re.compile("([0-9]+):(?:([0-9]+)|(<[A-Za-z]+))>?(.*)", re.DOTALL)
+
+# A line of the summary, but for the last.
+COUNTED = re.compile("(.*): ([0-9]+)")
+NOT_LOOKED_AT = ", not looked at"
+
+
 class Converted(NamedTuple):
     """What comes of a feed: its records, None where it is refused, and what is said of its lines."""
 
@@ -125,14 +139,38 @@ class Case(NamedTuple):
     words: list[str]
     status: int
     wanted: Converted
+    summary: list[str] | None
 
-    def feeds(self) -> dict[str, bytes]:
+    def texts(self) -> dict[str, str]:
         """The feed in each kind of names. What stands at the place begins on line 2."""
         if self.place == WHOLE_FILE:
-            return {"": self.xml.encode()}
+            return {"": self.xml}
         frame = FRAMES[self.place]
         text = f"{frame.before}\n{self.xml}{frame.behind}"
-        return {"": text.encode(), " in short tags": in_short_tags(text).encode()}
+        return {"": text, " in short tags": in_short_tags(text)}
+
+    def feeds(self) -> list["Feed"]:
+        texts = self.texts()
+        return [
+            Feed(
+                self.name + names,
+                text.encode(),
+                self.status,
+                self.wanted._replace(said=[placed(line, texts[""], text) for line in self.wanted.said]),
+                self.summary,
+            )
+            for names, text in texts.items()
+        ]
+
+
+class Feed(NamedTuple):
+    """A case in one kind of names."""
+
+    name: str
+    data: bytes
+    status: int
+    wanted: Converted
+    summary: list[str] | None
 
 
 def said(lines: list[str]) -> bytes:
@@ -147,6 +185,17 @@ def in_short_tags(text: str) -> str:
     namespace = ' xmlns="http://ns.editeur.org/onix/3.0/short"'
     text = re.sub("(</?)([A-Za-z]+)", short, text)
     return text.replace("<ONIXmessage", "<ONIXmessage" + namespace, 1)
+
+
+def placed(said: str, text: str, written: str) -> str:
+    """What is said of a place in the text, with the line, column and byte (`@`) that it has in the text as
+    it is written in either kind of names."""
+    line, column, element, rest = PLACE.fullmatch(said).groups()
+    begin = sum(len(each) + 1 for each in text.split("\n")[: int(line) - 1])
+    at = re.compile(rf"{element}\b").search(text, begin).start() if element else begin + int(column) - 1
+    before = text[:at] if written == text else in_short_tags(text[:at])
+    rest = rest.replace("at byte @", f"at byte {len(before.encode()) + 1}")
+    return f"{line}:{len(before) - before.rfind(chr(10))}{rest}"
 
 
 def records_of(place: str, text: str) -> str:
@@ -164,13 +213,16 @@ def read_case(text: str) -> Case:
         parts[key] = words or (body.rstrip("\n") + "\n" if body.strip() else "")
     place = next(key for key in parts if key in FRAMES or key == WHOLE_FILE)
     words = parts.get("words", "").split()
-    if "refused" in parts:
-        line, why = parts["refused"].split(" ", 1)
-        return Case(name, place, parts[place], words, 1, Converted(None, [f"{line}: refused: {why}"]))
+    for key, behind in [("refused", ""), ("wrong", MENDED)]:
+        if key in parts:
+            at, why = parts[key].split(" ", 1)
+            wanted = Converted(None, [f"{at}: refused: {why}{behind}"])
+            return Case(name, place, parts[place], words, 1, wanted, None)
     said = parts.get("notes", "").splitlines()
     all_records = parts.get("all-records") or records_of(place, parts["records"])
     wanted = Converted(all_records.encode(), said)
-    return Case(name, place, parts[place], words, int(parts.get("status", 0)), wanted)
+    summary = parts["summary"].splitlines() if "summary" in parts else None
+    return Case(name, place, parts[place], words, int(parts.get("status", 0)), wanted, summary)
 
 
 def read_cases(path: Path) -> list[Case]:
@@ -178,41 +230,49 @@ def read_cases(path: Path) -> list[Case]:
     return [read_case(text) for text in texts]
 
 
-def check(words: list[str], feeds: list[tuple[str, bytes, int, Converted]], room):
+def check(words: list[str], feeds: list[Feed], room):
     """Converts the feeds in one run, each into a file of its own."""
     room.path("out").mkdir()
-    for number, (_name, feed, _status, _wanted) in enumerate(feeds):
-        room.write(f"{number}.xml", feed)
+    for number, feed in enumerate(feeds):
+        room.write(f"{number}.xml", feed.data)
     came = convert(room, *words, "-o", "out", *(f"{number}.xml" for number in range(len(feeds))))
     said: dict[str, list[str]] = {}
     for line in came.errors.decode().splitlines():
         number, _, what = line.removeprefix("onix-to-csv: ").partition(".xml:")
         said.setdefault(number, []).append(what)
-    for number, (name, _feed, _status, wanted) in enumerate(feeds):
+    for number, feed in enumerate(feeds):
         path = room.path(f"out/{number}.csv")
         records = path.read_bytes() if path.exists() else None
-        yield Outcome(name, Converted(records, said.pop(str(number), [])), wanted)
+        yield Outcome(feed.name, Converted(records, said.pop(str(number), [])), feed.wanted)
+    yield Outcome(f"{feeds[0].name}: the status", came.status, max(feed.status for feed in feeds))
+    yield summed(feeds, list(said))
 
-    notes = sum(len(wanted.said) for *_, wanted in feeds if wanted.records is not None)
-    counted = [] if notes == 0 else ["1 note"] if notes == 1 else [f"{notes} notes"]
-    wanted = max(status for _, _, status, _ in feeds), counted
-    found = came.status, list(said)
-    yield Outcome(f"{feeds[0][0]}, and others: the status and the last line", found, wanted)
+
+def summed(feeds: list[Feed], summary: list[str]) -> Outcome:
+    """The lines behind the notes: those that a case names, or else the count of all, which the counts of
+    the reasons come to."""
+    if feeds[0].summary is not None:
+        return Outcome(f"{feeds[0].name}: the summary", summary, feeds[0].summary)
+    notes = sum(len(feed.wanted.said) for feed in feeds if feed.wanted.records is not None)
+    last = [] if notes == 0 else ["1 note"] if notes == 1 else [f"{notes} notes"]
+    counted = [found.groups() for found in map(COUNTED.fullmatch, summary) if found]
+    total = sum(int(count) for what, count in counted if not what.endswith(NOT_LOOKED_AT))
+    found = total, summary[len(counted) :]
+    return Outcome(f"{feeds[0].name}, and others: the summary", found, (notes, last))
 
 
 def groups(cases: list[Case]):
     """Those with the same words are converted together, one run for each file of cases and word."""
-    together: dict[tuple[str, ...], list] = {}
+    together: dict[tuple[str, ...], list[Feed]] = {}
     for case in cases:
-        for names, feed in case.feeds().items():
-            feeds = together.setdefault(tuple(case.words), [])
-            feeds.append((case.name + names, feed, case.status, case.wanted))
+        for feed in case.feeds():
+            # --number is for one file alone.
+            if feed.summary is not None or "--number" in case.words:
+                yield Group(feed.name, partial(check, case.words, [feed]))
+            else:
+                together.setdefault(tuple(case.words), []).append(feed)
     for words, feeds in together.items():
-        # --number is for one file alone.
-        size = 1 if "--number" in words else len(feeds)
-        for at in range(0, len(feeds), size):
-            some = feeds[at : at + size]
-            yield Group(some[0][0], partial(check, list(words), some))
+        yield Group(feeds[0].name, partial(check, list(words), feeds))
 
 
 GROUPS = [

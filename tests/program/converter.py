@@ -52,10 +52,10 @@ def feed_in(pieces: Iterator[bytes], stream):
             stream.write(piece)
 
 
-def measured(folder: Path, pieces: Iterator[bytes], *words) -> Measured:
-    """Converts a feed from standard input, in a folder."""
+def measured(folder: Path, pieces: Iterator[bytes], *words, python: str = sys.executable) -> Measured:
+    """Converts a feed from standard input, in a folder, by that Python."""
     process = subprocess.Popen(
-        [sys.executable, "-I", "-S", "-c", MEASURING, CONVERTER, *words],
+        [python, "-I", "-S", "-c", MEASURING, CONVERTER, *words],
         cwd=folder,
         stdin=subprocess.PIPE,
         stdout=subprocess.PIPE,

@@ -24,6 +24,14 @@ PRICE = (
 )
 
 
+# What is said to the person who has to act, of parts and of a product.
+AGREED = (
+    "the number of parts is a part of the agreement on the series, and with another one its numbers no"
+    " longer follow each other (ONIX.md)"
+)
+MEND = "the sender has to mend it, or --leave-out-wrong leaves the product out"
+
+
 def references(count: int) -> list[str]:
     return [f"R{number:05}" for number in range(count)]
 
@@ -37,7 +45,7 @@ def records(room):
     room.write(FEED, feed_of(*names))
     came = convert(room, FEED)
     line = MOST + 2
-    wanted = f"{FEED}:{line}: refused: the message needs 2 parts, not 1; --parts 2 makes them"
+    wanted = f"{FEED}:{line}:1: refused: the message needs 2 parts, not 1; {AGREED}"
     yield Outcome("one record more", came, Ran(1, b"", said([wanted])))
     came = convert(room, "--parts", "2", FEED)
     wanted = message_of(*names[:MOST], number=1) + message_of(names[MOST], number=2)
@@ -47,7 +55,7 @@ def records(room):
     room.write(FEED, feed_of(*names))
     came = convert(room, "--parts", "2", FEED)
     line = 2 * MOST + 2
-    wanted = f"{FEED}:{line}: refused: the message needs 3 parts, not 2; --parts 3 makes them"
+    wanted = f"{FEED}:{line}:1: refused: the message needs 3 parts, not 2; {AGREED}"
     yield Outcome("more records than two parts may have", came, Ran(1, b"", said([wanted])))
 
 
@@ -94,7 +102,7 @@ def product_of(details: int, prices: int) -> str:
 
 
 def one_product(room):
-    wrong = "R1: {}a Product too large for a message of 20000 records and 4194304 bytes"
+    why = "a Product too large for a message of 20000 records and 4194304 bytes"
     detail, price = "SupplyDetail,04,,,North,21,\n", "Price,,1,,GB,,,20250101,20251231,2\n"
     for name, details, prices in [
         ("prices", 1, MOST - 3),
@@ -110,10 +118,11 @@ def one_product(room):
         feed = f"{FRAME.before}{PRODUCT.format('R0')}\n{more}\n{PRODUCT.format('R2')}{FRAME.behind}"
         room.write(FEED, feed.encode())
         came = convert(room, "--parts", "5", FEED)
-        said_of = said([f"{FEED}:2: refused: {wrong.format('')}"])
+        said_of = said([f"{FEED}:2:1: refused: R1: {why}; {MEND}"])
         yield Outcome(f"a product of 19,999 records, with {name}", came, Ran(1, b"", said_of))
         came = convert(room, "--leave-out-wrong", FEED)
-        said_of = said([f"{FEED}:2: {wrong.format('Product left out: ')}", "1 note"])
+        left_out = f"Product left out: {why}"
+        said_of = said([f"{FEED}:2:1: R1: {left_out}", f"{left_out}: 1", "1 note"])
         wanted = Ran(1, message_of("R0", "R2"), said_of)
         yield Outcome(f"a product of 19,999 records, with {name}, left out", came, wanted)
 

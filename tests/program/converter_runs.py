@@ -1,10 +1,13 @@
 """The words, files and statuses of `onix-to-csv`."""
 
+import codecs
 import gzip
+import io
 import os
 import pty
 import subprocess
 import time
+import zipfile
 from functools import partial
 from typing import NamedTuple
 
@@ -36,7 +39,40 @@ ONE, TWO = feed_of("R1"), feed_of("R1", "R2")
 
 # A feed that is refused at its second line, and what is said of it.
 BAD = feed_of("")
-BAD_SAID = "2: refused: no RecordReference: no RecordReference"
+BAD_SAID = (
+    "2:1: refused: no RecordReference: no RecordReference; the sender has to mend it, or --leave-out-wrong"
+    " leaves the product out"
+)
+
+
+# Names of files, with the NAME that the messages of each have.
+NAMES = {
+    "a.xml": "a",
+    "b.c.onix": "b.c",
+    "d": "d",
+    "e.xml.gz": "e",
+    "F.XML.GZ": "F",
+    "g.zip": "g",
+    "h.onx.Zip": "h",
+    "i.zip.gz": "i",
+    "j.gz.xml": "j.gz",
+}
+
+
+def packed(name: str) -> bytes:
+    """A feed, packed as the ending of its name says."""
+    if name.lower().endswith(".gz"):
+        return gzip.compress(ONE)
+    return zipped({"any": ONE}) if name.lower().endswith(".zip") else ONE
+
+
+def zipped(entries: dict[str, bytes], method: int = zipfile.ZIP_DEFLATED) -> bytes:
+    """A zip of these entries."""
+    made = io.BytesIO()
+    with zipfile.ZipFile(made, "w", method) as archive:
+        for name, data in entries.items():
+            archive.writestr(name, data)
+    return made.getvalue()
 
 
 class Case(NamedTuple):
@@ -68,40 +104,12 @@ CASES = [
         {"message.csv": message_of("R1")},
         given=ONE,
     ),
-    Case("a packed file", {"a.gz": gzip.compress(ONE)}, ["a.gz"], Ran(0, message_of("R1"))),
-    Case(
-        "a packed file in two pieces",
-        {"a.gz": gzip.compress(ONE[:99]) + gzip.compress(ONE[99:])},
-        ["a.gz"],
-        Ran(0, message_of("R1")),
-    ),
-    Case(
-        "a packed file that is cut",
-        {"a.gz": gzip.compress(ONE)[:-9]},
-        ["a.gz"],
-        Ran(
-            1,
-            b"",
-            said(
-                [
-                    "a.gz:1: refused: no whole gzip file: Compressed file ended before the"
-                    " end-of-stream marker was reached"
-                ]
-            ),
-        ),
-    ),
-    Case(
-        "a packed file that is none",
-        {"a.gz": ONE},
-        ["a.gz"],
-        Ran(1, b"", said(["a.gz:1: refused: no whole gzip file: Not a gzipped file (b'<O')"])),
-    ),
     Case(
         "names of files",
-        {"a.xml": ONE, "b.c.onix": ONE, "d": ONE, "e.xml.gz": gzip.compress(ONE)},
-        ["-o", ".", "a.xml", "b.c.onix", "d", "e.xml.gz"],
+        {name: packed(name) for name in NAMES},
+        ["-o", ".", *NAMES],
         Ran(0),
-        {f"{name}.csv": message_of("R1") for name in ["a", "b.c", "d", "e"]},
+        {f"{name}.csv": message_of("R1") for name in NAMES.values()},
     ),
     Case(
         "parts on standard output follow each other",
@@ -163,7 +171,13 @@ CASES = [
         Ran(
             1,
             message_of("R2"),
-            said([f"{FEED}:2: no RecordReference: Product left out: no RecordReference", "1 note"]),
+            said(
+                [
+                    f"{FEED}:2:1: no RecordReference: Product left out: no RecordReference",
+                    "Product left out: no RecordReference: 1",
+                    "1 note",
+                ]
+            ),
         ),
     ),
     Case(
@@ -204,6 +218,42 @@ CASES = [
         Ran(3, b"", said(["a.xml: no folder"])),
     ),
 ]
+
+
+SENDER = "Žitný é"
+
+
+def encoded(declared: str, codec: str, mark: bytes = b"", between: str = "", sender: str = SENDER) -> bytes:
+    """A feed that declares an encoding, with this between its declaration and its root."""
+    text = feed_of("R1").decode().replace("<IDValue>S<", f"<IDValue>{sender}<")
+    return mark + f'<?xml version="1.0" encoding="{declared}"?>{between}{text}'.encode(codec)
+
+
+ENCODINGS = [
+    *(encoded(name, "utf-8") for name in ("utf-8", "UTF-8", "utf8", "UTF8", "Utf8")),
+    encoded("utf8", "utf-8", codecs.BOM_UTF8),
+    encoded("UTF8", "utf-8", between='<!DOCTYPE ONIXMessage SYSTEM "onix.dtd">'),
+    encoded("utf8", "utf-8", codecs.BOM_UTF8, "<!DOCTYPE ONIXMessage [<!ENTITY e 'e'>]>"),
+    encoded('utf8" standalone="yes', "utf-8"),
+    encoded("UTF-16", "utf-16-le", codecs.BOM_UTF16_LE),
+    encoded("UTF-16", "utf-16-be", codecs.BOM_UTF16_BE),
+    encoded("windows-1250", "cp1250"),
+    encoded("ISO-8859-2", "iso8859-2"),
+]
+LATIN = [
+    encoded("ISO-8859-1", "latin-1", sender="é"),
+    encoded("windows-1252", "cp1252", sender="é"),
+    encoded("ISO-8859-15", "iso8859-15", sender="é"),
+    encoded("US-ASCII", "ascii", sender="&#233;"),
+    encoded("ascii", "ascii", sender="&eacute;"),
+]
+
+
+def encodings(room):
+    for sender, feeds in [(SENDER, ENCODINGS), ("é", LATIN)]:
+        wanted = Ran(0, message_of("R1").replace(b",S,", f",{sender},".encode()))
+        for feed in feeds:
+            yield Outcome(f"encoding: {feed[:50]}", convert(room, given=feed), wanted)
 
 
 def check(case: Case, room):
@@ -284,6 +334,7 @@ def terminal(room):
 
 GROUPS = [
     *(Group(case.name, partial(check, case)) for case in CASES),
+    Group("encodings", encodings),
     Group("bad words", bad_words),
     Group("an output that takes nothing", full_output),
     Group("a terminal", terminal),

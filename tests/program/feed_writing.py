@@ -1,20 +1,68 @@
 """Trees of messages written as XML, in as many ways as XML has for the same."""
 
+from bisect import bisect_right
 from html.entities import codepoint2name
 from random import Random
+from re import finditer
+from typing import NamedTuple
 from xml.sax.saxutils import escape, quoteattr
 
 from program.conversions import SHORT_TAGS
-from program.feed_trees import Detail, Message, Pair, Price, PriceDate, Product, Supply, Territory
+from program.feed_trees import (
+    Detail,
+    Identifier,
+    Market,
+    Message,
+    Price,
+    PriceDate,
+    Product,
+    Supply,
+    Territory,
+)
 
 NAMESPACES = {False: "http://ns.editeur.org/onix/3.0/reference", True: "http://ns.editeur.org/onix/3.0/short"}
 
+# Elements that say something of a product and are passed over, with their short tags.
+PASSED_OVER_TAGS = {
+    "SenderName": "x298",
+    "SalesRestriction": "salesrestriction",
+    "SalesRestrictionType": "b381",
+    "PriceStatus": "j266",
+    "EpubTechnicalProtection": "x317",
+    "EpubLicense": "epublicense",
+    "EpubLicenseName": "x511",
+}
+
+TAGS = SHORT_TAGS | PASSED_OVER_TAGS
+
 ENCODINGS = [
-    *("UTF-8", "utf-8", "UTF-16", "UTF-16LE", "UTF-16BE"),
+    *("UTF-8", "utf-8", "UTF8", "utf8", "UTF-16", "UTF-16LE", "UTF-16BE"),
     *("ISO-8859-1", "windows-1252", "koi8-r", "US-ASCII", ""),
 ]
 
-SPACES = [" ", "\n", "\t", "  \n ", "\r\n"]
+SPACES = [" ", "\n", "\t", "  \n ", "\r\n", "\r"]
+
+# What a DOCTYPE may declare. A reference to names that are not there has what is behind it not count.
+OWN_NAME = '<!ENTITY own "Y">'
+NAMES_BY_ADDRESS = [
+    '<!ENTITY % names SYSTEM "names.ent"> %names; <!ENTITY eacute "not this">',
+    '%names; <!ENTITY eacute "not this">',
+]
+
+
+class Place(NamedTuple):
+    """A line and a column, both from 1."""
+
+    line: int
+    column: int
+
+
+class Written(NamedTuple):
+    """A feed, the places where the start tags of its composites begin, and the places behind their ends."""
+
+    feed: bytes
+    starts: dict[object, Place]
+    ends: dict[object, Place]
 
 
 class Writer:
@@ -26,15 +74,23 @@ class Writer:
         self.is_short = random.random() < 0.5
         self.prefix = random.choice(["", "", "o:"])
         self.namespace = NAMESPACES[self.is_short] if self.prefix or random.random() < 0.5 else ""
+        self.has_own_name = False
         self.parts: list[str] = []
+        self.length = 0
+        self.starts: dict[object, int] = {}
+        self.ends: dict[object, int] = {}
 
     def is_one_of(self, count: int) -> bool:
         return self.random.randrange(count) == 0
 
+    def append(self, piece: str):
+        self.parts.append(piece)
+        self.length += len(piece)
+
     # Marks and texts.
 
     def name(self, reference_name: str) -> str:
-        return self.prefix + (SHORT_TAGS[reference_name] if self.is_short else reference_name)
+        return self.prefix + (TAGS[reference_name] if self.is_short else reference_name)
 
     def can_write(self, text: str) -> bool:
         try:
@@ -47,6 +103,8 @@ class Writer:
         number = ord(character)
         if number in codepoint2name and self.is_one_of(3):
             return f"&{codepoint2name[number]};"
+        if character == "Y" and self.has_own_name:
+            return "&own;"
         if not self.can_write(character) or self.is_one_of(12):
             return f"&#{number};" if self.is_one_of(2) else f"&#x{number:x};"
         if character == " " and self.is_one_of(3):
@@ -60,6 +118,8 @@ class Writer:
         return self.random.choice(["<!-- & -->", "<?x y?>", "<b>9</b>", "<i xmlns=''>8<j/></i>"])
 
     def text(self, text: str) -> str:
+        if len(text) > 500:
+            return escape(text).encode("ascii", "xmlcharrefreplace").decode()
         written = "".join(
             self.character(character) + (self.aside() if self.is_one_of(40) else "")
             for character in text
@@ -68,35 +128,52 @@ class Writer:
         return space + written + space
 
     def passed_over(self) -> str:
-        """An element that does not count, with some that would elsewhere."""
-        inner = self.name(self.random.choice(["Price", "Market", "IDValue", "RecordReference"]))
-        other = self.random.choice(["Note", self.name("ONIXMessage"), "x"])
-        if ":" in other:
-            return f"<{other}><{inner}>7</{inner}></{other}>"
-        return f"<{other} a='&lt;'><{inner.replace(':', '')}>7</{inner.replace(':', '')}></{other}>"
+        """An element that does not count: of no name that does, of the other kind of names, or of another
+        namespace; with one in it that would count elsewhere."""
+        counting = self.random.choice(["Price", "Market", "IDValue", "RecordReference", "PriceAmount"])
+        inner = f"<{self.name(counting)}>7</{self.name(counting)}>"
+        outer = self.name(self.random.choice(["SenderName", "ONIXMessage"]))
+        other_kind = self.prefix + (counting if self.is_short else SHORT_TAGS[counting])
+        return self.random.choice(
+            [
+                f"<{outer}>{inner}</{outer}>",
+                f"<Note a='&lt;'>{inner}</Note>",
+                f"<{other_kind}>7</{other_kind}>",
+                f"<z:{counting} xmlns:z='urn:z'>7</z:{counting}>",
+            ]
+        )
 
     def put(self, *pieces: str):
         for piece in pieces:
-            self.parts.append(piece)
+            self.append(piece)
             if self.is_one_of(25):
-                self.parts.append(self.passed_over())
+                self.append(self.passed_over())
             elif self.is_one_of(4):
-                self.parts.append(self.random.choice([*SPACES, "<!-- x -->"]))
+                self.append(self.random.choice([*SPACES, "<!-- x -->"]))
 
     def element(self, name: str, text: str, attributes: str = ""):
-        """An element with that text; one without a text may be there or not."""
+        """An element with that text; one without a text may be there or not. One that is empty may stand
+        before it, and another behind it does not count."""
         tag = self.name(name)
+        if text and self.is_one_of(30):
+            self.put(f"<{tag}/>")
         if text:
             self.put(f"<{tag}{attributes}>{self.text(text)}</{tag}>")
+            if self.is_one_of(20):
+                self.put(f"<{tag}>7</{tag}>")
         elif self.is_one_of(8):
             self.put(self.random.choice([f"<{tag}/>", f"<{tag}> \n</{tag}>", f"<{tag}><!-- 5 --></{tag}>"]))
 
-    def composite(self, name: str, *writes):
+    def composite(self, name: str, *writes, of: object = None):
+        """A composite with what is written within it, `of` the one of the tree that it is."""
         tag = self.name(name)
+        self.starts[of] = self.length
         self.put(f"<{tag} datestamp='20250301'>" if self.is_one_of(9) else f"<{tag}>")
         for write in writes:
             write()
-        self.put(f"</{tag}>")
+        self.append(f"</{tag}>")
+        self.ends[of] = self.length
+        self.put("")
 
     def in_any_order(self, *writes):
         writes = list(writes)
@@ -104,159 +181,154 @@ class Writer:
         for write in writes:
             write()
 
-    # The message.
-
-    def identifiers(self, name: str, pairs: list[Pair]):
-        for id_type, value in pairs:
-            self.composite(
-                f"{name}Identifier",
-                lambda: self.in_any_order(
-                    lambda: self.element(type_name(name), id_type), lambda: self.element("IDValue", value)
-                ),
-            )
+    # Prices.
 
     def territory(self, territory: Territory):
         self.composite(
             "Territory",
             lambda: self.in_any_order(
-                lambda: self.element("CountriesIncluded", " ".join(territory.included)),
-                lambda: self.element("RegionsIncluded", " ".join(territory.regions)),
-                lambda: self.element("CountriesExcluded", " ".join(territory.excluded)),
-                lambda: self.element("RegionsExcluded", " ".join(territory.excluded_regions)),
+                lambda: self.element("CountriesIncluded", territory.included),
+                lambda: self.element("RegionsIncluded", territory.regions),
+                lambda: self.element("CountriesExcluded", territory.excluded),
+                lambda: self.element("RegionsExcluded", territory.excluded_regions),
             ),
+            of=territory,
         )
+        if territory.included and self.is_one_of(20):
+            self.composite("Territory", lambda: self.element("CountriesIncluded", "ZZ"))
 
     def price_date(self, date: PriceDate):
-        text = "".join(date.days)
-        attribute, element, attributes = date.date_format, "", ""
-        # A Date without a text is as none, with its attribute.
-        if not text or self.is_one_of(2):
-            attribute, element = "", date.date_format
-        elif self.is_one_of(2):
-            element = "13"
-        if attribute:
-            attributes = f" dateformat={quoteattr(attribute)}"
-        if date.date_format == "00" and self.is_one_of(3):
-            attributes, element = "", ""
+        attributes = f" dateformat={quoteattr(date.attribute)}" if date.attribute else ""
         self.composite(
             "PriceDate",
             lambda: self.in_any_order(
                 lambda: self.element("PriceDateRole", date.role),
-                lambda: self.element("DateFormat", element),
-                lambda: self.element("Date", text, attributes),
+                lambda: self.element("DateFormat", date.element),
+                lambda: self.element("Date", date.text, attributes),
             ),
         )
 
-    def price_dates(self, price: Price):
-        for date in price.dates:
-            self.price_date(date)
-        if price.peculiar == "month":
-            self.price_date(PriceDate("14", ["202503"], "01"))
-        if price.peculiar == "no date":
-            self.price_date(PriceDate("15", [], "00"))
-        if price.peculiar == "no day":
-            self.price_date(PriceDate("24", ["20250301"], "06"))
-        if self.is_one_of(6):
-            self.price_date(PriceDate("13", ["2025"], "05"))
-
     def price(self, price: Price):
-        peculiar = price.peculiar
-        amount, quantity = price.amount, "0" if peculiar == "no quantity" else price.quantity
-        qualifier = "05" if peculiar == "PriceQualifier" else self.usual()
-        if amount and peculiar in ("comma", "decimals"):
-            amount = {"comma": "12,99", "decimals": "12.9900"}[peculiar]
+        def coded(name: str, type_name: str, codes: list[str]):
+            for code in codes:
+                self.composite(name, lambda: self.element(type_name, code))
 
-        def coded(name: str, type_name: str, code: str):
-            if peculiar == name or self.is_one_of(9):
-                self.composite(name, lambda: self.element(type_name, code if peculiar == name else "00"))
+        def passed_over():
+            for name in price.passed_over:
+                if name == "EpubLicense":
+                    self.composite(name, lambda: self.element("EpubLicenseName", "x"))
+                else:
+                    self.put(f"<{self.name(name)}>02</{self.name(name)}>")
 
         def below():
             self.in_any_order(
                 lambda: self.element("PriceType", price.price_type),
-                lambda: self.element("PriceQualifier", qualifier),
-                lambda: self.element("PricePer", "01" if peculiar == "PricePer" else self.usual()),
-                lambda: coded("PriceCondition", "PriceConditionType", "10"),
-                lambda: coded("PriceConstraint", "PriceConstraintType", "06"),
-                lambda: self.element("MinimumOrderQuantity", quantity),
-                lambda: peculiar == "PriceCoded" and amount and self.composite("PriceCoded"),
-                lambda: self.element("PriceAmount", amount),
+                lambda: self.element("PriceQualifier", price.qualifier),
+                lambda: self.element("PricePer", price.per),
+                lambda: coded("PriceCondition", "PriceConditionType", price.conditions),
+                lambda: coded("PriceConstraint", "PriceConstraintType", price.constraints),
+                lambda: self.element("MinimumOrderQuantity", price.quantity),
+                lambda: price.is_coded and self.composite("PriceCoded"),
+                lambda: self.element("PriceAmount", price.amount),
                 lambda: self.element("UnpricedItemType", price.unpriced),
                 lambda: self.element("CurrencyCode", price.currency),
-                lambda: self.element("CurrencyZone", "EUR" if peculiar == "CurrencyZone" else ""),
+                lambda: self.element("CurrencyZone", price.zone),
                 lambda: price.territory and self.territory(price.territory),
-                lambda: self.price_dates(price),
+                lambda: [self.price_date(date) for date in price.dates],
+                passed_over,
             )
 
-        self.composite("Price", below)
+        self.composite("Price", below, of=price)
 
-    def usual(self) -> str:
-        return "00" if self.is_one_of(5) else ""
+    # Supplies and products.
+
+    def identifiers(self, name: str, identifiers: list[Identifier]):
+        for identifier in identifiers:
+            self.composite(
+                f"{name}Identifier",
+                lambda: self.in_any_order(
+                    lambda: self.element(f"{name}IDType", identifier.id_type),
+                    lambda: self.element("IDValue", identifier.value),
+                ),
+                of=identifier,
+            )
 
     def detail(self, detail: Detail):
-        peculiar = detail.peculiar
-        identifiers = [] if peculiar == "nameless" else detail.identifiers
-        name = "" if peculiar == "nameless" else detail.name
-
         def supplier():
-            if peculiar != "no supplier":
-                self.composite(
-                    "Supplier",
-                    lambda: self.in_any_order(
-                        lambda: self.element("SupplierRole", "" if peculiar == "no role" else detail.role),
-                        lambda: self.identifiers("Supplier", identifiers),
-                        lambda: self.element("SupplierName", name),
-                    ),
-                )
+            if detail.identifiers is None:
+                return
+            self.composite(
+                "Supplier",
+                lambda: self.in_any_order(
+                    lambda: self.element("SupplierRole", detail.role),
+                    lambda: self.identifiers("Supplier", detail.identifiers),
+                    lambda: self.element("SupplierName", detail.name),
+                ),
+            )
+            if detail.role and self.is_one_of(20):
+                self.composite("Supplier", lambda: self.element("SupplierName", "second"))
 
-        availability = "" if peculiar == "no availability" else detail.availability
         self.composite(
             "SupplyDetail",
             lambda: self.in_any_order(
                 supplier,
-                lambda: self.element("ProductAvailability", availability),
+                lambda: self.element("ProductAvailability", detail.availability),
                 lambda: self.element("UnpricedItemType", detail.unpriced),
                 lambda: [self.price(price) for price in detail.prices],
             ),
         )
 
-    def supply(self, supply: Supply):
-        def market(territory: Territory | None):
-            self.composite("Market", lambda: territory and self.territory(territory))
+    def market(self, market: Market):
+        def restriction():
+            if market.is_restricted:
+                self.composite("SalesRestriction", lambda: self.element("SalesRestrictionType", "01"))
 
         self.composite(
+            "Market",
+            lambda: market.territory and self.territory(market.territory),
+            restriction,
+            of=market,
+        )
+
+    def supply(self, supply: Supply):
+        self.composite(
             "ProductSupply",
-            lambda: [market(territory) for territory in supply.markets or []],
+            lambda: [self.market(market) for market in supply.markets],
             lambda: [self.detail(detail) for detail in supply.details],
+            of=supply,
         )
 
     def product(self, product: Product):
-        peculiar = product.peculiar
-        reference = {"no reference": "", "long reference": "é" * 513}.get(peculiar, product.reference)
-        notification = "3" if peculiar == "type of one digit" else product.notification
-        identifiers = [] if peculiar == "no identifier" else list(product.identifiers)
-        if peculiar == "no value":
-            identifiers.append(("15", ""))
         self.composite(
             "Product",
             lambda: self.in_any_order(
-                lambda: self.element("RecordReference", reference),
-                lambda: self.element("NotificationType", notification),
-                lambda: self.identifiers("Product", identifiers),
+                lambda: self.element("RecordReference", product.reference),
+                lambda: self.element("NotificationType", product.notification),
+                lambda: self.identifiers("Product", product.identifiers),
                 lambda: [self.supply(supply) for supply in product.supplies],
             ),
+            of=product,
         )
 
+    # The message.
+
     def header(self, message: Message):
+        def sender():
+            if message.sender is not None:
+                self.composite("Sender", lambda: self.identifiers("Sender", message.sender))
+            if message.sender and self.is_one_of(20):
+                self.composite("Sender", lambda: self.identifiers("Sender", [Identifier("06", "second")]))
+
         def addressees():
-            for pairs in message.addressees:
-                self.composite("Addressee", lambda: self.identifiers("Addressee", pairs))
+            for identifiers in message.addressees:
+                self.composite("Addressee", lambda: self.identifiers("Addressee", identifiers))
 
         self.composite(
             "Header",
             lambda: self.in_any_order(
-                lambda: self.composite("Sender", lambda: self.identifiers("Sender", message.senders)),
+                sender,
                 addressees,
-                lambda: self.element("MessageNumber", str(message.number).zfill(self.random.randint(1, 9))),
+                lambda: self.element("MessageNumber", message.number),
                 lambda: self.element("MessageRepeat", message.repeat),
                 lambda: self.element("SentDateTime", message.sent),
                 lambda: self.element("DefaultPriceType", message.price_type),
@@ -264,23 +336,41 @@ class Writer:
             ),
         )
 
-    def feed(self, message: Message) -> bytes:
-        root = self.name("ONIXMessage")
-        declared = ":o" if self.prefix else ""
-        namespace = f' xmlns{declared}="{self.namespace}"' if self.namespace else ""
+    def declarations(self, root: str):
         encoding = f' encoding="{self.encoding}"' if self.encoding else ""
         standalone = self.random.choice(["", "", ' standalone="yes"', " standalone='no'"])
-        self.parts.append(f'<?xml version="1.0"{encoding}{standalone}?>\n')
-        if self.is_one_of(3):
-            self.parts.append(f'<!DOCTYPE {root} SYSTEM "onix.dtd" [<!ENTITY own "x">]>\n')
+        self.append(f'<?xml version="1.0"{encoding}{standalone}?>\n')
+        kind = self.random.choice(["none", "none", "own", "address"])
+        if kind == "own":
+            self.has_own_name = True
+            self.append(f'<!DOCTYPE {root} SYSTEM "onix.dtd" [{OWN_NAME}]>\n')
+        elif kind == "address" and "yes" not in standalone:
+            self.append(f"<!DOCTYPE {root} [{self.random.choice(NAMES_BY_ADDRESS)}]>\n")
+
+    def write(self, message: Message) -> Written:
+        root = self.name("ONIXMessage")
+        self.declarations(root)
+        declared = ":o" if self.prefix else ""
+        namespace = f' xmlns{declared}="{self.namespace}"' if self.namespace else ""
         release = self.random.choice(["3.0", "3.1"])
-        self.parts.append(f'<{root}{namespace} release="{release}">')
-        self.header(message)
+        self.append(f'<{root}{namespace} release="{release}">')
+        if message.is_header_first:
+            self.header(message)
         for product in message.products:
             self.product(product)
-        self.parts.append(f"</{root}>\n")
-        return "".join(self.parts).encode(self.encoding or "utf-8")
+        if not message.is_header_first:
+            self.header(message)
+        self.append(f"</{root}>\n")
+        return self.written()
 
+    def written(self) -> Written:
+        text = "".join(self.parts)
+        lines = [0, *(found.end() for found in finditer("\r\n|\r|\n", text))]
 
-def type_name(name: str) -> str:
-    return f"{name}IDType"
+        def place(offset: int) -> Place:
+            line = bisect_right(lines, offset)
+            return Place(line, offset - lines[line - 1] + 1)
+
+        starts = {of: place(offset) for of, offset in self.starts.items()}
+        ends = {of: place(offset) for of, offset in self.ends.items()}
+        return Written(text.encode(self.encoding or "utf-8"), starts, ends)

@@ -1,15 +1,19 @@
 """The sample feeds in tests/feeds: whole messages, and the records that they give, byte for byte."""
 
 import gzip
+import re
 from functools import partial
 from pathlib import Path
 
 from program.converter import convert
+from program.feed_notes import Said, count_line, read_errors, read_summary
+from program.feed_writing import Place
 from program.room import Group, Outcome, Ran
 
 FOLDER = Path(__file__).resolve().parent.parent / "feeds"
 
-# Of the feed `left-out`: how often the RecordReferences have notes, and what each note names.
+# The notes on the feed `left-out`: the RecordReference, the element whose start tag the line and the column
+# name, and a word of the reason.
 NOTED = [
     ("fr.librairie.0001", "Price", "PriceQualifier"),
     ("fr.librairie.0001", "Price", "PriceCondition"),
@@ -18,41 +22,58 @@ NOTED = [
     ("fr.librairie.0001", "Price", "PriceCoded"),
     ("fr.librairie.0001", "Price", "CurrencyZone"),
     ("fr.librairie.0001", "Price", "RegionsIncluded"),
-    ("fr.librairie.0001", "Price", "RegionsExcluded"),
+    ("fr.librairie.0001", "Territory", "CA-QC"),
     ("fr.librairie.0001", "Price", "PriceDate"),
     ("fr.librairie.0001", "Price", "decimals"),
-    ("fr.librairie.0002", "Market", "RegionsIncluded"),
-    ("fr.librairie.0002", "Market", "RegionsExcluded"),
+    ("fr.librairie.0001", "Price", "PriceAmount"),
+    ("fr.librairie.0002", "Territory", "GB-NIR"),
+    ("fr.librairie.0002", "Market", "ECZ"),
     ("fr.librairie.0003", "Price", "PriceQualifier"),
+    ("fr.librairie.0004", "ProductSupply", "SupplyDetail"),
+    ("fr.librairie.0004", "Product", "left"),
+    ("fr.librairie.0005", "ProductIdentifier", "ProductIDType"),
 ]
 
 
-def noted_element(feed: list[str], line: int) -> str:
-    """The element that begins on a line of the feed."""
-    return feed[line - 1].strip().strip("<>")
+# What each feed has once and is only counted.
+COUNTED = {
+    "block-update": "SalesRestriction",
+    "left-out": "",
+    "two-products": "PriceStatus",
+    "two-products-short": "PriceStatus",
+}
 
 
-def noted(path: Path, errors: bytes) -> list[tuple[str, str, str]]:
-    """What the notes name, each by the word that is wanted where its reason has it; the line that they
-    name has to begin the element."""
+def element_at(feed: list[str], place: Place) -> str:
+    """The element whose start tag is at a place of the feed."""
+    found = re.match("<([A-Za-z]+)", feed[place.line - 1][place.column - 1 :])
+    return found[1] if found else ""
+
+
+def noted(path: Path, said: list[Said]) -> list[tuple[str, str, str]]:
+    """What the notes name, each by the word that is wanted where its reason has it."""
     feed = path.read_text(encoding="latin-1").splitlines()
     found = []
-    for note, (_, _, word) in zip(errors.decode().splitlines(), NOTED):
-        program, name, line, reference, what = note.split(":", 4)
-        element = noted_element(feed, int(line))
-        is_so = (program, name.strip()) == ("onix-to-csv", str(path)) and f" {element} " in what
-        found.append((reference.strip(), element, word if is_so and word in what else what))
+    for (place, what), (_, _, word) in zip(said, NOTED):
+        reference, reason = what.split(": ", 1)
+        found.append((reference, element_at(feed, Place(*place)), word if word in reason else reason))
     return found
 
 
 def sample(path: Path, room):
     records = path.with_suffix(".csv").read_bytes()
-    count = len(NOTED) if path.stem == "left-out" else 0
+    noted_here = NOTED if path.stem == "left-out" else []
     came = convert(room, path)
-    lines = came.errors.splitlines()
     yield Outcome(f"{path.name}", (came.status, came.output), (0, records))
-    wanted = NOTED[:count], [b"onix-to-csv: 13 notes"] if count else []
-    yield Outcome(f"{path.name}: its notes", (noted(path, came.errors)[:count], lines[count:]), wanted)
+    errors = read_errors(came.errors)
+    said = errors.of_files.get(str(path), [])
+    summary = read_summary(errors.summary)
+    count = len(noted_here)
+    found = noted(path, said), len(said), sum(summary.reasons.values()), summary.count
+    wanted = noted_here, count, count, count_line(count)
+    yield Outcome(f"{path.name}: its notes", found, wanted)
+    counted = [(COUNTED[path.stem] in line, count) for line, count in summary.passed_over.items()]
+    yield Outcome(f"{path.name}: what is only counted", counted, [(True, 1)] if COUNTED[path.stem] else [])
 
     came = convert(room, given=path.read_bytes())
     yield Outcome(f"{path.name}, from standard input", came.output, records)
@@ -81,7 +102,7 @@ def delivered(room):
     wanted = Ran(
         0,
         b"applied,northern,118,replaced=0,updated=0,deleted=0,unknown=4,ignored=0\n"
-        b"applied,centrale,9,replaced=3,updated=0,deleted=0,unknown=0,ignored=0\n"
+        b"applied,centrale,9,replaced=4,updated=0,deleted=0,unknown=1,ignored=0\n"
         b"applied,tidewater,42,replaced=2,updated=0,deleted=0,unknown=0,ignored=0\n"
         b"applied,tidewater,42,replaced=2,updated=0,deleted=0,unknown=0,ignored=0\n",
     )

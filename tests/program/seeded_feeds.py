@@ -1,83 +1,231 @@
-"""2,000 messages that are made from seeds as trees (`feed_trees`), written as XML (`feed_writing`),
-converted, compared with the records of their trees byte for byte, and delivered to the desk."""
+"""2,000 messages that are made from seeds as trees (`feed_makers`), written as XML (`feed_writing`) and
+converted; what comes of each is compared with what its tree says (`feed_oracle`), and delivered to the desk.
 
+Each message has a seed of its own, 0 to 1,999: `tests/seeded-feed SEED` writes its feed. Those of a series
+follow each other and are converted in one run.
+"""
+
+import gzip
+import io
+import zipfile
+from collections import Counter
 from functools import partial
 from random import Random
+from typing import NamedTuple
 
 from program.converter import convert
-from program.feed_trees import Maker, Message, chosen, effect, message_records, records_text, written_products
-from program.feed_writing import Writer
+from program.feed_makers import BAD_CODES, NO_PARTS, PARTS, REGIONS, Maker
+from program.feed_notes import (
+    MOST_LINES,
+    Errors,
+    compared,
+    count_line,
+    is_named,
+    miscounted,
+    read_errors,
+    read_summary,
+)
+from program.feed_territories import WORLD
+from program.feed_oracle import Verdict, effect, judge, records_text
+from program.feed_trees import Identifier, Words
+from program.feed_writing import Writer, Written
 from program.room import Group, Outcome, Ran
 
+# So many messages a series has.
 MESSAGES = 250
 
 SHOP = ("06", "5012345678900")
 
-# For each series the identifiers of its sender, and those of the addressees of a message. Of several
-# addressees the shop's is picked.
+# What stands in feeds and is no part of a reason.
+FEED_TEXTS = {*REGIONS, *PARTS, *NO_PARTS, *BAD_CODES, "12,99", "gbp", "EURO"} - {WORLD, "3"}
+
+
+def identifiers(*pairs: tuple[str, str]) -> list[Identifier]:
+    return [Identifier(*pair) for pair in pairs]
+
+
+class Series(NamedTuple):
+    """The parties that messages of a series can name, all of which come to the same, and the words."""
+
+    senders: list[list[Identifier] | None]
+    addressees: list[list[Identifier]]
+    words: Words
+
+
+SHOPS = identifiers(SHOP)
+STRICT, LENIENT = Words(), Words(leaves_out_wrong=True)
+
 SERIES = [
-    ([("06", "S,1")], [[SHOP]]),
-    ([("01", "S2"), ("06", "S 2")], [[("01", "K"), SHOP], [("06", "other")]]),
-    ([("06", "S3"), ("06", "S4")], []),
-    ([("02", "S5"), ("01", "S6")], [[("01", "K-7")]]),
-    ([("06", 'S"7"')], [[("06", "other")], [("02", "x")], [("06", "first"), SHOP]]),
-    ([("01", "S8é")], [[]]),
-    ([("06", "S&9")], [[SHOP, ("06", "later")]]),
-    ([("01", "S10"), ("02", "S11"), ("06", "S<12")], [[], [SHOP]]),
+    Series([identifiers(("06", "S,1"))], [SHOPS], LENIENT),
+    Series(
+        [identifiers(("01", "S2"), ("06", "S 2"))],
+        [identifiers(("01", "K"), SHOP), identifiers(("06", "other"))],
+        Words(addressee=SHOP, leaves_out_wrong=True),
+    ),
+    Series([identifiers(("06", "S3"), ("06", "S4"))], [], STRICT),
+    Series(
+        [identifiers(("02", "S,5")), [], None, identifiers(("06", "")), identifiers(("", "x"), ("01", ""))],
+        [identifiers(("01", "K-7"))],
+        Words(sender=("02", "S,5"), leaves_out_wrong=True),
+    ),
+    Series(
+        [identifiers(("06", 'S"7"'), ("01", "S1"), ("01", "S2"))],
+        [identifiers(("06", "other")), identifiers(("02", "x")), identifiers(("06", "first"), SHOP)],
+        Words(addressee=SHOP, id_type="01", leaves_out_wrong=True),
+    ),
+    Series([identifiers(("01", "S8é"))], [[]], Words(offset="1000", parts=3, leaves_out_wrong=True)),
+    Series([identifiers(("06", "S&9"))], [SHOPS + identifiers(("06", "later"))], Words(offset="007")),
+    Series(
+        [identifiers(("01", "S10"), ("02", "S11"), ("06", "S<12"))],
+        [[], SHOPS],
+        Words(addressee=SHOP, parts=2),
+    ),
 ]
 
 
-def addressee_of(addressees: list[list]) -> tuple[str, str]:
-    """What is written of the addressees."""
-    if len(addressees) > 1:
-        addressees = [pairs for pairs in addressees if SHOP in pairs]
-    return chosen(addressees[0]) if addressees else ("", "")
+class Case(NamedTuple):
+    """A message with its number in the series, its feed, and what is to become of it."""
+
+    name: str
+    number: int
+    file: str
+    written: Written
+    verdict: Verdict
 
 
-def noted(message: Message) -> list[str]:
-    return [element for product in message.products for element in product.noted()]
+def packed(file: str, feed: bytes) -> bytes:
+    if file.endswith(".gz"):
+        return gzip.compress(feed, 1)
+    if file.endswith(".ZIP"):
+        packed = io.BytesIO()
+        with zipfile.ZipFile(packed, "w", zipfile.ZIP_DEFLATED, compresslevel=1) as entries:
+            entries.writestr("whatever.gz", feed)
+        return packed.getvalue()
+    return feed
 
 
-def check(seed: int, room):
-    senders, addressees = SERIES[seed]
+def made(seed: int) -> Case:
+    """The case of a seed."""
+    series, number = SERIES[seed // MESSAGES], seed % MESSAGES + 1
     random = Random(seed)
     maker = Maker(random)
-    messages = [maker.message(senders, addressees, number) for number in range(1, MESSAGES + 1)]
-    files = [f"{message.number}.xml" for message in messages]
-    for file, message in zip(files, messages):
-        room.write(file, Writer(random).feed(message))
+    sender = random.choice(series.senders)
+    if maker.is_one_of(80):
+        sender = random.choice([None, [], identifiers(("06", ""))])
+    message = maker.message(sender, series.addressees, number)
+    file = f"{number}" + random.choice([".xml"] * 8 + [".xml.gz", ".XML.ZIP"])
+    written = Writer(random).write(message)
+    return Case(f"seed {seed}", number, file, written, judge(message, series.words))
+
+
+def part_names(number: int, words: Words) -> list[str]:
+    """The files that a message becomes."""
+    if words.parts == 1:
+        return [f"{number}.csv"]
+    digits = max(2, len(str(words.parts)))
+    return [f"{number}.part-{part:0{digits}}.csv" for part in range(1, words.parts + 1)]
+
+
+def check(place: int, room):
+    """The messages of the series at that place of the list."""
+    words = SERIES[place].words
+    cases = [made(seed) for seed in range(place * MESSAGES, (place + 1) * MESSAGES)]
+    yield from converted(f"series {place}", cases, words, room)
+    yield from delivered(f"series {place}", cases, words, room)
+
+
+def converted(name: str, cases: list[Case], words: Words, room):
+    """What comes of the messages in one run."""
+    for case in cases:
+        room.write(case.file, packed(case.file, case.written.feed))
     room.path("out").mkdir()
-    came = convert(room, "--leave-out-wrong", "--addressee", ",".join(SHOP), "-o", "out", *files)
-
-    notes: dict[str, list[str]] = {}
-    *lines, last = came.errors.decode().splitlines()
-    for line in lines:
-        _program, file, _line, what = line.split(":", 3)
-        notes.setdefault(file.strip(), []).append(what.split(" left out: ")[0].split(" ")[-1])
-    addressee = addressee_of(addressees)
-    for file, message in zip(files, messages):
-        wanted = records_text(message_records(message, addressee))
-        path = room.path(f"out/{message.number}.csv")
-        found = path.read_bytes() if path.exists() else None, notes.get(file, [])
-        yield Outcome(f"seed {seed}, message {message.number}", found, (wanted, noted(message)))
-    is_left_out = any(len(written_products(each)) < len(each.products) for each in messages)
-    count = sum(len(noted(message)) for message in messages)
-    wanted = int(is_left_out), b"", f"onix-to-csv: {count} notes"
-    yield Outcome(f"seed {seed}: the status and the last line", (came.status, came.output, last), wanted)
-    yield from delivered(seed, messages, room)
+    came = convert(room, *words.line(), "-o", "out", *(case.file for case in cases))
+    errors = read_errors(came.errors)
+    for case in cases:
+        yield Outcome(case.name, *files_of(case, words, room))
+        yield Outcome(f"{case.name}: what is said", *said_of(case, errors))
+    is_whole = not any(case.verdict.refusal or case.verdict.leaves_out_products for case in cases)
+    files = {case.file for case in cases}
+    wanted = 0 if is_whole else 1, b"", []
+    found = came.status, came.output, [file for file in errors.of_files if file not in files]
+    yield Outcome(f"{name}: the status and the files that are named", found, wanted)
+    yield from summaries(name, cases, errors)
 
 
-def delivered(seed: int, messages: list[Message], room):
-    """The desk applies each of them, with the counts of its tree."""
-    parties = [*chosen(messages[0].senders), *addressee_of(messages[0].addressees)]
-    agreement = records_text([["Agree", "s", *parties, "1"]])
-    texts = [room.path(f"out/{message.number}.csv").read_bytes() for message in messages]
+def files_of(case: Case, words: Words, room):
+    """The files that a message became, and those that are wanted."""
+    names = part_names(case.number, words)
+    texts = [part.text() for part in case.verdict.parts]
+    wanted = dict(zip(names, texts)) if texts else {}
+    paths = {name: room.path(f"out/{name}") for name in names}
+    return {name: path.read_bytes() for name, path in paths.items() if path.exists()}, wanted
+
+
+def said_of(case: Case, errors: Errors):
+    """What is wrong with the lines about a message, and nothing."""
+    said = errors.of_files.get(case.file, [])
+    if case.verdict.refusal:
+        return refusal_of(case, said), ("refused", "within")
+    notes = case.verdict.notes
+    found = compared(notes, case.written.starts, said)
+    if len(notes) <= MOST_LINES:
+        return found, ([], [])
+    return (len(said), found.surplus), (MOST_LINES, [])
+
+
+def refusal_of(case: Case, said: list):
+    """How a message is refused, and whether the line is one of the composite that it is refused for."""
+    refusal = case.verdict.refusal
+    if len(said) != 1:
+        return said, ""
+    (line, _column), what = said[0]
+    if not any(is_named(name, what) for name in refusal.names):
+        return what, f"names none of {refusal.names}"
+    if refusal.about is None:
+        return what.split(":")[0], "within"
+    first, last = case.written.starts[refusal.about].line, case.written.ends[refusal.about].line
+    return what.split(":")[0], "within" if first <= line <= last else f"{line} is not {first} to {last}"
+
+
+def summaries(name: str, cases: list[Case], errors: Errors):
+    """What the last lines count: all notes, those of each reason, and what is passed over."""
+    notes = [note for case in cases for note in case.verdict.notes]
+    summary = read_summary(errors.summary)
+    found = summary.count, sum(summary.reasons.values()), miscounted(notes, summary.reasons)
+    yield Outcome(f"{name}: the summary", found, (count_line(len(notes)), len(notes), []))
+    texts = [text for text in FEED_TEXTS for line in errors.summary if is_named(text, line)]
+    yield Outcome(f"{name}: texts of feeds in the summary", texts, [])
+    passed_over = Counter()
+    for case in cases:
+        passed_over.update(case.verdict.passed_over)
+    counts = {each: sum_of(summary.passed_over, each) for each in passed_over}
+    yield Outcome(f"{name}: what is passed over", counts, dict(passed_over))
+
+
+def sum_of(counts: dict[str, int], name: str) -> int:
+    return sum(count for line, count in counts.items() if is_named(name, line))
+
+
+def delivered(name: str, cases: list[Case], words: Words, room):
+    """The desk applies each message, with the counts of its tree. Numbers that have none are waived."""
+    first = int(words.offset or "0") * words.parts + 1
+    opening = next(case for case in cases if case.verdict.parts).verdict.parts[0].records[0]
+    requests = [records_text([["Agree", "s", *opening[2:6], str(first)]])]
+    answers = [f"agreed,s,{first}"]
     catalogue: set[str] = set()
-    answers = ["agreed,s,1"]
-    answers += [f"applied,s,{each.number},{effect(each, catalogue)}" for each in messages]
-    came = room.run("batch", given=agreement + b"".join(texts))
+    for case in cases:
+        numbers = [first + (case.number - 1) * words.parts + part for part in range(words.parts)]
+        parts = case.verdict.parts
+        if [part.number for part in parts] == numbers:
+            requests += [part.text() for part in parts]
+            effects = [effect(part.products, catalogue) for part in parts]
+            answers += [f"applied,s,{number},{each}" for number, each in zip(numbers, effects)]
+        else:
+            requests += [records_text([["Waive", "s", str(number)]]) for number in numbers]
+            answers += [f"waived,s,{number}" for number in numbers]
+    came = room.run("batch", given=b"".join(requests))
     wanted = Ran(0, "".join(f"{answer}\n" for answer in answers).encode())
-    yield Outcome(f"seed {seed}, delivered", came, wanted)
+    yield Outcome(f"{name}, delivered", came, wanted)
 
 
-GROUPS = [Group(f"seed {seed}", partial(check, seed)) for seed in range(len(SERIES))]
+GROUPS = [Group(f"series {place}", partial(check, place)) for place in range(len(SERIES))]

@@ -1,0 +1,139 @@
+"""How many notes `onix-to-csv` writes and counts, and fields too long for the files of tests/conversions."""
+
+from itertools import product
+from string import ascii_uppercase
+
+from program.conversions import FRAMES, MENDED, SUPPLIER, said
+from program.converter import FEED, convert
+from program.room import Group, Outcome, Ran
+
+# The most lines of notes on a file, and the most bytes of a field.
+LINES = 1_000
+FIELD_BYTES = 1_024
+
+PRICE = "<Price><PriceQualifier>{}</PriceQualifier><PriceAmount>1</PriceAmount></Price>\n"
+
+COUNTRIES = ["".join(letters) for letters in product(ascii_uppercase, repeat=2)]
+
+
+def feed_of(place: str, xml: str) -> bytes:
+    """A feed with that at the place, from its second line on."""
+    return f"{FRAMES[place].before}\n{xml}{FRAMES[place].behind}".encode()
+
+
+def message_of(place: str, records: str = "") -> bytes:
+    text = FRAMES[place].records + records
+    return f"{text}EndMessage,{text.count(chr(10))}\n".encode()
+
+
+def prices(count: int, qualifier: str) -> bytes:
+    """A feed of so many Prices that are left out, each on a line of its own."""
+    return feed_of("prices", PRICE.format(qualifier) * count)
+
+
+def notes_on(file: str, count: int, qualifier: str) -> list[str]:
+    first = 2
+    return [
+        f"{file}:{line}:1: R1: Price left out: PriceQualifier {qualifier}"
+        for line in range(first, first + count)
+    ]
+
+
+def bounded(room):
+    """Each file has its lines, and the summary counts the notes of all."""
+    room.write("a.xml", prices(LINES, "05"))
+    room.write("b.xml", prices(LINES + 1, "05"))
+    room.write("c.xml", prices(LINES + 500, "07"))
+    came = convert(room, "-o", ".", "a.xml", "b.xml", "c.xml")
+    summary = [
+        "Price left out: PriceQualifier 05: 2001",
+        "Price left out: PriceQualifier 07: 1500",
+        "3501 notes",
+    ]
+    lines = notes_on("a.xml", LINES, "05") + notes_on("b.xml", LINES, "05") + notes_on("c.xml", LINES, "07")
+    found = came.status, came.errors.decode().splitlines()
+    yield Outcome("files of many notes", found, (0, said(lines + summary).decode().splitlines()))
+
+
+def refused(room):
+    """Of a file that is refused there is one line, and nothing is counted."""
+    bad = prices(3, "05").replace(b"</ONIXMessage>", b"</Product>")
+    room.write("a.xml", bad)
+    room.write("b.xml", prices(1, "07"))
+    came = convert(room, "-o", ".", "a.xml", "b.xml")
+    errors = came.errors.decode().splitlines()
+    found = came.status, [line.split(":")[1] for line in errors[:1]], errors[1:]
+    told = [*notes_on("b.xml", 1, "07"), "Price left out: PriceQualifier 07: 1", "1 note"]
+    wanted = 1, [" a.xml"], said(told).decode().splitlines()
+    yield Outcome("a refused file of notes, and another", found, wanted)
+
+
+def regions(room):
+    """Regions are read whole, however long their field is, and each of them is counted."""
+    many = "GB-NIR " * 2_500
+    territory = f"<Territory><RegionsIncluded>{many}WORLD</RegionsIncluded></Territory>"
+    room.write(FEED, feed_of("market", territory))
+    came = convert(room, FEED)
+    line = f"{FEED}:2:1: R1: region of RegionsIncluded left out: GB-NIR beside a country or WORLD"
+    kind = "region of RegionsIncluded left out: .. beside a country or WORLD: 2500"
+    wanted = Ran(
+        0,
+        message_of("market", "ProductSupply,,WORLD,\nSupplyDetail,04,,,North,21,\n"),
+        said([line] * LINES + [kind, "2500 notes"]),
+    )
+    yield Outcome("the world behind 2,500 regions", came, wanted)
+
+    long = "A" * (FIELD_BYTES + 1)
+    territory = f"<Territory><RegionsExcluded>CA-{long} ECZ</RegionsExcluded></Territory>"
+    room.write(FEED, feed_of("price", territory))
+    came = convert(room, FEED)
+    why = "Price left out: RegionsExcluded {}, which is no part of a country"
+    at = FRAMES["price"].before.index("<Price>") + 1
+    told = [f"{FEED}:1:{at}: R1: {why.format('ECZ')}", f"{why.format('..')}: 1", "1 note"]
+    yield Outcome("a region behind a long one", came, Ran(0, message_of("price"), said(told)))
+
+
+def markets_of(*territories: list[str]) -> bytes:
+    """A feed with a Market of each of these lists of countries."""
+    markets = "".join(
+        f"<Market><Territory><CountriesIncluded>{' '.join(countries)}</CountriesIncluded></Territory></Market>"
+        for countries in territories
+    )
+    return feed_of("supply", f"{markets}<SupplyDetail>{SUPPLIER}</SupplyDetail>")
+
+
+def unions(room):
+    """A union has room for as many countries as a field has bytes for, and no more."""
+    most = (FIELD_BYTES + 1) // 3
+    room.write(FEED, markets_of(COUNTRIES[:200], COUNTRIES[100:most]))
+    came = convert(room, FEED)
+    records = f"ProductSupply,{' '.join(COUNTRIES[:most])},,\nSupplyDetail,04,,,North,21,\n"
+    yield Outcome(f"Markets of {most} countries", came, Ran(0, message_of("supply", records)))
+
+    room.write(FEED, markets_of(COUNTRIES[:200], COUNTRIES[100 : most + 1]))
+    came = convert(room, FEED)
+    why = f"R1: its Markets together have more than {FIELD_BYTES} bytes{MENDED}"
+    at = FRAMES["supply"].before.index("<ProductSupply>") + 1
+    wanted = Ran(1, b"", said([f"{FEED}:1:{at}: refused: {why}"]))
+    yield Outcome(f"Markets of {most + 1} countries", came, wanted)
+
+
+def long_prices(room):
+    """A Price with a field that is too long is left out."""
+    long = " ".join(COUNTRIES[:400])
+    territory = f"<Territory><CountriesIncluded>{long}</CountriesIncluded></Territory>"
+    room.write(FEED, feed_of("price", territory))
+    came = convert(room, FEED)
+    why = f"Price left out: CountriesIncluded has more than {FIELD_BYTES} bytes"
+    at = FRAMES["price"].before.index("<Price>") + 1
+    told = [f"{FEED}:1:{at}: R1: {why}", f"{why}: 1", "1 note"]
+    yield Outcome("a Price with a long field", came, Ran(0, message_of("price"), said(told)))
+
+
+GROUPS = [
+    Group("many notes", bounded),
+    Group("notes on a refused file", refused),
+    Group("long lists of regions", regions),
+    Group("unions of many countries", unions),
+    Group("a long field of a Price", long_prices),
+]

@@ -1,0 +1,355 @@
+"""Trees of messages from a seed: right ones for the most part, and all that can be odd about them."""
+
+from random import Random
+
+from program.feed_trees import (
+    Detail,
+    Identifier,
+    Market,
+    Message,
+    Price,
+    PriceDate,
+    Product,
+    Supply,
+    Territory,
+)
+
+# What a text of a feed may be made of: letters, what CSV and XML quote, and characters of one to four bytes.
+LETTERS = "abcXYZ019 ,\"'&<>;#é€žЖ’\u00a0\u2003📖"
+
+COUNTRIES = ["GB", "IE", "FR", "DE", "US", "CA"]
+
+# Regions beside countries or the world; parts of countries, which can be excluded; and what cannot.
+REGIONS = ["GB-NIR", "GB-AIR", "CA-QC", "ECZ", "ROW", "world"]
+PARTS = ["CA-QC", "GB-NIR", "US-NY2", "FR-1"]
+NO_PARTS = ["ECZ", "ROW", "WORLD", "GB", "gb-nir", "GB-nir", "GB-", "G-NIR", "GBR-X", "-NIR", "GB-N-R"]
+
+CONTROL = "\x7f"
+
+# 513 letters of two bytes: more than the 1,024 bytes that a field has.
+LONG = "é" * 513
+
+BAD_CODES = ["3", "003", "RRP", "0x", "٠٣"]
+BAD_COUNTRIES = ["gb", "GBR", "GB,IE", "GB UK1", "G B", "ÄÖ", " ".join(["GB"] * 400)]
+BAD_DAYS = ["20250230", "20251301", "00000101", "2025010", "2025-01-01", "202501011"]
+BAD_NUMBERS = ["", "0", "000", "1234567890", "0000000001", "12a", "+1", "1.0", "999999999"]
+
+# What a price can be changed to so that it is left out, by element.
+BAD_TEXTS = {
+    "amount": ["12,99", ".99", "12.", "1234567890", "-1", "1 000", "12.9900", ".12345", "1e3", "9" + CONTROL],
+    "currency": ["gbp", "EURO", "€", "GB"],
+    "quantity": ["0", "000000", "1234567", "1.5", "-1", "7" * 1025],
+    "price_type": BAD_CODES,
+    "qualifier": ["05", "6"],
+    "per": ["01", "x"],
+    "zone": ["EUR"],
+}
+
+
+# Elements of a price that are only counted.
+PASSED_OVER = ["PriceStatus", "EpubTechnicalProtection", "EpubLicense"]
+
+WRONG_DETAILS = ["supplier", "role", "name", "identifier", "availability", "unpriced", "price"]
+
+
+class Maker:
+    def __init__(self, random: Random):
+        self.random = random
+
+    def is_one_of(self, count: int) -> bool:
+        return self.random.randrange(count) == 0
+
+    def some(self, make, most: int, least: int = 0) -> list:
+        return [make() for _ in range(self.random.randint(least, most))]
+
+    def maybe(self, text: str) -> str:
+        return text if self.is_one_of(2) else ""
+
+    # Texts.
+
+    def text(self) -> str:
+        letters = "".join(self.random.choices(LETTERS, k=self.random.randint(1, 12)))
+        # Runs of spaces are one, and there is none at the ends.
+        return " ".join(word for word in letters.split(" ") if word) or "x"
+
+    def bad_text(self) -> str:
+        """A text that no field of the desk has."""
+        return self.random.choice(["", LONG, "x" + CONTROL])
+
+    def code(self) -> str:
+        return f"{self.random.randrange(100):02}"
+
+    def bad_code(self) -> str:
+        return self.random.choice(["", *BAD_CODES])
+
+    def day(self) -> str:
+        number = self.random.randint
+        return f"{number(2024, 2026)}{number(1, 12):02}{number(1, 28):02}"
+
+    def identifier(self) -> Identifier:
+        return Identifier(self.random.choice(["01", "02", "06"]), self.text())
+
+    def bad_identifier(self) -> Identifier:
+        right = self.identifier()
+        kind = self.random.choice(["type", "value", "neither"])
+        if kind == "type":
+            return Identifier(self.bad_code(), right.value)
+        return Identifier(right.id_type if kind == "value" else "", self.bad_text())
+
+    # Territories.
+
+    def countries(self, most: int = 3) -> str:
+        return " ".join(self.random.sample(COUNTRIES, self.random.randint(1, most)))
+
+    def territory(self) -> Territory:
+        """One that the desk can hold."""
+        territory = Territory()
+        if not self.is_one_of(4):
+            territory.included = self.countries()
+        if self.is_one_of(3):
+            territory.excluded = self.countries()
+        if self.is_one_of(5):
+            territory.regions = self.random.choice(["WORLD", "WORLD WORLD"])
+        if self.is_one_of(30):
+            territory.included = f"{territory.included} {territory.included}".strip()
+        return territory
+
+    def odd_territory(self) -> Territory:
+        """One with regions or with countries that are none."""
+        territory = self.territory()
+        kind = self.random.choice(["beside", "beside", "part", "part", "alone", "no part", "countries"])
+        if kind == "beside":
+            regions = [territory.regions, *self.random.sample(REGIONS, self.random.randint(1, 2))]
+            self.random.shuffle(regions)
+            territory.regions = " ".join(filter(None, regions))
+        if kind == "part":
+            territory.excluded_regions = " ".join(self.random.choices(PARTS, k=self.random.randint(1, 3)))
+        if kind == "alone":
+            territory.included, territory.regions = "", self.random.choice(REGIONS)
+        if kind == "no part":
+            parts = self.random.choices(PARTS, k=self.random.randint(0, 2))
+            territory.excluded_regions = " ".join([*parts[:1], self.random.choice(NO_PARTS), *parts[1:]])
+        if kind == "countries" and self.is_one_of(3):
+            bad = self.random.choice(BAD_COUNTRIES)
+            if self.is_one_of(2):
+                territory.included = bad
+            else:
+                territory.excluded = bad
+        return territory
+
+    def any_territory(self) -> Territory | None:
+        if self.is_one_of(6):
+            return None
+        if self.is_one_of(200):
+            # A list of regions that is longer than a field, and one of more than a thousand.
+            count = self.random.choice([300, 300, 1200])
+            return Territory("GB", " ".join(["GB-NIR"] * count))
+        return self.odd_territory() if self.is_one_of(4) else self.territory()
+
+    # Prices.
+
+    def price_date(self) -> PriceDate:
+        role = self.random.choice(["14", "15", "24", "24", "13", ""])
+        text = self.day() + (self.day() if role == "24" else "")
+        return self.formatted(PriceDate(role, text), "06" if role == "24" else "00")
+
+    def formatted(self, date: PriceDate, date_format: str) -> PriceDate:
+        """The format as an attribute or an element, which an attribute goes before."""
+        if date_format == "00" and self.is_one_of(3):
+            return date
+        if self.is_one_of(2):
+            date.element = date_format
+        else:
+            date.attribute = date_format
+            date.element = self.random.choice(["", "", "13"])
+        return date
+
+    def bad_date(self) -> PriceDate:
+        role = self.random.choice(["14", "15", "24"])
+        good = self.day() + (self.day() if role == "24" else "")
+        kind = self.random.choice(["format", "day", "none", "length"])
+        if kind == "format":
+            return self.formatted(PriceDate(role, "202503"), self.random.choice(["01", "05", "13", "6"]))
+        if kind == "none":
+            return PriceDate(role, "")
+        if kind == "length" and role == "24":
+            return self.formatted(PriceDate(role, self.random.choice([good[:8], good + "1"])), "06")
+        bad = self.random.choice(BAD_DAYS)
+        if role != "24":
+            return self.formatted(PriceDate(role, bad), "00")
+        days = [bad[:8].ljust(8, "0"), good[:8]]
+        self.random.shuffle(days)
+        return self.formatted(PriceDate(role, "".join(days)), "06")
+
+    def price(self, message: Message) -> Price:
+        has_amount = not self.is_one_of(6)
+        amount = f"{self.random.randrange(1000)}" + self.random.choice(["", ".5", ".99", ".125"])
+        price = Price(
+            self.code() if not message.price_type else self.maybe("02"),
+            amount if has_amount else "",
+            "EUR" if not message.currency else self.maybe("GBP"),
+            self.maybe(str(self.random.randint(1, 999_999))),
+            self.any_territory() if self.is_one_of(3) else None,
+            self.some(self.price_date, 2),
+            "" if has_amount else self.maybe(self.code()),
+            self.usual(),
+            self.usual(),
+            ["00"] if self.is_one_of(9) else [],
+            ["00"] if self.is_one_of(9) else [],
+        )
+        if self.is_one_of(8):
+            price.passed_over = [self.random.choice(PASSED_OVER)]
+        if self.is_one_of(4):
+            self.make_odd(price)
+        return price
+
+    def usual(self) -> str:
+        return "00" if self.is_one_of(5) else ""
+
+    def make_odd(self, price: Price):
+        """Makes it one that is left out, for one reason or, now and then, several."""
+        for _ in range(2 if self.is_one_of(6) else 1):
+            kind = self.random.choice(["text", "text", "date", "condition", "constraint", "coded", "default"])
+            if kind == "text" and price.amount:
+                name = self.random.choice(list(BAD_TEXTS))
+                setattr(price, name, self.random.choice(BAD_TEXTS[name]))
+            if kind == "date":
+                price.dates.insert(self.random.randint(0, len(price.dates)), self.bad_date())
+            if kind == "condition":
+                price.conditions.append(self.random.choice(["10", ""]))
+            if kind == "constraint":
+                price.constraints.append(self.random.choice(["06", ""]))
+            if kind == "coded":
+                price.is_coded = True
+            if kind == "default":
+                price.price_type = price.currency = ""
+
+    # Supplies.
+
+    def detail(self, message: Message) -> Detail:
+        identifiers = self.some(self.identifier, 3)
+        detail = Detail(
+            self.code(),
+            identifiers,
+            self.maybe(self.text()) if identifiers else self.text(),
+            self.code(),
+            self.maybe(self.code()),
+            self.some(lambda: self.price(message), 4),
+        )
+        if self.is_one_of(40):
+            self.make_wrong(detail)
+        return detail
+
+    def make_wrong(self, detail: Detail):
+        """Changes it so that the desk does not take it, but in a few cases."""
+        kind = self.random.choice(WRONG_DETAILS)
+        if kind == "supplier":
+            detail.identifiers, detail.name = None, ""
+        if kind == "role":
+            detail.role = self.bad_code()
+        if kind == "name":
+            detail.name = self.bad_text()
+        if kind == "identifier":
+            detail.identifiers.insert(0, self.bad_identifier())
+        if kind == "availability":
+            detail.availability = self.bad_code()
+        if kind == "unpriced":
+            detail.unpriced = self.random.choice(BAD_CODES)
+        if kind == "price":
+            detail.unpriced = ""
+            detail.prices.insert(0, Price("", "", "", unpriced=self.random.choice(BAD_CODES)))
+
+    def market(self, territory: Territory | None) -> Market:
+        return Market(territory, is_restricted=self.is_one_of(8))
+
+    def narrow_territory(self) -> Territory:
+        """Some countries, of which some or all may be excluded again."""
+        return Territory(self.countries(), "", self.countries() if self.is_one_of(3) else "")
+
+    def wide_territory(self) -> Territory:
+        """The world without some countries."""
+        return Territory("", self.maybe("WORLD"), self.countries(5))
+
+    def empty_territory(self) -> Territory:
+        """What excludes all that it includes."""
+        excluded = self.random.sample(COUNTRIES, self.random.randint(1, 4))
+        return Territory(" ".join(sorted(excluded[:2])), "", " ".join(excluded))
+
+    def markets(self) -> list[Market]:
+        narrow, wide, anything = self.narrow_territory, self.wide_territory, self.any_territory
+        empty = self.empty_territory
+        kinds = [[narrow], [narrow, empty], [empty], [narrow, wide], [wide], [anything], [narrow, anything]]
+        of = self.random.choice(kinds)
+        return self.some(lambda: self.market(self.random.choice(of)()), 4, least=1)
+
+    def supply(self, message: Message) -> Supply:
+        markets = [] if self.is_one_of(4) else self.markets()
+        if self.is_one_of(200):
+            markets = [Market(Territory(countries)) for countries in self.many_countries()]
+        details = [] if self.is_one_of(20) else self.some(lambda: self.detail(message), 2, least=1)
+        return Supply(markets, details)
+
+    def many_countries(self) -> list[str]:
+        """Two lists of countries, which together are one that is longer than a field, or not quite."""
+        letters = "ABCDEFGHIJKLMNOPQRSTUVWXYZ"
+        codes = [first + second for first in letters for second in letters]
+        count = self.random.choice([341, 342])
+        return [" ".join(codes[:200]), " ".join(codes[100:count])]
+
+    # Products and messages.
+
+    def product(self, message: Message) -> Product:
+        product = Product(
+            self.random.choice([f"R{self.random.randrange(20)}", "R,1", 'R"é"', "R Ж"]),
+            self.random.choice(["01", "02", "03", "03", "04", "04", "05", "05", "88"]),
+            self.some(self.identifier, 3, least=1),
+            self.some(lambda: self.supply(message), 2),
+        )
+        if self.is_one_of(30) or product.notification == "05" and self.is_one_of(2):
+            self.make_odd_product(product)
+        return product
+
+    def make_odd_product(self, product: Product):
+        kind = self.random.choice(["reference", "type", "none", "identifier", "identifier"])
+        if kind == "reference" and self.is_one_of(3):
+            product.reference = self.bad_text()
+        if kind == "type" and self.is_one_of(3):
+            product.notification = self.bad_code()
+        if kind == "none":
+            product.identifiers = []
+        if kind == "identifier":
+            if self.is_one_of(3):
+                product.identifiers = []
+            at = self.random.randint(0, len(product.identifiers))
+            product.identifiers.insert(at, self.bad_identifier())
+
+    def message(self, sender: list[Identifier] | None, addressees: list, number: int) -> Message:
+        message = Message(
+            sender,
+            addressees,
+            str(number).zfill(self.random.randint(1, 9)),
+            self.maybe(str(self.random.randint(0, 9))),
+            self.maybe(self.day()),
+            self.maybe("02"),
+            self.maybe("GBP"),
+        )
+        message.products = self.some(lambda: self.product(message), 4)
+        if self.is_one_of(25):
+            self.make_bad(message)
+        return message
+
+    def make_bad(self, message: Message):
+        """Changes its header so that it is refused, but in a few cases."""
+        kind = self.random.choice(["number", "number", "repeat", "sent", "type", "currency", "place"])
+        if kind == "number":
+            message.number = self.random.choice(BAD_NUMBERS)
+        if kind == "repeat":
+            message.repeat = self.random.choice(["x", "1234567890", "-1"])
+        if kind == "sent":
+            message.sent = self.bad_text()
+        if kind == "type":
+            message.price_type = self.random.choice(BAD_CODES)
+        if kind == "currency":
+            message.currency = self.random.choice(["gbp", "EURO"])
+        if kind == "place":
+            message.is_header_first = not message.products

@@ -1,0 +1,96 @@
+"""Messages in parts, made from seeds: large ones that fill several, and small ones under a number that the
+file does not give."""
+
+from functools import partial
+from random import Random
+
+from program.converter import FEED, convert
+from program.feed_makers import Maker
+from program.feed_oracle import effect, judge, records_text
+from program.feed_trees import Detail, Identifier, Message, Product, Supply, Words
+from program.feed_writing import Writer
+from program.room import Group, Outcome, Ran
+from program.seeded_feeds import SHOP, Case, converted, part_names
+
+LARGE = 5
+
+SENDER, ADDRESSEE = [Identifier("06", "S,1")], [[Identifier(*SHOP)]]
+
+
+class LargeMaker(Maker):
+    """Makes products of which a few fill a message, by their bytes or by their records."""
+
+    def product(self, message: Message) -> Product:
+        product = Product(f"R{self.random.randrange(10**6)}", "03", [])
+        if self.is_one_of(2):
+            value = "x" * self.random.randint(900, 1024)
+            count = self.random.choice([900, 1300, 2000, 2000, 4500])
+        else:
+            value, count = "9", 1
+            details = self.random.choice([4000, 6665, 9000])
+            product.supplies = [Supply([], [self.bare_detail() for _ in range(details)])]
+        product.identifiers = [Identifier("01", value) for _ in range(count)]
+        return product
+
+    def bare_detail(self) -> Detail:
+        return Detail("04", [], "N", "21", "", [])
+
+
+def large(seed: int, words: Words) -> Case:
+    random = Random(seed)
+    maker = LargeMaker(random)
+    message = Message(SENDER, ADDRESSEE, str(seed + 1), "", "", "02", "GBP")
+    message.products = maker.some(lambda: maker.product(message), 5, least=2)
+    written = Writer(random).write(message)
+    return Case(f"large message {seed}", seed + 1, f"{seed + 1}.xml", written, judge(message, words))
+
+
+def large_messages(room):
+    words = Words(parts=3, leaves_out_wrong=True)
+    cases = [large(seed, words) for seed in range(LARGE)]
+    yield from converted("large messages", cases, words, room)
+    yield from delivered_large(cases, words, room)
+
+
+def delivered_large(cases: list[Case], words: Words, room):
+    """The desk applies what was written, each file as a message of its own."""
+    agreement = ["Agree", "s", SENDER[0].id_type, SENDER[0].value, *SHOP, "1"]
+    requests, answers, files = [agreement], [["agreed", "s", "1"]], []
+    applied = []
+    for case in cases:
+        if case.verdict.parts:
+            files += [f"out/{name}" for name in part_names(case.number, words)]
+            applied += case.verdict.parts
+        else:
+            last = case.number * words.parts
+            numbers = [str(number) for number in range(last - words.parts + 1, last + 1)]
+            requests += [["Waive", "s", number] for number in numbers]
+            answers += [["waived", "s", number] for number in numbers]
+    came = room.run("--db", "desk.db", "batch", given=records_text(requests))
+    yield Outcome("large messages: their agreement", came, Ran(0, records_text(answers)))
+    came = room.run("--db", "desk.db", "deliver", *files)
+    catalogue: set[str] = set()
+    lines = [f"applied,s,{part.number},{effect(part.products, catalogue)}\n" for part in applied]
+    yield Outcome("large messages, delivered", came, Ran(0, "".join(lines).encode()))
+
+
+def numbered(parts: int, room):
+    """Messages under another number than their own, whatever that is, on standard output."""
+    for seed in range(8):
+        random = Random(seed)
+        words = Words(parts=parts, number=str(random.randint(1, 9_999_999)), leaves_out_wrong=True)
+        message = Maker(random).message(SENDER, ADDRESSEE, seed)
+        message.number = random.choice(["", "20250401043015", "x", "7"])
+        verdict = judge(message, words)
+        room.write(FEED, Writer(random).write(message).feed)
+        came = convert(room, *words.line(), FEED)
+        wanted = b"".join(part.text() for part in verdict.parts)
+        status = 1 if verdict.refusal or verdict.leaves_out_products else 0
+        found = Ran(came.status, came.output)
+        yield Outcome(f"numbered message {seed}, in {parts} parts", found, Ran(status, wanted))
+
+
+GROUPS = [
+    Group("large messages", large_messages),
+    *(Group(f"numbered messages, in {parts}", partial(numbered, parts)) for parts in (1, 100)),
+]

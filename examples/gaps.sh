@@ -11,7 +11,7 @@ shift
 # Writes the report on a series, as JSON or as CSV records.
 report_of() {
     case $desk in
-    http://* | https://*) curl --silent --show-error --fail --max-time 60 "$desk/series/$1/gaps" ;;
+    http://* | https://*) curl -q --noproxy 127.0.0.1,localhost --silent --show-error --fail --max-time 60 "$desk/series/$1/gaps" ;;
     *) "${ONIXDESK:-onixdesk}" --db "$desk" --existing gaps "$1" ;;
     esac
 }

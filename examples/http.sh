@@ -27,7 +27,7 @@ wrong=0
 expect() {
     status=$1 reply=$2 path=$3
     shift 3
-    found=$(curl --silent --max-time 60 --write-out ' %{http_code}' "$@" "http://127.0.0.1:$port$path")
+    found=$(curl -q --noproxy '*' --silent --max-time 60 --write-out ' %{http_code}' "$@" "http://127.0.0.1:$port$path")
     if [ "$found" != "$reply $status" ]; then
         printf '%s: %s\nwanted: %s\n' "$path" "$found" "$reply $status" >&2
         wrong=1
@@ -41,7 +41,7 @@ expect 200 '{"answer":"price","isbn":"9781234567897","offers":[{"amount":"11.990
 expect 404 '{"answer":"refused","reason":"unknown-series"}' /series/west/gaps
 expect 404 '{"answer":"refused","reason":"not-found"}' /nowhere
 expect 400 '{"answer":"refused","reason":"bad-query"}' '/articles/9781234567897/price?day=20250304&day=20250304&country=GB&currency=GBP&type=02'
-printf 'FOO\r\n\r\n' | curl --silent --max-time 60 "telnet://127.0.0.1:$port" >"$room/reply"
+printf 'FOO\r\n\r\n' | curl -q --noproxy '*' --silent --max-time 60 "telnet://127.0.0.1:$port" >"$room/reply"
 grep -q '^HTTP/1.1 400 ' "$room/reply" && grep -q bad-head "$room/reply" || { echo "a bad head: $(cat "$room/reply")" >&2; wrong=1; }
 
 # Where a reply was another one, a connection may be left that the desk waits for.

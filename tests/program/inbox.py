@@ -1,288 +1,364 @@
-"""The script examples/inbox/inbox.sh, over the desk at a socket: what it takes, what stays, two at once, and
-killed between each two of its steps."""
+"""The inbox, over the desk at a socket: what it takes, what lies on, what it says, and its settings."""
 
 import gzip
+import http.server
+import json
 import os
-import re
-import subprocess
+import threading
+import time
+import zipfile
 from functools import partial
-from pathlib import Path
+from io import BytesIO
 
 from program.converter import CONVERTER
 from program.converter_runs import feed_of, message_of
-from program.databases import DATABASE, batch, execute
-from program.room import SECONDS, Group, Outcome, Ran, Room
-from program.serving import Serving, free_port, serving
-
-FOLDER = Path(__file__).resolve().parent.parent.parent / "examples/inbox"
-SCRIPT = FOLDER / "inbox.sh"
-
-WORDS = ["--db", DATABASE]
-
-AGREEMENT = b"Agree,north,06,S,,,1\n"
-
-# More connections than any of these cases makes.
-CONNECTIONS = 1_000_000
+from program.databases import batch, execute
+from program.inboxes import (
+    AGREEMENT,
+    HELD,
+    MALFORMED,
+    OTHER,
+    ROW_1,
+    WORDS,
+    Inbox,
+    ended,
+    numbered,
+    of_series,
+    said,
+    script,
+    taken,
+)
+from program.room import Group, Outcome, Ran
+from program.serving import free_port, serving
 
 UNREAD_XML = b"<ONIXMessage release='2.1'/>"
-REFUSED_XML = "onix-to-csv: {}:1: refused: release 2.1, not 3.0 or 3.1"
 
-MALFORMED = b"Message,1\n"
-
-
-def of_north(number: int, **counts: int) -> str:
-    names = ["deleted", "ignored"], ["replaced"], ["unknown", "updated"]
-    before, replaced, behind = (
-        ",".join(f'"{name}":{counts.get(name, 0)}' for name in each) for each in names
-    )
-    return f'200 {{"answer":"applied",{before},"number":{number},{replaced},"series":"north",{behind}}}'
+NOBODY = "waiting: no desk answers at http://127.0.0.1:{}: Connection refused"
 
 
-HELD = '202 {{"answer":"held","number":{},"series":"north","waiting_for":{}}}'
-REFUSED = '{} {{"answer":"refused","reason":"{}"}}'
-ROW_1 = '422 {"answer":"refused","reason":"malformed","row":1}'
-OTHER = '409 {{"answer":"refused","number":{},"reason":"other-contents","series":"north"}}'
-
-
-def url(port: int) -> str:
-    return f"http://127.0.0.1:{port}"
-
-
-def put(room: Room, files: dict[str, bytes]):
-    room.path("in").mkdir(exist_ok=True)
-    for name, data in files.items():
-        room.path("in").joinpath(name).write_bytes(data)
-
-
-def start(room: Room, port: int, *words, shell="sh", **environment) -> subprocess.Popen:
-    return subprocess.Popen(
-        [shell, SCRIPT, "in", url(port), *words],
-        cwd=room.folder,
-        env=os.environ | environment,
-        stdout=subprocess.PIPE,
-        stderr=subprocess.PIPE,
-    )
-
-
-def ended(process: subprocess.Popen) -> Ran:
-    output, errors = process.communicate(timeout=SECONDS)
-    return Ran(process.returncode, output, errors)
-
-
-def run(room: Room, port: int, *words) -> Ran:
-    return ended(start(room, port, *words))
-
-
-def contents(room: Room) -> dict[str, bytes]:
-    """What the inbox holds, but for its lock."""
-    folder = room.path("in")
-    return {
-        str(path.relative_to(folder)): path.read_bytes()
-        for path in folder.rglob("*")
-        if path.is_file() and path.name != ".lock"
-    }
-
-
-def taken(folder: str, name: str, data: bytes, *lines: str) -> dict[str, bytes]:
-    """A file that was taken, with these lines of answers beside it."""
-    answer = "".join(f"{line}\n" for line in lines).encode()
-    return {f"{folder}/{name}": data, f"{folder}/{name}.answer": answer}
-
-
-def numbered(references: list[str], number: int) -> bytes:
-    return feed_of(*references).replace(
-        b"<MessageNumber>1<", b"<MessageNumber>%d<" % number
-    )
+def zipped(data: bytes) -> bytes:
+    packed = BytesIO()
+    with zipfile.ZipFile(packed, "w") as archive:
+        archive.writestr("feed.xml", data)
+    return packed.getvalue()
 
 
 def each_kind_of_file(room):
-    """Those that are applied and held, those that the desk and the converter refuse, and those that are no
-    whole messages by their names."""
+    """Those that are applied and held, in the order in which they were written, and those that the desk
+    refuses."""
     yield Outcome("inbox: the agreement", batch(room, AGREEMENT), Ran(0, b"agreed,north,1\n"))
     one, stranger = feed_of("R1"), b"Message,1,06,T,,,1,,,,\nEndMessage,1\n"
-    packed, typed = gzip.compress(numbered(["R1"], 3), mtime=0), message_of("R1", number=3)
-    left = {"g.xml.part": one, ".h.xml": one, "i.txt": one}
-    put(room, {"a.xml": one, "b.xml.gz": packed, "c.csv": typed, **left})
-    put(room, {"d.onix": UNREAD_XML, "e.csv": stranger, "f.csv": MALFORMED, "j.csv": b"\xff"})
-    with serving(room, WORDS, 6) as desk:
-        came = run(room, desk.port)
+    packed, typed = gzip.compress(numbered(["R1"], 4), mtime=0), message_of("R1", number=3)
+    two = numbered(["R2"], 2)
+    with serving(room, WORDS, 8) as desk:
+        inbox = Inbox(room, desk.port)
+        inbox.put({"z.XML": one, "b.xml.GZ": packed, "c.csv": typed, "a.onx": two})
+        inbox.put({"e.csv": stranger, "f.Csv": MALFORMED, "j.csv": b"\xff", "k.onix": one})
+        came = inbox.run()
+        lines = [
+            "z.XML: done: number 1 applied",
+            "b.xml.GZ: done: number 4 held, waiting for 2",
+            "c.csv: done: number 3 held, waiting for 2",
+            "a.onx: done: number 2 applied",
+            "e.csv: refused: no series of its sender and addressee is agreed",
+            "f.Csv: refused: row 1 of its records is malformed",
+            "j.csv: refused: its records are no UTF-8",
+            "k.onix: done: number 1 applied",
+        ]
+        yield Outcome("inbox: each kind of file", came, said(*lines, status=1))
         wanted = {
-            **left,
-            **taken("done", "a.xml", one, of_north(1, replaced=1)),
-            **taken("done", "b.xml.gz", packed, HELD.format(3, 2)),
-            **taken("done", "c.csv", typed, HELD.format(3, 2)),
-            **taken("refused", "d.onix", UNREAD_XML, REFUSED_XML.format("in/d.onix")),
-            **taken("refused", "e.csv", stranger, REFUSED.format(422, "unknown-series")),
-            **taken("refused", "f.csv", MALFORMED, ROW_1),
-            **taken("refused", "j.csv", b"\xff", REFUSED.format(400, "not-utf8")),
+            **taken("done", "z.XML", one, of_series(1, replaced=1)),
+            **taken("done", "b.xml.GZ", packed, HELD.format(4, "north", 2)),
+            **taken("done", "c.csv", typed, HELD.format(3, "north", 2)),
+            **taken("done", "a.onx", two, of_series(2, replaced=1)),
+            **taken("refused", "e.csv", stranger, '422 {"answer":"refused","reason":"unknown-series"}'),
+            **taken("refused", "f.Csv", MALFORMED, ROW_1),
+            **taken("refused", "j.csv", b"\xff", '400 {"answer":"refused","reason":"not-utf8"}'),
+            **taken("done", "k.onix", one, of_series(1, replaced=1)),
         }
-        yield Outcome("inbox: each kind of file", (came, contents(room)), (Ran(0), wanted))
-        lines = desk.wanted(["200", "202", "202", "422", "422", "400"])
+        yield Outcome("inbox: what is kept", (inbox.kept(), inbox.lying()), (wanted, {}))
+        lines = desk.wanted(["200", "202", "202", "200", "422", "422", "400", "200"])
         yield Outcome("inbox: the lines of the desk", desk.ended(), lines)
+
+
+def what_the_converter_takes(room):
+    """It gets each feed under an ending that it knows, and none of its name; what it refuses is told by its
+    last line."""
+    feeds = {"a.xml": "feed.xml", "b.ONIX": "feed.onix", "c.onx": "feed.onx", "d.gz": "feed.xml.gz",
+             "e.xml.gz": "feed.xml.gz", "f.ZIP": "feed.xml.zip"}
+    program = script(room, "converter", 'for word; do :; done; cat "$word" >/dev/null &&'
+                     ' echo "onix-to-csv: $word:3:7: refused: $# words" >&2; exit 1')
+    inbox = Inbox(room, 1, WORDS="--id-type 01 '--addressee' \"06,a b\"")
+    inbox.put({name: b"x" for name in feeds})
+    came = inbox.run("--converter", program)
+    wanted = said(*(f"{name}: refused: 3:7: 7 words" for name in feeds), status=1)
+    yield Outcome("inbox: what the converter is given", came, wanted)
+    lines = {f"refused/{name}.answer": f"onix-to-csv: {file}:3:7: refused: 7 words\n".encode()
+             for name, file in feeds.items()}
+    kept = {name: data for name, data in inbox.kept().items() if name.endswith(".answer")}
+    yield Outcome("inbox: the names that the converter is given", kept, lines)
+
+
+def a_feed_that_is_refused(room):
+    inbox = Inbox(room, 1)
+    inbox.put({"d.onix": UNREAD_XML, "e.zip": b"no zip"})
+    came = inbox.run()
+    lines = came.errors.decode().splitlines()
+    found = came.status, [line.split(":")[1:3] for line in lines], ["2.1" in line for line in lines]
+    wanted = 1, [[" d.onix", " refused"], [" e.zip", " refused"]], [True, False]
+    yield Outcome("inbox: feeds that the converter refuses", found, wanted)
+
+
+def packed_feeds(room):
+    batch(room, AGREEMENT)
+    with serving(room, WORDS, 2) as desk:
+        inbox = Inbox(room, desk.port)
+        inbox.put({"a.gz": gzip.compress(feed_of("R1")), "b.zip": zipped(numbered(["R2"], 2))})
+        wanted = said("a.gz: done: number 1 applied", "b.zip: done: number 2 applied")
+        yield Outcome("inbox: packed feeds", inbox.run(), wanted)
 
 
 def names_that_come_again(room):
     """The same file again stands once; another of its name gets a number."""
     batch(room, AGREEMENT)
-    one, two = feed_of("R1"), numbered(["R2"], 2)
+    one, two, other = feed_of("R1"), numbered(["R2"], 2), feed_of("R3")
+    refusal = "a.xml: refused: another message of number 1 was taken before"
     with serving(room, WORDS, 4) as desk:
-        for data in [one, one, two, feed_of("R3")]:
-            put(room, {"a.xml": data})
-            came = run(room, desk.port)
-            yield Outcome("inbox: a name that comes again", came, Ran(0))
+        inbox = Inbox(room, desk.port)
+        for data, number in [(one, 1), (one, 1), (two, 2), (other, None)]:
+            inbox.put({"a.xml": data})
+            wanted = said(f"a.xml: done: number {number} applied") if number else said(refusal, status=1)
+            yield Outcome("inbox: a name that comes again", inbox.run(), wanted)
     wanted = {
-        **taken("done", "a.xml", one, of_north(1, replaced=1)),
-        **taken("done", "a.xml.2", two, of_north(2, replaced=1)),
-        **taken("refused", "a.xml", feed_of("R3"), OTHER.format(1)),
+        **taken("done", "a.xml", one, of_series(1, replaced=1)),
+        **taken("done", "a.xml.2", two, of_series(2, replaced=1)),
+        **taken("refused", "a.xml", other, OTHER.format(1)),
     }
-    yield Outcome("inbox: names that come again", contents(room), wanted)
+    yield Outcome("inbox: names that come again", inbox.kept(), wanted)
 
 
 def words_of_the_converter(room):
-    """Parts, of which one is refused, and what is left out."""
+    """Parts, of which one is refused, and what is left out, which is told in a summary."""
     batch(room, AGREEMENT + message_of("R9", number=2))
-    put(room, {"a.xml": feed_of("R1", ""), "b.xml": numbered(["R2"], 2)})
+    one, two = feed_of("R1", ""), numbered(["R2", ""], 2)
     with serving(room, WORDS, 4) as desk:
-        came = run(room, desk.port, "--parts", "2", "--leave-out-wrong")
-    note = "onix-to-csv: in/a.xml:3: no RecordReference: Product left out: no RecordReference"
-    wanted = {
-        **taken(
-            "refused",
-            "a.xml",
-            feed_of("R1", ""),
-            note,
-            "onix-to-csv: 1 note",
-            of_north(1, replaced=1),
-            OTHER.format(2),
-        ),
-        **taken("done", "b.xml", numbered(["R2"], 2), of_north(3, replaced=1), of_north(4)),
-    }
-    yield Outcome("inbox: words of the converter", (came, contents(room)), (Ran(0), wanted))
+        inbox = Inbox(room, desk.port, WORDS="--parts 2 --leave-out-wrong")
+        inbox.put({"a.xml": one, "b.xml": two})
+        came = inbox.run()
+        lines = came.errors.decode().splitlines()
+        yield Outcome("inbox: a part that is refused", (came.status, lines[0]),
+                      (1, "onixdesk-inbox: a.xml: refused: another message of number 2 was taken before"))
+        before = "onixdesk-inbox: b.xml: done: numbers 3 to 4 applied; notes: "
+        found = lines[1].startswith(before), lines[1].endswith("1 note")
+        yield Outcome("inbox: what is left out", found, (True, True))
+        kept = inbox.kept()
+        found = {name: data.decode().splitlines()[-2:] for name, data in kept.items() if name.endswith(".answer")}
+        wanted = {
+            "refused/a.xml.answer": [of_series(1, replaced=1), OTHER.format(2)],
+            "done/b.xml.answer": [of_series(3, replaced=1), of_series(4)],
+        }
+        yield Outcome("inbox: all parts are posted", found, wanted)
+        notes = kept["done/b.xml.answer"].decode()
+        yield Outcome("inbox: the notes", notes.startswith("onix-to-csv: feed.xml:3"), True)
 
 
-def what_stays(room):
-    """A file stays where there is no desk, where one answers 503, and where the converter is called
-    badly; and is taken later."""
+def what_waits(room):
+    """A file waits where there is no desk, where one answers 503, and where the converter is called badly. It is
+    told once, and taken later."""
     batch(room, AGREEMENT)
     files = {"a.xml": feed_of("R1"), "b.csv": message_of(number=2)}
-    put(room, files)
     port = free_port()
-    came = run(room, port)
-    said = came.errors.startswith(b"inbox.sh: nobody answers: 000 curl: (7) ")
-    found = came.status, said, kept(room)
-    yield Outcome("inbox: no desk", found, (1, True, files))
+    inbox = Inbox(room, port)
+    inbox.put(files)
+    wanted = said(*(f"{name}: {NOBODY.format(port)}" for name in files))
+    yield Outcome("inbox: no desk", (inbox.run(), inbox.lying(), inbox.kept()), (wanted, files, {}))
+    yield Outcome("inbox: no desk still", (inbox.run(), inbox.lying(), inbox.kept()), (said(), files, {}))
 
     execute(room, "UPDATE series SET next_number = -1")
-    with serving(room, WORDS, 2) as desk:
-        came = run(room, desk.port)
-    fault = '503 {"answer":"fault","reason":"unusable"}'
-    lines = [f"inbox.sh: in/{name} stays: {fault}\n" for name in files]
-    wanted = Ran(1, b"", "".join(lines).encode()), files
-    yield Outcome("inbox: a desk that answers 503", (came, kept(room)), wanted)
+    with serving(room, WORDS, 1) as desk:
+        inbox = Inbox(room, desk.port)
+        fault = 'the desk answers 503 {"answer":"fault","reason":"unusable"}'
+        wanted = said(*(f"{name}: waiting: {fault}" for name in files))
+        yield Outcome("inbox: a desk that answers 503", (inbox.run(), inbox.lying()), (wanted, files))
     execute(room, "UPDATE series SET next_number = first_number")
 
     with serving(room, WORDS, 2) as desk:
-        came = run(room, desk.port)
-        wanted = {
-            **taken("done", "a.xml", files["a.xml"], of_north(1, replaced=1)),
-            **taken("done", "b.csv", files["b.csv"], of_north(2)),
+        inbox = Inbox(room, desk.port, WORDS="--unknown")
+        came = inbox.run()
+        lines = came.errors.decode().splitlines()
+        starts = [f"onixdesk-inbox: {name}: waiting: the converter ends with status 2: " for name in files]
+        found = came.status, [line.startswith(start) for line, start in zip(lines, starts, strict=True)]
+        yield Outcome("inbox: bad words for the converter", (found, inbox.lying()), ((0, [True] * 2), files))
+        inbox.set()
+        wanted = said("a.xml: done: number 1 applied", "b.csv: done: number 2 applied")
+        yield Outcome("inbox: what waited is taken", (inbox.run(), inbox.lying()), (wanted, {}))
+        kept = {
+            **taken("done", "a.xml", files["a.xml"], of_series(1, replaced=1)),
+            **taken("done", "b.csv", files["b.csv"], of_series(2)),
         }
-        yield Outcome("inbox: what stayed is taken", (came, contents(room)), (Ran(0), wanted))
-
-    put(room, {"a.xml": files["a.xml"]})
-    came = run(room, port, "--unknown")
-    said = came.errors.startswith(b"inbox.sh: in/a.xml stays: ")
-    found = came.status, said, kept(room)
-    yield Outcome("inbox: bad words for the converter", found, (1, True, {"a.xml": files["a.xml"]}))
+        yield Outcome("inbox: what waited is kept", inbox.kept(), kept)
 
 
-def kept(room: Room) -> dict[str, bytes]:
-    """The files that wait."""
-    return {name: data for name, data in contents(room).items() if "/" not in name}
+def what_is_still_written(room):
+    """A file that has just changed waits, whatever time of writing it was given, and one that is renamed too."""
+    batch(room, AGREEMENT)
+    files = {"a.xml": feed_of("R1"), ".b.xml": feed_of("R1"), "c.xml.part": feed_of("R1")}
+    with serving(room, WORDS, 1) as desk:
+        inbox = Inbox(room, desk.port, UNCHANGED_SECONDS=600)
+        inbox.put(files)
+        os.utime(inbox.incoming / "a.xml", (1, 1))
+        lines = [
+            ".b.xml: not taken: its name begins with a point, as of a file that is still being written",
+            "a.xml: waiting: it changed less than 600 s ago",
+            "c.xml.part: not taken: its name has no known ending",
+        ]
+        yield Outcome("inbox: what is still written", (inbox.run(), inbox.lying()), (said(*lines), files))
+        inbox.set(UNCHANGED_SECONDS=2)
+        time.sleep(2.1)
+        (inbox.incoming / "c.xml.part").rename(inbox.incoming / "c.xml")
+        lines = "a.xml: done: number 1 applied", "c.xml: waiting: it changed less than 2 s ago"
+        yield Outcome("inbox: what is written", inbox.run(), said(*lines))
+
+
+def what_lies_long(room):
+    """A file that lies there for an hour makes one run fail; a file that has its name later begins anew."""
+    inbox = Inbox(room, 1)
+    lines = "a.rar: not taken: its name has no known ending", "b.csv: " + NOBODY.format(1)
+
+    def an_hour_goes_by():
+        told = json.loads(inbox.state.joinpath("told").read_text())
+        for lying in told.values():
+            lying["since"] -= 3600
+        inbox.state.joinpath("told").write_text(json.dumps(told))
+
+    for name in "as the first", "as another of its name":
+        inbox.put({"a.rar": b"", "b.csv": MALFORMED})
+        yield Outcome(f"inbox: what lies there, {name}", inbox.run(), said(*lines))
+        an_hour_goes_by()
+        long = [f"{line}; it has been here for an hour" for line in lines]
+        yield Outcome(f"inbox: what lies there for an hour, {name}", inbox.run(), said(*long, status=1))
+        yield Outcome(f"inbox: what lies there longer, {name}", inbox.run(), said())
+        for path in inbox.incoming.iterdir():
+            path.unlink()
+        yield Outcome(f"inbox: nothing lies there, {name}", inbox.run(), said())
 
 
 # A converter during whose work another file gets the name of the first one, or the file grows.
-CHANGING = {
-    "replaced": "mv in/next in/a.xml",
-    "grown": "cat in/next >in/a.xml",
-}
+CHANGING = {"replaced": "mv {}/next {}/a.xml", "grown": "cat {}/next >{}/a.xml"}
 
 
 def what_changes_meanwhile(change: str, room):
-    """A file that changed while the one before was taken is not moved with its answer, but taken by the
-    next run."""
+    """What was copied is taken, and what the file became is taken behind it."""
     batch(room, AGREEMENT)
     one, two = numbered(["R1"], 1), numbered(["R2"], 2)
-    put(room, {"a.xml": one, "next": two})
-    room.write(
-        "converter", f'#!/bin/sh\n"{CONVERTER}" "$@" || exit\n{CHANGING[change]}\n'.encode()
-    )
-    room.path("converter").chmod(0o755)
     with serving(room, WORDS, 2) as desk:
-        came = ended(start(room, desk.port, ONIX_TO_CSV=str(room.path("converter"))))
-        said = Ran(1, b"", b"inbox.sh: in/a.xml stays: it changed while it was taken\n")
-        room.path("in/next").unlink(missing_ok=True)
-        yield Outcome(f"inbox: {change} meanwhile", (came, kept(room)), (said, {"a.xml": two}))
-        came = run(room, desk.port)
-        wanted = Ran(0), taken("done", "a.xml", two, of_north(2, replaced=1))
-        yield Outcome(f"inbox: {change}, the next run", (came, contents(room)), wanted)
+        inbox = Inbox(room, desk.port)
+        inbox.put({"a.xml": one, "next": two})
+        step = CHANGING[change].format(inbox.incoming, inbox.incoming)
+        other = inbox.incoming / "next"
+        once = f"[ ! -e {other} ] || {{ {step}; rm -f {other}; }}"
+        program = script(room, "converter", f'{once}\nexec "{CONVERTER}" "$@"')
+        wanted = said("a.xml: done: number 1 applied", "a.xml: done: number 2 applied")
+        yield Outcome(f"inbox: {change} meanwhile", inbox.run("--converter", program), wanted)
+        wanted = {
+            **taken("done", "a.xml", one, of_series(1, replaced=1)),
+            **taken("done", "a.xml.2", two, of_series(2, replaced=1)),
+        }
+        yield Outcome(f"inbox: {change}, what is kept", (inbox.kept(), inbox.lying()), (wanted, {}))
         yield Outcome(f"inbox: {change}, the desk", desk.ended(), desk.wanted(["200", "200"]))
 
 
-def what_is_no_file(room):
-    """What has such a name and is no file stays, and is told: a unit that waits for the name would else
-    start one run after the other."""
-    put(room, {})
-    room.path("in/a.csv").mkdir()
-    room.path("in/b.xml").symlink_to("absent")
-    lines = [f"inbox.sh: in/{name} stays: it is no file\n" for name in ("a.csv", "b.xml")]
-    yield Outcome("inbox: no files", run(room, 1), Ran(1, b"", "".join(lines).encode()))
-    room.path("in/a.csv").rmdir()
-    room.path("in/b.xml").unlink()
-    yield Outcome("inbox: an empty folder", run(room, 1), Ran(0))
-
-
-def strange_names(room):
-    """A folder and files whose names have dashes, spaces and backslashes."""
+def conversions_that_do_not_end(room):
+    """One that takes too long, and one that is killed: their files are refused, so that they hold up no other."""
     batch(room, AGREEMENT)
-    names = ["-o.csv", "a \\c\n b.csv", "* $(x).csv"]
-    folder = room.path("-in")
-    folder.mkdir()
-    for number, name in enumerate(sorted(names), 1):
-        folder.joinpath(name).write_bytes(message_of(number=number))
-    with serving(room, WORDS, len(names)) as desk:
-        done = subprocess.run(
-            ["sh", SCRIPT, "-in", url(desk.port)], cwd=room.folder, capture_output=True, timeout=SECONDS
-        )
-        came = Ran(done.returncode, done.stdout, done.stderr)
-        yield Outcome("inbox: strange names", came, Ran(0))
-        yield Outcome(
-            "inbox: strange names, what is taken",
-            sorted(path.name for path in folder.joinpath("done").iterdir()),
-            sorted(name + ending for name in names for ending in ("", ".answer")),
-        )
-        yield Outcome("inbox: strange names, the desk", desk.ended(), desk.wanted(["200"] * len(names)))
+    program = script(room, "converter", 'for word; do :; done; case $(cat "$word") in long) exec sleep 60 ;;'
+                     ' big) kill -KILL $$ ;; stopped) kill -TERM $$ ;; esac')
+    inbox = Inbox(room, 1, CONVERSION_SECONDS=1)
+    inbox.put({"a.xml": b"long", "b.xml": b"big"})
+    lines = [
+        "a.xml: refused: its conversion took more than 1 s",
+        "b.xml: refused: its conversion was killed, as where it takes more memory than the unit allows",
+    ]
+    yield Outcome("inbox: conversions that do not end", inbox.run("--converter", program), said(*lines, status=1))
+    inbox.put({"c.xml": b"stopped", "d.xml": b"none"})
+    line = "waiting: the converter ends with status -15: "
+    wanted = said(f"c.xml: {line}", f"d.xml: {line}")
+    yield Outcome("inbox: a conversion that is stopped", inbox.run("--converter", program), wanted)
+    (inbox.incoming / "c.xml").unlink()
+    wanted = said("d.xml: waiting: the converter wrote no message")
+    yield Outcome("inbox: a conversion without a message", inbox.run("--converter", program), wanted)
 
 
-def another_server(room):
-    """What is no answer of a desk takes no file."""
-    put(room, {"b.csv": message_of(number=2)})
-    with serving(room, WORDS, 1) as desk:
-        process = subprocess.run(
-            ["sh", SCRIPT, "in", url(desk.port) + "/elsewhere"],
-            cwd=room.folder,
-            capture_output=True,
-            timeout=SECONDS,
-        )
-    wanted = 1, {"b.csv": message_of(number=2)}
-    yield Outcome("inbox: another path", (process.returncode, kept(room)), wanted)
+class Stranger(http.server.BaseHTTPRequestHandler):
+    """Another server than a desk."""
+
+    status, body = 200, b"hello"
+
+    def do_POST(self):
+        self.rfile.read(int(self.headers["Content-Length"]))
+        self.send_response(self.status)
+        self.send_header("Content-Length", str(len(self.body)))
+        self.end_headers()
+        self.wfile.write(self.body)
+
+    def log_message(self, *_):
+        pass
 
 
-def bad_calls(room):
-    for words in [], ["in"], ["absent", url(1)]:
-        done = subprocess.run(["sh", SCRIPT, *words], cwd=room.folder, capture_output=True)
-        found = done.returncode, done.stdout, done.stderr.startswith(b"inbox.sh: it is called as ")
-        yield Outcome(f"inbox: called with {words}", found, (2, b"", True))
+STRANGE = [
+    (200, b"hello"),
+    (200, b"[]"),
+    (200, b'{"answer":"applied"}'),
+    (202, b'{"answer":"applied","number":1,"series":"north"}'),
+    (400, b'{"answer":"refused","reason":"short-body"}'),
+    (404, b'{"answer":"refused","reason":"not-found"}'),
+    (422, b"\x1b[2J\xff"),
+]
+
+
+def other_servers(room):
+    """What is no answer of a desk takes no file, and reaches no terminal as it is."""
+    files = {"b.csv": message_of(number=2)}
+    for status, body in STRANGE:
+        handler = type("Handler", (Stranger,), {"status": status, "body": body})
+        with http.server.HTTPServer(("127.0.0.1", 0), handler) as server:
+            threading.Thread(target=server.serve_forever, daemon=True).start()
+            inbox = Inbox(room, server.server_port)
+            inbox.put(files)
+            shown = body.decode(errors="backslashreplace").replace("\x1b", r"\x1b")
+            wanted = said(f"b.csv: waiting: the desk answers {status} {shown}")
+            found = inbox.run(), inbox.lying()
+            yield Outcome(f"inbox: a server that answers {status} {body}", found, (wanted, files))
+            server.shutdown()
+
+
+def senders(room):
+    """With SENDER only its messages are posted; without it one that is of another series is told."""
+    batch(room, AGREEMENT + b"Agree,south,06,T,,,1\n")
+    foreign = message_of("R1").replace(b",06,S,", b",06,T,")
+    with serving(room, WORDS, 2) as desk:
+        inbox = Inbox(room, desk.port, SENDER="06,S")
+        feed = feed_of("R1").replace(b">S<", b">T<")
+        inbox.put({"a.csv": foreign, "b.xml": feed, "c.csv": message_of("R1"), "d.csv": b'"'})
+        lines = [
+            "a.csv: refused: its sender is not 06,S",
+            "b.xml: refused: its sender is not 06,S",
+            "c.csv: done: number 1 applied",
+            "d.csv: refused: its sender is not 06,S",
+        ]
+        yield Outcome("inbox: the sender", inbox.run(), said(*lines, status=1))
+        inbox.set()
+        inbox.put({"a.csv": foreign})
+        line = "a.csv: refused: number 1 stands in the series south of its sender and addressee"
+        yield Outcome("inbox: another series", inbox.run(), said(line, status=1))
+
+
+def too_large(room):
+    """Records that the desk would not take are not sent."""
+    inbox = Inbox(room, 1)
+    inbox.put({"a.csv": b" " * 4_194_305})
+    line = "a.csv: refused: it has more than 4194304 bytes of records"
+    yield Outcome("inbox: too large a message", inbox.run(), said(line, status=1))
 
 
 def two_at_once(room):
@@ -290,93 +366,94 @@ def two_at_once(room):
     batch(room, AGREEMENT)
     count = 6
     files = {f"{number}.xml": numbered([f"R{number}"], number) for number in range(1, count + 1)}
-    put(room, files)
     with serving(room, WORDS, count) as desk:
-        runs = [start(room, desk.port) for _ in range(3)]
-        came = [ended(process) for process in runs]
-        yield Outcome("inbox: three at once", came, [Ran(0)] * 3)
-        wanted = {}
-        for number, (name, data) in enumerate(files.items(), 1):
-            wanted |= taken("done", name, data, of_north(number, replaced=1))
-        yield Outcome("inbox: three at once, what is taken", contents(room), wanted)
-        lines = desk.wanted(["200"] * count)
-        yield Outcome("inbox: three at once, the lines of the desk", desk.ended(), lines)
+        inbox = Inbox(room, desk.port)
+        inbox.put(files)
+        runs = [inbox.start() for _ in range(3)]
+        came = sorted(ended(process) for process in runs)
+        lines = [f"{name}: done: number {number} applied" for number, name in enumerate(files, 1)]
+        yield Outcome("inbox: three at once", came, [said(), said(), said(*lines)])
+        yield Outcome("inbox: three at once, the desk", desk.ended(), desk.wanted(["200"] * count))
 
 
-# Before each command of the script, in its functions and in what it substitutes too, one step is counted.
-STEPS = """
-set -T
-step=0
-trap 'step=$((step + 1)); [ $step -ne $KILLED_AT ] || kill -KILL $$' DEBUG
-"""
-
-# The steps are shared out among so many groups, that stand side by side.
-SHARES = 4
-
-KILLED = -9
-
-
-def killed_at_each_step(share: int, room):
-    batch(room, AGREEMENT)
-    room.write("steps", STEPS.encode())
-    files = {"a.xml": numbered(["R1"], 3), "b.csv": MALFORMED}
-    wanted = {
-        **taken("done", "a.xml", files["a.xml"], HELD.format(3, 1)),
-        **taken("refused", "b.csv", files["b.csv"], ROW_1),
-    }
-    environment = {"BASH_ENV": str(room.path("steps"))}
-    with serving(room, WORDS, CONNECTIONS) as desk:
-        step, status = share + 1, KILLED
-        while status == KILLED:
-            subprocess.run(["rm", "-rf", "in"], cwd=room.folder, check=True)
-            put(room, files)
-            process = start(room, desk.port, shell="bash", KILLED_AT=str(step), **environment)
-            status = ended(process).status
-            came = run(room, desk.port)
-            found = came, contents(room)
-            yield Outcome(f"inbox: killed at step {step}", found, (Ran(0), wanted))
-            step += SHARES
-        yield Outcome(f"inbox: not killed at step {step - SHARES}", status, 0)
-        # A file takes some twenty commands.
-        yield Outcome("inbox: steps", step > 40 or step, True)
-        yield Outcome("inbox: the desk after all stops", gaps(desk), GAPS)
+BAD_SETTINGS = {
+    "NUMBR=next": "1: no line of the form NAME=VALUE, NAME being one of DESK, WORDS, NUMBER, SENDER,"
+    " UNCHANGED_SECONDS, CONVERSION_SECONDS",
+    "# words\n\nnext": "3: no line of the form NAME=VALUE, NAME being one of DESK, WORDS, NUMBER, SENDER,"
+    " UNCHANGED_SECONDS, CONVERSION_SECONDS",
+    "NUMBER=Next": "1: NUMBER is own or next",
+    "NUMBER=own\nNUMBER=own": "2: NUMBER is there twice",
+    "DESK=https://127.0.0.1:8080": "1: DESK is http://HOST:PORT",
+    "DESK=http://127.0.0.1": "1: DESK is http://HOST:PORT",
+    "DESK=http://127.0.0.1:8080/desk": "1: DESK is http://HOST:PORT",
+    "WORDS=-o out": "1: -o is no word of WORDS: the inbox gives it, or leaves it out",
+    "WORDS=--number=5": "1: --number=5 is no word of WORDS: the inbox gives it, or leaves it out",
+    "WORDS='--parts": "1: No closing quotation",
+    "SENDER=4012345000009": "1: SENDER is TYPE,VALUE with a TYPE of two digits",
+    "UNCHANGED_SECONDS=1.5": "1: seconds are one to six digits",
+    "WORDS=--number-offset 3\nNUMBER=next": " NUMBER=next and --number-offset do not go together",
+}
 
 
-GAPS = b'{"answer":"gaps","first":1,"greatest":3,"held":1,"missing":[[1,2]],"next":1,"series":"north"}'
+def bad_settings(room):
+    inbox = Inbox(room, 1)
+    for text, why in BAD_SETTINGS.items():
+        room.write("settings.conf", text.encode())
+        wanted = said(f"settings.conf:{why}", status=2)
+        yield Outcome(f"inbox: the settings {text!r}", (inbox.run(), inbox.state.exists()), (wanted, False))
+    room.path("settings.conf").unlink()
+    wanted = said("settings.conf: No such file or directory", status=2)
+    yield Outcome("inbox: no settings", inbox.run(), wanted)
 
 
-def gaps(desk: Serving) -> bytes:
-    reply = desk.reply([b"GET /series/north/gaps HTTP/1.1\r\n\r\n"])
-    return reply.partition(b"\r\n\r\n")[2]
+def bad_folders(room):
+    inbox = Inbox(room, 1)
+    incoming = inbox.incoming
+    inbox.state = incoming / "state"
+    wanted = said(f"{inbox.state} and {incoming} are not apart", status=3)
+    yield Outcome("inbox: a state among what comes in", (inbox.run(), inbox.state.exists()), (wanted, False))
+    inbox.state = room.folder
+    wanted = said(f"{room.folder} and {incoming} are not apart", status=3)
+    yield Outcome("inbox: what comes in within the state", inbox.run(), wanted)
+    inbox.state = room.path("open")
+    inbox.state.mkdir()
+    inbox.state.chmod(0o770)
+    yield Outcome("inbox: an open state", inbox.run(), said(f"{inbox.state}: others may write there", status=3))
+    inbox.state.chmod(0o700)
+    inbox.incoming.rmdir()
+    wanted = said(f"{incoming}: No such file or directory", status=3)
+    yield Outcome("inbox: no folder", inbox.run(), wanted)
 
 
-def units(_room):
-    """The path unit waits for just the files that the script takes."""
-    script = re.search(r"case \$file in (\*.*?)\) ;; \*\) continue", SCRIPT.read_text())[1]
-    taken_endings = sorted(script.replace("*", "").split(" | "))
-    unit = FOLDER.joinpath("onixdesk-inbox.path").read_text()
-    waits = re.findall(r"PathExistsGlob=/var/lib/onixdesk-inbox/\*(\S+)", unit)
-    endings = [".csv", ".onix", ".onix.gz", ".xml", ".xml.gz"]
-    yield Outcome("inbox: the endings of files", (taken_endings, sorted(waits)), (endings, endings))
+def bad_calls(room):
+    inbox = Inbox(room, 1)
+    for series in ["", "North", "a/b", "x" * 33, "\x1b[2J"]:
+        inbox.series = series
+        came = inbox.run()
+        found = came.status, came.output, came.errors.startswith(b"usage: onixdesk-inbox "), b"\x1b" in came.errors
+        yield Outcome(f"inbox: called for {series!r}", found, (2, b"", True, False))
 
 
 GROUPS = [
-    *(
-        Group(f"inbox: killed, share {share}", partial(killed_at_each_step, share))
-        for share in range(SHARES)
-    ),
     Group("inbox: each kind of file", each_kind_of_file),
+    Group("inbox: what the converter takes", what_the_converter_takes),
+    Group("inbox: a feed that is refused", a_feed_that_is_refused),
+    Group("inbox: packed feeds", packed_feeds),
     Group("inbox: names that come again", names_that_come_again),
     Group("inbox: words of the converter", words_of_the_converter),
-    Group("inbox: what stays", what_stays),
+    Group("inbox: what waits", what_waits),
+    Group("inbox: what is still written", what_is_still_written),
+    Group("inbox: what lies long", what_lies_long),
     *(
         Group(f"inbox: {change} meanwhile", partial(what_changes_meanwhile, change))
         for change in CHANGING
     ),
-    Group("inbox: no files", what_is_no_file),
-    Group("inbox: strange names", strange_names),
-    Group("inbox: another server", another_server),
-    Group("inbox: bad calls", bad_calls),
+    Group("inbox: conversions that do not end", conversions_that_do_not_end),
+    Group("inbox: other servers", other_servers),
+    Group("inbox: senders", senders),
+    Group("inbox: too large a message", too_large),
     Group("inbox: two at once", two_at_once),
-    Group("inbox: units", units),
+    Group("inbox: bad settings", bad_settings),
+    Group("inbox: bad folders", bad_folders),
+    Group("inbox: bad calls", bad_calls),
 ]

@@ -1,0 +1,91 @@
+"""The command line of onixdesk-inbox."""
+
+import argparse
+import os
+import re
+import sys
+from pathlib import Path
+
+from onixdesk_inbox.incoming import Incoming
+from onixdesk_inbox.running import Run
+from onixdesk_inbox.settings import BadSettings, read_settings
+from onixdesk_inbox.state import State
+from onixdesk_inbox.taking import Taker
+from onixdesk_inbox.telling import ERROR, PROGRAM, Voice
+from onixdesk_inbox.verdicts import Fault
+
+DONE, FAILED, BAD_CALL, FAULT = 0, 1, 2, 3
+INTERRUPTED = 130
+
+SETTINGS = "/etc/onixdesk/inbox/{}.conf"
+INCOMING = "/var/lib/onixdesk-incoming/{}"
+STATE = "/var/lib/onixdesk-inbox/{}"
+
+DESCRIPTION = """\
+Takes the files that a wholesaler has put into a folder to a running desk: what ends in .csv as it is, what ends
+in .xml, .onix, .onx, .gz or .zip through onix-to-csv. What the desk has applied or holds is moved to done in the
+folder STATE, what it or the converter refuses to refused, with the notes and answers beside it in NAME.answer.
+Of each file a line is written to standard error."""
+
+STATUSES = """\
+Status 0, also where files wait; 1 where a file was refused, or has lain there for an hour; 2 for a bad command
+line or bad settings; 3 where a folder cannot be used. docs/INBOX.md has the settings."""
+
+
+def series(word: str) -> str:
+    if not re.fullmatch("[a-z0-9-]{1,32}", word):
+        raise argparse.ArgumentTypeError(f"{ascii(word)} is not the name of a series")
+    return word
+
+
+def command_line() -> argparse.ArgumentParser:
+    parser = argparse.ArgumentParser(
+        PROGRAM,
+        description=DESCRIPTION,
+        epilog=STATUSES,
+        formatter_class=argparse.RawDescriptionHelpFormatter,
+        allow_abbrev=False,
+    )
+    add = parser.add_argument
+    add("--settings", metavar="FILE", type=Path, help=f"{SETTINGS.format('SERIES')} without it")
+    add("--incoming", metavar="FOLDER", type=Path, help=f"{INCOMING.format('SERIES')} without it")
+    add("--state", metavar="FOLDER", type=Path,
+        help=f"{STATE.format('SERIES')} without it; nobody else may write there")
+    add("--converter", metavar="PROGRAM", type=Path, help="onix-to-csv beside this program without it")
+    add("series", metavar="SERIES", type=series, help="the name of the series that the desk has agreed")
+    return parser
+
+
+def apart(incoming: Path, state: Path) -> None:
+    """Fault, where one of the folders is in the other: what the inbox keeps is not to lie where others write."""
+    if incoming.is_relative_to(state) or state.is_relative_to(incoming):
+        raise Fault(f"{state} and {incoming} are not apart")
+
+
+def main(beside: Path) -> int:
+    """Makes one run, and gives the status. `beside` is the folder of the programs."""
+    options = command_line().parse_args()
+    name = options.series
+    voice = Voice(sys.stderr)
+    incoming = (options.incoming or Path(INCOMING.format(name))).resolve()
+    folder = (options.state or Path(STATE.format(name))).resolve()
+    converter = (options.converter or beside / "onix-to-csv").resolve()
+    os.umask(0o077)
+    try:
+        settings = read_settings(options.settings or Path(SETTINGS.format(name)))
+        apart(incoming, folder)
+        state = State(folder)
+        taker = Taker(name, settings, converter, state)
+        run = Run(Incoming(incoming, settings.unchanged_seconds), state, taker, voice)
+        return FAILED if run.take_all() else DONE
+    except BadSettings as bad:
+        voice.say(ERROR, str(bad))
+        return BAD_CALL
+    except Fault as fault:
+        voice.say(ERROR, str(fault))
+        return FAULT
+    except OSError as error:
+        voice.say(ERROR, f"{error.filename or folder}: {error.strerror}")
+        return FAULT
+    except KeyboardInterrupt:
+        return INTERRUPTED

@@ -1,0 +1,103 @@
+"""The desk, asked over HTTP."""
+
+import contextlib
+import json
+from dataclasses import dataclass
+from http.client import HTTPConnection, HTTPException
+
+from onixdesk_inbox.names import shown
+from onixdesk_inbox.settings import Address
+from onixdesk_inbox.verdicts import Fault, Refusal
+
+# What the desk takes of a message.
+LONGEST_MESSAGE = 4_194_304
+
+# Far more than a reply about a message or the gaps of a series has.
+LONGEST_REPLY = 16 << 20
+
+# The desk serves one client at a time, so that a message waits for those before it.
+SECONDS = 300
+
+# What a refusal of the desk says to whoever reads the journal.
+REASONS = {
+    "malformed": "row {row} of its records is malformed",
+    "not-utf8": "its records are no UTF-8",
+    "too-large": f"it has more than {LONGEST_MESSAGE} bytes of records",
+    "unnumbered": "it has no MessageNumber",
+    "unknown-series": "no series of its sender and addressee is agreed",
+    "before-first": "number {number} is below the first number of the series, {first}",
+    "waived": "number {number} was waived",
+    "other-contents": "another message of number {number} was taken before",
+}
+
+
+@dataclass(frozen=True)
+class Reply:
+    status: int
+    body: bytes
+
+    def __str__(self) -> str:
+        return f"{self.status} {self.body.decode(errors='backslashreplace')}"
+
+    def members(self) -> dict:
+        """The members of its object, none where it is no reply of a desk."""
+        try:
+            members = json.loads(self.body)
+        except ValueError:
+            return {}
+        return members if isinstance(members, dict) else {}
+
+
+@dataclass(frozen=True)
+class Accepted:
+    """That a message stands at its number in a series, where it waits for another number or does not."""
+
+    series: str
+    number: int
+    waiting_for: int | None
+
+
+class Desk:
+    def __init__(self, address: Address) -> None:
+        self.address = address
+
+    def ask(self, method: str, target: str, body: bytes | None = None) -> Reply:
+        connection = HTTPConnection(self.address.host, self.address.port, timeout=SECONDS)
+        try:
+            connection.request(method, target, body)
+            reply = connection.getresponse()
+            return Reply(reply.status, reply.read(LONGEST_REPLY))
+        except (OSError, HTTPException) as error:
+            raise Fault(f"no desk answers at {self.address}: {why(error)}") from None
+        finally:
+            connection.close()
+
+    def post(self, message: bytes) -> Reply:
+        return self.ask("POST", "/messages", message)
+
+    def next_number(self, series: str) -> int:
+        """The least number of a series at which nothing stands."""
+        reply = self.ask("GET", f"/series/{series}/gaps")
+        members = reply.members()
+        if reply.status == 200 and isinstance(members.get("next"), int):
+            return members["next"]
+        if reply.status == 404 and members.get("reason") == "unknown-series":
+            raise Fault(f"the desk has agreed no series {series}")
+        raise Fault(f"the desk does not say the next number of {series}: {shown(str(reply))}")
+
+
+def why(error: Exception) -> str:
+    return getattr(error, "strerror", None) or str(error) or type(error).__name__
+
+
+def accepted(reply: Reply) -> Accepted:
+    """What a reply to a message says. Refusal, where the message is refused; Fault, where it has to be posted
+    again."""
+    members = reply.members()
+    with contextlib.suppress(KeyError):
+        match (reply.status, members["answer"]):
+            case (200, "applied") | (202, "held"):
+                return Accepted(members["series"], members["number"], members.get("waiting_for"))
+            case (400 | 409 | 413 | 422, "refused"):
+                raise Refusal(REASONS[members["reason"]].format_map(members))
+    raise Fault(f"the desk answers {shown(str(reply))}")

@@ -1,0 +1,85 @@
+"""One run over the folder."""
+
+from onixdesk_inbox.incoming import Candidate, Incoming
+from onixdesk_inbox.numbers import digest_of
+from onixdesk_inbox.state import State
+from onixdesk_inbox.taking import Copied, Taker
+from onixdesk_inbox.telling import Told, Voice
+from onixdesk_inbox.verdicts import Fault, Gone, Left, Lies, Taken
+
+
+class Run:
+    def __init__(self, incoming: Incoming, state: State, taker: Taker, voice: Voice) -> None:
+        self.incoming = incoming
+        self.state = state
+        self.taker = taker
+        self.voice = voice
+        self.left: dict[str, Left] = {}
+        self.has_refused = False
+
+    def take_all(self) -> bool:
+        """Takes what can be taken, until nothing is left of it, since some may come meanwhile. Whether a file
+        was refused, or has lain here for long."""
+        try:
+            self.resume()
+            while self.take_those_there():
+                pass
+        except Fault as fault:
+            self.leave_all(str(fault))
+        except OSError as error:
+            self.leave_all(f"{error.filename or 'a file'}: {error.strerror}")
+        if not self.begun():
+            self.state.work.clear()
+        told = Told(self.state.told)
+        has_long = told.tell(self.voice, self.left)
+        told.keep()
+        return self.has_refused or has_long
+
+    def begun(self) -> Copied | None:
+        """The file that was given a number and is not at its end. It goes before all others, none of which may
+        be given that number; and it may no longer be in the folder."""
+        work = self.state.work
+        name = work.name()
+        if name is None or not (source := work.source(name)).is_file():
+            return None
+        copied = Copied(name, source, digest_of(source))
+        return copied if self.taker.numbers.of(copied.digest) else None
+
+    def resume(self) -> None:
+        if copied := self.begun():
+            self.state.work.begin_again()
+            self.say(copied.name, self.taker.take(copied))
+
+    def take_those_there(self) -> bool:
+        """Takes the files that are there, and tells whether one was taken."""
+        candidates, self.left = self.incoming.look()
+        has_taken = False
+        for candidate in candidates:
+            try:
+                self.take(candidate)
+                has_taken = True
+            except Lies as lies:
+                self.left[candidate.name] = lies.left
+            except Gone:
+                continue
+        return has_taken
+
+    def take(self, candidate: Candidate) -> None:
+        work = self.state.work
+        source = work.source(candidate.name)
+        work.begin(candidate.name)
+        copied = Copied(candidate.name, source, self.incoming.copy(candidate, source))
+        work.sync()
+        self.say(candidate.name, self.taker.take(copied))
+        self.incoming.remove(candidate)
+
+    def leave_all(self, why: str) -> None:
+        """After a fault all that could be taken waits."""
+        candidates, self.left = self.incoming.look()
+        begun = self.begun()
+        names = [candidate.name for candidate in candidates] + ([begun.name] if begun else [])
+        self.left |= {name: Left(why, waits=True) for name in names}
+
+    def say(self, name: str, taken: Taken) -> None:
+        self.voice.taken(name, taken)
+        self.has_refused |= taken.is_refused

@@ -1,0 +1,135 @@
+"""The settings of an inbox: lines NAME=VALUE of a file of the shop's."""
+
+import argparse
+import re
+import shlex
+from collections.abc import Callable
+from dataclasses import dataclass
+from pathlib import Path
+from typing import Any, NamedTuple
+from urllib.parse import urlsplit
+
+# The series' next number, asked of the desk, in place of the number that a feed has.
+NEXT = "next"
+OWN = "own"
+
+# Words of the converter that the inbox gives itself.
+RESERVED = re.compile(r"-o.*|--number(=.*)?|-h|--help")
+OFFSET = re.compile(r"--number-offset(=.*)?")
+
+
+class Address(NamedTuple):
+    """Where a desk answers."""
+
+    host: str
+    port: int
+
+    def __str__(self) -> str:
+        return f"http://{self.host}:{self.port}"
+
+
+@dataclass(frozen=True)
+class Settings:
+    desk: Address = Address("127.0.0.1", 8080)
+    words: tuple[str, ...] = ()
+    number: str = OWN
+    sender: tuple[str, str] | None = None
+    unchanged_seconds: int = 60
+    conversion_seconds: int = 1800
+
+    @property
+    def parts(self) -> int:
+        """How many messages the converter makes of a feed by its words."""
+        parser = argparse.ArgumentParser(allow_abbrev=False, add_help=False, exit_on_error=False)
+        parser.add_argument("--parts", type=int, default=1)
+        try:
+            return max(1, parser.parse_known_args(self.words)[0].parts)
+        except argparse.ArgumentError:
+            # The converter refuses these words, and says why.
+            return 1
+
+
+class BadSettings(Exception):
+    """A file of settings that cannot be read, or a line of it."""
+
+
+def address(value: str) -> Address:
+    url = urlsplit(value)
+    if url.scheme != "http" or not url.hostname or url.port is None or url.path not in ("", "/"):
+        raise ValueError("DESK is http://HOST:PORT")
+    return Address(url.hostname, url.port)
+
+
+def words(value: str) -> tuple[str, ...]:
+    found = tuple(shlex.split(value))
+    for word in found:
+        if RESERVED.fullmatch(word):
+            raise ValueError(f"{word} is no word of WORDS: the inbox gives it, or leaves it out")
+    return found
+
+
+def number(value: str) -> str:
+    if value not in (OWN, NEXT):
+        raise ValueError(f"NUMBER is {OWN} or {NEXT}")
+    return value
+
+
+def identifier(value: str) -> tuple[str, str] | None:
+    found = re.fullmatch("([0-9]{2}),(.+)", value)
+    if value and not found:
+        raise ValueError("SENDER is TYPE,VALUE with a TYPE of two digits")
+    return (found[1], found[2]) if found else None
+
+
+def seconds(value: str) -> int:
+    if not re.fullmatch("[0-9]{1,6}", value):
+        raise ValueError("seconds are one to six digits")
+    return int(value)
+
+
+READERS: dict[str, tuple[str, Callable]] = {
+    "DESK": ("desk", address),
+    "WORDS": ("words", words),
+    "NUMBER": ("number", number),
+    "SENDER": ("sender", identifier),
+    "UNCHANGED_SECONDS": ("unchanged_seconds", seconds),
+    "CONVERSION_SECONDS": ("conversion_seconds", seconds),
+}
+
+
+def settings_of(text: str, name: str) -> Settings:
+    """The settings that the text of a file of that name says."""
+    found: dict[str, Any] = {}
+    for place, line in enumerate(text.split("\n"), 1):
+        if not line.strip() or line.lstrip().startswith("#"):
+            continue
+        try:
+            attribute, value = setting(line)
+            if attribute in found:
+                raise ValueError(f"{line.partition('=')[0].strip()} is there twice")
+        except ValueError as error:
+            raise BadSettings(f"{name}:{place}: {error}") from None
+        found[attribute] = value
+    settings = Settings(**found)
+    if settings.number == NEXT and any(OFFSET.fullmatch(word) for word in settings.words):
+        raise BadSettings(f"{name}: NUMBER=next and --number-offset do not go together")
+    return settings
+
+
+def setting(line: str) -> tuple[str, object]:
+    """The attribute that a line sets, and its value."""
+    name, equals, value = (part.strip() for part in line.partition("="))
+    if not equals or name not in READERS:
+        raise ValueError(f"no line of the form NAME=VALUE, NAME being one of {', '.join(READERS)}")
+    attribute, read = READERS[name]
+    return attribute, read(value)
+
+
+def read_settings(file: Path) -> Settings:
+    try:
+        text = file.read_text(encoding="utf-8")
+    except OSError as error:
+        raise BadSettings(f"{file}: {error.strerror}") from None
+    except UnicodeDecodeError:
+        raise BadSettings(f"{file}: it is no UTF-8") from None
+    return settings_of(text, str(file))

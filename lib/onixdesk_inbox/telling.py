@@ -1,0 +1,91 @@
+"""What is said of each file: a line on standard error, which systemd puts into its journal. Of a file that lies
+on it is said once, and once more where it lies long."""
+
+import contextlib
+import json
+import os
+import time
+from dataclasses import asdict, dataclass
+from pathlib import Path
+from typing import TextIO
+
+from onixdesk_inbox.names import printable, shown
+from onixdesk_inbox.verdicts import Left, Taken
+
+PROGRAM = "onixdesk-inbox"
+
+# Priorities of syslog.
+ERROR, WARNING, NOTICE = 3, 4, 5
+
+# When a file that lies on makes a run fail, once.
+LONG_SECONDS = 3600
+LONG = "it has been here for an hour"
+
+
+class Voice:
+    def __init__(self, stream: TextIO) -> None:
+        self.stream = stream
+        self.is_journal = is_journal(stream)
+
+    def say(self, priority: int, text: str) -> None:
+        before = f"<{priority}>" if self.is_journal else f"{PROGRAM}: "
+        self.stream.write(f"{before}{printable(text)}\n")
+        self.stream.flush()
+
+    def of_file(self, priority: int, name: str, text: str) -> None:
+        self.say(priority, f"{shown(name)}: {text}")
+
+    def taken(self, name: str, taken: Taken) -> None:
+        if taken.is_refused:
+            self.of_file(ERROR, name, f"refused: {taken.said}")
+        else:
+            self.of_file(NOTICE, name, f"done: {taken.said}")
+
+
+def is_journal(stream: TextIO) -> bool:
+    """Whether the stream goes to the journal, which reads a priority at the beginning of a line."""
+    with contextlib.suppress(OSError, ValueError):
+        status = os.fstat(stream.fileno())
+        return os.environ.get("JOURNAL_STREAM") == f"{status.st_dev}:{status.st_ino}"
+    return False
+
+
+@dataclass
+class Lying:
+    """Since when a file has lain here, what was said of it last, and whether it was told that it lies long."""
+
+    since: float
+    said: str
+    is_long_told: bool = False
+
+
+class Told:
+    """What was said of the files that lie on, kept from run to run."""
+
+    def __init__(self, path: Path) -> None:
+        self.path = path
+        self.lying: dict[str, Lying] = {}
+        with contextlib.suppress(FileNotFoundError, ValueError, TypeError, AttributeError):
+            kept = json.loads(path.read_text(encoding="ascii"))
+            self.lying = {name: Lying(**values) for name, values in kept.items()}
+
+    def tell(self, voice: Voice, left: dict[str, Left]) -> bool:
+        """Says what is new of these files, and whether one of them lies long, which was not told before."""
+        now = time.time()
+        self.lying = {name: self.lying.get(name, Lying(now, "")) for name in sorted(left)}
+        has_long = False
+        for name, lying in self.lying.items():
+            said = str(left[name])
+            if said != lying.said:
+                lying.said = said
+                voice.of_file(NOTICE if left[name].waits else WARNING, name, said)
+            if not lying.is_long_told and now - lying.since >= LONG_SECONDS:
+                lying.is_long_told = has_long = True
+                voice.of_file(ERROR, name, f"{said}; {LONG}")
+        return has_long
+
+    def keep(self) -> None:
+        kept = {name: asdict(lying) for name, lying in self.lying.items()}
+        beside = self.path.with_name("told.new")
+        beside.write_text(json.dumps(kept), encoding="ascii")
+        os.replace(beside, self.path)

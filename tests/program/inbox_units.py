@@ -1,0 +1,144 @@
+"""The units of the inboxes, their example of settings and their mails, and the places that these name."""
+
+import re
+import subprocess
+import sys
+
+from program.inboxes import PROGRAM, ROOT, script
+from program.room import SECONDS, Group, Outcome, Room
+
+FOLDER = ROOT / "examples/inbox"
+UNITS = {
+    "the desk": ROOT / "examples/onixdesk.service",
+    "an inbox": FOLDER / "onixdesk-inbox@.service",
+}
+
+# What neither service needs, by the names that systemd.exec(5) and systemd.resource-control(5) have for it.
+FORBIDDEN = """
+CapabilityBoundingSet=
+Environment=HOME=/nonexistent
+IPAddressAllow=localhost
+IPAddressDeny=any
+LockPersonality=yes
+MemoryDenyWriteExecute=yes
+NoNewPrivileges=yes
+PrivateDevices=yes
+PrivateTmp=yes
+ProtectClock=yes
+ProtectControlGroups=yes
+ProtectHome=yes
+ProtectHostname=yes
+ProtectKernelLogs=yes
+ProtectKernelModules=yes
+ProtectKernelTunables=yes
+ProtectProc=invisible
+ProtectSystem=strict
+RestrictAddressFamilies=AF_INET
+RestrictNamespaces=yes
+RestrictRealtime=yes
+RestrictSUIDSGID=yes
+SystemCallArchitectures=native
+SystemCallFilter=@system-service
+SystemCallFilter=~@privileged @resources
+UMask=0077
+""".split("\n")[1:-1]
+
+LIMITS = {"the desk": ["MemoryMax"], "an inbox": ["MemoryMax", "OOMPolicy", "TimeoutStartSec"]}
+
+
+def lines_of(name: str) -> list[str]:
+    return FOLDER.joinpath(name).read_text(encoding="utf-8").splitlines()
+
+
+def what_is_forbidden(_room):
+    for name, unit in UNITS.items():
+        lines = unit.read_text(encoding="utf-8").splitlines()
+        yield Outcome(f"units: what is forbidden to {name}", [line for line in FORBIDDEN if line not in lines], [])
+        limits = [word for word in LIMITS[name] if not any(line.startswith(f"{word}=") for line in lines)]
+        yield Outcome(f"units: the limits of {name}", limits, [])
+
+
+def places(_room):
+    """The units name the folders that the program takes without options, and the unit's name has the series."""
+    help = subprocess.run([PROGRAM, "--help"], capture_output=True, text=True, timeout=SECONDS).stdout
+    incoming, state = (
+        re.search(rf"(/var/lib/{folder}/)SERIES", help)[1] for folder in ("onixdesk-incoming", "onixdesk-inbox")
+    )
+    service = lines_of("onixdesk-inbox@.service")
+    wanted = [
+        "ExecStart=/opt/onixdesk/bin/onixdesk-inbox -- %i",
+        f"StateDirectory={state.removeprefix('/var/lib/')}%i",
+        "StateDirectoryMode=0700",
+        f"ReadWritePaths=-{incoming}%i",
+    ]
+    yield Outcome("units: the places of the service", [line for line in wanted if line not in service], [])
+    watched = [line for line in lines_of("onixdesk-inbox@.path") if line.startswith("Path")]
+    yield Outcome("units: the place of the path unit", watched, [f"PathChanged={incoming}%i"])
+    cleared = [line for line in lines_of("tmpfiles.conf") if line.startswith("e ")]
+    yield Outcome("units: what is cleared", cleared, [f"e {state}*/done - - - 90d"])
+    timer = lines_of("onixdesk-inbox@.timer")
+    yield Outcome("units: the timer", "OnUnitInactiveSec=1min" in timer, True)
+
+
+def without_line(text: str, name: str) -> str:
+    return re.sub(rf"^{name}=.*\n", "", text, flags=re.MULTILINE)
+
+
+def example_of_settings(room: Room):
+    """It is read, and has what holds where a line is left out."""
+    text = FOLDER.joinpath("example.conf").read_text(encoding="utf-8")
+    names = re.findall("^([A-Z_]+)=", text, flags=re.MULTILINE)
+    reading = (
+        "import sys; sys.path.insert(0, sys.argv[1]); from pathlib import Path;"
+        " from onixdesk_inbox.settings import *; print(read_settings(Path('example.conf')) == Settings())"
+    )
+    for name in [None, *names]:
+        room.write("example.conf", (without_line(text, name) if name else text).encode())
+        done = subprocess.run(
+            [sys.executable, "-I", "-S", "-B", "-c", reading, ROOT / "lib"],
+            cwd=room.folder, capture_output=True, text=True, timeout=SECONDS,
+        )
+        yield Outcome(f"units: the example of settings without {name}", (done.stdout, done.stderr), ("True\n", ""))
+    page = ROOT.joinpath("docs/INBOX.md").read_text(encoding="utf-8")
+    yield Outcome("docs/INBOX.md: the settings", re.findall(r"^\| `([A-Z_]+)` \|", page, flags=re.MULTILINE), names)
+
+
+def mails(room: Room):
+    """The mail has the journal's lines, and goes to the address."""
+    script(room, "sendmail", 'echo "words: $*"; cat')
+    script(room, "journalctl", 'echo "journal of: $*"')
+    done = subprocess.run(
+        [FOLDER / "mail.sh", "north", "buying@example.org"],
+        env={"PATH": f"{room.folder}:/usr/bin:/bin"}, capture_output=True, text=True, timeout=SECONDS,
+    )
+    head, _, body = done.stdout.partition("\n\n")
+    wanted = ["words: -i -t", "To: buying@example.org", "Subject: onixdesk: the inbox of north"]
+    yield Outcome("mail.sh: its head", (done.returncode, done.stderr, head.splitlines()[:3]), (0, "", wanted))
+    wanted = "journal of: --quiet --no-pager --unit=onixdesk-inbox@north.service --since=-1h --output=short\n"
+    yield Outcome("mail.sh: its body", body, wanted)
+
+
+VERSION = re.compile(r'^const VERSION: &str = "([0-9]+\.[0-9]+\.[0-9]+)";$', re.MULTILINE)
+
+
+def version(room: Room):
+    """It stands in the program's source alone, from which the package and the manual pages have it."""
+    source = ROOT.joinpath("crates/onixdesk/src/commands.rt").read_text(encoding="utf-8")
+    number = VERSION.search(source)[1]
+    yield Outcome("the version of the program", room.run("--version").output, f"onixdesk {number}\n".encode())
+    package = [*ROOT.joinpath("packaging").glob("*.1"), *ROOT.glob("packaging/debian/*"), *ROOT.glob("bin/*")]
+    named = [path.name for path in package if path.is_file() and f"{number} " in path.read_text(encoding="utf-8")]
+    yield Outcome("the version of the package", named, [])
+    for name in ("onixdesk.1", "onix-to-csv.1"):
+        page = ROOT.joinpath("packaging", name).read_text(encoding="utf-8")
+        # The line that packaging/build gives the version.
+        yield Outcome(f"the version of {name}", page.splitlines().count(".Os"), 1)
+
+
+GROUPS = [
+    Group("units: what is forbidden", what_is_forbidden),
+    Group("units: places", places),
+    Group("units: the example of settings", example_of_settings),
+    Group("units: mails", mails),
+    Group("units: the version", version),
+]

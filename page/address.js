@@ -3,18 +3,27 @@
 
 const VIEWS = ["article", "missing"];
 
-/** The view and the texts by name of an address; an unknown view is the first one. */
+/** What an address may ask for. */
+export const ASKED = ["isbn", "day", "quantity", "country", "currency", "type"];
+export const RANGE = ["from", "until"];
+
+/**
+ * The view and the texts by name of an address. An unknown view is the first one; an unknown name, as a
+ * mail or another program may add one, is passed over.
+ */
 export function readAddress(hash) {
   const [name, query = ""] = hash.replace(/^#/, "").split(/\?(.*)/s);
+  const all = [...new URLSearchParams(query)];
   return {
     view: VIEWS.includes(name) ? name : VIEWS[0],
-    given: Object.fromEntries(new URLSearchParams(query)),
+    given: Object.fromEntries(all.filter(([key]) => [...ASKED, ...RANGE].includes(key))),
   };
 }
 
-/** The address of a view with what is asked there. */
+/** The address of a view with what is asked there, in one order. */
 export function addressOf(view, given) {
-  return `#${view}?${new URLSearchParams(given)}`;
+  const names = [...ASKED, ...RANGE].filter((name) => given[name] !== undefined);
+  return `#${view}?${new URLSearchParams(names.map((name) => [name, given[name]]))}`;
 }
 
 /** The URL of a path beside the page, without a name and password that the page's own may have. */

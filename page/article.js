@@ -1,20 +1,23 @@
 // The view of an article: the question, its answer, and the calendar.
 
-import { addressOf } from "./address.js";
+import { addressOf, ASKED, RANGE } from "./address.js";
+import { Answer } from "./answer.js";
+import { askCalendar, askCopies, askDay, askTypes } from "./asking.js";
 import { calendarPicture, calendarTable, legendOf } from "./calendar.js";
-import { endOfMonths, inWords, isDay, lengthOf, plusDays, plusMonths, today } from "./days.js";
-import { ask, isAbandoned } from "./desk.js";
-import { element } from "./elements.js";
-import { dayKeys, rangeKeys, readAll } from "./fields.js";
-import { choiceInWords, countInWords, keyOf, offersTable } from "./offers.js";
-import { codeInWords, codesOf, LANGUAGE, say, sayCount, wordsOfCode } from "./wording.js";
+import { endOfMonths, lengthOf, plusDays, today } from "./days.js";
+import { isAbandoned } from "./desk.js";
+import { readAll } from "./fields.js";
+import { Form, markAll, refuse, textsFor } from "./form.js";
+import { withoutHyphens } from "./isbn.js";
+import { areUnpriced, keyOf } from "./offers.js";
+import { say } from "./wording.js";
 
-const ASKED = ["isbn", "day", "quantity", "country", "currency", "type"];
-const RANGE = ["from", "until"];
 const YEAR = 12;
 
-// How often the price and the choice are asked for until both are of the same moment.
-const TRIES = 3;
+// How often the view looks whether another day has begun.
+const LOOK = 20_000;
+
+const found = (id) => document.getElementById(id);
 
 function moved({ from, until }, lengths) {
   const days = lengthOf({ from, until }) * lengths;
@@ -29,156 +32,51 @@ const MOVES = {
   year: ({ from }) => ({ from, until: endOfMonths(from, YEAR) }),
 };
 
-const found = (id) => document.getElementById(id);
-const names = {
-  country: new Intl.DisplayNames(LANGUAGE, { type: "region", fallback: "none" }),
-  currency: new Intl.DisplayNames(LANGUAGE, { type: "currency", fallback: "none" }),
-};
-
-/** Says what is wrong with a field, or, with the empty text, that nothing is. */
-function mark(name, words) {
-  found(`${name}-wrong`).textContent = words;
-  if (words === "") found(name).removeAttribute("aria-invalid");
-  else found(name).setAttribute("aria-invalid", "true");
-}
-
-function markAll(fields, problems) {
-  for (const name of fields) mark(name, problems[name] ?? "");
-  const first = fields.find((name) => problems[name] !== undefined);
-  if (first !== undefined) found(first).focus();
-  return first === undefined;
-}
-
-/** Writes below a field what its code means, as the browser knows it. */
-function explain(name) {
-  const code = found(name).value.trim().toUpperCase();
-  let words;
-  try {
-    words = names[name].of(code);
-  } catch {
-    // It is no code of this kind.
-  }
-  found(`${name}-words`).textContent = words ?? "";
-}
-
-/** Writes below the price type its words, which a narrow screen cuts off in the field. */
-function explainType() {
-  found("type-words").textContent = wordsOfCode("priceTypes", found("type").value) ?? "";
-}
-
-/** Offers the types that have words, and one more where the address or desk.json names it. */
-function fillTypes(chosen) {
-  const codes = codesOf("priceTypes");
-  if (/^\d\d$/.test(chosen) && !codes.includes(chosen)) codes.push(chosen);
-  const options = codes.map((code) =>
-    element("option", { value: code }, codeInWords("priceTypes", code)),
-  );
-  found("type").replaceChildren(...options);
-  found("type").value = chosen;
-}
-
-/** From a month before the day on, a year at once. */
-function rangeAround(day, given) {
-  if (!isDay(day)) return { from: given.from ?? "", until: given.until ?? "" };
-  const from = given.from ?? plusMonths(day, -1);
-  return { from, until: given.until ?? (isDay(from) ? endOfMonths(from, YEAR) : "") };
-}
-
-function fill(given, settings) {
-  const { country, currency, type } = settings;
-  const texts = { isbn: "", day: today(), quantity: "1", country, currency, type, ...given };
-  Object.assign(texts, rangeAround(texts.day, given));
-  fillTypes(texts.type);
-  for (const name of [...ASKED, ...RANGE]) found(name).value = texts[name];
-  explain("country");
-  explain("currency");
-  explainType();
-}
-
-function textsOf(fields) {
-  return Object.fromEntries(fields.map((name) => [name, found(name).value]));
-}
-
-function questionInWords({ isbn, day, country, currency, type, quantity }) {
-  return say("article.question", {
-    isbn,
-    day: inWords(day),
-    country,
-    currency,
-    type: codeInWords("priceTypes", type),
-    copies: sayCount("article.copies", Number(quantity)),
-  });
-}
-
-/** Says in words what the desk refused, or that it was not the desk that replied. */
-function refuse(outcome) {
-  const { kind, reason } = outcome;
-  if (kind === "strange") found("question-wrong").textContent = outcome.words;
-  else if (reason === "bad-range") markAll(["until"], { until: say("wrong.range") });
-  else if (reason === "bad-query") found("question-wrong").textContent = say("wrong.query");
-  else found("question-wrong").textContent = say("wrong.other", { reason });
-}
-
-function isOfOneMoment(offers, choice) {
-  if (choice === null) return true;
-  return offers.some((offer) => keyOf(offer) === keyOf(choice) && offer.amount === choice.amount);
-}
-
-/** The offers and the choice of a day, or the outcome that is no answer. */
-async function askDay(question, signal, watch) {
-  const asked = (what) => ask(`articles/${question.isbn}/${what}`, dayKeys(question), signal, watch);
-  for (let tries = 1; ; tries += 1) {
-    const price = await asked("price");
-    if (price.kind !== "answer") return { refusal: price };
-    const choice = await asked("choice");
-    if (choice.kind !== "answer") return { refusal: choice };
-    const answer = { offers: price.body.offers, choice: choice.body.choice };
-    // A message that came between the two may have changed the price.
-    if (tries === TRIES || isOfOneMoment(answer.offers, answer.choice)) return answer;
-  }
-}
-
 /** The view, over the settings; `watch` is told when the desk is down and up. */
 export class Article {
   #settings;
   #watch;
+  #form = new Form();
+  #answer;
   #asking = new AbortController();
-  #calendar;
-  #answered;
+  #timer;
   #given = {};
+  #texts = {};
+  #answered;
+  #calendar;
 
   constructor(settings, watch) {
     this.#settings = settings;
     this.#watch = watch;
+    const addressWith = (changes) => addressOf("article", { ...this.#given, ...changes });
+    this.#answer = new Answer(settings, addressWith, () => this.#drawCalendar());
     found("question").addEventListener("submit", (event) => this.#submit(event));
     found("range").addEventListener("submit", (event) => this.#submitRange(event));
-    for (const name of ["country", "currency"]) {
-      found(name).addEventListener("input", () => explain(name));
-    }
-    found("type").addEventListener("change", explainType);
+    found("to-today").addEventListener("click", () => this.#toToday());
     for (const [id, move] of Object.entries(MOVES)) {
       found(id).addEventListener("click", () => this.#move(move));
     }
-    new ResizeObserver(() => this.#draw()).observe(found("picture"));
+    document.addEventListener("visibilitychange", () => this.#followToday());
+    new ResizeObserver(() => this.#drawPicture()).observe(found("picture"));
   }
 
   /** Shows what the address asks for. */
   show(given) {
     this.leave();
     this.#given = given;
-    fill(given, this.#settings);
-    // The next ISBN, typed or from a scanner, takes the place of this one.
-    if (document.activeElement === found("isbn")) found("isbn").select();
-    markAll([...ASKED, ...RANGE], {});
-    found("question-wrong").textContent = "";
+    this.#texts = textsFor(given, this.#settings);
+    const keepsFocus = found("range").contains(document.activeElement);
+    this.#form.fill(this.#texts, given.day !== undefined);
+    if (!keepsFocus) this.#form.focusIsbn();
     if (given.isbn === undefined) this.#clear();
     else this.#ask();
+    this.#timer = setInterval(() => this.#followToday(), LOOK);
   }
 
-  /** Waits for no answer any longer. */
   leave() {
-    this.#asking.abort();
-    this.#watch.up();
+    clearInterval(this.#timer);
+    this.#timer = undefined;
+    this.#stop();
   }
 
   /** The title of the view, for the window. */
@@ -187,13 +85,22 @@ export class Article {
     return values.isbn === undefined ? say("article.view") : say("article.titled", values);
   }
 
-  #clear() {
-    found("article-status").replaceChildren();
-    found("answer").hidden = true;
+  /** Waits for no answer any longer. */
+  #stop() {
+    this.#asking.abort();
+    this.#watch.up();
+  }
+
+  #clear(words) {
+    this.#answer.clear(words);
+    this.#clearCalendar();
     found("calendar").hidden = true;
-    for (const id of ["offers", "picture", "spans"]) found(id).replaceChildren();
-    this.#calendar = undefined;
     this.#answered = undefined;
+  }
+
+  #clearCalendar() {
+    for (const id of ["picture", "spans", "calendar-asked"]) found(id).replaceChildren();
+    this.#calendar = undefined;
   }
 
   /** Goes to the address of a question; where the page is there already, it is asked anew. */
@@ -209,16 +116,22 @@ export class Article {
 
   #submit(event) {
     event.preventDefault();
-    const { values, problems } = readAll(textsOf(ASKED));
+    const asked = this.#form.asked();
+    const { values, problems, remarks } = readAll(asked);
     if (!markAll(ASKED, problems)) {
-      this.leave();
+      if (problems.isbn !== undefined) this.#form.focusIsbn();
+      this.#stop();
       this.#clear();
       return;
     }
+    // A day is in the address where it is not today's, so that tomorrow the same address asks for that
+    // day. What looks wrong stays as it was typed.
+    const day = values.day === today() ? undefined : values.day;
+    const isbn = remarks.isbn === undefined ? values.isbn : withoutHyphens(asked.isbn);
     // A range that was set stays while the day lies in it.
     const { from, until } = this.#given;
-    const isKept = from <= values.day && values.day <= until;
-    this.#go(isKept ? { ...values, from, until } : values);
+    const range = from <= values.day && values.day <= until ? { from, until } : {};
+    this.#go({ ...values, isbn, day, ...range });
   }
 
   #submitRange(event) {
@@ -227,14 +140,35 @@ export class Article {
   }
 
   #move(move) {
-    const { values, problems } = readAll(textsOf(RANGE));
+    const { values, problems } = readAll(this.#form.range());
     if (!markAll(RANGE, problems)) return;
-    const { values: asked } = readAll({ ...textsOf(ASKED), ...this.#given, ...values });
-    this.#go({ ...asked, ...move(values) });
+    const { day } = this.#given;
+    this.#go({ ...this.#texts, day, ...move(values) });
   }
 
+  #toToday() {
+    this.#form.setToday();
+    if (this.#given.isbn === undefined) this.#form.focusIsbn();
+    else this.#go({ ...this.#given, day: undefined, from: undefined, until: undefined });
+  }
+
+  /** Where another day has begun, it is the one asked for, unless the buyer set one. */
+  #followToday() {
+    if (this.#timer === undefined) return;
+    this.#form.followToday();
+    this.#answer.noteDay();
+    const isLate = this.#given.day === undefined && this.#texts.day !== today();
+    if (!isLate || this.#answered === undefined) return;
+    this.#texts = textsFor(this.#given, this.#settings);
+    this.#form.fillRange(this.#texts);
+    this.#stop();
+    this.#ask();
+  }
+
+  /** Asks what the texts say. */
   async #ask() {
-    const { values, problems } = readAll(textsOf([...ASKED, ...RANGE]));
+    const { values, problems, remarks } = readAll(this.#texts);
+    this.#form.remark(remarks.isbn);
     const asked = JSON.stringify(ASKED.map((name) => values[name]));
     // Where only the range is another one, the offers stay, and the buttons with the focus.
     if (this.#answered?.asked !== asked) this.#clear();
@@ -242,71 +176,77 @@ export class Article {
     this.#asking = new AbortController();
     const { signal } = this.#asking;
     try {
-      if (this.#answered === undefined) {
-        const day = await this.#askForDay(values, signal);
-        if (day === undefined) return;
-        this.#answered = { asked, choice: day.choice };
-        found("calendar").hidden = day.offers.length === 0;
-      }
-      if (markAll(RANGE, problems)) await this.#askCalendar(values, signal);
+      if (this.#answered === undefined) await this.#askForDay(values, asked, signal);
+      if (this.#answered === undefined) return;
+      if (markAll(RANGE, problems)) await this.#askForCalendar(values, signal);
+      await this.#askForMore(this.#answered, signal);
     } catch (fault) {
       if (!isAbandoned(fault)) throw fault;
     }
   }
 
-  /** The offers and the choice, once they are shown; `undefined` where they were refused. */
-  async #askForDay(question, signal) {
-    found("article-status").replaceChildren(say("article.asking"));
+  /** Shows the offers and the choice; nothing is answered where they were refused. */
+  async #askForDay(question, asked, signal) {
+    this.#answer.clear(say("article.asking"));
     const day = await askDay(question, signal, this.#watch);
-    this.#showDay(day, question);
-    return day.refusal === undefined ? day : undefined;
-  }
-
-  #showDay({ refusal, offers, choice }, question) {
-    if (refusal !== undefined) {
-      found("article-status").replaceChildren();
-      refuse(refusal);
+    if (day.refusal !== undefined) {
+      this.#answer.clear();
+      refuse(day.refusal);
       return;
     }
-    const sentences = choiceInWords(offers, choice, question.currency, this.#settings);
-    const status = [countInWords(offers), ...sentences].map((words, at) =>
-      element(at === 1 ? "strong" : "span", {}, words, " "),
-    );
-    found("article-status").replaceChildren(...status);
-    found("asked").textContent = questionInWords(question);
-    found("answer-heading").textContent = say("article.offers", { day: inWords(question.day) });
-    const rows = offersTable("answer-heading", offers, choice, question.currency, this.#settings);
-    found("offers").replaceChildren(...(offers.length > 0 ? [rows] : []));
-    found("answer").hidden = false;
+    this.#answer.show(day);
+    this.#answered = { ...day, asked };
+    found("calendar").hidden = day.offers.length === 0;
   }
 
-  async #askCalendar(question, signal) {
-    const path = `articles/${question.isbn}/calendar`;
-    const outcome = await ask(path, rangeKeys(question), signal, this.#watch);
-    found("picture").replaceChildren();
-    found("spans").replaceChildren();
-    found("calendar-asked").textContent = "";
-    this.#calendar = undefined;
+  async #askForCalendar(question, signal) {
+    const outcome = await askCalendar(question, signal, this.#watch);
+    this.#clearCalendar();
     if (outcome.kind !== "answer") {
       refuse(outcome);
       return;
     }
-    const { offers } = outcome.body;
-    const { choice } = this.#answered;
-    this.#calendar = { offers, question, chosen: choice === null ? undefined : keyOf(choice) };
+    this.#calendar = { offers: outcome.body.offers, question };
     found("calendar-asked").textContent = legendOf(question);
-    found("spans").replaceChildren(calendarTable("spans-heading", offers, question, this.#settings));
-    this.#draw();
+    this.#drawCalendar();
+  }
+
+  /** What the answer is worth more with: other quantities, or, where it has no price, other types. */
+  async #askForMore(answered, signal) {
+    const { offers, isWhole } = answered;
+    if (isWhole || offers.length === 0) return;
+    const { quantities } = this.#settings;
+    if (quantities.length > 0) {
+      this.#answer.addCopies(await askCopies(answered, quantities, signal, this.#watch));
+    }
+    if (areUnpriced(offers)) {
+      this.#answer.awaitTypes();
+      this.#answer.addTypes(await askTypes(answered, signal, this.#watch));
+    }
+    answered.isWhole = true;
+  }
+
+  /** Draws the calendar with the offers in the order of the table above it. */
+  #drawCalendar() {
+    if (this.#calendar === undefined) return;
+    const { offers, question } = this.#calendar;
+    const ordered = this.#answer.ordered(offers);
+    found("spans").replaceChildren(calendarTable("spans-heading", ordered, question, this.#settings));
+    found("picture").replaceChildren();
+    this.#drawPicture();
   }
 
   /** Draws the picture as wide as its place is. */
-  #draw() {
+  #drawPicture() {
     const place = found("picture");
     const pixels = Math.floor(place.clientWidth);
     if (this.#calendar === undefined || pixels === 0) return;
     if (place.dataset.pixels === String(pixels) && place.hasChildNodes()) return;
-    const { offers, question, chosen } = this.#calendar;
+    const { offers, question } = this.#calendar;
+    const { choice } = this.#answered;
+    const chosen = choice === null ? undefined : keyOf(choice);
+    const ordered = this.#answer.ordered(offers);
     place.dataset.pixels = pixels;
-    place.replaceChildren(calendarPicture(offers, question, chosen, this.#settings, pixels));
+    place.replaceChildren(calendarPicture(ordered, question, chosen, this.#settings, pixels));
   }
 }

@@ -1,10 +1,11 @@
 // The calendar of prices: a picture with a lane for each offer, and the same as a table.
 
+import { bareMoney, money } from "./amounts.js";
 import { dayInShort, fromDesk, inWords, numberOf, ticksOf } from "./days.js";
 import { drawn, element, table } from "./elements.js";
-import { keyOf, money, referenceOf } from "./offers.js";
+import { keyOf, referenceOf } from "./offers.js";
 import { seriesInWords } from "./settings.js";
-import { codeInWords, say, sayCount } from "./wording.js";
+import { codeInWords, say, sayCount, sayParts } from "./wording.js";
 
 // Lengths in pixels. A sign's width is that of a wide digit in the picture's font.
 const SIGN = 8;
@@ -57,7 +58,7 @@ function barOf(span, scale, currency) {
     drawn("title", {}, title),
   );
   Object.assign(shape.dataset, { first: span.first, last: span.last, amount: span.amount });
-  return { shape, text: span.amount.replace(/0$/, ""), left, right, middle: (left + right) / 2 };
+  return { shape, text: bareMoney(span.amount, currency), left, right, middle: (left + right) / 2 };
 }
 
 /** Where the day asked for lies, in its middle, or `undefined` where that is outside the range. */
@@ -136,12 +137,13 @@ function axis(question, scale) {
   return svg(scale.whole, AXIS, "axis", base, ...ticks, ...ends, ...dayLine(placeOfDay(question, scale), 5));
 }
 
+/** The name of an offer's lane. */
 function laneName(offer, settings) {
-  return say("calendar.lane", {
+  return element("span", {}, ...sayParts("calendar.lane", {
     wholesaler: seriesInWords(settings, offer.series),
     reference: referenceOf(offer),
     availability: codeInWords("availabilities", offer.availability),
-  });
+  }));
 }
 
 /** The picture of a calendar's offers, so many pixels wide. `chosen` is the key of the chosen offer. */
@@ -151,12 +153,12 @@ export function calendarPicture(offers, question, chosen, settings, whole) {
     const isChosen = keyOf(offer) === chosen;
     const name = laneName(offer, settings);
     const words = isChosen
-      ? say("calendar.chosenLane", { lane: name, day: inWords(question.day) })
-      : name;
+      ? sayParts("calendar.chosenLane", { lane: name, day: inWords(question.day) })
+      : [name];
     return element(
       "div",
       { class: isChosen ? "offer chosen" : "offer" },
-      element("p", { class: "lane-name" }, words),
+      element("p", { class: "lane-name" }, ...words),
       lane(offer, question, scale),
     );
   });

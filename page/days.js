@@ -1,27 +1,20 @@
 // Days of the calendar, written YYYY-MM-DD, which is also how a field for a day has them.
 
-import { LANGUAGE } from "./wording.js";
+import { formatter } from "./wording.js";
 
 const FIRST = "0001-01-01";
 const LAST = "9999-12-31";
 const MILLISECONDS = 86_400_000;
 
-const long = new Intl.DateTimeFormat(LANGUAGE, {
-  day: "numeric",
-  month: "long",
-  year: "numeric",
-  timeZone: "UTC",
-});
-
-const short = new Intl.DateTimeFormat(LANGUAGE, {
-  day: "numeric",
-  month: "short",
-  year: "numeric",
-  timeZone: "UTC",
-});
+const LONG = { day: "numeric", month: "long", year: "numeric" };
+const SHORT = { day: "numeric", month: "short", year: "numeric" };
 
 function instant(day) {
   return new Date(`${day}T00:00:00Z`);
+}
+
+function formatted(day, parts) {
+  return formatter(Intl.DateTimeFormat, { ...parts, timeZone: "UTC" }).format(instant(day));
 }
 
 /** Whether a text is a day that exists, from the year 1 to 9999. */
@@ -79,12 +72,12 @@ export function fromDesk(text) {
 
 /** A day in words, such as 10 April 2025. */
 export function inWords(day) {
-  return long.format(instant(day));
+  return formatted(day, LONG);
 }
 
 /** A day in short words, such as 10 Apr 2025. */
 export function dayInShort(day) {
-  return short.format(instant(day));
+  return formatted(day, SHORT);
 }
 
 /** The last day of a range that begins with a day and is so many months long. */
@@ -98,8 +91,7 @@ export function lengthOf({ from, until }) {
 }
 
 function tick(day, parts) {
-  const text = new Intl.DateTimeFormat(LANGUAGE, { ...parts, timeZone: "UTC" }).format(instant(day));
-  return { day, text };
+  return { day, text: formatted(day, parts) };
 }
 
 /** The days of a short range, every day or every few of them. */

@@ -6,6 +6,9 @@ import { say, wordsOfCode } from "./wording.js";
 const REPLY_SECONDS = 15;
 const AGAIN_SECONDS = 5;
 
+// The desk or the web server cannot answer just now; 429 is the web server's, asked too often.
+const DOWN = [429, 502, 503, 504];
+
 function urlOf(path, keys) {
   const url = urlBeside(`desk/${path}`);
   url.search = new URLSearchParams(keys);
@@ -24,7 +27,7 @@ async function bodyOf(reply) {
 
 /** A reply as an answer, a refusal in the desk's word, a desk that is down, or something else. */
 function outcomeOf(status, body) {
-  if ([502, 503, 504].includes(status)) {
+  if (DOWN.includes(status)) {
     const reason = wordsOfCode("down.reasons", body?.reason) ?? "";
     return { kind: "down", words: [say(`down.${status}`), reason].join(" ").trim() };
   }

@@ -1,19 +1,25 @@
 // The fields of a question: what each text means, and what is wrong with it, in words.
 
 import { isDay, toDesk } from "./days.js";
+import { checkDigit, checkSign, isTen, toThirteen, withoutHyphens } from "./isbn.js";
 import { say, sayCount } from "./wording.js";
 
 const value = (text) => ({ value: text });
 const problem = (words) => ({ problem: words });
 
+/** A value with a remark, unless its last sign is the one that belongs there. */
+function checked(text, came, right) {
+  return came === right ? value(text) : { value: text, remark: say("wrong.isbnCheck", { right }) };
+}
+
 function readIsbn(text) {
-  const digits = text.replace(/[\s\u00ad\u2010-\u2015\u2212-]/g, "");
+  const digits = withoutHyphens(text).toUpperCase();
   if (digits === "") return problem(say("wrong.isbnEmpty"));
-  if (/^\d{9}[\dXx]$/.test(digits)) return problem(say("wrong.isbnTen"));
+  if (isTen(digits)) return checked(toThirteen(digits), digits.at(-1), checkSign(digits));
   const sign = digits.match(/[^0-9]/u)?.[0];
   if (sign !== undefined) return problem(say("wrong.isbnLetters", { sign }));
   if (digits.length !== 13) return problem(sayCount("wrong.isbnDigits", digits.length));
-  return value(digits);
+  return checked(digits, digits.at(-1), checkDigit(digits));
 }
 
 function readDay(text) {
@@ -46,16 +52,19 @@ const READERS = {
   until: readDay,
 };
 
-/** Reads texts by name; gives the `values` of those that are right and the `problems` of the others. */
+/**
+ * Reads texts by name; gives the `values` of those that are right, the `problems` of the others, and the
+ * `remarks` on values that look wrong.
+ */
 export function readAll(textsByName) {
-  const values = {};
-  const problems = {};
+  const found = { values: {}, problems: {}, remarks: {} };
   for (const [name, text] of Object.entries(textsByName)) {
     const read = READERS[name](text);
-    if (read.problem === undefined) values[name] = read.value;
-    else problems[name] = read.problem;
+    if (read.problem === undefined) found.values[name] = read.value;
+    else found.problems[name] = read.problem;
+    if (read.remark !== undefined) found.remarks[name] = read.remark;
   }
-  return { values, problems };
+  return found;
 }
 
 /** The keys of the desk's query about what holds on a day. */

@@ -4,8 +4,8 @@ import { readAddress } from "./address.js";
 import { Article } from "./article.js";
 import { element } from "./elements.js";
 import { Missing } from "./missing.js";
-import { loadSettings } from "./settings.js";
-import { labelAll, LANGUAGE, say } from "./wording.js";
+import { loadSettings, loadWords } from "./settings.js";
+import { labelAll, say, speak } from "./wording.js";
 
 const found = (id) => document.getElementById(id);
 
@@ -22,11 +22,13 @@ const watch = {
   },
 };
 
-function showProblems(problems) {
+/** Says what is wrong with a file of the shop's, in the note above the views. */
+function showProblems(file, problems) {
   if (problems.length === 0) return;
-  found("settings-wrong").replaceChildren(
-    element("h2", {}, say("settings.heading")),
-    element("ul", {}, ...problems.map((words) => element("li", {}, words))),
+  const items = problems.map(({ path, values }) => element("li", {}, say(path, values)));
+  found("settings-wrong").append(
+    element("h2", {}, say("settings.heading", { file })),
+    element("ul", {}, ...items),
     element("p", {}, say("settings.whom")),
   );
   found("settings-wrong").hidden = false;
@@ -48,10 +50,13 @@ function show(views) {
 }
 
 async function start() {
-  document.documentElement.lang = LANGUAGE;
-  labelAll(document);
   const { settings, problems } = await loadSettings();
-  showProblems(problems);
+  const words = await loadWords(settings.language);
+  speak(settings.language, words.texts);
+  document.documentElement.lang = settings.language;
+  labelAll(document);
+  showProblems("desk.json", problems);
+  showProblems("words.json", words.problems);
   const views = { article: new Article(settings, watch), missing: new Missing(settings, watch) };
   found("skip").addEventListener("click", (event) => {
     event.preventDefault();

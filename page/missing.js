@@ -1,15 +1,17 @@
 // The view of missing messages: for each series where it stands, how many wait, and what is missing.
 
+import { inWords, today } from "./days.js";
 import { ask, isAbandoned } from "./desk.js";
 import { element } from "./elements.js";
+import { daysSince, see } from "./seen.js";
 import { seriesInWords, wholesalerOf } from "./settings.js";
 import { strip, stripLegend } from "./strip.js";
-import { LANGUAGE, say, sayCount } from "./wording.js";
+import { formatter, say, sayCount } from "./wording.js";
 
 const MINUTE = 60_000;
 
 const found = (id) => document.getElementById(id);
-const clock = new Intl.DateTimeFormat(LANGUAGE, { timeStyle: "medium" });
+const clock = () => formatter(Intl.DateTimeFormat, { timeStyle: "medium" }).format(new Date());
 
 const howMany = ([from, to]) => to - from + 1;
 const allOf = (ranges) => ranges.reduce((sum, range) => sum + howMany(range), 0);
@@ -54,8 +56,7 @@ async function copy(text, series, place) {
   }
 }
 
-function missingPart(report, series, pixels) {
-  const ranges = rangesInWords(report.missing);
+function missingPart(report, series) {
   const items = report.missing.map((range) => element("li", {}, rangeInWords(range)));
   const done = element("div", { class: "copied", role: "status" });
   const button = element("button", { type: "button" }, say("missing.copy"));
@@ -63,25 +64,40 @@ function missingPart(report, series, pixels) {
   return [
     element("p", { class: "lacks" }, sayCount("missing.missing", allOf(report.missing))),
     element("ul", { class: "ranges" }, ...items),
-    strip(report, ranges, pixels),
+    element("div", { class: "strip-place" }),
     stripLegend(),
     element("p", { class: "buttons" }, button),
     done,
   ];
 }
 
-function reportPart(report, series, pixels) {
+function reportPart(report, series) {
   const wait = report.held === 0 ? say("missing.noneWait") : sayCount("missing.wait", report.held);
   const stands = element("p", {}, standsInWords(report), " ", wait);
+  const since = element("p", { class: "since" });
   if (report.missing.length === 0) {
-    return [stands, element("p", { class: "complete" }, say("missing.complete"))];
+    return [stands, since, element("p", { class: "complete" }, say("missing.complete"))];
   }
-  return [stands, ...missingPart(report, series, pixels)];
+  return [stands, since, ...missingPart(report, series)];
+}
+
+/** Since when the page has seen a series as it is, and a word where that is longer than it may be. */
+function sinceInWords(seen, series) {
+  const count = daysSince(seen, today());
+  if (count === 0) return [say("missing.sinceToday")];
+  const words = sayCount("missing.since", count, { day: inWords(seen.since) });
+  if (!isSilent(seen, series)) return [words];
+  const silent = sayCount("missing.silent", series.days, { wholesaler: series.words });
+  return [words, " ", element("strong", {}, silent)];
+}
+
+function isSilent(seen, { days }) {
+  return days !== undefined && daysSince(seen, today()) > days;
 }
 
 function refusalPart({ kind, reason, words }, { name }) {
   const told = { "unknown-series": say("wrong.series", { name }) };
-  const text = kind === "strange" ? words : (told[reason] ?? say("wrong.other", { reason }));
+  const text = kind === "strange" ? words : (told[reason] ?? say("wrong.refused", { reason }));
   return [element("p", { class: "wrong" }, text)];
 }
 
@@ -92,6 +108,7 @@ export class Missing {
   #asking = new AbortController();
   #timer;
   #outcomes = new Map();
+  #seen = new Map();
   #shown = new Map();
 
   constructor(settings, watch) {
@@ -109,7 +126,7 @@ export class Missing {
       ),
     );
     found("series").replaceChildren(...cards);
-    new ResizeObserver(() => this.#drawAll()).observe(found("series"));
+    new ResizeObserver(() => this.#drawStrips()).observe(found("series"));
   }
 
   /** Asks at once, and once more each minute until the view is left. */
@@ -139,12 +156,15 @@ export class Missing {
   async #round(signal) {
     const begun = Date.now();
     try {
-      for (const { name } of this.#settings.series) {
-        const outcome = await ask(`series/${name}/gaps`, {}, signal, this.#watch);
-        this.#outcomes.set(name, outcome);
-        this.#drawAll();
+      for (const series of this.#settings.series) {
+        const outcome = await ask(`series/${series.name}/gaps`, {}, signal, this.#watch);
+        this.#outcomes.set(series.name, outcome);
+        if (outcome.kind === "answer") {
+          this.#seen.set(series.name, see(series.name, outcome.body, today()));
+        }
+        this.#drawCard(series, outcome);
       }
-      found("as-of").textContent = say("missing.asOf", { time: clock.format(new Date()) });
+      found("as-of").textContent = say("missing.asOf", { time: clock() });
       this.#say(this.#summary());
     } catch (fault) {
       if (isAbandoned(fault)) return;
@@ -173,24 +193,48 @@ export class Missing {
       : [];
     const without = outcomes.length - reports.length;
     if (without > 0) sentences.push(sayCount("missing.notAsked", without));
-    return sentences.length > 0 ? sentences.join(" ") : say("missing.allThere");
+    if (sentences.length === 0) sentences.push(say("missing.allThere"));
+    return [...sentences, ...this.#silence()].join(" ");
   }
 
-  /** Draws the reports that changed; the others keep what the buyer has in hand there. */
-  #drawAll() {
-    for (const series of this.#settings.series) {
-      const place = found(`report-${series.name}`);
-      const outcome = this.#outcomes.get(series.name);
-      const pixels = Math.floor(place.clientWidth);
-      const state = JSON.stringify([outcome, pixels]);
-      if (outcome === undefined || pixels === 0 || this.#shown.get(series.name) === state) continue;
+  /** Names the series that have been silent for longer than they may be. */
+  #silence() {
+    const silent = this.#settings.series.filter((series) => {
+      const seen = this.#seen.get(series.name);
+      return seen !== undefined && isSilent(seen, series);
+    });
+    if (silent.length === 0) return [];
+    return [say("missing.silentSeries", { wholesalers: silent.map(({ words }) => words).join(", ") })];
+  }
+
+  /** Draws a report that changed; another one keeps what the buyer has in hand there. */
+  #drawCard(series, outcome) {
+    const place = found(`report-${series.name}`);
+    const state = JSON.stringify(outcome);
+    if (this.#shown.get(series.name) !== state) {
       this.#shown.set(series.name, state);
       const part = outcome.kind === "answer"
-        ? reportPart(outcome.body, series, pixels)
+        ? reportPart(outcome.body, series)
         : refusalPart(outcome, series);
       const hadFocus = place.contains(document.activeElement);
       place.replaceChildren(...part);
       if (hadFocus) place.querySelector("button")?.focus();
+    }
+    // Days go by while nothing else changes.
+    const seen = this.#seen.get(series.name);
+    place.querySelector(".since")?.replaceChildren(...sinceInWords(seen, series));
+    this.#drawStrips();
+  }
+
+  /** Draws the strips as wide as their places are. */
+  #drawStrips() {
+    for (const { name } of this.#settings.series) {
+      const place = found(`report-${name}`).querySelector(".strip-place");
+      const pixels = Math.floor(place?.clientWidth ?? 0);
+      if (pixels === 0 || place.dataset.pixels === String(pixels)) continue;
+      const report = this.#outcomes.get(name).body;
+      place.dataset.pixels = pixels;
+      place.replaceChildren(strip(report, rangesInWords(report.missing), pixels));
     }
   }
 }

@@ -1,46 +1,85 @@
-// desk.json, which the operator writes: the names of series, and what the fields begin with.
+// desk.json and words.json, which the operator writes: the names of series, what the fields begin with,
+// the page's language and words. What is wrong with them is a `path` of the words for it, and `values`.
 
 import { urlBeside } from "./address.js";
-import { say } from "./wording.js";
+import { withOwnWords } from "./own-words.js";
+import { say, shippedWords } from "./wording.js";
 
 const FILE = "desk.json";
-const KEYS = ["series", "country", "currency", "price_type", "rules"];
+const WORDS = "words.json";
+
 const NEEDED = ["series", "country", "currency", "price_type"];
+const KEYS = [...NEEDED, "language", "quantities", "rules"];
+const SERIES_KEYS = ["name", "words", "days_without_message"];
+const LANGUAGE = "en-GB";
+const MOST_QUANTITIES = 8;
 
 const isText = (value) => typeof value === "string";
 const isObject = (value) => typeof value === "object" && value !== null && !Array.isArray(value);
+const isCount = (value, most) => Number.isInteger(value) && value >= 1 && value <= most;
 const shown = (value) => JSON.stringify(value);
 
-function readCode(given, key, grammar, path, problems) {
-  if (!Object.hasOwn(given, key)) return "";
-  const value = given[key];
-  if (isText(value) && grammar.test(value)) return value;
-  problems.push(say(path, { value: shown(value) }));
-  return "";
+function tell(problems, path, values = {}) {
+  problems.push({ path: `settings.${path}`, values });
+}
+
+/** The value of a key, where it is there and as it should be; else another one. */
+function read(given, key, isRight, otherwise, problems, path) {
+  if (!Object.hasOwn(given, key)) return otherwise;
+  if (isRight(given[key])) return given[key];
+  tell(problems, path, { value: shown(given[key]) });
+  return otherwise;
+}
+
+const readCode = (given, key, grammar, problems, path) =>
+  read(given, key, (value) => isText(value) && grammar.test(value), "", problems, path);
+
+function isLanguage(value) {
+  try {
+    return isText(value) && Intl.getCanonicalLocales(value).length === 1;
+  } catch {
+    return false;
+  }
+}
+
+/** Whether a value is a list of numbers of copies, each greater than the one before it. */
+function areQuantities(value) {
+  if (!Array.isArray(value) || value.length > MOST_QUANTITIES) return false;
+  return value.every((count, at) => isCount(count, 999_999) && !(value[at - 1] >= count));
+}
+
+function checkKeys(given, known, problems, path, values = {}) {
+  for (const key of Object.keys(given)) {
+    if (!known.includes(key)) tell(problems, path, { key, ...values });
+  }
 }
 
 /** One series, or `undefined` with what is wrong with it added to the problems. */
 function readSeries(item, number, earlier, problems) {
   if (!isObject(item) || !isText(item.name) || !isText(item.words)) {
-    problems.push(say("settings.seriesItem", { number, value: shown(item) }));
+    tell(problems, "seriesItem", { number, value: shown(item) });
     return undefined;
   }
   const value = shown(item.name);
   if (!/^[a-z0-9-]{1,32}$/.test(item.name)) {
-    problems.push(say("settings.seriesName", { number, value }));
+    tell(problems, "seriesName", { number, value });
     return undefined;
   }
   if (earlier.some(({ name }) => name === item.name)) {
-    problems.push(say("settings.seriesTwice", { number, value }));
+    tell(problems, "seriesTwice", { number, value });
     return undefined;
   }
-  return { name: item.name, words: item.words };
+  checkKeys(item, SERIES_KEYS, problems, "seriesUnknown", { number });
+  const days = item.days_without_message;
+  const isRight = days === undefined || isCount(days, 9999);
+  if (!isRight) tell(problems, "seriesDays", { number, value: shown(days) });
+  return { name: item.name, words: item.words, days: isRight ? days : undefined };
 }
 
 function readAllSeries(given, problems) {
   if (!Object.hasOwn(given, "series")) return [];
   if (!Array.isArray(given.series)) {
-    problems.push(say("settings.series"));
+    tell(problems, "series");
     return [];
   }
   const found = [];
@@ -51,62 +90,68 @@ function readAllSeries(given, problems) {
   return found;
 }
 
-function readRules(given, problems) {
-  if (!Object.hasOwn(given, "rules")) return [];
-  if (Array.isArray(given.rules) && given.rules.every(isText)) return given.rules;
-  problems.push(say("settings.rules"));
-  return [];
-}
-
-/** The object that a text is, or an empty one with what is wrong added to the problems. */
+/** The object that a text is, or `undefined` with what is wrong added to the problems. */
 function readObject(text, problems) {
   try {
     const given = JSON.parse(text);
     if (isObject(given)) return given;
-    problems.push(say("settings.notObject", { brace: "{" }));
+    tell(problems, "notObject", { brace: "{" });
   } catch (fault) {
-    problems.push(say("settings.notJson", { fault: fault.message }));
+    tell(problems, "notJson", { fault: fault.message });
   }
   return undefined;
 }
 
-function checkKeys(given, problems) {
-  for (const key of NEEDED) {
-    if (!Object.hasOwn(given, key)) problems.push(say("settings.lacks", { key }));
-  }
-  for (const key of Object.keys(given)) {
-    if (!KEYS.includes(key)) problems.push(say("settings.unknown", { key }));
-  }
-}
-
-/** The settings of a text, those that are right, with what is wrong with the others in words. */
-function readSettings(text) {
-  const problems = [];
-  const given = readObject(text, problems);
-  if (given !== undefined) checkKeys(given, problems);
-  return { settings: settingsOf(given ?? {}, problems), problems };
-}
-
 function settingsOf(given, problems) {
+  const areTexts = (value) => Array.isArray(value) && value.every(isText);
   return {
+    language: read(given, "language", isLanguage, LANGUAGE, problems, "language"),
     series: readAllSeries(given, problems),
-    country: readCode(given, "country", /^[A-Z]{2}$/, "settings.country", problems),
-    currency: readCode(given, "currency", /^[A-Z]{3}$/, "settings.currency", problems),
-    type: readCode(given, "price_type", /^\d\d$/, "settings.priceType", problems),
-    rules: readRules(given, problems),
+    country: readCode(given, "country", /^[A-Z]{2}$/, problems, "country"),
+    currency: readCode(given, "currency", /^[A-Z]{3}$/, problems, "currency"),
+    type: readCode(given, "price_type", /^\d\d$/, problems, "priceType"),
+    quantities: read(given, "quantities", areQuantities, [], problems, "quantities"),
+    rules: read(given, "rules", areTexts, [], problems, "rules"),
   };
 }
 
-/** The settings of the page's desk.json, with what is wrong in words. */
-export async function loadSettings() {
-  const nothing = (words) => ({ settings: settingsOf({}, []), problems: [words] });
-  try {
-    const reply = await fetch(urlBeside(FILE), { cache: "no-cache" });
-    if (reply.ok) return readSettings(await reply.text());
-    return nothing(say("settings.unread", { status: reply.status }));
-  } catch {
-    return nothing(say("settings.unreached"));
+/** The settings of a text, those that are right, with what is wrong with the others. */
+export function readSettings(text) {
+  const problems = [];
+  const given = readObject(text, problems);
+  if (given === undefined) return { settings: settingsOf({}, []), problems };
+  for (const key of NEEDED) {
+    if (!Object.hasOwn(given, key)) tell(problems, "lacks", { key });
   }
+  checkKeys(given, KEYS, problems, "unknown");
+  return { settings: settingsOf(given, problems), problems };
+}
+
+/** The text of a file beside the page, or a problem; neither where an `isOptional` one is not there. */
+async function load(file, isOptional = false) {
+  try {
+    const reply = await fetch(urlBeside(file), { cache: "no-cache" });
+    if (reply.ok) return { text: await reply.text() };
+    if (isOptional && reply.status === 404) return {};
+    return { problem: { path: "settings.unread", values: { file, status: reply.status } } };
+  } catch {
+    return { problem: { path: "settings.unreached", values: { file } } };
+  }
+}
+
+/** The settings of the page's desk.json, with what is wrong with it. */
+export async function loadSettings() {
+  const { text, problem } = await load(FILE);
+  if (problem === undefined) return readSettings(text);
+  return { settings: settingsOf({}, []), problems: [problem] };
+}
+
+/** The words of a language with those of the page's words.json, and what is wrong with that. */
+export async function loadWords(language) {
+  const shipped = shippedWords(language);
+  const { text, problem } = await load(WORDS, true);
+  if (text !== undefined) return withOwnWords(shipped, text);
+  return { texts: shipped, problems: problem === undefined ? [] : [problem] };
 }
 
 /** The name of a series with its words, where it has some. */

@@ -1,31 +1,60 @@
-// Texts of texts.js, filled in.
+// The words of the page in the shop's language, filled in.
 
-import { texts } from "./texts.js";
+import { texts as de } from "./words/de.js";
+import { texts as en } from "./words/en.js";
 
-export const LANGUAGE = texts.language;
+const SHIPPED = { de, en };
 
-const plurals = new Intl.PluralRules(LANGUAGE);
+const spoken = { language: "en-GB", texts: en };
+const formatters = new Map();
+
+/** The words that the page brings along for a language such as de-AT; English where there are none. */
+export function shippedWords(language) {
+  const [name] = language.split("-");
+  return Object.hasOwn(SHIPPED, name) ? SHIPPED[name] : en;
+}
+
+/** From now on the page speaks this language, in these words. */
+export function speak(language, texts) {
+  spoken.language = language;
+  spoken.texts = texts;
+}
+
+/** The language of the page, as Intl has it. */
+export function language() {
+  return spoken.language;
+}
+
+/** A formatter of Intl in the page's language, made once for each kind and options. */
+export function formatter(Kind, options = {}) {
+  const key = JSON.stringify([spoken.language, Kind.name, options]);
+  if (!formatters.has(key)) formatters.set(key, new Kind(spoken.language, options));
+  return formatters.get(key);
+}
 
 /** The text or table of texts at a path such as `article.isbn`; throws where there is none. */
 function at(path) {
-  const found = path.split(".").reduce((part, key) => part?.[key], texts);
-  if (found === undefined) throw new Error(`texts.js has no ${path}`);
+  const found = path.split(".").reduce((part, key) => part?.[key], spoken.texts);
+  if (found === undefined) throw new Error(`there are no words for ${path}`);
   return found;
 }
 
-function filled(text, values) {
-  return text.replace(/\{(\w+)\}/g, (_, name) => String(values[name]));
+/** The parts of the text at a path, with what stands in braces taken from `values`, nodes too. */
+export function sayParts(path, values = {}) {
+  const parts = at(path).split(/\{(\w+)\}/);
+  return parts.map((part, place) => (place % 2 === 0 ? part : (values[part] ?? `{${part}}`)));
 }
 
 /** The text at a path, with what stands in braces taken from `values`. */
 export function say(path, values = {}) {
-  return filled(at(path), values);
+  return sayParts(path, values).join("");
 }
 
 /** The text at a path in the form for a count, which fills in `count`. */
 export function sayCount(path, count, values = {}) {
-  const forms = at(path);
-  return filled(forms[plurals.select(count)] ?? forms.other, { count, ...values });
+  const form = formatter(Intl.PluralRules).select(count);
+  const chosen = Object.hasOwn(at(path), form) ? form : "other";
+  return say(`${path}.${chosen}`, { count: formatter(Intl.NumberFormat).format(count), ...values });
 }
 
 /** The words of a code in a table of texts, such as `availabilities`, or `undefined`. */

@@ -9,22 +9,30 @@ NORTH = ["North Books (north)", "N-100", "21 – in stock"]
 SOUTH = ["South Books (south)", "S1", "21 – in stock"]
 WEST = ["Western Wholesale (west)", "W-7", "31 – out of stock"]
 NONE = "no price for this question"
+SAME = "no change"
+BREAK = "1 copy: £11.8010 copies: £9.95"
 
 ONE_COPY = [
-    [*NORTH, "11.50 GBP", "Chosen by rule 2"],
-    [*SOUTH, "11.80 GBP", ""],
-    [*WEST, "8.00 GBP", ""],
+    [*NORTH, "£11.50", SAME, "Chosen by rule 2"],
+    [*SOUTH, "£11.80", BREAK, ""],
+    [*WEST, "£8.00", SAME, ""],
 ]
 TEN_COPIES = [
-    [*NORTH, "11.50 GBP", ""],
-    [*SOUTH, "9.95 GBP", "Chosen by rule 1"],
-    [*WEST, "8.00 GBP", ""],
+    [*NORTH, "£11.50", SAME, ""],
+    [*SOUTH, "£9.95", BREAK, "Chosen by rule 1"],
+    [*WEST, "£8.00", SAME, ""],
 ]
+WAITING = "…"
 
 
 def answered(browser) -> list[list[str]]:
-    browser.wait(lambda: browser.all("#offers tr"))
-    return browser.rows("#offers")
+    """The rows of the offers, once the other quantities are answered too."""
+
+    def rows():
+        found = browser.rows("#offers")
+        return found if found and not any(WAITING in row for row in found) else None
+
+    return browser.wait(rows)
 
 
 def said(browser, words: str) -> bool:
@@ -34,7 +42,7 @@ def said(browser, words: str) -> bool:
 def one_copy(site, browser):
     browser.open(article())
     yield Outcome("one copy: the offers", answered(browser), ONE_COPY)
-    chosen = "Buy from North Books at 11.50 GBP a copy."
+    chosen = "The shop’s choice is North Books, retail price £11.50."
     rule = "Rule 2 of the shop chooses it: “Else whoever has the book”."
     yield Outcome("one copy: the choice", said(browser, f"{chosen} {rule}"), True)
     classes = browser.run(
@@ -49,18 +57,19 @@ def one_copy(site, browser):
 def ten_copies(site, browser):
     browser.open(article(quantity="10"))
     yield Outcome("ten copies: the offers", answered(browser), TEN_COPIES)
-    yield Outcome("ten copies: the choice", said(browser, "Buy from South Books at 9.95 GBP a copy."), True)
+    chosen = "The shop’s choice is South Books, retail price £9.95."
+    yield Outcome("ten copies: the choice", said(browser, chosen), True)
 
 
 def another_country(site, browser):
     browser.open(article(country="IE", quantity="10"))
     prices = [row[3] for row in answered(browser)]
-    yield Outcome("Ireland: South does not sell there", prices, ["11.50 GBP", NONE, "8.00 GBP"])
+    yield Outcome("Ireland: South does not sell there", prices, ["£11.50", NONE, "£8.00"])
 
 
 def no_rule(site, browser):
     browser.open(article(OTHER_ISBN))
-    rows = [["North Books (north)", "N-200", "40 – not available", "25.00 GBP", ""]]
+    rows = [["North Books (north)", "N-200", "40 – not available", "£25.00", SAME, ""]]
     yield Outcome("no rule: the offer", answered(browser), rows)
     words = "No rule of the shop admits one of these offers, so none is chosen."
     yield Outcome("no rule: it is said", said(browser, words), True)
@@ -94,7 +103,7 @@ def typed_question(site, browser):
     rows = answered(browser)
     yield Outcome("hyphens and spaces are taken out", rows[1][:1], SOUTH[:1])
     address = browser.run("return location.hash")
-    wanted = f"#article?isbn={ISBN}&day={today}&quantity=10&country=GB&currency=GBP&type=02"
+    wanted = f"#article?isbn={ISBN}&quantity=10&country=GB&currency=GBP&type=02"
     yield Outcome("the question's address", address, wanted)
     browser.open(address)
     yield Outcome("the address brings the answer back", answered(browser), rows)

@@ -172,14 +172,14 @@ def same_table(site, browser):
         "west": "Western Wholesale (west), W-7, 31 – out of stock",
     }
     wanted = [
-        [names[series], in_words(begin), in_words(end), f"{amount[:-1]} GBP"]
+        [names[series], in_words(begin), in_words(end), f"£{amount[:-1]}"]
         for series, begin, end, amount in SPANS
     ]
     yield Outcome("the table of the calendar", browser.rows("#spans"), wanted)
     open_calendar(browser, HOSTILE_ISBN, date(2025, 4, 2), date(2025, 4, 3))
     prices = [row[1:] for row in browser.rows("#spans")][-2:]
     days = ["2 April 2025", "3 April 2025"]
-    wanted = [[days[0], days[0], "7.125 GBP"], [days[1], days[1], "no price"]]
+    wanted = [[days[0], days[0], "£7.125"], [days[1], days[1], "no price"]]
     yield Outcome("the table of the calendar: a gap, and a third decimal", prices, wanted)
 
 

@@ -1,6 +1,6 @@
 """Texts of messages are shown as they are, whatever they would mean in HTML."""
 
-from page.week import HOSTILE, HOSTILE_ISBN, LONG, article
+from page.week import HOSTILE, HOSTILE_ISBN, LONG, TURNING, TURNING_ISBN, article
 from program.room import Outcome
 
 
@@ -46,4 +46,56 @@ def addresses(site, browser):
     yield Outcome("an address with odd names", bool(begun), True)
 
 
-CASES = [references, addresses]
+STRANGE = "&utm_source=mail&__proto__=x&constructor=y&offers=1"
+
+
+def unknown_names(site, browser):
+    """What a mail or another program adds to an address does no harm, to the calendar's buttons either."""
+    browser.open(article() + STRANGE)
+    browser.wait(lambda: browser.all("#picture svg.lane"))
+    browser.complaints()
+    for id in ("later", "earlier", "month", "year"):
+        before = browser.run("return location.hash")
+        browser.one(f"#{id}").click()
+        moved = browser.wait(lambda: browser.run("return location.hash") != before)
+        yield Outcome(f"unknown names: the button {id}", moved, True)
+    yield Outcome("unknown names go", "utm_source" in browser.run("return location.hash"), False)
+    yield Outcome("unknown names: no fault", browser.complaints(), [])
+
+
+# Where the letters before a reference, and the first letter behind it, begin.
+AROUND = """
+const rows = document.querySelectorAll(arguments[0]);
+const reference = arguments[1];
+return [...rows].filter((row) => row.textContent.includes(reference)).map((row) => {
+  const texts = document.createTreeWalker(row, NodeFilter.SHOW_TEXT);
+  const found = [];
+  while (texts.nextNode()) {
+    const range = document.createRange();
+    range.selectNodeContents(texts.currentNode);
+    if (range.getBoundingClientRect().width > 0) found.push([texts.currentNode.data, range.getBoundingClientRect().left]);
+  }
+  return found.filter(([, left], at) => at > 0 && left <= found[at - 1][1]).map(([text]) => text);
+});
+"""
+
+
+def turning(site, browser):
+    """A reference in a script from right to left leaves what stands beside it in its place."""
+    browser.size(1400, 900)
+    browser.open(article(TURNING_ISBN, **{"from": "2025-04-10", "until": "2025-04-11"}))
+    browser.wait(lambda: browser.all("#picture svg.lane") and browser.all("#spans tr"))
+    for reference in TURNING:
+        for place in ("#picture .lane-name", "#spans tbody th"):
+            came = browser.run(AROUND, place, reference)
+            yield Outcome(f"beside {reference!a} in {place}", came, [[]])
+        holders = browser.run(
+            """return [...document.querySelectorAll('bdi')].filter((found) => found.textContent === arguments[0])
+            .length""",
+            reference,
+        )
+        yield Outcome(f"{reference!a} is kept apart: table, picture, calendar", holders, 3)
+    browser.size(1100, 900)
+
+
+CASES = [references, addresses, unknown_names, turning]

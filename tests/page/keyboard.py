@@ -3,7 +3,7 @@
 from selenium.webdriver.common.action_chains import ActionChains
 from selenium.webdriver.common.keys import Keys
 
-from page.articles import SOUTH
+from page.articles import TEN_COPIES, answered
 from page.reports import allow_clipboard
 from page.week import ISBN
 from program.room import Outcome
@@ -23,11 +23,15 @@ def press(browser, *keys):
     ActionChains(browser.driver).send_keys(*keys).perform()
 
 
-def tab_to(browser, holds) -> list[dict]:
+def tab_to(browser, holds, is_back=False) -> list[dict]:
     """Presses the tabulator until the focus is at a place that holds; gives all places on the way."""
     found = []
     for _ in range(MOST):
-        press(browser, Keys.TAB)
+        keys = ActionChains(browser.driver)
+        if is_back:
+            keys.key_down(Keys.SHIFT).send_keys(Keys.TAB).key_up(Keys.SHIFT).perform()
+        else:
+            keys.send_keys(Keys.TAB).perform()
         found.append(browser.run(FOCUS))
         if holds(found[-1]):
             return found
@@ -51,19 +55,19 @@ def day_keys(browser, year: str, month: str, date: str) -> str:
 def article(site, browser):
     browser.open("")
     browser.wait(lambda: browser.one("#day").get_attribute("value"))
-    way = tab_to(browser, has_id("isbn"))
+    yield Outcome("the focus begins at the ISBN", browser.run(FOCUS)["id"], "isbn")
+    way = tab_to(browser, has_id("skip"), is_back=True)
     places = [focus["id"] for focus in way]
-    wanted = ["skip", "to-article", "to-missing", "isbn"]
-    yield Outcome("the way to the first field", places, wanted)
+    yield Outcome("the way back from there", places, ["to-missing", "to-article", "skip"])
+    way += tab_to(browser, has_id("isbn"))
     press(browser, "978-1-234567-89-7")
     way += tab_to(browser, has_id("day"))
     press(browser, day_keys(browser, "2025", "04", "10"))
     way += tab_to(browser, has_id("quantity"))
     press(browser, "10")
     press(browser, Keys.ENTER)
-    browser.wait(lambda: browser.all("#offers tr"))
-    chosen = [*SOUTH, "9.95 GBP", "Chosen by rule 1"]
-    yield Outcome("asked by the keyboard", browser.rows("#offers")[1], chosen)
+    yield Outcome("asked by the keyboard", answered(browser)[1], TEN_COPIES[1])
+    yield Outcome("the focus goes back to the ISBN", browser.run(FOCUS)["id"], "isbn")
     day = browser.one("#day").get_attribute("value")
     yield Outcome("a day by the keyboard", day, "2025-04-10")
     browser.wait(lambda: browser.all("#picture svg"))
@@ -80,7 +84,7 @@ def missing(site, browser):
     allow_clipboard(site, browser, "granted")
     browser.open("")
     browser.wait(lambda: browser.one("#day").get_attribute("value"))
-    tab_to(browser, has_id("to-missing"))
+    tab_to(browser, has_id("to-missing"), is_back=True)
     press(browser, Keys.ENTER)
     browser.wait_for_text("#as-of", "As of")
     tab_to(browser, lambda focus: focus["text"] == "Copy a request to send them again")

@@ -9,8 +9,9 @@ import threading
 import time
 from urllib.parse import urlsplit
 
+from page.articles import answered
 from page.browser import STRANGER
-from page.site import NAME, PASSWORD
+from page.site import NAME
 from page.week import ISBN, article, empty_message
 from program.room import Outcome
 from program.serving import HOST
@@ -62,15 +63,17 @@ def policies(site) -> list[tuple[str, str, list, int]]:
         ("GET", "/desk/series/north/gaps/more", [], 404),
         ("GET", "/desk/series/../messages", [], 404),
         ("GET", "/desk/series/no%0d%0aGET/gaps", [], 404),
-        ("GET", "/desk/series/north/catalogue", [], 200),
+        ("GET", "/desk/series/north/catalogue", [], 404),
         ("GET", "/desk/series/nobody/gaps", [], 404),
         ("GET", "/nginx.conf", [], 404),
         ("GET", "/../passwords", [], 400),
+        ("GET", "/words.json", [], 200),
+        ("POST", "/words.json", [("Content-Length", "0")], 403),
     ]
 
 
 # Those that go through to the desk, by what the desk then writes.
-THROUGH = ["200"] * 6 + ["404"]
+THROUGH = ["200"] * 5 + ["404"]
 
 
 def server_rules(site, browser):
@@ -79,15 +82,6 @@ def server_rules(site, browser):
         status, _, _ = site.fetch(path, method, fields=fields)
         yield Outcome(f"{method} {path} {str(fields)[:100]}", status, wanted)
     yield Outcome("what came to the desk", site.lines_since(before), THROUGH)
-
-
-def passwords(site, browser):
-    before = site.mark()
-    for password in ("", "another", PASSWORD + "x"):
-        for path in ("/", "/main.js", "/desk.json", GAPS):
-            status, _, _ = site.fetch(path, password=password)
-            yield Outcome(f"the password {password!r} for {path}", status, 401)
-    yield Outcome("without its password nothing comes to the desk", site.lines_since(before), [])
 
 
 def hosts(site, browser):
@@ -251,9 +245,10 @@ def own_host_alone(site, browser):
     """The page asks no other host, by the browser's own record and by nginx's log."""
     browser.open("")
     browser.requested()
+    browser.complaints()
     asked = len(site.requests())
     browser.open(article())
-    browser.wait(lambda: browser.all("#picture svg"))
+    answered(browser)
     browser.run("location.hash = '#missing'")
     browser.wait_for_text("#as-of", "As of")
     # Neither an empty page nor an address that is its own data asks a host.
@@ -264,7 +259,8 @@ def own_host_alone(site, browser):
     kinds = {(status, method, host) for status, method, host, _ in lines}
     yield Outcome("what nginx was asked for", kinds, {("200", "GET", NAME)})
     desk = [target.partition("?")[0] for _, _, _, target in lines if target.startswith("/desk/")]
-    wanted = [f"/desk/articles/{ISBN}/{what}" for what in ("price", "choice", "calendar")]
+    asked = ("price", "choice", "calendar", "price", "price")
+    wanted = [f"/desk/articles/{ISBN}/{what}" for what in asked]
     wanted += [f"/desk/series/{name}/gaps" for name in ("north", "south", "west")]
     yield Outcome("what the desk was asked for", desk, wanted)
     seen = {urlsplit(address).path for address in addresses}
@@ -291,5 +287,5 @@ def bare_port(site, browser):
     yield Outcome(f"a stranger's post to the bare port ({came})", came in (["200"], ["202"]), True)
 
 
-CASES = [server_rules, passwords, hosts, reply_fields, slow_client, own_host_alone, another_site]
+CASES = [server_rules, hosts, reply_fields, slow_client, own_host_alone, another_site]
 AT_THE_END = [bare_port]

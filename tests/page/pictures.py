@@ -1,16 +1,19 @@
 """The pictures of the documents, taken anew."""
 
 import base64
+from datetime import date
 
+from page.articles import answered
+from page.days import with_clock
 from page.site import ROOT
-from page.week import article
+from page.week import ISBN
 from program.room import Outcome
 
+# The shop's week is asked for on this day, as if it were today.
+DAY = date(2025, 4, 10)
+RANGE = "from=2025-03-25&until=2025-06-30"
 PICTURES = {
-    "page-article.png": (
-        article(quantity="10", **{"from": "2025-03-25", "until": "2025-06-30"}),
-        "#picture",
-    ),
+    "page-article.png": (f"#article?isbn={ISBN}&quantity=10&{RANGE}", "#picture"),
     "page-missing.png": ("#missing", "#report-west"),
 }
 WIDTH = 900
@@ -20,10 +23,13 @@ MOST_BYTES = 150_000
 
 def taken(site, browser):
     browser.driver.execute_cdp_cmd("Emulation.setScrollbarsHidden", {"hidden": True})
+    stop = with_clock(browser, (DAY - date.today()).days)
     for name, (address, last) in PICTURES.items():
         browser.size(WIDTH, 700)
         browser.open(address)
         browser.wait(lambda: browser.one(last).text)
+        if last == "#picture":
+            answered(browser)
         # What changes from run to run has no place in a picture that is kept.
         as_of = "As of 09:30:00; asked again each minute."
         browser.run("document.getElementById('as-of').textContent = arguments[0]", as_of)
@@ -34,7 +40,7 @@ def taken(site, browser):
         data = base64.b64decode(shot["data"])
         (ROOT / "docs" / name).write_bytes(data)
         yield Outcome(f"{name} is no more than {MOST_BYTES} bytes", len(data) <= MOST_BYTES, True)
-    browser.size(1100, 900)
+    stop()
 
 
 CASES = [taken]

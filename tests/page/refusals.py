@@ -1,22 +1,21 @@
 """What is wrong is told in words, at the field that it comes from."""
 
+from page.articles import answered
 from page.site import PAGE
 from page.week import ISBN, article
 from program.room import Outcome
 
-TEN = "This is an ISBN of ten digits. Please give the one of thirteen, as it stands at the bar code."
 DAY = "Please give a whole day: day, month and year."
 COUNTRY = "A country is two letters, such as GB or IE."
 QUANTITY = "Copies are a whole number from 1 to 999999."
 
 # What a field is given, and what is told at it.
 FIELDS = [
-    ({"isbn": "978123456789"}, "isbn", "These are 12 digits. An ISBN is thirteen."),
-    ({"isbn": "97812345678970"}, "isbn", "These are 14 digits. An ISBN is thirteen."),
-    ({"isbn": "1"}, "isbn", "This is 1 digit. An ISBN is thirteen."),
-    ({"isbn": "978-123456789X"}, "isbn", "“X” is no digit. An ISBN is thirteen digits."),
-    ({"isbn": "0-306-40615-2"}, "isbn", TEN),
-    ({"isbn": "080442957X"}, "isbn", TEN),
+    ({"isbn": "978123456789"}, "isbn", "These are 12 digits. An ISBN is thirteen, or ten."),
+    ({"isbn": "97812345678970"}, "isbn", "These are 14 digits. An ISBN is thirteen, or ten."),
+    ({"isbn": "1"}, "isbn", "This is 1 digit. An ISBN is thirteen, or ten."),
+    ({"isbn": "978-123456789X"}, "isbn", "“X” is no digit. An ISBN is thirteen digits, or ten."),
+    ({"isbn": "X306406152"}, "isbn", "“X” is no digit. An ISBN is thirteen digits, or ten."),
     ({"isbn": " - "}, "isbn", "Please give an ISBN."),
     ({"day": "2025-02-29"}, "day", DAY),
     ({"day": "20250410"}, "day", DAY),
@@ -46,6 +45,7 @@ def told(browser) -> dict[str, str]:
 
 
 def fields(site, browser):
+    browser.open("")
     before = site.mark()
     for given, name, words in FIELDS:
         browser.open(article(**{"isbn": ISBN, **given}))
@@ -71,11 +71,15 @@ def mended(site, browser):
 def ranges(site, browser):
     """The desk itself refuses a bad range; the offers stay."""
     for given, name in RANGES:
+        browser.open("")
         before = site.mark()
         browser.open(article(**given))
         browser.wait(lambda: told(browser))
         yield Outcome(f"a bad range, {given}", told(browser), {name: RANGE_WORDS})
-        yield Outcome(f"a bad range, {given}: of the desk", site.lines_since(before), ["200", "200", "400"])
+        answered(browser)
+        # Price and choice, the calendar, and the price of 10 and 25 copies.
+        wanted = ["200", "200", "400", "200", "200"]
+        yield Outcome(f"a bad range, {given}: of the desk", site.lines_since(before), wanted)
         yield Outcome(f"a bad range, {given}: the offers", len(browser.rows("#offers")), 3)
         yield Outcome(f"a bad range, {given}: no picture", browser.all("#picture svg"), [])
     browser.open(article(**{**GIVEN, "until": "2025-04-31"}))
@@ -164,11 +168,32 @@ SETTINGS = [
         f'{{{SERIES}, {REST}, "rules": ["South first", 2]}}',
         ["“rules” is not a list of texts, one for each rule of the precedence table."],
     ),
+    (
+        f'{{{SERIES}, {REST}, "language": "Klingon?"}}',
+        ["“language” is \"Klingon?\"; it should be a language in quotation marks, such as \"en-GB\" or \"de\"."],
+    ),
+    *[
+        (
+            f'{{{SERIES}, {REST}, "quantities": {wrong}}}',
+            [
+                f"“quantities” is {wrong}; it should be at most eight numbers of copies, each greater than "
+                "the one before, such as [1, 10, 25]."
+            ],
+        )
+        for wrong in ("[10,1]", "[0]", "[1,1]", '["10"]', "10", "[1,2,3,4,5,6,7,8,9]", "[1000000]", "[1.5]")
+    ],
+    (
+        f'{{"series": [{{"name": "north", "words": "N", "days_without_message": 0, "day": 1}}], {REST}}}',
+        [
+            "“day” of series 1 is no name that the page knows.",
+            "“days_without_message” of series 1 is 0; it should be a whole number from 1 to 9999.",
+        ],
+    ),
 ]
 
 
 def settings(site, browser):
-    path = site.page / "desk.json"
+    path = site.own / "desk.json"
     sample = (PAGE / "desk.json").read_text(encoding="utf-8")
     for text, words in SETTINGS:
         path.write_text(text, encoding="utf-8")
@@ -191,15 +216,18 @@ def settings(site, browser):
 
 def without_rules(site, browser):
     """Words for rules are there only if wanted."""
-    path = site.page / "desk.json"
+    path = site.own / "desk.json"
     sample = path.read_text(encoding="utf-8")
     path.write_text(f"{{{SERIES}, {REST}}}", encoding="utf-8")
     browser.open(article())
-    said = browser.wait_for_text("#article-status", "Buy from")
-    wanted = "3 offers. Buy from North at 11.50 GBP a copy. Rule 2 of the shop chooses it."
+    said = browser.wait_for_text("#article-status", "choice")
+    wanted = "3 offers. The shop’s choice is North, retail price £11.50. Rule 2 of the shop chooses it."
     yield Outcome("without words for rules", said, wanted)
     names = [row[0] for row in browser.rows("#offers")]
     yield Outcome("series without words", names, ["North (north)", "south", "west"])
+    heads = browser.texts("#offers thead th")
+    wanted = ["Wholesaler", "Reference", "Availability", "Retail price", "Choice"]
+    yield Outcome("without quantities", heads, wanted)
     path.write_text(sample, encoding="utf-8")
 
 

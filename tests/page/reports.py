@@ -1,6 +1,7 @@
 """The view of missing messages."""
 
 import re
+from datetime import date, timedelta
 
 from page.site import PAGE
 from page.week import MISSING, empty_message
@@ -35,6 +36,9 @@ return [...strip.querySelectorAll('rect')].map((piece) => {
 """
 
 
+SEEN = "This browser has seen it like this since today."
+
+
 def open_missing(browser):
     browser.open("#missing")
     browser.wait_for_text("#as-of", "As of")
@@ -51,9 +55,9 @@ def reported(site, browser):
     ranges = ["3 to 4 (2 messages)", "6 to 8 (3 messages)"]
     yield Outcome("missing: north's ranges", browser.texts(f"{NORTH} .ranges li"), ranges)
     south = "Messages 1 to 3 are applied; the next one is 4. No message waits."
-    yield Outcome("missing: south", browser.texts(f"{SOUTH} p"), [south, "Nothing is missing."])
+    yield Outcome("missing: south", browser.texts(f"{SOUTH} p"), [south, SEEN, "Nothing is missing."])
     west = "Message 40 is applied; the next one is 41. No message waits."
-    yield Outcome("missing: west", browser.texts(f"{WEST} p"), [west, "Nothing is missing."])
+    yield Outcome("missing: west", browser.texts(f"{WEST} p"), [west, SEEN, "Nothing is missing."])
 
 
 def strip(site, browser):
@@ -114,9 +118,85 @@ def copied(site, browser):
     yield Outcome("the request is shown and chosen", text, REQUEST)
 
 
+def kept_in_hand(site, browser):
+    """A card is not drawn anew where nothing of it changed: what was copied stays said."""
+    allow_clipboard(site, browser, "granted")
+    open_missing(browser)
+    browser.one(f"{NORTH} button").click()
+    browser.wait_for_text(f"{NORTH} .copied", "copied")
+    for width in (500, 1100):
+        browser.size(width, 900)
+        fits = browser.wait(
+            lambda: browser.run(
+                """const place = document.querySelector('#report-north .strip-place');
+                return Number(place.firstChild.getAttribute('width')) === Math.floor(place.clientWidth)"""
+            )
+        )
+        yield Outcome(f"the strip in a window of {width}", fits, True)
+        told = browser.text(f"{NORTH} .copied")
+        yield Outcome(f"copied, in a window of {width}", told.startswith("The request is copied"), True)
+
+
+def days_ago(count: int) -> str:
+    return (date.today() - timedelta(days=count)).isoformat()
+
+
+def since_words(count: int) -> str:
+    day = date.today() - timedelta(days=count)
+    days = "1 day" if count == 1 else f"{count} days"
+    return (
+        f"No new message for {days}, as far as this browser has seen (since {day.day} {day:%B} {day.year})."
+    )
+
+
+REMEMBER = "localStorage.setItem('onixdesk-seen', JSON.stringify(arguments[0]))"
+REMEMBERED = "return JSON.parse(localStorage.getItem('onixdesk-seen'))"
+
+
+def silent(site, browser):
+    """A series that has been as it is for longer than desk.json allows is told, by what the browser kept."""
+    open_missing(browser)
+    browser.run("localStorage.clear()")
+    open_missing(browser)
+    kept = browser.run(REMEMBERED)
+    since = {name: found["since"] for name, found in kept.items()}
+    wanted = dict.fromkeys(["north", "south", "west"], date.today().isoformat())
+    yield Outcome("kept in the browser", since, wanted)
+    # The sample allows north and south 3 days, and west any number.
+    for name, count in [("north", 8), ("south", 3), ("west", 400)]:
+        kept[name]["since"] = days_ago(count)
+    browser.run(REMEMBER, kept)
+    open_missing(browser)
+    late = f"{since_words(8)} That is longer than 3 days: ask North Books."
+    yield Outcome("longer than it may be", browser.text(f"{NORTH} .since"), late)
+    yield Outcome("as long as it may be", browser.text(f"{SOUTH} .since"), since_words(3))
+    yield Outcome("where no number of days is named", browser.text(f"{WEST} .since"), since_words(400))
+    said = "5 messages missing in 1 series: North Books. Silent for longer than usual: North Books."
+    yield Outcome("the silent ones in all", browser.text("#missing-status"), said)
+    yield Outcome("silence is not red", "since" in browser.run(RED), False)
+    kept["south"] = {"state": "3 3 0", "since": days_ago(8)}
+    kept["west"] = {"state": 5}
+    browser.run(REMEMBER, kept)
+    open_missing(browser)
+    yield Outcome("another number since then", browser.text(f"{SOUTH} .since"), SEEN)
+    yield Outcome("what is kept is no use", browser.text(f"{WEST} .since"), SEEN)
+    browser.run("localStorage.setItem('onixdesk-seen', '{')")
+    open_missing(browser)
+    yield Outcome("what is kept is no JSON", browser.text(f"{NORTH} .since"), SEEN)
+
+
+def nothing_kept(site, browser):
+    """A browser that keeps nothing shows all else."""
+    source = "Object.defineProperty(window, 'localStorage', { get() { throw new Error('kept') } })"
+    put = browser.driver.execute_cdp_cmd("Page.addScriptToEvaluateOnNewDocument", {"source": source})
+    open_missing(browser)
+    yield Outcome("without a store", browser.text(f"{NORTH} .since"), SEEN)
+    browser.driver.execute_cdp_cmd("Page.removeScriptToEvaluateOnNewDocument", put)
+
+
 def unknown_series(site, browser):
     """A series of desk.json that nobody agreed is told at that series; the others are shown."""
-    path = site.page / "desk.json"
+    path = site.own / "desk.json"
     text = (PAGE / "desk.json").read_text(encoding="utf-8")
     path.write_text(text.replace('"name": "south"', '"name": "sooth"'), encoding="utf-8")
     open_missing(browser)
@@ -170,7 +250,7 @@ def late_start(site, browser):
     text = (PAGE / "desk.json").read_text(encoding="utf-8")
     late = '"series": [{"name": "late", "words": "Late Books"}]'
     text = re.sub(r'"series": \[.*?\]', late, text, flags=re.S)
-    (site.page / "desk.json").write_text(text, encoding="utf-8")
+    (site.own / "desk.json").write_text(text, encoding="utf-8")
     open_missing(browser)
     begins = "Nothing has come that could be applied; it begins with message 9000000."
     words = f"{begins} 1 later message waits for what is missing."
@@ -180,5 +260,5 @@ def late_start(site, browser):
     yield Outcome("a late start: its strip", came, wanted)
 
 
-CASES = [reported, strip, red, copied, unknown_series]
+CASES = [reported, strip, red, copied, kept_in_hand, silent, nothing_kept, unknown_series]
 OVER_TIME = [each_minute, late_start]

@@ -11,10 +11,14 @@ from typing import NamedTuple
 from page import (
     articles,
     calendars,
+    days,
     hostile,
+    isbns,
     keyboard,
     origins,
+    passwords,
     pictures,
+    prices,
     refusals,
     reports,
     screens,
@@ -35,22 +39,12 @@ class Sequence(NamedTuple):
 
 SEQUENCES = [
     Sequence("stops", stops.CASES),
-    Sequence("minutes", [*reports.OVER_TIME, *origins.AT_THE_END]),
-    Sequence(
-        "views",
-        [
-            *articles.CASES,
-            *calendars.CASES,
-            *reports.CASES,
-            *hostile.CASES,
-            *refusals.CASES,
-        ],
-    ),
-    Sequence(
-        "screens",
-        [*keyboard.CASES, *screens.CASES, *origins.CASES, *pictures.CASES],
-    ),
+    Sequence("minutes", [*reports.OVER_TIME, *passwords.CASES, *origins.AT_THE_END]),
+    Sequence("questions", [*articles.CASES, *isbns.CASES, *days.CASES, *prices.CASES]),
+    Sequence("views", [*calendars.CASES, *reports.CASES, *hostile.CASES, *refusals.CASES]),
+    Sequence("screens", [*keyboard.CASES, *screens.CASES, *origins.CASES]),
 ]
+PICTURES = Sequence("pictures", pictures.CASES)
 
 # How much of a value a line shows.
 SHOWN = 1500
@@ -81,11 +75,11 @@ def shown(value) -> str:
     return text if len(text) <= SHOWN else f"{text[:SHOWN]}.. ({len(text)} characters)"
 
 
-def run_all(program: Path) -> int:
-    """Runs all cases, and gives the number of those that failed."""
+def run_all(program: Path, sequences: list[Sequence]) -> int:
+    """Runs the cases of sequences, and gives the number of those that failed."""
     count = failed = 0
-    with ThreadPoolExecutor(len(SEQUENCES)) as pool:
-        for found in pool.map(lambda sequence: outcomes(program, sequence), SEQUENCES):
+    with ThreadPoolExecutor(len(sequences)) as pool:
+        for found in pool.map(lambda sequence: outcomes(program, sequence), sequences):
             for name, came, wanted in found:
                 count += 1
                 if came != wanted:

@@ -26,6 +26,10 @@ PASSWORD = "a-word-to-pass"
 CONNECTIONS = 100_000
 DATABASE = "shop.db"
 
+# A browser that is driven opens more pages a second than a shop's buyers do.
+RATE = "rate=10r/s"
+NO_LIMIT = "rate=10000r/s"
+
 # The desk's line for a request that nothing else of the tests makes.
 MARK = "501"
 
@@ -72,17 +76,28 @@ def openssl(*words) -> bytes:
     return subprocess.run(["openssl", *words], check=True, capture_output=True).stdout
 
 
+def basic(password: str) -> str:
+    """What a browser sends for the buyer with a password."""
+    return "Basic " + base64.b64encode(f"{USER}:{password}".encode()).decode()
+
+
 class Site:
     """nginx with the page, and the desk, each of which can be stopped and started."""
 
     def __init__(self, room: Room):
         self.room = room
         self.port = free_port()
+        self.plain_port = free_port()
         self.desk_port = free_port()
         self.desk = None
         self.nginx = None
         self.page = room.path("page")
         shutil.copytree(PAGE, self.page, dirs_exist_ok=True)
+        # The shop's own files lie apart from the page.
+        self.own = room.path("own")
+        self.own.mkdir(exist_ok=True)
+        for name in ("desk.json", "words.json"):
+            (self.page / name).rename(self.own / name)
         self._prepare()
 
     def _prepare(self):
@@ -93,26 +108,29 @@ class Site:
         openssl("req", "-x509", *key, *subject, *files, "-days", "2")
         secret = openssl("passwd", "-6", PASSWORD).decode()
         self.room.write("passwords", f"{USER}:{secret}".encode())
-        self.room.write("site.conf", self._site_conf().encode())
+        self.configure(NO_LIMIT)
         user = "user root;" if os.geteuid() == 0 else ""
         self.room.write("nginx.conf", MAIN.format(user=user, folder=folder).encode())
 
-    def _site_conf(self) -> str:
-        """The example, with the places and ports of the test in it."""
+    def configure(self, rate: str):
+        """Writes the example, with the places and ports of the test in it, and with another rate of requests."""
         folder = self.room.folder
         text = (ROOT / "examples/page/nginx.conf").read_text(encoding="utf-8")
         for written, here in [
             ("listen 443 ssl", f"listen {HOST}:{self.port} ssl"),
+            ("listen 80;", f"listen {HOST}:{self.plain_port};"),
+            (RATE, rate),
             ("127.0.0.1:8080", f"{HOST}:{self.desk_port}"),
             (f"/etc/ssl/{NAME}.pem", f"{folder}/site.pem"),
             (f"/etc/ssl/private/{NAME}.key", f"{folder}/site.key"),
             ("/etc/nginx/onixdesk.passwords", f"{folder}/passwords"),
             ("/opt/onixdesk/page", str(self.page)),
+            ("/etc/onixdesk/page", str(self.own)),
         ]:
             if written not in text:
                 raise ValueError(f"examples/page/nginx.conf does not have {written}")
             text = text.replace(written, here)
-        return text
+        self.room.write("site.conf", text.encode())
 
     def start_nginx(self):
         words = ["-e", self.room.path("error.log"), "-c", self.room.path("nginx.conf")]
@@ -192,18 +210,21 @@ class Site:
     def own_host(self) -> str:
         return f"{NAME}:{self.port}"
 
-    def fetch(self, path: str, method="GET", host=None, fields=(), password=PASSWORD):
-        """The status, the fields and the body of nginx's reply to a program that is no browser."""
+    def connected(self) -> http.client.HTTPSConnection:
+        """A connection to nginx by a program that is no browser."""
         context = ssl._create_unverified_context()
         connection = http.client.HTTPSConnection(HOST, self.port, context=context, timeout=SECONDS)
         raw = socket.create_connection((HOST, self.port), timeout=SECONDS)
         connection.sock = context.wrap_socket(raw, server_hostname=NAME)
-        with contextlib.closing(connection):
+        return connection
+
+    def fetch(self, path: str, method="GET", host=None, fields=(), password=PASSWORD):
+        """The status, the fields and the body of nginx's reply to a program that is no browser."""
+        with contextlib.closing(self.connected()) as connection:
             connection.putrequest(method, path, skip_host=True, skip_accept_encoding=True)
             connection.putheader("Host", host or self.own_host())
             if password:
-                token = base64.b64encode(f"{USER}:{password}".encode()).decode()
-                connection.putheader("Authorization", f"Basic {token}")
+                connection.putheader("Authorization", basic(password))
             for name, value in fields:
                 connection.putheader(name, value)
             connection.endheaders()

@@ -3,7 +3,7 @@
 import contextlib
 import sqlite3
 
-from page.articles import ONE_COPY
+from page.articles import ONE_COPY, answered
 from page.site import DATABASE
 from page.week import ISBN, article
 from program.room import Outcome
@@ -16,8 +16,7 @@ def down(browser, words: str) -> bool:
 
 
 def back(browser, name: str):
-    browser.wait(lambda: browser.all("#offers tr"))
-    yield Outcome(f"{name}: answered by itself", browser.rows("#offers"), ONE_COPY)
+    yield Outcome(f"{name}: answered by itself", answered(browser), ONE_COPY)
     yield Outcome(f"{name}: the note is gone", browser.one("#down").is_displayed(), False)
     yield Outcome(f"{name}: the whole answer", bool(browser.wait(lambda: browser.all("#picture svg"))), True)
 

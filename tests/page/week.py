@@ -41,15 +41,53 @@ EndMessage,10
 """
 
 
+# Net prices, in two currencies, one with a break at 25 copies, one with three decimals.
+NET_ISBN = "9783161484100"
+NET_SENDER = "06,8000000000008"
+NET_MESSAGE = f"""Agree,net,{NET_SENDER},{SHOP},1
+Message,2,{NET_SENDER},{SHOP},1,1,20250306,05,GBP
+Product,K-1,03,15,{NET_ISBN}
+ProductSupply,DE GB,,
+SupplyDetail,04,06,8000000000008,Net,21,
+Price,,8.49,,,,,,
+Price,,7.99,,,,,,,25
+Price,,1234.5,EUR,,,,,
+Product,K-2,03,15,{NET_ISBN}
+ProductSupply,DE GB,,
+SupplyDetail,04,06,8000000000008,Net,21,
+Price,,8.125,,,,,,
+Price,,24,EUR,,,,,
+Product,K-3,03,15,{NET_ISBN}
+ProductSupply,DE GB,,
+SupplyDetail,04,06,8000000000008,Net,21,
+Price,42,19.99,,,,,,
+EndMessage,16
+"""
+
+# References that turn what comes behind them round, unless they are kept apart from it.
+TURNING_ISBN = "9780000000026"
+TURNING = ["one\u202etwo", "\u05d0\u05d1\u05d2"]
+TURNING_MESSAGE = f"""Message,1,{HOSTILE_SENDER},{SHOP},2,1,20250306,02,GBP
+Product,{TURNING[0]},03,15,{TURNING_ISBN}
+ProductSupply,GB,,
+SupplyDetail,04,06,6000000000006,Odd,21,
+Product,{TURNING[1]},03,15,{TURNING_ISBN}
+ProductSupply,GB,,
+SupplyDetail,04,06,6000000000006,Odd,21,
+EndMessage,7
+"""
+
+
 def fill(room: Room):
-    """Makes the database of the week with the gaps and the hostile texts."""
+    """Makes the database of the week with the gaps, the hostile texts and the net prices."""
     week = (ROOT / "examples/shop/week.csv").read_text(encoding="utf-8")
-    batch = (week + GAPS + HOSTILE_MESSAGE).encode()
+    batch = (week + GAPS + HOSTILE_MESSAGE + TURNING_MESSAGE + NET_MESSAGE).encode()
     rules = ROOT / "examples/shop/rules.toml"
     filled = room.run("--db", DATABASE, "--rules", rules, "batch", given=batch)
-    # Some of the week's answers are refusals.
-    if filled.status != 1:
-        raise RuntimeError(f"the database of the test: {filled.errors}")
+    # Some of the week's answers are refusals; of the messages behind it none is.
+    behind = [b"applied,odd,1,", b"applied,odd,2,", b"applied,net,1,"]
+    if filled.status != 1 or any(answer not in filled.output for answer in behind):
+        raise RuntimeError(f"the database of the test: {filled.output} {filled.errors}")
 
 
 def article(isbn: str = ISBN, **given) -> str:

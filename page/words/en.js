@@ -1,17 +1,13 @@
-// All texts of the page but the sentence for browsers without scripts, which stands in index.html.
-// A shop that speaks another language puts its own here. What stands in braces is filled in.
-// Where a text depends on a number it has a form for each word of Intl.PluralRules (`one`, `other`).
+// The words of the page in English. What stands in braces is filled in. Where a text depends on a number
+// it has a form for each word of Intl.PluralRules (`one`, `other`).
 
 export const texts = {
-  language: "en-GB",
-
   page: {
     name: "onixdesk",
     title: "{view} – onixdesk",
     skip: "Skip to the content",
     views: "Views",
     seriesInWords: "{words} ({name})",
-    amount: "{amount} {currency}",
   },
 
   article: {
@@ -21,8 +17,10 @@ export const texts = {
     ask: "Ask",
     asking: "Asking the desk …",
     isbn: "ISBN",
-    isbnHint: "Thirteen digits; hyphens and spaces do not matter.",
+    isbnHint: "Thirteen digits, or ten; hyphens and spaces do not matter.",
     day: "Day",
+    notToday: "not today",
+    toToday: "Today",
     country: "Country",
     currency: "Currency",
     type: "Price type",
@@ -32,7 +30,15 @@ export const texts = {
     question: "{isbn} on {day} in {country}, {currency}, price type {type}, {copies}",
     copies: { one: "1 copy", other: "{count} copies" },
     noOffers: "No wholesaler offers this book.",
-    chosen: "Buy from {wholesaler} at {amount} a copy.",
+    unpriced: "No offer has a price of type {type} for this question.",
+    askingTypes: "Looking for prices of other types …",
+    otherTypes: "There are prices of these types:",
+    noOtherType: "None has one of another type either. Another day, country or currency, or more copies, may have one.",
+    chosen: {
+      net: "Buy from {wholesaler} at {amount} a copy.",
+      retail: "The shop’s choice is {wholesaler}, retail price {amount}.",
+      other: "The shop’s choice is {wholesaler}, {amount} by price type {type}.",
+    },
     chosenBy: "Rule {rule} of the shop chooses it.",
     chosenByWords: "Rule {rule} of the shop chooses it: “{words}”.",
     notChosen: "No rule of the shop admits one of these offers, so none is chosen.",
@@ -40,7 +46,13 @@ export const texts = {
     wholesaler: "Wholesaler",
     reference: "Reference",
     availability: "Availability",
-    price: "Price a copy",
+    price: { net: "Price a copy", retail: "Retail price", other: "Price a copy" },
+    byCopies: "By copies",
+    askingCopies: "…",
+    sameForCopies: "no change",
+    atCopies: ": {price}",
+    order: "Order of offers",
+    orders: { series: "by wholesaler", price: "by price, the least first" },
     choice: "Choice",
     ruleChooses: "Chosen by rule {rule}",
     noPrice: "no price for this question",
@@ -71,7 +83,7 @@ export const texts = {
     offer: "Offer",
     first: "First day",
     last: "Last day",
-    price: "Price a copy",
+    price: "Price",
     noPrice: "no price",
   },
 
@@ -97,6 +109,16 @@ export const texts = {
       other: "{count} later messages wait for what is missing.",
     },
     complete: "Nothing is missing.",
+    sinceToday: "This browser has seen it like this since today.",
+    since: {
+      one: "No new message for 1 day, as far as this browser has seen (since {day}).",
+      other: "No new message for {count} days, as far as this browser has seen (since {day}).",
+    },
+    silent: {
+      one: "That is longer than 1 day: ask {wholesaler}.",
+      other: "That is longer than {count} days: ask {wholesaler}.",
+    },
+    silentSeries: "Silent for longer than usual: {wholesalers}.",
     missing: { one: "1 message is missing:", other: "{count} messages are missing:" },
     one: "{from}",
     range: "{from} to {until} ({messages})",
@@ -119,9 +141,12 @@ export const texts = {
 
   wrong: {
     isbnEmpty: "Please give an ISBN.",
-    isbnTen: "This is an ISBN of ten digits. Please give the one of thirteen, as it stands at the bar code.",
-    isbnLetters: "“{sign}” is no digit. An ISBN is thirteen digits.",
-    isbnDigits: { one: "This is 1 digit. An ISBN is thirteen.", other: "These are {count} digits. An ISBN is thirteen." },
+    isbnCheck: "Is a digit mistyped? The last sign should be {right}. It is asked for all the same.",
+    isbnLetters: "“{sign}” is no digit. An ISBN is thirteen digits, or ten.",
+    isbnDigits: {
+      one: "This is 1 digit. An ISBN is thirteen, or ten.",
+      other: "These are {count} digits. An ISBN is thirteen, or ten.",
+    },
     day: "Please give a whole day: day, month and year.",
     country: "A country is two letters, such as GB or IE.",
     currency: "A currency is three letters, such as GBP or EUR.",
@@ -130,12 +155,13 @@ export const texts = {
     range: "The last day is not before the first, and they are at most 3,660 days apart, counting both.",
     query: "The desk could not read the question. Please look at each field again.",
     series: "The desk has no agreement with the name “{name}”. Look at desk.json, or make the agreement.",
-    other: "The desk refused the question: {reason}.",
+    refused: "The desk refused the question: {reason}.",
     strange: "What answered is not the desk (status {status}). Whoever looks after this page should look at the web server.",
     forbidden: "The web server refused the request (status {status}). Whoever looks after this page should look at its rules.",
   },
 
   down: {
+    429: "The web server has been asked too often at once.",
     502: "The desk is not running, or is just being started.",
     503: "The desk has a fault of its storage.",
     504: "The desk has not answered in time.",
@@ -151,14 +177,15 @@ export const texts = {
   },
 
   settings: {
-    heading: "Something is wrong with desk.json",
+    heading: "Something is wrong with {file}",
     whom: "Whoever looks after this page should mend it. What is right in it is used.",
-    unread: "desk.json could not be read from the web server (status {status}).",
-    unreached: "desk.json could not be read from the web server.",
+    unread: "{file} could not be read from the web server (status {status}).",
+    unreached: "{file} could not be read from the web server.",
     notJson: "desk.json is not JSON: {fault}",
     notObject: "desk.json is not an object: it should begin with {brace} and name “series”, “country”, “currency” and “price_type”.",
     lacks: "“{key}” is not there.",
     unknown: "“{key}” is no name that the page knows.",
+    language: "“language” is {value}; it should be a language in quotation marks, such as \"en-GB\" or \"de\".",
     country: "“country” is {value}; it should be two capital letters, such as \"GB\".",
     currency: "“currency” is {value}; it should be three capital letters, such as \"GBP\".",
     priceType: "“price_type” is {value}; it should be two digits in quotation marks, such as \"02\".",
@@ -166,21 +193,46 @@ export const texts = {
     seriesItem: "Series {number} is {value}; it should have a “name” and “words”, both texts.",
     seriesName: "The name of series {number} is {value}; it should have 1 to 32 of the signs a to z, 0 to 9 and -.",
     seriesTwice: "Series {number} has the name {value}, which another one has.",
+    seriesUnknown: "“{key}” of series {number} is no name that the page knows.",
+    seriesDays: "“days_without_message” of series {number} is {value}; it should be a whole number from 1 to 9999.",
+    quantities: "“quantities” is {value}; it should be at most eight numbers of copies, each greater than the one before, such as [1, 10, 25].",
     rules: "“rules” is not a list of texts, one for each rule of the precedence table.",
   },
 
-  // Code list 58 of ONIX, the types that shops ask for most.
+  ownWords: {
+    notJson: "words.json is not JSON: {fault}",
+    notObject: "words.json is not an object of words.",
+    unknown: "“{place}” is no name of words that the page has.",
+    kind: "“{place}” is {value}, which is not what the page has there.",
+  },
+
+  // Code list 58 of ONIX.
   priceTypes: {
     "01": "recommended retail price, without tax",
     "02": "recommended retail price, with tax",
     "03": "fixed retail price, without tax",
     "04": "fixed retail price, with tax",
     "05": "supplier's net price, without tax",
+    "06": "supplier's net price, without tax, for rental",
     "07": "supplier's net price, with tax",
+    "08": "supplier's alternative net price, without tax",
+    "09": "supplier's alternative net price, with tax",
     "11": "special sale, recommended retail price, without tax",
     "12": "special sale, recommended retail price, with tax",
+    "13": "special sale, fixed retail price, without tax",
+    "14": "special sale, fixed retail price, with tax",
+    "15": "special sale, supplier's net price, without tax",
+    "17": "special sale, supplier's net price, with tax",
     "21": "before publication, recommended retail price, without tax",
     "22": "before publication, recommended retail price, with tax",
+    "23": "before publication, fixed retail price, without tax",
+    "24": "before publication, fixed retail price, with tax",
+    "25": "before publication, supplier's net price, without tax",
+    "27": "before publication, supplier's net price, with tax",
+    "31": "freight included, recommended retail price, without tax",
+    "32": "freight left out, price for the invoice, without tax",
+    "33": "importer's fixed retail price, without tax",
+    "34": "importer's fixed retail price, with tax",
     "41": "publisher's retail price, without tax",
     "42": "publisher's retail price, with tax",
   },

@@ -1,0 +1,114 @@
+"""The day follows today until a buyer sets it."""
+
+from datetime import date, timedelta
+
+from page.articles import answered
+from page.week import ISBN, article
+from program.room import Outcome
+
+# The page's clock, moved on by as many days as the tests say.
+CLOCK = """
+const Real = Date;
+window.daysAhead = AHEAD;
+const now = () => Real.now() + window.daysAhead * 86400000;
+window.Date = class extends Real {
+  constructor(...given) { super(...(given.length === 0 ? [now()] : given)); }
+  static now() { return now(); }
+};
+"""
+# A browser tells a page that it is seen again, as on the morning after.
+SEEN_AGAIN = "window.daysAhead = arguments[0]; document.dispatchEvent(new Event('visibilitychange'))"
+
+OTHER = "document.getElementById('day-field').classList.contains('other-day')"
+
+
+def in_words(day: date) -> str:
+    return f"{day.day} {day:%B} {day.year}"
+
+
+def value(browser) -> str:
+    return browser.one("#day").get_attribute("value")
+
+
+def heading(browser, words: str) -> str:
+    return browser.wait_for_text("#answer-heading", words)
+
+
+def with_clock(browser, ahead: int = 0):
+    """Puts the clock into each page from now on; gives what takes it out again."""
+    script = {"source": CLOCK.replace("AHEAD", str(ahead))}
+    put = browser.driver.execute_cdp_cmd("Page.addScriptToEvaluateOnNewDocument", script)
+    return lambda: browser.driver.execute_cdp_cmd("Page.removeScriptToEvaluateOnNewDocument", put)
+
+
+def over_night(site, browser):
+    stop = with_clock(browser)
+    today = date.today()
+    tomorrow = today + timedelta(days=1)
+    browser.open("")
+    browser.wait(lambda: value(browser))
+    browser.one("#isbn").send_keys(f"{ISBN}\n")
+    answered(browser)
+    yield Outcome("today is not in the address", "day=" in browser.run("return location.hash"), False)
+    yield Outcome("today is no other day", heading(browser, "Offers"), f"Offers on {in_words(today)}")
+    browser.run(SEEN_AGAIN, 1)
+    came = heading(browser, in_words(tomorrow))
+    yield Outcome("over night the answer is of the new day", came, f"Offers on {in_words(tomorrow)}")
+    answered(browser)
+    yield Outcome("over night the field has the new day", value(browser), tomorrow.isoformat())
+    yield Outcome("over night no day stands out", browser.run(f"return {OTHER}"), False)
+    until = browser.one("#from").get_attribute("value")
+    browser.run("window.daysAhead = 2")
+    browser.one("#quantity").clear()
+    browser.one("#quantity").send_keys("2\n")
+    came = heading(browser, in_words(today + timedelta(days=2)))
+    yield Outcome("a question after midnight is of the new day", in_words(today + timedelta(days=2)) in came, True)
+    yield Outcome("the calendar has moved along", browser.one("#from").get_attribute("value") > until, True)
+    stop()
+
+
+def set_day(site, browser):
+    stop = with_clock(browser)
+    today = date.today()
+    browser.open(article())
+    answered(browser)
+    yield Outcome("a set day stands out at its field", browser.run(f"return {OTHER}"), True)
+    words = "Offers on 10 April 2025 not today"
+    yield Outcome("a set day stands out above the offers", browser.text("#answer-heading"), words)
+    yield Outcome("a set day is said beside the field", browser.text("#day-note"), "not today")
+    browser.run(SEEN_AGAIN, 1)
+    yield Outcome("a set day stays over night", value(browser), "2025-04-10")
+    browser.run("window.daysAhead = 0")
+    browser.one("#to-today").click()
+    came = heading(browser, in_words(today))
+    yield Outcome("back to today by a button", came, f"Offers on {in_words(today)}")
+    yield Outcome("back to today: the address", "day=" in browser.run("return location.hash"), False)
+    yield Outcome("back to today: the field", value(browser), today.isoformat())
+    answered(browser)
+    browser.run(SEEN_AGAIN, 1)
+    tomorrow = in_words(today + timedelta(days=1))
+    yield Outcome("and it follows today again", heading(browser, tomorrow), f"Offers on {tomorrow}")
+    stop()
+
+
+def typed_day(site, browser):
+    """A day that is typed and not yet asked for stays too, and stands out at once."""
+    stop = with_clock(browser)
+    browser.open("")
+    browser.wait(lambda: value(browser))
+    browser.run(
+        """const field = document.getElementById('day');
+        field.value = '2025-04-10';
+        field.dispatchEvent(new Event('input', { bubbles: true }))"""
+    )
+    yield Outcome("a typed day stands out", browser.run(f"return {OTHER}"), True)
+    browser.run(SEEN_AGAIN, 1)
+    yield Outcome("a typed day stays over night", value(browser), "2025-04-10")
+    browser.one("#isbn").send_keys(f"{ISBN}\n")
+    answered(browser)
+    given = browser.run("return location.hash")
+    yield Outcome("a typed day is in the address", "day=2025-04-10" in given, True)
+    stop()
+
+
+CASES = [over_night, set_day, typed_day]

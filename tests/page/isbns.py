@@ -1,0 +1,127 @@
+"""The field of the ISBN: what is typed, scanned or pasted there, and where the focus is."""
+
+from selenium.webdriver.common.action_chains import ActionChains
+
+from page.articles import answered
+from page.week import ISBN, OTHER_ISBN, article
+from program.room import Outcome
+
+FOCUS = "return [document.activeElement.id, String(getSelection())]"
+
+# 0-306-40615-2 is the example of ten and thirteen digits that ISO 2108 is mostly explained by.
+TEN = "0-306-40615-2"
+THIRTEEN = "9780306406157"
+ENDING_IN_X = ["0-8044-2957-X", "080442957x"]
+ITS_THIRTEEN = "9780804429573"
+
+REMARK = "Is a digit mistyped? The last sign should be {}. It is asked for all the same."
+
+
+def scan(browser, text: str):
+    """Types where the focus is, as a scanner does."""
+    ActionChains(browser.driver).send_keys(f"{text}\n").perform()
+
+
+def asked(browser, isbn: str) -> bool:
+    """Whether the page shows the answer for an ISBN."""
+    shown = browser.wait(lambda: browser.text("#asked").startswith(isbn), 10)
+    return bool(shown and answered(browser) is not None)
+
+
+def scanned(site, browser):
+    """A scanner needs no mouse between two books."""
+    browser.open("")
+    browser.wait(lambda: browser.run(FOCUS)[0] == "isbn")
+    yield Outcome("the focus at the start", browser.run(FOCUS)[0], "isbn")
+    for isbn in (ISBN, OTHER_ISBN, ISBN):
+        scan(browser, isbn)
+        yield Outcome(f"scanned: {isbn}", asked(browser, isbn), True)
+        yield Outcome(f"the focus after {isbn}, and what is selected", browser.run(FOCUS), ["isbn", isbn])
+    browser.one("#quantity").clear()
+    browser.one("#quantity").send_keys("10\n")
+    browser.wait(lambda: browser.text("#asked").endswith("10 copies"))
+    yield Outcome("the focus after another question", browser.run(FOCUS), ["isbn", ISBN])
+    browser.one("#month").click()
+    browser.wait(lambda: "until=" in browser.run("return location.hash"))
+    scan_place = browser.run(FOCUS)[0]
+    yield Outcome("the calendar's buttons keep the focus", scan_place, "month")
+    browser.one("#to-missing").click()
+    browser.wait_for_text("#as-of", "As of")
+    browser.one("#to-article").click()
+    focus = browser.wait(lambda: browser.run(FOCUS)[0] == "isbn")
+    yield Outcome("the focus when the view is opened again", focus, True)
+
+
+def next_one_is_not_lost(site, browser):
+    """What is typed while the desk is asked is not selected away by its answer."""
+    browser.open("")
+    browser.wait(lambda: browser.run(FOCUS)[0] == "isbn")
+    scan(browser, ISBN)
+    ActionChains(browser.driver).send_keys(OTHER_ISBN[:5]).perform()
+    answered(browser)
+    ActionChains(browser.driver).send_keys(OTHER_ISBN[5:]).perform()
+    value = browser.one("#isbn").get_attribute("value")
+    yield Outcome("typed on while the answer came", value, OTHER_ISBN)
+
+
+def ten_digits(site, browser):
+    for typed, isbn in [(TEN, THIRTEEN), *[(typed, ITS_THIRTEEN) for typed in ENDING_IN_X]]:
+        browser.open("")
+        browser.wait(lambda: browser.run(FOCUS)[0] == "isbn")
+        scan(browser, typed)
+        browser.wait(lambda: "isbn=" in browser.run("return location.hash"))
+        given = browser.run("return location.hash").partition("&")[0]
+        yield Outcome(f"{typed}: the address", given, f"#article?isbn={isbn}")
+        yield Outcome(f"{typed}: its field", browser.one("#isbn").get_attribute("value"), isbn)
+        yield Outcome(f"{typed}: nothing to remark", browser.text("#isbn-remark"), "")
+
+
+# No-break and ordinary hyphens, dashes, a minus, a soft hyphen, and spaces of several widths.
+HYPHENS = [
+    "978-1-234567-89-7",
+    "978\u20101\u2011234567\u201289\u20137",
+    "978\u22121 234567\u00ad89\u00a07",
+    " 9-7-8-1-2-3-4-5-6-7-8-9-7 ",
+    "\uff0d9781234567897",
+]
+
+
+def hyphens(site, browser):
+    for typed in HYPHENS:
+        browser.open("")
+        browser.wait(lambda: browser.run(FOCUS)[0] == "isbn")
+        browser.run("document.getElementById('isbn').value = arguments[0]", typed)
+        browser.one("#question button.main").click()
+        yield Outcome(f"hyphens: {typed!a}", asked(browser, ISBN), True)
+
+
+def check_digits(site, browser):
+    """A wrong last digit is told beside the field, and the desk is asked all the same."""
+    for typed, isbn, right in [
+        ("978-1-234567-89-4", "9781234567894", "7"),
+        ("0-306-40615-3", THIRTEEN, "2"),
+        ("0-8044-2957-3", ITS_THIRTEEN, "X"),
+    ]:
+        browser.open("")
+        browser.wait(lambda: browser.run(FOCUS)[0] == "isbn")
+        before = site.mark()
+        scan(browser, typed)
+        told = browser.wait_for_text("#isbn-remark", "mistyped")
+        yield Outcome(f"{typed}: the remark", told, REMARK.format(right))
+        yield Outcome(f"{typed}: what was asked", asked_any(browser, isbn), True)
+        yield Outcome(f"{typed}: the desk was asked", site.lines_since(before)[:2], ["200", "200"])
+        kept = browser.one("#isbn").get_attribute("value")
+        yield Outcome(f"{typed}: its digits stay", kept, typed.replace("-", ""))
+        state = browser.run("return document.activeElement.getAttribute('aria-invalid')")
+        yield Outcome(f"{typed}: it is not refused", state, None)
+    browser.open(article())
+    answered(browser)
+    yield Outcome("a right ISBN has no remark", browser.text("#isbn-remark"), "")
+
+
+def asked_any(browser, isbn: str) -> bool:
+    """Whether the page asked for an ISBN, whether it is offered or not."""
+    return bool(browser.wait(lambda: browser.text("#asked").startswith(isbn), 10))
+
+
+CASES = [scanned, next_one_is_not_lost, ten_digits, hyphens, check_digits]

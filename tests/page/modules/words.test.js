@@ -1,0 +1,81 @@
+// The words of each language that the page brings along.
+
+import assert from "node:assert/strict";
+import { readdirSync, readFileSync } from "node:fs";
+import { afterEach, test } from "node:test";
+
+import { say, sayCount, sayParts, shippedWords, speak } from "../page/wording.js";
+import { texts as de } from "../page/words/de.js";
+import { texts as en } from "../page/words/en.js";
+
+afterEach(() => speak("en-GB", en));
+
+/** The texts of a table by path. */
+function textsOf(table, path = "") {
+  return Object.entries(table).flatMap(([key, value]) =>
+    typeof value === "string" ? [[path + key, value]] : textsOf(value, `${path}${key}.`),
+  );
+}
+
+const bracesOf = (text) => [...new Set(text.match(/\{\w+\}/g) ?? [])].sort();
+
+test("German has each text that English has, with the same in braces", () => {
+  const [one, other] = [textsOf(en), textsOf(de)];
+  assert.deepEqual(other.map(([path]) => path).sort(), one.map(([path]) => path).sort());
+  const german = Object.fromEntries(other);
+  for (const [path, text] of one) assert.deepEqual(bracesOf(german[path]), bracesOf(text), path);
+});
+
+test("no text is empty, and German is not English", () => {
+  for (const [path, text] of [...textsOf(en), ...textsOf(de)]) assert.notEqual(text.trim(), "", path);
+  const english = Object.fromEntries(textsOf(en));
+  // What is a name, a sign or a form for numbers alone may be the same.
+  const same = textsOf(de).filter(([path, text]) => text === english[path] && /[a-z]{3}/.test(text.replaceAll(/\{\w+\}/g, "")));
+  assert.deepEqual(same.map(([path]) => path), ["page.name", "page.title"]);
+});
+
+test("each text that index.html names is there", () => {
+  const html = readFileSync("../page/index.html", "utf8");
+  const paths = [...html.matchAll(/data-(?:text|label)="([^"]+)"/g)].map(([, path]) => path);
+  assert.ok(paths.length > 20);
+  for (const path of paths) assert.equal(typeof say(path), "string", path);
+});
+
+test("each text that a module names is there", () => {
+  const files = readdirSync("../page").filter((name) => name.endsWith(".js"));
+  const sources = files.map((name) => readFileSync(`../page/${name}`, "utf8")).join("\n");
+  const paths = [...sources.matchAll(/\bsay(?:Parts|Count)?\(\s*"([a-zA-Z.]+)"/g)].map(([, path]) => path);
+  assert.ok(paths.length > 60);
+  for (const path of paths) assert.doesNotThrow(() => (path in counted ? sayCount(path, 2) : say(path)), path);
+});
+
+const counted = Object.fromEntries(
+  textsOf(en).filter(([path]) => path.endsWith(".one")).map(([path]) => [path.slice(0, -4), true]),
+);
+
+test("words of a language, and of one that the page has not", () => {
+  assert.equal(shippedWords("de-AT"), de);
+  assert.equal(shippedWords("de"), de);
+  assert.equal(shippedWords("en-US"), en);
+  assert.equal(shippedWords("fr"), en);
+  assert.equal(shippedWords("constructor"), en);
+});
+
+test("forms for counts", () => {
+  assert.equal(sayCount("article.copies", 1), "1 copy");
+  assert.equal(sayCount("article.copies", 0), "0 copies");
+  assert.equal(sayCount("article.copies", 1000), "1,000 copies");
+  speak("de", de);
+  assert.equal(sayCount("article.copies", 1), "1 Exemplar");
+  assert.equal(sayCount("article.copies", 1000), "1.000 Exemplare");
+});
+
+test("what stands in braces is filled in once, and what nobody gives stays", () => {
+  speak("en-GB", { text: "{one} and {two}", forms: { other: "{count} x" } });
+  assert.equal(say("text", { one: "{two}", two: "2" }), "{two} and 2");
+  assert.equal(say("text", { one: "1" }), "1 and {two}");
+  const node = { isNode: true };
+  assert.deepEqual(sayParts("text", { one: node, two: "" }), ["", node, " and ", "", ""]);
+  assert.equal(sayCount("forms", 1), "1 x");
+  assert.throws(() => say("nothing"), /nothing/);
+});

@@ -1,0 +1,115 @@
+"""The passwords of the web server: what is asked without one, how often one is guessed, and their file."""
+
+import contextlib
+import http.client
+import os
+import re
+import shutil
+import stat
+import subprocess
+
+from page.origins import GAPS
+from page.site import NAME, NO_LIMIT, PASSWORD, RATE, ROOT, basic
+from program.room import Outcome
+from program.serving import HOST
+
+
+def without(site, browser):
+    before = site.mark()
+    for password in ("", "another", PASSWORD + "x"):
+        for path in ("/", "/main.js", "/desk.json", GAPS):
+            status, _, _ = site.fetch(path, password=password)
+            yield Outcome(f"the password {password!r} for {path}", status, 401)
+    yield Outcome("without its password nothing comes to the desk", site.lines_since(before), [])
+
+
+def plain(site, browser):
+    """Without TLS no password is asked for: there is only the way to it."""
+    for host in (NAME, "stranger.example.net"):
+        for path in ("/", "/desk/series/north/gaps?x=1"):
+            connection = http.client.HTTPConnection(HOST, site.plain_port)
+            connection.request("GET", path, headers={"Host": host})
+            reply = connection.getresponse()
+            came = reply.status, reply.getheader("Location"), reply.getheader("WWW-Authenticate")
+            yield Outcome(f"without TLS, {path} of {host}", came, (301, f"https://{NAME}{path}", None))
+
+
+# The example lets 300 requests through at once, and ten a second.
+AT_ONCE = 300
+FLOOD = 500
+AFTER = 50
+
+
+def flood(site) -> list[bytes]:
+    """The statuses of many requests without a password and some with the right one, sent at once."""
+    head = f"GET /desk.json HTTP/1.1\r\nHost: {site.own_host()}\r\n"
+    known = f"{head}Authorization: {basic(PASSWORD)}\r\n"
+    requests = f"{head}\r\n" * FLOOD + f"{known}\r\n" * AFTER + f"{head}Connection: close\r\n\r\n"
+    found = b""
+    with contextlib.closing(site.connected().sock) as peer:
+        peer.sendall(requests.encode())
+        while came := peer.recv(65536):
+            found += came
+    return re.findall(rb"^HTTP/1\.1 (\d+)", found, re.M)
+
+
+def guesses(site, browser):
+    """Whoever asks too often is stopped for a time, and the right password is then no better than none."""
+    site.stop_nginx()
+    site.configure(RATE)
+    site.start_nginx()
+    came = flood(site)
+    first, last = came[:FLOOD], came[FLOOD : FLOOD + AFTER]
+    yield Outcome("each request has a reply", len(came), FLOOD + AFTER + 1)
+    yield Outcome(f"{AT_ONCE} are within the burst", set(first[:AT_ONCE]), {b"401"})
+    yield Outcome("then it is too many", sorted(set(first)), [b"401", b"429"])
+    yield Outcome("and for the right password too", b"429" in last, True)
+    site.stop_nginx()
+    site.configure(NO_LIMIT)
+    site.start_nginx()
+    status, _, _ = site.fetch("/desk.json")
+    yield Outcome("where nothing is counted it is right", status, 200)
+
+
+# The lines that make the file, in both places that tell them.
+README = ROOT / "examples/page/README.md"
+FILE = "/etc/nginx/onixdesk.passwords"
+
+
+def lines_for_file() -> list[str]:
+    text = README.read_text(encoding="utf-8")
+    return [line.strip() for line in re.findall(r"^    .*", text, re.M) if FILE in line]
+
+
+def password_file(site, browser):
+    """As the README makes it: the server alone may read it from the first moment, and buyers are added."""
+    folder = site.room.path("etc")
+    folder.mkdir()
+    path = folder / "passwords"
+    begin, add = lines_for_file()
+
+    def run(line: str, buyer: str = "buyer"):
+        here = line.replace(FILE, str(path)).replace("buyer:", f"{buyer}:")
+        here = here.replace("openssl passwd -6", "openssl passwd -6 words")
+        if os.geteuid() != 0:
+            here = here.replace("-o root -g www-data", "")
+        subprocess.run(["sh", "-ec", f"umask 022; {here}"], check=True)
+
+    def readers():
+        found = path.stat()
+        return stat.S_IMODE(found.st_mode), found.st_size > 0
+
+    run(begin)
+    yield Outcome("the file is made without a password", readers(), (0o640, False))
+    run(add, "anna")
+    yield Outcome("with a password it is as closed", readers(), (0o640, True))
+    run(begin)
+    run(add, "bert")
+    names = [line.partition(":")[0] for line in path.read_text().splitlines()]
+    yield Outcome("another buyer beside the first", names, ["anna", "bert"])
+    if os.geteuid() == 0:
+        yield Outcome("its group", path.group(), "www-data")
+    shutil.rmtree(folder)
+
+
+CASES = [without, plain, guesses, password_file]

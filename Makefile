@@ -1,29 +1,45 @@
-.PHONY: test page-test wrong-bodies build package package-test
+.DEFAULT_GOAL := help
+.PHONY: help build test check lint docs wrong-bodies page-test page-pictures package package-test
 
-# The gate: every proof from nothing, the edits that the prover must refuse, the tests of the libraries,
-# and the program as two compilers build it: 'N passed, M failed'. Then memory is refused to the tests of the
-# desks: 'memory: N requests refused, M runs failed'. The program that it built starts at once from then on,
-# and is tested from outside. The last line is 'program: N cases, M failed'.
-test:
+help: ## this list
+	@awk -F ':.*## ' '/^[a-z-]+:.*## / { printf "make %-13s %s\n", $$1, $$2 }' Makefile
+
+# The proofs that it does are kept for 'make test', where the toolchain keeps any.
+build: ## proves and builds the program, crates/onixdesk/out/onixdesk
+	@tools/build
+
+# Every proof, the edits that the prover must refuse, the tests of the libraries, and the program as two compilers
+# build it: 'N passed, M failed'. Then memory is refused to the tests of the desks: 'memory: N requests refused,
+# M runs failed'. The program that it built starts at once from then on, and is tested from outside. The last line is
+# 'program: N cases, M failed'.
+test: ## the gate: all that is proved and tested, but the buyers' page
 	@tests/gate
 
-# The wrong bodies that the gate leaves out: the prover must refuse each of them too.
-wrong-bodies:
+check: lint ## in minutes: the lints, and the tests of the built program
+	@tests/run
+
+lint: ## looks over the Python, the shell and the JavaScript
+	@tools/lint
+
+docs: ## writes docs/DEFINITIONS.md and docs/crates.svg anew
+	tests/definitions
+	tests/architecture
+
+# The prover must refuse each of them too.
+wrong-bodies: ## tries the wrong bodies that the gate leaves out
 	tests/wrong-bodies
 
-# The proved program, crates/onixdesk/out/onixdesk.
-build:
-	bin/onixdesk --help
-
-# The buyers' page in a browser, before nginx and the built program; tests/page/run says which of Debian's
-# packages it needs. The last line is 'page: N cases, M failed'.
-page-test:
+# tests/page/run says which of Debian's packages it needs. The modules of the page are tried by node before, where
+# there is one. The last line is 'page: N cases, M failed'.
+page-test: ## the buyers' page in a browser, before nginx and the built program
+	@tests/page/modules/run
 	@tests/page/run
 
-# dist/onixdesk_VERSION_amd64.deb, of the program that the gate or 'make build' has built.
-package:
+page-pictures: ## takes the pictures of docs/PAGE.md anew
+	@tests/page/run --pictures
+
+package: ## dist/onixdesk_VERSION_amd64.deb, of the built program
 	@packaging/build
 
-# That package, tried in a clean Debian. It needs root and the network.
-package-test:
+package-test: ## that package in a clean Debian, as root and over the network
 	@packaging/try-in-debian

@@ -2,7 +2,7 @@
 
 from collections.abc import Iterator
 
-from figures import in_files, in_memory, texts, tools
+from figures import in_files, in_memory, tools
 from figures.desk import Desk
 from figures.figure import Figure
 from figures.runs import Run, instructions_of

@@ -8,5 +8,5 @@ ROOT = Path(__file__).resolve().parent.parent.parent
 
 def proved_program() -> Path:
     """The proved program, built where it must be."""
-    subprocess.run([ROOT / "bin/onixdesk", "--help"], stdout=subprocess.DEVNULL, check=True)
+    subprocess.run([ROOT / "tools/build"], check=True)
     return ROOT / "crates/onixdesk/out/onixdesk"

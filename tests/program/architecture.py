@@ -56,15 +56,14 @@ def bodies(path: str) -> dict[str, list[str]]:
 
 def calls(text: str):
     """Each call of the page: the function above it, or none, with its file, and the function with its own."""
-    above = []
+    above, file = [], None
     for line in text.splitlines():
         if not (found := CALL.match(line)):
             above = []
             continue
         depth, name = len(found[1]) // 2, found[2]
         # Without a name of its own, the file is that of the line before.
-        file = f"{found[3]}/{found[4]}" if found[3] else last
-        last = file
+        file = f"{found[3]}/{found[4]}" if found[3] else file
         del above[depth:]
         yield (above[-1] if above else None), (name, file)
         above.append((name, file))

@@ -41,11 +41,13 @@ def first_batch(room):
     came = room.run("batch", given=example("examples/first.csv"))
     wanted = Ran(0, written(block("README.md", "agreed,north,1")))
     yield Outcome("README.md: the first batch", came, wanted)
+    shown = written(block("README.md", "Agree,north,"))
+    yield Outcome("README.md: what the first batch says", shown, example("examples/first.csv"))
 
 
 def week(room):
-    """Each block behind the two commands is part of the answers."""
-    answers = [line for lines in blocks("examples/shop/README.md")[2:] for line in lines]
+    """Each block behind the command is part of the answers."""
+    answers = [line for lines in blocks("examples/shop/README.md")[1:] for line in lines]
     rules = ROOT / "examples/shop/rules.toml"
     came = room.run("--rules", rules, "batch", given=example("examples/shop/week.csv"))
     yield Outcome("examples/shop/README.md: the week", came, Ran(1, written(answers)))
@@ -64,25 +66,25 @@ def commands(lines: list[str]) -> list[tuple[list[str], list[str]]]:
 
 def desk_in_a_file(room):
     """A desk on two days, and then over HTTP."""
-    monday = block("README.md", "bin/onixdesk --db shop.db batch < examples/shop/monday.csv")
-    tuesday = block("README.md", "bin/onixdesk --db shop.db gaps north")
+    monday = block("docs/TOUR.md", "bin/onixdesk --db shop.db batch < examples/shop/monday.csv")
+    tuesday = block("docs/TOUR.md", "bin/onixdesk --db shop.db gaps north")
     for words, lines in commands(monday) + commands(tuesday):
         given = b""
         if "<" in words:
             *words, _, name = words
             given = example(name)
         came = room.run(*words, given=given)
-        yield Outcome(f"README.md: {words}", came, Ran(0, written(lines)))
+        yield Outcome(f"docs/TOUR.md: {words}", came, Ran(0, written(lines)))
 
-    questions = commands(block("README.md", "curl "))
+    questions = commands(block("docs/TOUR.md", "curl "))
     with serving(room, ["--db", "shop.db"], len(questions)) as desk:
         for (url,), (body,) in questions:
             target = url.removeprefix("http://127.0.0.1:8080")
             reply = desk.reply([f"GET {target} HTTP/1.1\r\n\r\n".encode()])
             came = reply.partition(b"\r\n\r\n")[2]
-            yield Outcome(f"README.md: {target}", came, body.encode())
-        _, *statuses = block("README.md", "listening 8080")
-        yield Outcome("README.md: the lines of serve", desk.ended(), desk.wanted(statuses))
+            yield Outcome(f"docs/TOUR.md: {target}", came, body.encode())
+        _, *statuses = block("docs/TOUR.md", "listening 8080")
+        yield Outcome("docs/TOUR.md: the lines of serve", desk.ended(), desk.wanted(statuses))
 
 
 # A message with a price, its agreement, and rules that choose its offer.

@@ -1,141 +1,207 @@
-"""What `bin/onixdesk` says while it builds the program, with a toolchain that stands in for `rt`."""
+"""What `bin/onixdesk` does with a built program and without one, with a toolchain that stands in for `rt`."""
 
 import os
-import re
 import shutil
 import subprocess
-from pathlib import Path
+import time
 
-from program.room import SECONDS, Group, Outcome, Ran
+from program.room import SECONDS, UNREADABLE, Group, Outcome, Ran
+from program.stand_in import FAILS, WAITS, begun, calls, change_source, command, environment, make_repository, tries
 
-TESTS = Path(__file__).resolve().parent.parent
-LAUNCHER = TESTS.parent / "bin/onixdesk"
+TO_BUILD = "'make build' proves and builds it, in about an hour the first time"
+TO_WAIT = "'make build' waits for it"
+UNBUILT = "the program is not built"
+CHANGED = "a source has changed since the program was built"
+BEING_BUILT = "the program is being built"
 
-# The program stands on three of the four crates.
-CRATES = "low: csv\nhigh: low toml\nbeside: low\nonixdesk: high low clap\n"
+BATCH = b"AskGaps,north\nAskGaps,south\n"
 
-# A toolchain that takes three seconds for each crate, and makes a program that prints its words. It is called
-# in the folder of each crate.
-TOOLCHAIN = """\
-#!/bin/sh
-[ "$1" != version ] || exec echo a toolchain
-echo "rt $* in ${PWD##*/}" >>../../calls
-sleep 3
-[ "$1" = run ] || exit 0
-printf '#!/bin/sh\\necho "ran $*"\\n' >out/onixdesk
-chmod +x out/onixdesk
-"""
-
-QUICK = TOOLCHAIN.replace("sleep 3", ":")
-
-# One that proves the lowest crate alone.
-FAILING = """\
-#!/bin/sh
-[ "${PWD##*/}" != low ] || exit 0
-echo "a goal is left"
-exit 1
-"""
-
-# The calls that build the program.
-BUILD = "rt lib in low\nrt lib in high\nrt run -- --help in onixdesk\n"
-
-# How far the build is, the minutes so far, and the crate that it is at.
-PROGRESS = re.compile(r"onixdesk: (\d+) of (\d+) crates are done, (\d+) min so far(?:, now (\w+))?")
+# What wants the built program.
+WANTING = [
+    [],
+    ["--help"],
+    ["gaps", "north"],
+    ["serve", "--port", "8080"],
+    ["--db", "shop.db", "batch"],
+    ["--rules", "rules.toml", "--db", "shop.db", "batch"],
+    ["batch", "--db", "shop.db"],
+    ["batch", "--"],
+    ["--", "batch"],
+    ["deliver", "batch"],
+    ["--rules", "batch"],
+]
 
 
-def make_repository(room, toolchain: str):
-    """Makes a repository of four crates in the room, with the launcher and that toolchain."""
-    for folder in ("bin", "tools", "crates/low", "crates/high", "crates/onixdesk/src"):
-        room.path(folder).mkdir(parents=True)
-    for name, text in (("bin/onixdesk", LAUNCHER.read_text()), ("tools/rt", toolchain)):
-        room.path(name).write_text(text)
-        room.path(name).chmod(0o755)
-    room.path("crates.txt").write_text(CRATES)
-    room.path("crates/onixdesk/src/main.rt").write_text("fn main() {}\n")
+def line(text: str) -> bytes:
+    return f"onixdesk: {text}\n".encode()
 
 
-def launch(room, *words: str) -> Ran:
-    """Starts the launcher, which is to say each second how far it is."""
-    path = f"{room.path('tools')}{os.pathsep}{os.environ['PATH']}"
-    done = subprocess.run(
-        [room.path("bin/onixdesk"), *words],
-        env={**os.environ, "PATH": path, "ONIXDESK_TOLD_EVERY": "1"},
-        stdin=subprocess.DEVNULL,
-        capture_output=True,
-        timeout=SECONDS,
-    )
-    return Ran(done.returncode, done.stdout, done.stderr)
+def unproved(why: str, remedy: str = TO_BUILD) -> bytes:
+    return line(f"{why}, so this batch is answered without any proof, in about three minutes; {remedy}")
 
 
-def progress(errors: bytes) -> list[tuple]:
-    """How many crates were done of how many, the minutes and the crate, in each line that says so."""
-    found = map(PROGRESS.fullmatch, errors.decode().splitlines())
-    return [(int(it[1]), int(it[2]), int(it[3]), it[4]) for it in found if it]
+def wanting(why: str, remedy: str = TO_BUILD) -> Ran:
+    return Ran(3, b"", line(f"{why}, and this wants it; {remedy}"))
 
 
-def a_first_build(room):
-    make_repository(room, TOOLCHAIN)
+def launch(room, *words: str, **how) -> Ran:
+    return command(room, "bin/onixdesk", *words, **how)
+
+
+def answered(words: str, given: bytes = BATCH, status: int = 0, why: str = UNBUILT, remedy: str = TO_BUILD) -> Ran:
+    """A batch that the stand-in has tried."""
+    said = unproved(why, remedy) + line("a line of the program")
+    return Ran(status, f"in crates/onixdesk: {words}\n".encode() + given, said)
+
+
+def a_batch_without_a_program(room):
+    """Standard output has the answers alone, and the status is that of the batch."""
+    for status in (0, 1, 2, 3):
+        make_repository(room, unproved=tries(status))
+        came = launch(room, "batch", given=BATCH)
+        yield Outcome(f"launcher: a batch of status {status}", came, answered("try -- batch", status=status))
+        yield Outcome("launcher: its temporary files", os.listdir(room.path("tmp")), [])
+        for name in ("crates", "tools", "bin", "tmp"):
+            shutil.rmtree(room.path(name))
+    yield Outcome("launcher: it builds nothing", calls(room, "ci"), [])
+
+
+def a_slow_batch(room):
+    """An input that pauses is whole, since `rt try` is given it as a file."""
+    make_repository(room, unproved=tries(0))
+    words = "(echo first; sleep 2.5; echo second) | bin/onixdesk batch"
+    how = {"cwd": room.folder, "env": environment(room), "capture_output": True, "timeout": SECONDS}
+    done = subprocess.run(["sh", "-c", words], **how)
+    came = Ran(done.returncode, done.stdout, done.stderr)
+    yield Outcome("launcher: an input that pauses", came, answered("try -- batch", b"first\nsecond\n"))
+
+
+def a_batch_by_rules(room):
+    """The rules file is that of the caller's folder, and a copy of it is handed on."""
+    make_repository(room, unproved='cat "${3#rules.toml=}"\n' + tries(1))
+    room.path("elsewhere").mkdir()
+    room.write("elsewhere/some rules", b"the rules\n")
+    for words in (["--rules", "some rules"], ["--rules=some rules"]):
+        came = launch(room, *words, "batch", given=BATCH, folder="elsewhere")
+        rules, told, batch = came.output.partition(b"in crates/onixdesk: try --data rules.toml=")
+        wanted = (1, b"the rules\n", b" -- --rules rules.toml batch\n" + BATCH)
+        yield Outcome(f"launcher: {words}", (came.status, rules, batch[batch.find(b" -- ") :]), wanted)
+    came = launch(room, "--rules", "none", "batch", folder="elsewhere")
+    wanted = Ran(2, b"", unproved(UNBUILT) + line("file: none"))
+    yield Outcome("launcher: a rules file that is missing", came, wanted)
+
+
+def streams_that_fail(room):
+    make_repository(room, unproved=tries(0))
+    how = {"cwd": room.folder, "env": environment(room), "capture_output": True, "timeout": SECONDS}
+    came = launch(room, "batch", given=UNREADABLE)
+    yield Outcome("launcher: an input that fails", came, Ran(3, b"", line("input: read")))
+    for words, last in (("<&-", "input: read"), ("</dev/null >/dev/full", "output")):
+        done = subprocess.run(["sh", "-c", f"bin/onixdesk batch {words}"], **how)
+        came = Ran(done.returncode, done.stdout, done.stderr.splitlines(keepends=True)[-1])
+        yield Outcome(f"launcher: a batch {words}", came, Ran(3, b"", line(last)))
+
+
+def without_an_answer(room):
+    """Where `rt try` gives no answer, what it says is shown."""
+    ends = [
+        (6, "checked: no-answer: the program wrote too much", "run=no-answer proved=no"),
+        (1, "error: a name is not there", "run=none proved=no"),
+        (4, "checked: fault: an index", "run=fault proved=no"),
+    ]
+    for status, said, last in ends:
+        unproved_text = f'echo part\necho "| shown" >&2\necho "{said}" >&2\necho "{last}" >&2\nexit {status}\n'
+        make_repository(room, unproved=unproved_text)
+        came = launch(room, "batch", given=BATCH)
+        told = line(f"only the proved program can answer this batch; {TO_BUILD}")
+        wanted = Ran(3, b"", unproved(UNBUILT) + f"{said}\n{last}\n".encode() + told)
+        yield Outcome(f"launcher: no answer, {last}", came, wanted)
+        for name in ("crates", "tools", "bin", "tmp"):
+            shutil.rmtree(room.path(name))
+
+
+def anything_else_without_a_program(room):
+    make_repository(room, unproved=tries(0))
+    for words in WANTING:
+        yield Outcome(f"launcher: unbuilt, {words}", launch(room, *words), wanting(UNBUILT))
+    yield Outcome("launcher: it runs no toolchain", calls(room, ""), [])
+
+
+def no_toolchain(room):
+    make_repository(room, unproved=tries(0))
+    room.path("tools/rt").unlink()
+    room.path("commands").mkdir()
+    for name in ("bash", "python3", "dirname", "readlink", "env"):
+        room.path(f"commands/{name}").symlink_to(shutil.which(name))
+    missing = line("the Rattle toolchain's command 'rt' is not on the PATH")
+    path = {"PATH": str(room.path("commands"))}
+    yield Outcome("launcher: no rt, a batch", launch(room, "batch", given=BATCH, **path), Ran(3, b"", missing))
+    yield Outcome("launcher: no rt, a question", launch(room, "gaps", "north", **path), wanting(UNBUILT))
+    yield Outcome("tools/build: no rt", command(room, "tools/build", **path), Ran(1, b"", missing))
+
+
+def a_built_program(room):
+    """It is run, from the caller's folder, on the words and the input that it is given."""
+    make_repository(room, unproved=tries(0))
+    command(room, "tools/build")
+    tried = calls(room, "")
+    for words in (["batch"], ["--db", "shop.db", "batch"], []):
+        came = launch(room, *words, given=BATCH)
+        wanted = Ran(1, f"ran {' '.join(words)}\n".encode() + BATCH)
+        yield Outcome(f"launcher: built, {words}", came, wanted)
+    came = launch(room, "batch", given=UNREADABLE)
+    yield Outcome("launcher: built, an input that fails", (came.status, came.output), (1, b"ran batch\n"))
+    yield Outcome("launcher: it runs no toolchain then", calls(room, ""), tried)
+
+
+def an_old_program(room):
+    """One whose sources have changed is not run; nor is one that is not the one that was built."""
+    make_repository(room, unproved=tries(1))
+    command(room, "tools/build")
+    change_source(room)
+    came = launch(room, "batch", given=BATCH)
+    yield Outcome("launcher: an old program, a batch", came, answered("try -- batch", status=1, why=CHANGED))
+    yield Outcome("launcher: an old program, a question", launch(room, "gaps", "north"), wanting(CHANGED))
+    command(room, "tools/build")
     came = launch(room, "gaps", "north")
-    yield Outcome("launcher: the program", (came.status, came.output), (0, b"ran gaps north\n"))
-    lines = [line for line in progress(came.errors) if line[3]]
-    wanted = [(0, 3, 0, "low"), (1, 3, 0, "high"), (2, 3, 0, "onixdesk")]
-    yield Outcome("launcher: how far it is", list(dict.fromkeys(lines)), wanted)
-    for line in wanted:
-        yield Outcome(f"launcher: it goes on to say {line}", lines.count(line) > 1, True)
+    yield Outcome("launcher: the program of today", came, Ran(1, b"ran gaps north\n"))
+    room.path("crates/onixdesk/out/onixdesk").write_text("#!/bin/sh\n")
+    yield Outcome("launcher: another program", launch(room, "gaps", "north").status, 3)
 
 
-def a_second_start(room):
-    """The program is built once, and again where a source has changed."""
-    make_repository(room, QUICK)
-    launch(room, "help")
-    quiet = Ran(0, b"ran help\n")
-    yield Outcome("launcher: started again", launch(room, "help"), quiet)
-    room.path("crates/onixdesk/src/main.rt").write_text("fn main() { }\n")
-    launch(room, "help")
-    calls = room.path("calls").read_text()
-    yield Outcome("launcher: its builds", calls, BUILD * 2)
+def a_program_that_is_being_built(room):
+    make_repository(room, ci=WAITS, unproved=tries(0))
+    build = begun(room, "tools/build")
+    until = time.monotonic() + SECONDS
+    while not room.path("copied").exists() and time.monotonic() < until:
+        time.sleep(0.05)
+    came = launch(room, "batch", given=BATCH)
+    wanted = answered("try -- batch", why=BEING_BUILT, remedy=TO_WAIT)
+    yield Outcome("launcher: being built, a batch", came, wanted)
+    came = launch(room, "gaps", "north")
+    yield Outcome("launcher: being built, a question", came, wanting(BEING_BUILT, TO_WAIT))
+    room.path("go").touch()
+    build.communicate(timeout=SECONDS)
+    came = launch(room, "gaps", "north")
+    yield Outcome("launcher: then it is run", came, Ran(1, b"ran gaps north\n"))
 
 
-def a_stale_program(room):
-    """`--sources` writes the digest of the sources where the program is built of them, and builds none."""
-    make_repository(room, QUICK)
-    wrong = Ran(3, b"", b"onixdesk: no program is built of these sources; 'make test' or 'make build' builds it\n")
-    yield Outcome("launcher: no program", launch(room, "--sources"), wrong)
-    launch(room, "help")
-    came = launch(room, "--sources")
-    is_digest = re.fullmatch(rb"[0-9a-f]{64}\n", came.output) is not None
-    yield Outcome("launcher: a program of these sources", (came.status, is_digest), (0, True))
-    room.path("crates/onixdesk/src/main.rt").write_text("fn main() { }\n")
-    yield Outcome("launcher: a program of other sources", launch(room, "--sources"), wrong)
-    calls = room.path("calls").read_text()
-    yield Outcome("launcher: it builds none", calls, BUILD)
-
-
-def tests_of_a_stale_program(room):
-    """The tests refuse a program whose sources have changed."""
-    make_repository(room, QUICK)
-    for name in ("tests", "bench"):
-        shutil.copytree(TESTS.parent / name, room.path(name))
-    launch(room, "help")
-    room.path("crates/onixdesk/src/main.rt").write_text("fn main() { }\n")
-    done = subprocess.run([room.path("tests/run")], capture_output=True, timeout=SECONDS)
-    said = b"a source has changed since" in done.stderr
-    yield Outcome("tests/run: a program of other sources", (done.returncode, said), (2, True))
-
-
-def a_build_that_fails(room):
-    make_repository(room, FAILING)
-    came = launch(room, "help")
-    *_, goal, last = came.errors.decode().splitlines()
-    log = room.path("crates/onixdesk/out/onixdesk.log")
-    wanted = 3, b"", "a goal is left", f"onixdesk: the build failed; all of its output is in {log}"
-    yield Outcome("launcher: a build that fails", (came.status, came.output, goal, last), wanted)
+def after_a_build_that_fails(room):
+    make_repository(room, ci=FAILS, unproved=tries(0))
+    command(room, "tools/build")
+    yield Outcome("launcher: after a build that fails", launch(room, "gaps", "north"), wanting(UNBUILT))
 
 
 GROUPS = [
-    Group("a first build", a_first_build),
-    Group("a second start", a_second_start),
-    Group("a stale program", a_stale_program),
-    Group("tests of a stale program", tests_of_a_stale_program),
-    Group("a build that fails", a_build_that_fails),
+    Group("a batch without a program", a_batch_without_a_program),
+    Group("a slow batch without a program", a_slow_batch),
+    Group("a batch by rules without a program", a_batch_by_rules),
+    Group("streams that fail without a program", streams_that_fail),
+    Group("a batch without an answer", without_an_answer),
+    Group("anything else without a program", anything_else_without_a_program),
+    Group("no toolchain", no_toolchain),
+    Group("a built program", a_built_program),
+    Group("an old program", an_old_program),
+    Group("a program that is being built", a_program_that_is_being_built),
+    Group("after a build that fails", after_a_build_that_fails),
 ]

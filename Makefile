@@ -1,5 +1,5 @@
 .DEFAULT_GOAL := help
-.PHONY: help build test check lint docs wrong-bodies page-test page-pictures package package-test
+.PHONY: help build test check lint docs definitions wrong-bodies page-test page-pictures package package-test
 
 help: ## this list
 	@awk -F ':.*## ' '/^[a-z-]+:.*## / { printf "make %-13s %s\n", $$1, $$2 }' Makefile
@@ -21,9 +21,12 @@ check: lint ## in minutes: the lints, and the tests of the built program
 lint: ## looks over the Python, the shell and the JavaScript
 	@tools/lint
 
-docs: ## writes docs/DEFINITIONS.md and docs/crates.svg anew
-	tests/definitions
+docs: definitions ## writes docs/DEFINITIONS.md, which git does not keep, and docs/crates.svg anew
 	tests/architecture
+
+# The package has the page too: packaging/build makes it of the commit.
+definitions:
+	tests/definitions
 
 # The prover must refuse each of them too.
 wrong-bodies: ## tries the wrong bodies that the gate leaves out

@@ -1,9 +1,22 @@
-"""docs/DEFINITIONS.md, which is to say what the comments of specs/ say."""
+"""The page of definitions, which `make docs` makes of the comments of specs/."""
 
 from program.room import Group, Outcome
 from specs import page
 from specs.contracts import Clauses, public_modules
 from specs.definitions import Name, imported, names_in, read_file
+
+# Definitions of public contracts that have no comment, since their names say all.
+NAMES_SAY_ALL = set(
+    """
+    ids_of record_row record_rows_of supplies_of products_have_minimums Finds IsStorableProduct table
+    CanApply CanHold CanIdentify CanOffer CanPrice CanRecord has_series offer_with same_row shows_article
+    five_columns two_columns is_article_of is_minimum_of is_offer_of is_price_of is_record with_article with_offer
+    with_price without_articles number_in text_in PriceRow article_columns minimum_columns offer_columns offer_row
+    party_value price_row record_columns DeskRows MetaRow has_parties is_applied is_held is_named is_version
+    meta_columns series_columns version_in with_applied with_held with_next with_series with_version without_held
+    is_desk_table meta_table fault_of
+    """.split()
+)
 
 SPECS = """\
 -- What a shop sells.
@@ -58,14 +71,16 @@ impl Model for Book {
 """
 
 
-def current(room):
-    """A case for the page, one line of which is stale where the two differ."""
-    came = page.PAGE.read_text(encoding="utf-8").splitlines()
-    wanted = page.text().splitlines()
-    stale = [line for line in came if line not in wanted]
-    missing = [line for line in wanted if line not in came]
-    yield Outcome("docs/DEFINITIONS.md is what tests/definitions writes", (stale, missing), ([], []))
-    yield Outcome("docs/DEFINITIONS.md: the order of its lines", came == wanted, True)
+def commented(room):
+    """Each definition that a public contract reaches has a comment, or a name that says all."""
+    files, listed = page.read_all(page.ROOT)
+    remarks = {Name(file.crate, file.name, word): said for file in files for word, said in file.comments.items()}
+    silent = sorted(name for name in listed if remarks.get(name) == "" and name.word not in NAMES_SAY_ALL)
+    yield Outcome("definitions of public contracts without a comment", silent, [])
+    told = page.text()
+    lost = sorted(name for name in listed if remarks.get(name) and f"- `{name.word}`: " not in told)
+    yield Outcome("definitions of public contracts that the page leaves out", lost, [])
+    yield Outcome("definitions of public contracts are found", len(listed) > 0, True)
 
 
 def comments(room):
@@ -116,7 +131,7 @@ def contracts(room):
 
 
 GROUPS = [
-    Group("the page of definitions", current),
+    Group("the comments of what contracts cite", commented),
     Group("the comments of specs/", comments),
     Group("the remarks on definitions", remarks),
     Group("the names in public contracts", contracts),

@@ -4,7 +4,7 @@ import re
 from pathlib import Path
 
 from program.room import Group, Outcome
-from specs.page import ROOT, crates
+from specs.page import PAGE, ROOT, crates
 
 # `crate::module::name`, or several names in braces; perhaps a type before them, perhaps clauses behind.
 REFERENCE = re.compile(r"`(\w+)::([a-z]\w*(?:::[a-z]\w*)*)::(?:([A-Z]\w+)::)?(?:(\w+)|{([\w, ]+)})(?:: ([\w, ]+))?`")
@@ -128,12 +128,12 @@ def sources(room):
 
 
 def pages(room):
-    """README.md leads to each page of docs/, and to nothing that is not there."""
+    """README.md leads to each page of docs/ that git keeps, and to nothing that is not there."""
     text = (ROOT / "README.md").read_text(encoding="utf-8")
     linked = set(re.findall(r"\]\(([\w/.]+)\)", text))
     lost = sorted(name for name in linked if not (ROOT / name).exists())
     yield Outcome("README.md: what it leads to and is not there", lost, [])
-    there = {str(page.relative_to(ROOT)) for page in (ROOT / "docs").glob("*.md")}
+    there = {str(page.relative_to(ROOT)) for page in (ROOT / "docs").glob("*.md") if page != PAGE}
     yield Outcome("README.md: pages that it does not lead to", sorted(there - linked), [])
 
 

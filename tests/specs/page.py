@@ -17,8 +17,8 @@ INTRODUCTION = """\
 
 What the contracts speak of, in plain English, crate by crate and file by file of their `specs/`: each \
 definition that a public contract names, and each that these take from another file. The definitions \
-themselves, the steps between them, and those whose names say all stand in the files. This page is made \
-of the comments there, by `tests/definitions`; edit them, and run it.
+themselves, the steps between them, and those whose names say all stand in the files. `make docs` makes \
+this page of the comments there.
 
 A text is the list of its bytes, a record the list of its fields. A list of requests has its latest \
 first: `r ∷ L` is L and then r. What gives a value or none says both what is read and what is refused.
@@ -69,14 +69,19 @@ def file_lines(file: File, listed: set[Name]) -> list[str]:
     return [f"**{file.name}.** {file.about}", "", *remarks, ""] if remarks else []
 
 
-def text(root: Path = ROOT) -> str:
-    """The whole page."""
+def read_all(root: Path) -> tuple[list[File], set[Name]]:
+    """The files of specs/ of all crates, and the definitions that public contracts reach."""
     names = crates(root)
     files = [file for name in names for file in read_crate(root / "crates" / name)]
     cited = set().union(*(cited_by(root / "crates" / name) for name in names))
-    listed = reached(cited, files)
+    return files, reached(cited, files)
+
+
+def text(root: Path = ROOT) -> str:
+    """The whole page."""
+    files, listed = read_all(root)
     lines = []
-    for name in names:
+    for name in crates(root):
         told = [line for file in files if file.crate == name for line in file_lines(file, listed)]
         if told:
             lines += [f"## {name}", "", *told]

@@ -9,8 +9,6 @@ from specs.page import PAGE, ROOT, crates
 # `crate::module::name`, or several names in braces; perhaps a type before them, perhaps clauses behind.
 REFERENCE = re.compile(r"`(\w+)::([a-z]\w*(?:::[a-z]\w*)*)::(?:([A-Z]\w+)::)?(?:(\w+)|{([\w, ]+)})(?:: ([\w, ]+))?`")
 
-WRONG_BODIES = "## Wrong bodies\n"
-
 # A record of the definitions, and a field of one.
 RECORD = re.compile(r"^ *pub record (\w+)\b.*?\bwhere\n((?:[ ]+.*\n|\n)*)", re.MULTILINE)
 FIELD = re.compile(r"^ +pub (\w+) :", re.MULTILINE)
@@ -86,19 +84,6 @@ def proofs(room):
     yield Outcome("docs/PROOFS.md names functions", found > 0, True)
 
 
-def wrong_bodies(room):
-    """Each edit has its line in the README of its crate, and each line its edit."""
-    for crate in CRATES:
-        folders = (ROOT / "crates" / crate / "must-fail", ROOT / "wrong-bodies" / crate)
-        edits = {path.stem for folder in folders for path in folder.glob("*.edit")}
-        readme = ROOT / "crates" / crate / "README.md"
-        text = readme.read_text(encoding="utf-8") if readme.is_file() else ""
-        told = text.partition(WRONG_BODIES)[2]
-        unnamed = [name for name in sorted(edits) if f"`{name}`" not in told]
-        gone = [name for name in re.findall(r"`(\w+)`:", told) if name not in edits]
-        yield Outcome(f"crates/{crate}/README.md: its wrong bodies", (unnamed, gone), ([], []))
-
-
 def homes(before: str, home: str | None) -> list[str]:
     """The folders from which a file may be named that stands behind this text of a section: those of the crate
     that the page is of, of each crate that was named, or of any where none was, and that of the last path."""
@@ -121,6 +106,7 @@ def lost_sources(text: str, home: str | None) -> list[str]:
 def sources(room):
     pages = [ROOT / "README.md", ROOT / "CONTRIBUTING.md", *sorted((ROOT / "docs").glob("*.md"))]
     pages += [ROOT / "crates" / crate / "README.md" for crate in CRATES]
+    yield Outcome("crates without a README", [str(page) for page in pages if not page.is_file()], [])
     for page in filter(Path.is_file, pages):
         home = page.parent.relative_to(ROOT) if page.parent.parent.name == "crates" else None
         lost = lost_sources(page.read_text(encoding="utf-8"), home and str(home))
@@ -139,7 +125,6 @@ def pages(room):
 
 GROUPS = [
     Group("the clauses that docs/PROOFS.md names", proofs),
-    Group("the wrong bodies that READMEs name", wrong_bodies),
     Group("the sources that pages name", sources),
     Group("the pages that README.md leads to", pages),
 ]

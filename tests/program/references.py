@@ -1,4 +1,4 @@
-"""What the documents name of the crates, which is to be there."""
+"""What the documents name of the crates, which is to be there, and that they say nothing twice."""
 
 import re
 from pathlib import Path
@@ -123,8 +123,27 @@ def pages(room):
     yield Outcome("README.md: pages that it does not lead to", sorted(there - linked), [])
 
 
+def sentences(text: str) -> list[str]:
+    """The sentences of eight words or more of a page, a sentence a line: without headings, tables and code."""
+    lines = [line for line in text.splitlines() if not line.startswith(("    ", "|", "#"))]
+    said = [re.sub(r"^ *(?:- |\d+\. )?", "", line) for line in lines]
+    return [line for line in said if len(line.split()) >= 8]
+
+
+def told_twice(room):
+    pages = [page for page in ROOT.rglob("*.md") if page != PAGE and not {"out", "build"} & set(page.parts)]
+    where: dict[str, list[str]] = {}
+    for page in pages:
+        for line in sentences(page.read_text(encoding="utf-8")):
+            where.setdefault(line, []).append(str(page.relative_to(ROOT)))
+    twice = {line: sorted(places) for line, places in where.items() if len(places) > 1}
+    yield Outcome("sentences that stand twice in the documents", twice, {})
+    yield Outcome("the documents have sentences", len(where) > 0, True)
+
+
 GROUPS = [
     Group("the clauses that docs/PROOFS.md names", proofs),
     Group("the sources that pages name", sources),
     Group("the pages that README.md leads to", pages),
+    Group("the sentences of the documents", told_twice),
 ]

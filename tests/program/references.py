@@ -131,7 +131,8 @@ def sentences(text: str) -> list[str]:
 
 
 def told_twice(room):
-    pages = [page for page in ROOT.rglob("*.md") if page != PAGE and not {"out", "build", "dist"} & set(page.relative_to(ROOT).parts)]
+    made = {"out", "build", "dist"}
+    pages = [page for page in ROOT.rglob("*.md") if page != PAGE and made.isdisjoint(page.relative_to(ROOT).parts)]
     where: dict[str, list[str]] = {}
     for page in pages:
         for line in sentences(page.read_text(encoding="utf-8")):

@@ -5,6 +5,7 @@ import re
 from collections import Counter
 from collections.abc import Callable
 from typing import NoReturn
+from xml.parsers.expat import XMLParserType
 
 from onix_to_csv.prolog import form_of
 
@@ -75,7 +76,7 @@ def most_attributes(text: bytes, before: int = 0) -> int:
 class Bounds:
     """Looks at what a parser is given and gives. Each bound that is passed is handed to `refuse`."""
 
-    def __init__(self, parser, refuse: Callable[[str], NoReturn]):
+    def __init__(self, parser: XMLParserType, refuse: Callable[[str], NoReturn]):
         self.parser = parser
         self.refuse = refuse
         # How many bytes came, and how many of them are done with.
@@ -107,7 +108,7 @@ class Bounds:
             size *= 2
         return size - held if held > PIECE else PIECE
 
-    def look_before(self, data: bytes):
+    def look_before(self, data: bytes) -> None:
         """Looks at a piece that expat gets next."""
         self.fed += len(data)
         self.stretch += len(data)
@@ -117,7 +118,7 @@ class Bounds:
         if self.start_tags.most_attributes(data) > ATTRIBUTES:
             self.refuse(f"a start tag with more than {ATTRIBUTES} attributes")
 
-    def begin_element(self, attributes: dict[str, str]):
+    def begin_element(self, attributes: dict[str, str]) -> None:
         """Looks at what came before the first element of a piece, and at its start tag, which may be most
         of the piece."""
         before = self.stretch - (self.fed - self.parser.CurrentByteIndex)
@@ -125,7 +126,7 @@ class Bounds:
             self.refuse(NO_ELEMENT)
         self.stretch = 0
 
-    def look_behind(self):
+    def look_behind(self) -> None:
         """Looks at what expat has made of the pieces."""
         # -1 where it has not looked at them.
         self.done = max(self.done, self.parser.CurrentByteIndex)
@@ -141,7 +142,7 @@ class Bounds:
 
     # What the pieces have.
 
-    def count_element(self):
+    def count_element(self) -> None:
         self.elements -= 1
         if self.elements < 0:
             self.refuse(
@@ -150,26 +151,28 @@ class Bounds:
         if self.elements % LOOK == 0:
             self.look_at_names()
 
-    def look_at_names(self):
+    def look_at_names(self) -> None:
         lengths = [len(name) for name in self.parser.intern if name]
         if len(lengths) > NAMES or sum(lengths) > NAME_CHARACTERS:
             self.refuse("too many or too long names of elements, attributes, prefixes and entities")
         if lengths and max(lengths) > NAME_LENGTH:
             self.refuse(f"a name of more than {NAME_LENGTH} characters")
 
-    def count_declaration(self):
+    def count_declaration(self) -> None:
         self.declarations += 1
         if self.declarations % LOOK == 0:
             self.look_at_names()
 
-    def on_attribute_declaration(self, element: str, _name, _type, value: str | None, _required):
+    def on_attribute_declaration(
+        self, element: str, _name: str, _type: str, value: str | None, _required: bool
+    ) -> None:
         self.count_declaration()
         if value is not None:
             self.declared_attributes[element] += 1
             if self.declared_attributes[element] > DECLARED_ATTRIBUTES:
                 self.refuse(f"more than {DECLARED_ATTRIBUTES} attributes declared for an element")
 
-    def look_at_entity(self, text: str):
+    def look_at_entity(self, text: str) -> None:
         """Looks at the text that an entity is declared to have."""
         self.count_declaration()
         self.characters += len(text)

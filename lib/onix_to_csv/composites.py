@@ -1,10 +1,10 @@
 """The composites of a message that are open, and what they hold, within bounds."""
 
-from collections.abc import Callable
+from collections.abc import Callable, Mapping
 from typing import Any
 
-from onix_to_csv.elements import Values, Word
-from onix_to_csv.faults import Place
+from onix_to_csv.elements import Composite, Whole, Word
+from onix_to_csv.faults import BEGINNING, Place
 
 # The most composites and texts that a Header or Product may hold at once, and the most characters that
 # its texts may have together. No message has room for more, but for elements that are not written.
@@ -13,75 +13,78 @@ CHARACTERS = 4_194_304
 
 # A longer text is wrong wherever it is written, and is kept no further. Regions are not written.
 KEPT = 1_025
-KEPT_WHOLE = {"RegionsIncluded", "RegionsExcluded"}
+KEPT_WHOLE = {"regions_included", "regions_excluded"}
+
+# What is called with a composite that ends, and gives what is held in its place, which counts as one item.
+Closer = Callable[[Any], object]
 
 
 class Composites:
-    """Holds one Header or Product at a time.
+    """Holds one Header or Product at a time. `closers` has functions by the names of composites."""
 
-    `closers` has for the name of a composite a function, which gets its Values where it ends. What it
-    gives stands in their place in the composite around it, and counts as one item.
-    """
-
-    def __init__(self, closers: dict[str, Callable[[Values], Any]]):
+    def __init__(self, closers: Mapping[str, Closer]):
         self.closers = closers
-        # Of each composite that is open: the one around it with its Values, and how many items are free
-        # but for those that it holds.
-        self.around: list[tuple[Word, Values, int]] = []
-        # Those of the composite that is open. The message itself holds nothing.
-        self.values = Values()
+        # Of each composite that is open: the one around it, as a word and as it is held, and how many items are
+        # free but for those that it holds.
+        self.around: list[tuple[Word, Composite, int]] = []
+        # The one that is open. The message itself holds nothing.
+        self.composite = Composite(BEGINNING)
         # The Header or Product, and what is free of its bounds.
-        self.top = self.values
+        self.whole = Whole(BEGINNING)
         self.items = self.characters = 0
 
     def open(self, word: Word, around: Word, place: Place) -> bool:
         """Opens a composite that begins at that place, unless it does not count."""
-        parent = self.values
-        values = Values()
-        values.place = place
+        parent = self.composite
+        if self.around and self.items == 0:
+            self.whole.is_too_large = True
+            return False
+        if self.around and not word.is_repeatable and getattr(parent, word.field) is not None:
+            return False
+        composite = word.composite(place)
         if not self.around:
-            values.is_too_large = False
-            self.top, self.items, self.characters = values, ITEMS, CHARACTERS
-        elif self.items == 0:
-            self.top.is_too_large = True
-            return False
-        elif word.is_repeatable:
-            if word.name in parent:
-                parent[word.name].append(values)
-            else:
-                parent[word.name] = [values]
-        elif parent.setdefault(word.name, values) is not values:
-            return False
+            assert isinstance(composite, Whole)
+            self.whole, self.items, self.characters = composite, ITEMS, CHARACTERS
         self.items -= 1
         self.around.append((around, parent, self.items))
-        self.values = values
+        self.composite = composite
         return True
 
     def close(self, word: Word) -> Word:
         """Closes the composite that is open, and gives the one around it."""
         around, parent, items = self.around.pop()
+        closed: object = self.composite
         closer = self.closers.get(word.name)
         if closer:
-            closed = closer(self.values)
+            closed = closer(closed)
             self.items = items
-            if self.around:
-                parent[word.name][-1] = closed
-        self.values = parent
+        if self.around:
+            hold(parent, word, closed)
+        self.composite = parent
         return around
 
-    def keep(self, name: str, text: str) -> bool:
-        """Keeps a text of the composite that is open, where it is the first of that name and there is room
-        for it. Whether it is kept."""
-        values = self.values
-        if name in values:
+    def keep(self, field: str, text: str) -> bool:
+        """Keeps a text in that field of the composite that is open, where it is the first and there is room for
+        it. Whether it is kept."""
+        composite = self.composite
+        if getattr(composite, field) is not None:
             return False
-        if len(text) > KEPT and name not in KEPT_WHOLE:
+        if len(text) > KEPT and field not in KEPT_WHOLE:
             text = text[:KEPT]
         self.items -= 1
         self.characters -= len(text)
         if self.items < 0 or self.characters < 0:
             self.items = max(self.items, 0)
-            self.top.is_too_large = True
+            self.whole.is_too_large = True
             return False
-        values[name] = text
+        setattr(composite, field, text)
         return True
+
+
+def hold(parent: Composite, word: Word, closed: object) -> None:
+    if not word.is_repeatable:
+        setattr(parent, word.field, closed)
+    elif held := getattr(parent, word.field):
+        held.append(closed)
+    else:
+        setattr(parent, word.field, [closed])

@@ -39,6 +39,13 @@ class Reason(NamedTuple):
         return self.text if is_code else ANY_TEXT
 
 
+class Malformed(NamedTuple):
+    """A record that the desk would call malformed: its place in the file and why."""
+
+    place: Place
+    why: Reason
+
+
 class Refusal(Exception):
     """A file that is refused, with the place in it and why."""
 
@@ -49,7 +56,7 @@ class Refusal(Exception):
 
 
 class Wrong(Exception):
-    """A record that the desk would call malformed, with the place in the file and why."""
+    """What is said of a record that is Malformed."""
 
     def __init__(self, place: Place, words: str, text: str = "", more: str = ""):
         super().__init__(place, words, text, more)

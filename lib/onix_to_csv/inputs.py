@@ -4,10 +4,10 @@ import errno
 import os
 import stat
 from pathlib import PurePath
-from typing import BinaryIO
+from typing import IO
 
 from onix_to_csv.faults import FileFault
-from onix_to_csv.packed import Unpacked, ending_of
+from onix_to_csv.packed import Raw, Readable, Unpacked, ending_of
 
 STANDARD_INPUT = "-"
 STANDARD_INPUT_NUMBER = 0
@@ -16,7 +16,7 @@ STANDARD_INPUT_NUMBER = 0
 class Counted:
     """A stream that is no regular file, with how many bytes were read of it."""
 
-    def __init__(self, stream: BinaryIO):
+    def __init__(self, stream: IO[bytes]):
         self.stream = stream
         self.count = 0
 
@@ -28,10 +28,10 @@ class Counted:
     def tell(self) -> int:
         return self.count
 
-    def seek(self, *_):
+    def seek(self, _position: int) -> int:
         raise OSError(errno.ESPIPE, os.strerror(errno.ESPIPE))
 
-    def close(self):
+    def close(self) -> None:
         self.stream.close()
 
 
@@ -52,14 +52,19 @@ class Input:
             raise FileFault(name, error.strerror) from None
         is_regular = stat.S_ISREG(state.st_mode)
         self.size = state.st_size if is_regular else None
-        self.raw = stream if is_regular else Counted(stream)
+        raw: Raw = stream
+        if not is_regular:
+            raw = Counted(stream)
+        self.raw = raw
         ending = ending_of(name)
-        self.stream = Unpacked(self.raw, ending, self.packed_size) if ending else self.raw
+        self.stream: Readable = self.raw
+        if ending:
+            self.stream = Unpacked(self.raw, ending, self.packed_size)
 
     def __enter__(self) -> "Input":
         return self
 
-    def __exit__(self, *_):
+    def __exit__(self, *_: object) -> None:
         self.raw.close()
 
     def read(self, size: int) -> bytes:

@@ -2,50 +2,15 @@
 
 from collections import Counter
 from collections.abc import Iterator
-from dataclasses import dataclass, field
-from typing import NamedTuple, Protocol, TypeVar
+from typing import TypeVar
 
-from onix_to_csv.faults import Place, Reason, shown
+from onix_to_csv.faults import shown
+from onix_to_csv.judged import Judged
 
 # The most lines of notes on a file. Those behind them are only counted.
 MOST_LINES = 1_000
 
 Key = TypeVar("Key", str, tuple[str, str, str])
-
-
-class LeftOut(NamedTuple):
-    """What of a product is left out: the place where it begins, its name, and why."""
-
-    place: Place
-    name: str
-    why: Reason
-
-    def __str__(self) -> str:
-        return f"{self.name} left out: {self.why}"
-
-    def each(self) -> Iterator["LeftOut"]:
-        yield self
-
-
-class Missing(Protocol):
-    """One thing that is left out, or several."""
-
-    def each(self) -> Iterator[LeftOut]: ...
-
-
-@dataclass(slots=True)
-class Judged:
-    """What comes of a composite: its lines, what is left out of it, and the names of what else it says
-    that is only counted."""
-
-    lines: list[bytes] = field(default_factory=list)
-    missing: list[Missing] = field(default_factory=list)
-    counted: list[str] = field(default_factory=list)
-
-    def add(self, other: "Judged") -> None:
-        self.lines += other.lines
-        self.missing += other.missing
-        self.counted += other.counted
 
 
 class Notes:

@@ -8,7 +8,7 @@ import shutil
 import sys
 import tempfile
 from pathlib import Path
-from typing import BinaryIO
+from typing import IO
 
 from onix_to_csv.faults import FileFault
 from onix_to_csv.stopping import undisturbed
@@ -31,13 +31,13 @@ class StandardOutput:
     # Whose faults those are that name no file.
     name = "a temporary file"
 
-    def __init__(self):
+    def __init__(self) -> None:
         self.spool = tempfile.SpooledTemporaryFile(IN_MEMORY)
 
-    def open_part(self) -> BinaryIO:
+    def open_part(self) -> IO[bytes]:
         return self.spool
 
-    def place(self):
+    def place(self) -> None:
         self.spool.seek(0)
         if sys.stdout is None:
             raise FileFault(STANDARD_OUTPUT, "is closed")
@@ -47,7 +47,7 @@ class StandardOutput:
         except OSError as error:
             raise FileFault(STANDARD_OUTPUT, error.strerror) from None
 
-    def discard(self):
+    def discard(self) -> None:
         with contextlib.suppress(OSError):
             self.spool.close()
 
@@ -63,9 +63,9 @@ class Folder:
         self.digits = max(2, len(str(parts)))
         # The files that were made, each with the name that it is to have.
         self.made: list[tuple[Path, Path]] = []
-        self.stream: BinaryIO | None = None
+        self.stream: IO[bytes] | None = None
 
-    def open_part(self) -> BinaryIO:
+    def open_part(self) -> IO[bytes]:
         self.close_part()
         number = len(self.made) + 1
         part = f".part-{number:0{self.digits}}" if self.parts > 1 else ""
@@ -75,14 +75,14 @@ class Folder:
             self.made.append((beside, target))
         return self.stream
 
-    def close_part(self):
+    def close_part(self) -> None:
         """Ends a part, which is then where a loss of power leaves it."""
         if self.stream:
             self.stream.flush()
             os.fsync(self.stream.fileno())
             self.stream.close()
 
-    def place(self):
+    def place(self) -> None:
         """Gives the files their names. FileFault where another file has one, with other bytes; then none
         is placed."""
         self.close_part()
@@ -101,7 +101,7 @@ class Folder:
                 target.unlink()
             raise
 
-    def discard(self):
+    def discard(self) -> None:
         """Takes away what was made, but for what has its name."""
         for beside, _target in self.made:
             with contextlib.suppress(OSError):
@@ -112,7 +112,7 @@ class Folder:
                 self.stream.close()
 
 
-def open_beside(target: Path) -> tuple[Path, BinaryIO]:
+def open_beside(target: Path) -> tuple[Path, IO[bytes]]:
     """A new file beside that one, whose name nobody has."""
     for number in range(TRIES):
         more = f"-{number}" if number else ""
@@ -160,7 +160,7 @@ def rename(beside: Path, target: Path) -> bool:
     return True
 
 
-def sync(folder: Path):
+def sync(folder: Path) -> None:
     """Makes the names in the folder outlast a loss of power."""
     descriptor = os.open(folder, os.O_RDONLY | os.O_DIRECTORY)
     try:

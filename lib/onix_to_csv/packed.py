@@ -5,7 +5,7 @@ import gzip
 import zipfile
 import zlib
 from collections.abc import Callable
-from typing import BinaryIO
+from typing import IO, Protocol, cast
 
 from onix_to_csv.faults import Damage
 
@@ -18,14 +18,28 @@ TIMES = 1_000
 # How much of a zip is unpacked at once, some of whose methods give all that comes of what they take.
 ENTRY_PIECE = 16_384
 
-Opener = Callable[[BinaryIO], BinaryIO]
+
+class Readable(Protocol):
+    """What gives bytes."""
+
+    def read(self, size: int, /) -> bytes: ...
 
 
-def open_entry(raw: BinaryIO) -> BinaryIO:
+class Raw(Readable, Protocol):
+    """A file as it is read, packed as it is."""
+
+    def tell(self) -> int: ...
+
+    def seek(self, position: int, /) -> int: ...
+
+    def close(self) -> None: ...
+
+
+def open_entry(raw: Raw) -> Readable:
     """The one entry of a zip."""
     # What cannot be sought in cannot be read, and is no damage.
     raw.seek(0)
-    archive = zipfile.ZipFile(raw)
+    archive = zipfile.ZipFile(cast("IO[bytes]", raw))
     entries = archive.infolist()
     if len(entries) != 1:
         raise Damage(f"a zip of {len(entries)} entries, not of one")
@@ -36,12 +50,12 @@ def open_entry(raw: BinaryIO) -> BinaryIO:
     return archive.open(entries[0])
 
 
-def open_gzip(raw: BinaryIO) -> BinaryIO:
+def open_gzip(raw: Raw) -> Readable:
     return gzip.GzipFile(fileobj=raw)
 
 
 # By the ending of a file's name, in small letters or capital ones.
-OPENERS: dict[str, Opener] = {".gz": open_gzip, ".zip": open_entry}
+OPENERS: dict[str, Callable[[Raw], Readable]] = {".gz": open_gzip, ".zip": open_entry}
 
 
 def ending_of(name: str) -> str | None:
@@ -56,12 +70,12 @@ def too_large() -> Damage:
 class Unpacked:
     """What a packed file holds. `packed_size` gives how many bytes that has, as far as it is known."""
 
-    def __init__(self, raw: BinaryIO, ending: str, packed_size: Callable[[], int]):
+    def __init__(self, raw: Raw, ending: str, packed_size: Callable[[], int]):
         self.raw = raw
         self.ending = ending
         self.opener = OPENERS[ending]
         self.packed_size = packed_size
-        self.stream: BinaryIO | None = None
+        self.stream: Readable | None = None
         self.given = 0
 
     def read(self, size: int) -> bytes:

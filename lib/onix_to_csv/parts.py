@@ -1,10 +1,10 @@
 """A message as one or more parts, each a message of its own that the desk takes."""
 
 from collections.abc import Callable
-from typing import BinaryIO
+from typing import IO
 
 from onix_to_csv.faults import Place, Refusal
-from onix_to_csv.headers import Header
+from onix_to_csv.headers import Opening
 from onix_to_csv.lines import line_of
 from onix_to_csv.terms import MOST_BYTES, MOST_RECORDS, too_large
 
@@ -24,19 +24,19 @@ class Parts:
     they are counted, so that the refusal can say how many are needed.
     """
 
-    def __init__(self, header: Header, count: int, open_part: Callable[[], BinaryIO]):
-        self.header = header
+    def __init__(self, opening: Opening, count: int, open_part: Callable[[], IO[bytes]]):
+        self.opening = opening
         self.count = count
         self.open_part = open_part
         self.begun = 0
-        self.stream: BinaryIO | None = None
+        self.stream: IO[bytes] | None = None
         self.records = self.bytes = 0
         # The place of the first product for which there was no part.
         self.beyond: Place | None = None
         self.begin()
 
     def begin(self) -> None:
-        opening = line_of(self.header.record(self.begun))
+        opening = line_of(self.opening.record(self.begun))
         self.begun += 1
         self.records, self.bytes = 1, len(opening)
         self.stream = self.open_part() if self.begun <= self.count else None
@@ -61,7 +61,7 @@ class Parts:
         room for them."""
         records, size = len(lines), sum(map(len, lines))
         if not self.fits(records, size, self.records, self.bytes):
-            opening = line_of(self.header.record(self.begun))
+            opening = line_of(self.opening.record(self.begun))
             if self.records == 1 or not self.fits(records, size, 1, len(opening)):
                 raise too_large(at)
             self.end()

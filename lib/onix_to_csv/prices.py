@@ -1,13 +1,13 @@
 """The line of a Price, or why it has none."""
 
 import re
-from typing import NamedTuple
+from collections.abc import Iterator, Sequence
 
-from onix_to_csv.elements import Values
-from onix_to_csv.faults import Reason, Wrong
-from onix_to_csv.headers import Header
+from onix_to_csv.elements import Price, PriceCondition, PriceConstraint, PriceDate
+from onix_to_csv.faults import Place, Reason, Wrong
+from onix_to_csv.headers import Opening
+from onix_to_csv.judged import JudgedPrice, LeftOut
 from onix_to_csv.lines import Record, line_of
-from onix_to_csv.notes import LeftOut, Missing
 from onix_to_csv.territories import regions_left_out, territory_fields, unheld
 from onix_to_csv.terms import AMOUNT, CODE, CURRENCY, DAY, QUANTITY, Rule, kept, term
 
@@ -23,127 +23,122 @@ DATE = "Date of PriceDate"
 
 HAS_MORE_DECIMALS = re.compile("[0-9]+[.][0-9]{4,}").fullmatch
 
-# The elements for which a price may be left out, whatever its fields are. Most prices have none of them.
-TELLING = frozenset(
-    {
-        "PriceQualifier",
-        "PricePer",
-        "PriceCondition",
-        "PriceConstraint",
-        "PriceCoded",
-        "CurrencyZone",
-        "Territory",
-    }
-)
 
-# The elements that are only counted.
-COUNTED = ("PriceStatus", "EpubTechnicalProtection", "EpubLicense")
-has_none_counted = frozenset(COUNTED).isdisjoint
-
-
-class JudgedPrice(NamedTuple):
-    """What comes of a Price: its line, where it has one; what is left out, itself or regions of its
-    territory; the UnpricedItemType of one without an amount; and what is only counted."""
-
-    line: bytes | None = None
-    missing: tuple[Missing, ...] = ()
-    unpriced: str | None = None
-    counted: tuple[str, ...] = ()
-
-
-def judge_price(price: Values, header: Header) -> JudgedPrice:
-    unpriced = None if "PriceAmount" in price else price.get("UnpricedItemType")
-    if "PriceAmount" not in price and "PriceCoded" not in price:
+def judge_price(price: Price, opening: Opening) -> JudgedPrice:
+    unpriced = price.unpriced_item_type if price.amount is None else None
+    if price.amount is None and price.coded is None:
         return JudgedPrice(unpriced=unpriced)
-    reason = None if TELLING.isdisjoint(price) else another_price(price)
+    reason = another_price(price) if may_be_another(price) else None
     if reason is None:
         try:
-            return written_price(price, header)
+            return written_price(price, opening)
         except Wrong as wrong:
             reason = wrong.why
     return JudgedPrice(missing=(LeftOut(price.place, "Price", reason),), unpriced=unpriced)
 
 
-def written_price(price: Values, header: Header) -> JudgedPrice:
+def written_price(price: Price, opening: Opening) -> JudgedPrice:
     """A Price that has a line; Wrong where the desk could not take it."""
-    line = line_of(price_record(price, header))
-    missing = tuple(regions_left_out(price["Territory"])) if "Territory" in price else ()
-    if has_none_counted(price):
+    line = line_of(price_record(price, opening))
+    missing = tuple(regions_left_out(price.territory)) if price.territory else ()
+    if not (price.status or price.protection or price.license):
         return JudgedPrice(line, missing)
-    counted = tuple(f"Price with {name}" for name in COUNTED if name in price)
-    return JudgedPrice(line, missing, None, counted)
+    return JudgedPrice(line, missing, None, tuple(counted(price)))
 
 
-def another_price(price: Values) -> Reason | None:
-    """Why a Price is another than the desk knows, in the order in which its elements stand in ONIX; None
-    where it is not."""
-    return (
-        unusual(price, "PriceQualifier")
-        or unusual(price, "PricePer")
-        or unusual_below(price, "PriceCondition")
-        or unusual_below(price, "PriceConstraint")
-        or (Reason("PriceCoded") if "PriceCoded" in price else None)
-        or (Reason("CurrencyZone {}", price["CurrencyZone"]) if "CurrencyZone" in price else None)
-        or unheld(price.get("Territory"))
+def counted(price: Price) -> Iterator[str]:
+    """What a Price says that is only counted. Most say nothing of it."""
+    if price.status:
+        yield "Price with PriceStatus"
+    if price.protection:
+        yield "Price with EpubTechnicalProtection"
+    if price.license:
+        yield "Price with EpubLicense"
+
+
+def may_be_another(price: Price) -> bool:
+    """Whether a Price has one of the elements for which it may be left out, whatever its fields are. Most have
+    none of them."""
+    return bool(
+        price.qualifier
+        or price.per
+        or price.conditions
+        or price.constraints
+        or price.coded
+        or price.currency_zone
+        or price.territory
     )
 
 
-def unusual(values: Values, name: str) -> Reason | None:
-    code = values.get(name, USUAL)
-    return Reason(f"{name} {{}}", code) if code != USUAL else None
+def another_price(price: Price) -> Reason | None:
+    """Why a Price is another than the desk knows, in the order in which its elements stand in ONIX; None
+    where it is not."""
+    return (
+        unusual(price.qualifier, "PriceQualifier")
+        or unusual(price.per, "PricePer")
+        or unusual_below(price.conditions, "PriceCondition")
+        or unusual_below(price.constraints, "PriceConstraint")
+        or (Reason("PriceCoded") if price.coded else None)
+        or (Reason("CurrencyZone {}", price.currency_zone) if price.currency_zone else None)
+        or unheld(price.territory)
+    )
 
 
-def unusual_below(price: Values, name: str) -> Reason | None:
+def unusual(code: str | None, name: str) -> Reason | None:
+    return Reason(f"{name} {{}}", code) if code and code != USUAL else None
+
+
+def unusual_below(composites: Sequence[PriceCondition | PriceConstraint], name: str) -> Reason | None:
     """Why one of the composites of that name changes what the price means."""
     type_name = f"{name}Type"
-    for composite in price.get(name, []):
-        if type_name not in composite:
+    for composite in composites:
+        if composite.type is None:
             return Reason(f"{name} without {type_name}")
-        if reason := unusual(composite, type_name):
+        if reason := unusual(composite.type, type_name):
             return reason
     return None
 
 
-def price_record(price: Values, header: Header) -> Record:
+def price_record(price: Price, opening: Opening) -> Record:
     """The record of a Price; Wrong where the desk would call it malformed, or where it would not say what
     the Price says."""
+    place = price.place
     record = [
         "Price",
-        or_default(CODE, price, "PriceType", header.has_type),
+        or_default(CODE, price.type, "PriceType", place, opening.has_type),
         amount(price),
-        or_default(CURRENCY, price, "CurrencyCode", header.has_currency),
-        *territory_fields(price.get("Territory")),
+        or_default(CURRENCY, price.currency, "CurrencyCode", place, opening.has_currency),
+        *territory_fields(price.territory),
         *days(price),
     ]
-    if "MinimumOrderQuantity" in price:
-        record.append(term(QUANTITY, price, "MinimumOrderQuantity"))
+    if price.minimum_quantity is not None:
+        record.append(term(QUANTITY, price.minimum_quantity, "MinimumOrderQuantity", place))
     return record
 
 
-def or_default(rule: Rule, price: Values, name: str, has_default: bool) -> str:
-    text = price.get(name, "")
-    if rule.keeps(text) or not text and has_default:
-        return text
-    if not text:
-        raise Wrong(price.place, f"no {name}, and no default in the Header")
-    return kept(rule, text, name, price.place)
+def or_default(rule: Rule, text: str | None, name: str, place: Place, has_default: bool) -> str:
+    if text is None:
+        if has_default:
+            return ""
+        raise Wrong(place, f"no {name}, and no default in the Header")
+    return term(rule, text, name, place)
 
 
-def amount(price: Values) -> str:
-    text = price["PriceAmount"]
+def amount(price: Price) -> str:
+    text = price.amount or ""
     if not AMOUNT.keeps(text) and HAS_MORE_DECIMALS(text):
         raise Wrong(price.place, "PriceAmount {} has more than 3 decimals", text)
     return kept(AMOUNT, text, "PriceAmount", price.place)
 
 
-def days(price: Values) -> list[str]:
+def days(price: Price) -> list[str]:
     """The first and the last day, each empty where there is none; Wrong where a date is none."""
-    if "PriceDate" not in price:
+    if not price.dates:
         return ["", ""]
     first: list[str] = []
     last: list[str] = []
-    for price_date in price["PriceDate"]:
-        role = price_date.get("PriceDateRole")
+    for price_date in price.dates:
+        role = price_date.role
         if role not in FORMATS:
             continue
         date = dated(price_date, role)
@@ -154,13 +149,13 @@ def days(price: Values) -> list[str]:
     return [kept(DAY, dates[0], DATE, price.place) if dates else "" for dates in (first, last)]
 
 
-def dated(price_date: Values, role: str) -> str:
+def dated(price_date: PriceDate, role: str) -> str:
     """The date of a PriceDate of that role; Wrong where it is not in the role's format."""
     place = price_date.place
-    date_format = price_date.get("dateformat") or price_date.get("DateFormat") or ONE_DAY
+    date_format = price_date.dateformat or price_date.format or ONE_DAY
     if date_format != FORMATS[role]:
         raise Wrong(place, f"PriceDate of role {role} in format {{}}", date_format)
-    date = price_date.get("Date", "")
+    date = price_date.date
     if not date:
         raise Wrong(place, f"PriceDate of role {role} without Date")
     if role == FROM_UNTIL and len(date) != 16:

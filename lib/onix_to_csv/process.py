@@ -5,7 +5,7 @@ import io
 import os
 import resource
 import sys
-from typing import TextIO
+from typing import TextIO, cast
 
 from onix_to_csv.command_line import main
 from onix_to_csv.stopping import Stopped, end_by, stop_at_signals
@@ -26,7 +26,7 @@ class StandardError(io.TextIOBase):
             self.stream.write(text)
         return len(text)
 
-    def flush(self):
+    def flush(self) -> None:
         with contextlib.suppress(OSError):
             self.stream.flush()
 
@@ -34,7 +34,7 @@ class StandardError(io.TextIOBase):
         return self.stream.isatty()
 
 
-def bound_memory():
+def bound_memory() -> None:
     _soft, hard = resource.getrlimit(resource.RLIMIT_DATA)
     most = MEMORY if hard == resource.RLIM_INFINITY else min(MEMORY, hard)
     resource.setrlimit(resource.RLIMIT_DATA, (most, hard))
@@ -44,7 +44,7 @@ def run() -> int:
     """Runs the command line, and gives the status."""
     bound_memory()
     stop_at_signals()
-    sys.stderr = StandardError(sys.stderr)
+    sys.stderr = cast("TextIO", StandardError(sys.stderr))
     try:
         return main()
     except Stopped as stopped:

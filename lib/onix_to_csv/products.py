@@ -1,12 +1,14 @@
 """The lines of a Product, with those of its supplies."""
 
-from onix_to_csv.elements import Values
+from onix_to_csv.elements import Product, ProductIdentifier
 from onix_to_csv.faults import Reason, Wrong
-from onix_to_csv.identifiers import PRODUCT, pair
+from onix_to_csv.identifiers import pair
+from onix_to_csv.judged import Judged, LeftOut, Missing
 from onix_to_csv.lines import Record, line_of
-from onix_to_csv.notes import Judged, LeftOut, Missing
 from onix_to_csv.supplies import judge_supply
 from onix_to_csv.terms import CODE, FIELD_BYTES, MOST_BYTES, needed, term, too_large
+
+NAMES = ProductIdentifier.names
 
 # What the desk makes of these: the record is replaced, or deleted.
 REPLACING = ("01", "02", "03")
@@ -22,26 +24,26 @@ SURE_FIELDS = MOST_BYTES // (2 * FIELD_BYTES)
 NAMED = 3
 
 
-def judge_product(product: Values) -> Judged:
+def judge_product(product: Product) -> Judged:
     """What comes of a product; Wrong where the desk would call one of its records malformed, or where it
     would not say what the product says."""
     if product.is_too_large:
         raise too_large(product.place)
     judged = Judged()
     judged.lines.append(line_of(product_record(product, judged.missing)))
-    if product["NotificationType"] == DELETION:
+    if product.notification == DELETION:
         return judged
-    for supply in product.get("ProductSupply", []):
+    for supply in product.supplies:
         judged.add(judge_supply(supply))
-    if "ProductSupply" in product and len(judged.lines) == 1:
+    if product.supplies and len(judged.lines) == 1:
         judged.missing.append(all_supplies(product, judged.missing))
     return judged
 
 
-def all_supplies(product: Values, missing: list[Missing]) -> LeftOut:
+def all_supplies(product: Product, missing: list[Missing]) -> LeftOut:
     """The note on a product of which no supply is left; Wrong where the desk would then keep the supplies
     that it has."""
-    if product["NotificationType"] in REPLACING:
+    if product.notification in REPLACING:
         why = Reason("the Product is written without supplies")
         return LeftOut(product.place, "every ProductSupply", why)
     names = [str(left_out) for each in missing[:NAMED] for left_out in each.each()]
@@ -50,33 +52,30 @@ def all_supplies(product: Values, missing: list[Missing]) -> LeftOut:
     raise Wrong(product.place, "no ProductSupply is left", more=f" ({'; '.join(names)})")
 
 
-def product_record(product: Values, missing: list[Missing]) -> Record:
+def product_record(product: Product, missing: list[Missing]) -> Record:
     """The record `Product`; what of its identifiers is left out is added to `missing`."""
     place = product.place
-    record = [
-        "Product",
-        needed(product.get("RecordReference"), "RecordReference", place),
-        term(CODE, product, "NotificationType"),
-    ]
-    if product["NotificationType"] == DELETION:
-        record += deletion_identifiers(product, missing)
-    elif PRODUCT.name not in product:
-        raise Wrong(place, f"no {PRODUCT.name}")
+    reference = needed(product.reference, "RecordReference", place)
+    record = ["Product", reference, term(CODE, product.notification, "NotificationType", place)]
+    if product.notification == DELETION:
+        record += deletion_identifiers(product, missing) or [OWN_TYPE, reference]
+    elif not product.identifiers:
+        raise Wrong(place, f"no {NAMES.name}")
     else:
-        for identifier in product[PRODUCT.name]:
-            record += pair(identifier, PRODUCT)
+        for identifier in product.identifiers:
+            record += pair(identifier)
     # Its line would be made in memory.
     if len(record) > SURE_FIELDS and sum(len(text.encode()) for text in record) > MOST_BYTES:
         raise too_large(place)
     return record
 
 
-def deletion_identifiers(product: Values, missing: list[Missing]) -> list[str]:
-    """The identifiers of a deletion that are right, or what stands for them: they decide nothing."""
+def deletion_identifiers(product: Product, missing: list[Missing]) -> list[str]:
+    """The identifiers of a deletion that are right: they decide nothing."""
     pairs: list[str] = []
-    for identifier in product.get(PRODUCT.name, []):
+    for identifier in product.identifiers:
         try:
-            pairs += pair(identifier, PRODUCT)
+            pairs += pair(identifier)
         except Wrong as wrong:
-            missing.append(LeftOut(identifier.place, PRODUCT.name, wrong.why))
-    return pairs or [OWN_TYPE, product["RecordReference"]]
+            missing.append(LeftOut(identifier.place, NAMES.name, wrong.why))
+    return pairs

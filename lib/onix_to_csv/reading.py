@@ -7,15 +7,16 @@ refused, so that neither its length, nor its depth, nor what it declares makes t
 import re
 from collections.abc import Callable
 from functools import partial
-from typing import BinaryIO, NoReturn
+from typing import NoReturn, cast
 from xml.parsers import expat
-from xml.parsers.expat import errors
+from xml.parsers.expat import XMLParserType, errors
 
 from onix_to_csv.bounds import STRETCH, Bounds
 from onix_to_csv.composites import Composites
-from onix_to_csv.elements import Word, vocabulary
+from onix_to_csv.elements import NO_WORD, vocabulary
 from onix_to_csv.entities import DECLARATIONS, characters_of
 from onix_to_csv.faults import Damage, Place, Refusal, shown
+from onix_to_csv.packed import Readable
 from onix_to_csv.prolog import RELEASES, is_of_single_bytes, other_kind, prepared, wrong_release
 
 # The encodings that expat knows itself. Of the others pyexpat takes those of single bytes from Python.
@@ -60,7 +61,7 @@ WHITE_SPACE = re.compile("[ \t\r\n]+")
 StartHandler = Callable[[str, dict[str, str]], None]
 
 # Each composite has a Place, and a call of the class takes three times as long.
-new_place: Callable[[tuple[int, int]], Place] = partial(tuple.__new__, Place)
+new_place = cast("Callable[[tuple[int, int]], Place]", partial(tuple.__new__, Place))
 
 
 def normalized(text: str) -> str:
@@ -77,8 +78,7 @@ class MessageReader:
         self.composites = composites
         # The composite or text that is open; of a text also the composite around it, its attributes and
         # what was read of it.
-        self.word: Word | None = None
-        self.outer: Word | None = None
+        self.word = self.outer = NO_WORD
         self.attributes: dict[str, str] = {}
         self.pieces: list[str] = []
         # How many elements are open from the one on that is passed over.
@@ -90,17 +90,19 @@ class MessageReader:
         self.has_root = False
         # The handlers are bound once, since they are set at many elements.
         self.add_piece = self.pieces.append
-        self.start, self.end = self.on_start, self.on_end
-        self.start_below, self.end_below = self.on_start_below, self.on_end_below
-        # The one of the two that is set.
-        self.present_start = self.on_root
+        self.start: StartHandler = self.on_start
+        self.end = self.on_end
+        self.start_below: StartHandler = self.on_start_below
+        self.end_below = self.on_end_below
+        # The one of the start handlers that is set.
+        self.present_start: StartHandler = self.on_root
         self.is_counting = False
         # How many characters of texts came since it was last looked at, where they are counted.
         self.characters = 0
         self.parser = self.new_parser()
         self.bounds = Bounds(self.parser, self.refuse)
 
-    def new_parser(self):
+    def new_parser(self) -> XMLParserType:
         parser = expat.ParserCreate(namespace_separator=SEPARATOR)
         parser.buffer_text = True
         # expat asks for a DTD then where the document names none too. It gets the names of HTML.
@@ -113,7 +115,7 @@ class MessageReader:
         parser.StartDoctypeDeclHandler = self.on_document_type
         return parser
 
-    def read(self, stream: BinaryIO, on_piece: Callable[[], None]):
+    def read(self, stream: Readable, on_piece: Callable[[], None]) -> None:
         """Reads the stream to its end, and calls `on_piece` after each piece. Refusal where it holds no
         ONIX message."""
         try:
@@ -131,7 +133,7 @@ class MessageReader:
         except expat.ExpatError as error:
             raise Refusal(Place(error.lineno, error.offset + 1), self.reason(error)) from None
 
-    def parse(self, data: bytes, is_last: bool = False):
+    def parse(self, data: bytes, is_last: bool = False) -> None:
         self.bounds.look_before(data)
         if self.bounds.may_give_many():
             self.count()
@@ -158,8 +160,8 @@ class MessageReader:
         text = expat.ErrorString(error.code) or str(error)
         return f"no well-formed XML: {text}, at byte {self.parser.ErrorByteIndex + 1}"
 
-    def look_at_text(self):
-        if self.word and self.word.is_text:
+    def look_at_text(self) -> None:
+        if self.word.is_text:
             self.pieces[:] = ["".join(self.pieces)]
             self.characters = len(self.pieces[0])
             if self.characters > STRETCH:
@@ -167,26 +169,26 @@ class MessageReader:
 
     # Counting, where one piece of the file may give more than it has bytes for.
 
-    def count(self):
+    def count(self) -> None:
         """From here on each element and each piece of a text is counted."""
         if self.is_counting:
             return
         self.is_counting = True
         counted = {handler: self.counted(handler) for handler in (self.start, self.start_below)}
-        self.start, self.start_below = counted.values()
+        self.start, self.start_below = counted[self.start], counted[self.start_below]
         self.present_start = counted.get(self.present_start, self.present_start)
         self.add_piece = self.add_counted
         if self.parser.CharacterDataHandler:
             self.parser.CharacterDataHandler = self.add_piece
 
     def counted(self, on_start: StartHandler) -> StartHandler:
-        def counted_start(name: str, attributes: dict[str, str]):
+        def counted_start(name: str, attributes: dict[str, str]) -> None:
             self.bounds.count_element()
             on_start(name, attributes)
 
         return counted_start
 
-    def add_counted(self, text: str):
+    def add_counted(self, text: str) -> None:
         self.pieces.append(text)
         self.characters += len(text)
         if len(self.pieces) > TEXT_PIECES or self.characters > STRETCH:
@@ -194,28 +196,30 @@ class MessageReader:
 
     # The prolog, and entities.
 
-    def on_xml_declaration(self, _version: str, encoding: str | None, _standalone: int):
+    def on_xml_declaration(self, _version: str, encoding: str | None, _standalone: int) -> None:
         if encoding and encoding.upper() not in OF_EXPAT and not is_of_single_bytes(encoding):
             self.refuse(f"encoding {shown(encoding)} is neither expat's nor of single bytes")
 
-    def on_document_type(self, _name: str, address: str | None, _public, _has_subset):
+    def on_document_type(
+        self, _name: str, address: str | None, _public: str | None, _has_subset: bool
+    ) -> None:
         self.doctype = address or ""
 
-    def on_entity_declaration(self, _name, is_parameter, text, _base, _address, _public, _notation):
+    def on_entity_declaration(self, _name: str, is_parameter: bool, text: str | None, *_more: str | None) -> None:
         self.bounds.look_at_entity(text or "")
         if not is_parameter:
             self.count()
 
-    def on_external_entity(self, context: str | None, _base, _address, _public) -> int:
+    def on_external_entity(self, context: str | None, *_more: str | None) -> int:
         if context is not None:
             self.refuse("an entity that is declared by an address")
         # What is not read ends the declarations that count. That of a parameter entity is not.
-        if b"%" not in self.parser.GetInputContext()[:2]:
+        if b"%" not in (self.parser.GetInputContext() or b"")[:2]:
             self.parser.EntityDeclHandler = None
             self.parser.ExternalEntityParserCreate(None).Parse(DECLARATIONS, True)
         return 1
 
-    def on_unknown_entity(self, name: str, is_parameter: int):
+    def on_unknown_entity(self, name: str, is_parameter: bool) -> None:
         if is_parameter:
             return
         # Behind a parameter entity that was not read expat takes none of the names that it is given.
@@ -227,30 +231,31 @@ class MessageReader:
 
     # Elements that count.
 
-    def on_root(self, name: str, attributes: dict[str, str]):
+    def on_root(self, name: str, attributes: dict[str, str]) -> None:
         namespace, separator, local_name = name.rpartition(SEPARATOR)
         self.root, self.has_root = local_name, True
-        self.word = vocabulary(local_name, namespace + separator)
-        if self.word is None:
+        word = vocabulary(local_name, namespace + separator)
+        if word is None:
             what = "; this is a web page" if local_name.lower() == "html" else ""
             self.refuse(f"root {shown(local_name)} is neither ONIXMessage nor ONIXmessage{what}")
+        self.word = word
         release = attributes.get("release")
         if release not in RELEASES:
             self.refuse(wrong_release(release, namespace + self.doctype))
         self.listen(self.start, self.end)
 
-    def listen(self, start: StartHandler, end: Callable[[str], None]):
+    def listen(self, start: StartHandler, end: Callable[[str], None]) -> None:
         self.present_start = start
         self.parser.StartElementHandler = start
         self.parser.EndElementHandler = end
 
-    def on_first_start(self, name: str, attributes: dict[str, str]):
+    def on_first_start(self, name: str, attributes: dict[str, str]) -> None:
         """Stands in for the handler that is set, until the first element begins in a piece."""
         self.bounds.begin_element(attributes)
         self.parser.StartElementHandler = self.present_start
         self.present_start(name, attributes)
 
-    def on_start(self, name: str, attributes: dict[str, str]):
+    def on_start(self, name: str, attributes: dict[str, str]) -> None:
         word = self.word.children.get(name)
         if word is None:
             self.pass_over()
@@ -263,7 +268,7 @@ class MessageReader:
         else:
             self.pass_over()
 
-    def on_end(self, _name: str):
+    def on_end(self, _name: str) -> None:
         word = self.word
         if word.is_text:
             self.parser.CharacterDataHandler = None
@@ -272,31 +277,31 @@ class MessageReader:
             self.pieces.clear()
             if not text.isalnum():
                 text = normalized(text)
-            if text and self.composites.keep(word.name, text) and word.attribute:
+            if text and self.composites.keep(word.field, text) and word.attribute:
                 self.keep_attribute(word.attribute)
         elif self.composites.around:
             self.word = self.composites.close(word)
         else:
             self.root = None
 
-    def keep_attribute(self, name: str):
+    def keep_attribute(self, name: str) -> None:
         if name in self.attributes:
             self.composites.keep(name, normalized(self.attributes[name]))
 
     # Elements that are passed over, with all below them.
 
-    def pass_over(self):
+    def pass_over(self) -> None:
         self.depth = 1
         if self.word.is_text:
             self.parser.CharacterDataHandler = None
         self.listen(self.start_below, self.end_below)
 
-    def on_start_below(self, _name: str, _attributes: dict[str, str]):
+    def on_start_below(self, _name: str, _attributes: dict[str, str]) -> None:
         self.depth += 1
         if self.depth > DEPTH:
             self.refuse(f"more than {DEPTH} elements within one another")
 
-    def on_end_below(self, _name: str):
+    def on_end_below(self, _name: str) -> None:
         self.depth -= 1
         if self.depth == 0:
             self.bounds.stretch = 0

@@ -4,6 +4,7 @@ import contextlib
 import os
 import signal
 from collections.abc import Iterator
+from types import FrameType
 
 STOPPING = (signal.SIGINT, signal.SIGTERM)
 
@@ -16,14 +17,14 @@ class Stopped(BaseException):
         self.number = number
 
 
-def stop(number: int, _frame):
+def stop(number: int, _frame: FrameType | None) -> None:
     # What was made is taken away once, and undisturbed.
     for each in STOPPING:
         signal.signal(each, signal.SIG_IGN)
     raise Stopped(number)
 
 
-def stop_at_signals():
+def stop_at_signals() -> None:
     """From here on such a signal raises Stopped, unless it was ignored."""
     for number in STOPPING:
         if signal.getsignal(number) != signal.SIG_IGN:
@@ -40,7 +41,7 @@ def undisturbed() -> Iterator[None]:
         signal.pthread_sigmask(signal.SIG_SETMASK, before)
 
 
-def end_by(number: int):
+def end_by(number: int) -> None:
     """Ends the process by that signal, as whoever started it is to see."""
     signal.signal(number, signal.SIG_DFL)
     os.kill(os.getpid(), number)

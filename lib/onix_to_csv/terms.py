@@ -6,7 +6,6 @@ from collections.abc import Callable
 from datetime import date
 from functools import lru_cache
 
-from onix_to_csv.elements import Values
 from onix_to_csv.faults import Place, Wrong
 
 FIELD_BYTES = 1_024
@@ -91,16 +90,14 @@ def kept(rule: Rule, text: str, name: str, place: Place) -> str:
     return text
 
 
-def term(rule: Rule, values: Values, name: str) -> str:
-    """The text of that name, which keeps to that rule; Wrong where it is absent or does not."""
-    text = values.get(name, "")
-    return text if rule.keeps(text) else kept(rule, text, name, values.place)
+def term(rule: Rule, text: str | None, name: str, place: Place) -> str:
+    """The text, which keeps to that rule; Wrong where it is absent or does not."""
+    return text if text and rule.keeps(text) else kept(rule, text or "", name, place)
 
 
-def optional_term(rule: Rule, values: Values, name: str) -> str:
-    """The text of that name, which keeps to that rule, or the empty text where it is absent; Wrong where
-    it does not."""
-    return term(rule, values, name) if name in values else ""
+def optional_term(rule: Rule, text: str | None, name: str, place: Place) -> str:
+    """The text, which keeps to that rule, or the empty text where it is absent; Wrong where it does not."""
+    return "" if text is None else term(rule, text, name, place)
 
 
 def too_large(place: Place) -> Wrong:

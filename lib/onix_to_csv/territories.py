@@ -5,9 +5,9 @@ from collections.abc import Iterable, Iterator
 from functools import lru_cache
 from typing import NamedTuple
 
-from onix_to_csv.elements import Values
+from onix_to_csv.elements import Territory
 from onix_to_csv.faults import Place, Reason
-from onix_to_csv.notes import LeftOut
+from onix_to_csv.judged import LeftOut
 from onix_to_csv.terms import COUNTRIES, optional_term
 
 WORLD = "WORLD"
@@ -36,58 +36,51 @@ class RegionsLeftOut(NamedTuple):
                 yield LeftOut(self.place, name, Reason(self.words, found[0]))
 
 
-def regions_of(territory: Values, name: str) -> Iterator[str]:
-    return (found[0] for found in each_region(territory.get(name, "")))
+def regions_of(regions: str | None) -> Iterator[str]:
+    return (found[0] for found in each_region(regions or ""))
 
 
-def has_world(territory: Values) -> bool:
-    return WORLD in regions_of(territory, "RegionsIncluded")
-
-
-def has_regions(territory: Values | None) -> bool:
-    return territory is not None and ("RegionsIncluded" in territory or "RegionsExcluded" in territory)
-
-
-def unheld(territory: Values | None) -> Reason | None:
+def unheld(territory: Territory | None) -> Reason | None:
     """Why the desk cannot hold a territory, whatever is left out of it: it would be another one, and not
     only a smaller one or one without whole countries."""
-    if territory is None or not has_regions(territory):
+    if territory is None:
         return None
-    if "CountriesIncluded" not in territory and not has_world(territory):
-        for region in regions_of(territory, "RegionsIncluded"):
+    included = territory.regions_included
+    if included and not territory.countries_included and WORLD not in regions_of(included):
+        for region in regions_of(included):
             return Reason(f"RegionsIncluded {{}} without a country or {WORLD}", region)
-    for region in regions_of(territory, "RegionsExcluded"):
-        if not is_part_of_a_country(region):
-            return Reason("RegionsExcluded {}, which is no part of a country", region)
+    if territory.regions_excluded:
+        for region in regions_of(territory.regions_excluded):
+            if not is_part_of_a_country(region):
+                return Reason("RegionsExcluded {}, which is no part of a country", region)
     return None
 
 
-def regions_left_out(territory: Values | None) -> list[RegionsLeftOut]:
+def regions_left_out(territory: Territory | None) -> list[RegionsLeftOut]:
     """The regions that are left out of a territory that the desk can hold."""
-    if territory is None or not has_regions(territory):
-        return []
-    place = territory.place
-    missing = []
-    if "RegionsIncluded" in territory:
+    missing: list[RegionsLeftOut] = []
+    if territory is None:
+        return missing
+    if territory.regions_included:
         words = f"{{}} beside a country or {WORLD}"
-        regions = territory["RegionsIncluded"]
-        missing.append(RegionsLeftOut(place, "RegionsIncluded", regions, words))
-    if "RegionsExcluded" in territory:
+        missing.append(RegionsLeftOut(territory.place, "RegionsIncluded", territory.regions_included, words))
+    if territory.regions_excluded:
         words = "{} is a part of a country"
-        regions = territory["RegionsExcluded"]
-        missing.append(RegionsLeftOut(place, "RegionsExcluded", regions, words))
+        missing.append(RegionsLeftOut(territory.place, "RegionsExcluded", territory.regions_excluded, words))
     return missing
 
 
-def territory_fields(territory: Values | None) -> Fields:
+def territory_fields(territory: Territory | None) -> Fields:
     """The fields of a territory that the desk can hold, all empty where there is none; Wrong where the desk
     would call them malformed."""
     if territory is None:
         return ["", "", ""]
+    place = territory.place
+    included = territory.regions_included
     return [
-        optional_term(COUNTRIES, territory, "CountriesIncluded"),
-        WORLD if "RegionsIncluded" in territory and has_world(territory) else "",
-        optional_term(COUNTRIES, territory, "CountriesExcluded"),
+        optional_term(COUNTRIES, territory.countries_included, "CountriesIncluded", place),
+        WORLD if included and WORLD in regions_of(included) else "",
+        optional_term(COUNTRIES, territory.countries_excluded, "CountriesExcluded", place),
     ]
 
 

@@ -4,6 +4,7 @@ import contextlib
 import json
 from dataclasses import dataclass
 from http.client import HTTPConnection, HTTPException
+from typing import Any
 
 from onixdesk_inbox.names import shown
 from onixdesk_inbox.settings import Address
@@ -39,7 +40,7 @@ class Reply:
     def __str__(self) -> str:
         return f"{self.status} {self.body.decode(errors='backslashreplace')}"
 
-    def members(self) -> dict:
+    def members(self) -> dict[str, Any]:
         """The members of its object, none where it is no reply of a desk."""
         try:
             members = json.loads(self.body)
@@ -79,8 +80,9 @@ class Desk:
         """The least number of a series at which nothing stands."""
         reply = self.ask("GET", f"/series/{series}/gaps")
         members = reply.members()
-        if reply.status == 200 and isinstance(members.get("next"), int):
-            return members["next"]
+        number = members.get("next")
+        if reply.status == 200 and isinstance(number, int):
+            return number
         if reply.status == 404 and members.get("reason") == "unknown-series":
             raise Fault(f"the desk has agreed no series {series}")
         raise Fault(f"the desk does not say the next number of {series}: {shown(str(reply))}")

@@ -43,7 +43,8 @@ class Settings:
         parser = argparse.ArgumentParser(allow_abbrev=False, add_help=False, exit_on_error=False)
         parser.add_argument("--parts", type=int, default=1)
         try:
-            return max(1, parser.parse_known_args(self.words)[0].parts)
+            parts: int = parser.parse_known_args(self.words)[0].parts
+            return max(1, parts)
         except argparse.ArgumentError:
             # The converter refuses these words, and says why.
             return 1
@@ -87,7 +88,7 @@ def seconds(value: str) -> int:
     return int(value)
 
 
-READERS: dict[str, tuple[str, Callable]] = {
+READERS: dict[str, tuple[str, Callable[[str], object]]] = {
     "DESK": ("desk", address),
     "WORDS": ("words", words),
     "NUMBER": ("number", number),

@@ -127,7 +127,8 @@ def sender(message: Path) -> list[str]:
     """The identifier of the sender, as a message says it in its first record."""
     with message.open(encoding="utf-8", errors="replace", newline="") as lines:
         try:
-            return next(csv.reader(lines), [])[2:4]
+            first: list[str] = next(csv.reader(lines), [])
+            return first[2:4]
         except csv.Error:
             return []
 

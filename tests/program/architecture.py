@@ -1,6 +1,7 @@
 """docs/ARCHITECTURE.md: its picture of the crates, and the calls that it tells of."""
 
 import re
+from collections.abc import Iterator
 from functools import cache
 
 from drawing import picture
@@ -44,9 +45,11 @@ def lines(room):
 
 @cache
 def bodies(path: str) -> dict[str, list[str]]:
-    """The bodies of the functions of a source file, by name; one that a file has twice has several."""
+    """The bodies of the functions of a source file, by name; one that a file has twice has several. None where there
+    is no such file."""
     found: dict[str, list[str]] = {}
-    text = (ROOT / "crates" / path).read_text(encoding="utf-8")
+    file = ROOT / "crates" / path
+    text = file.read_text(encoding="utf-8") if file.is_file() else ""
     for begun in re.finditer(r"^( *)(?:pub(?:\(crate\))? )?fn (\w+)", text, re.M):
         end = re.compile(rf"^{begun[1]}}}$", re.M).search(text, begun.end())
         body = text[begun.end() : end.start()] if end else ""
@@ -54,9 +57,14 @@ def bodies(path: str) -> dict[str, list[str]]:
     return found
 
 
-def calls(text: str):
+# A function, and the file that it is said to be in: no file where none is named.
+Function = tuple[str, str]
+
+
+def calls(text: str) -> Iterator[tuple[Function | None, Function]]:
     """Each call of the page: the function above it, or none, with its file, and the function with its own."""
-    above, file = [], None
+    above: list[Function] = []
+    file = ""
     for line in text.splitlines():
         if not (found := CALL.match(line)):
             above = []
@@ -69,16 +77,24 @@ def calls(text: str):
         above.append((name, file))
 
 
-def walks(room):
-    text = PAGE.read_text(encoding="utf-8")
-    count = 0
+def judged(text: str) -> Iterator[tuple[str, tuple[bool, bool]]]:
+    """Each call of the page, and whether the function is in its file and is called there."""
     for above, (name, file) in calls(text):
-        count += 1
-        there = name in bodies(file)
         called = above is None or any(re.search(rf"\b{name}\(", body) for body in bodies(above[1]).get(above[0], []))
-        caller = f"{above[0]} calls {name}" if above else name
-        yield Outcome(f"docs/ARCHITECTURE.md: {caller}", (there, called), (True, True))
-    yield Outcome("docs/ARCHITECTURE.md tells of calls", count > 0, True)
+        yield (f"{above[0]} calls {name}" if above else name), (name in bodies(file), called)
+
+
+def walks(room):
+    found = list(judged(PAGE.read_text(encoding="utf-8")))
+    for call, is_so in found:
+        yield Outcome(f"docs/ARCHITECTURE.md: {call}", is_so, (True, True))
+    yield Outcome("docs/ARCHITECTURE.md tells of calls", len(found) > 0, True)
+
+
+def without_a_file(room):
+    """A page whose calls name no file, or one that is not there, has wrong calls."""
+    for text in ("    answer\n", "    answer    series_rules/src/nowhere.rt\n"):
+        yield Outcome(f"calls: {text.strip()}", list(judged(text)), [("answer", (False, True))])
 
 
 GROUPS = [
@@ -86,4 +102,5 @@ GROUPS = [
     Group("the layers of the crates", layers),
     Group("the lines of crates.txt", lines),
     Group("the calls that docs/ARCHITECTURE.md names", walks),
+    Group("calls without a file", without_a_file),
 ]

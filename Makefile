@@ -22,11 +22,11 @@ lint: ## looks over the Python, the shell and the JavaScript
 	@tools/lint
 
 docs: definitions ## writes docs/DEFINITIONS.md, which git does not keep, and docs/crates.svg anew
-	tests/architecture
+	tools/crates-picture
 
 # The package has the page too: packaging/build makes it of the commit.
 definitions:
-	tests/definitions
+	tools/definitions
 
 # The prover must refuse each of them too.
 wrong-bodies: ## tries the wrong bodies that the gate leaves out

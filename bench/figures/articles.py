@@ -6,7 +6,7 @@ and bring new articles: message 1 the first ones, each later one those after the
 
 from collections.abc import Iterator
 
-from figures import texts
+from bench.figures import texts
 
 SERIES = "north"
 

@@ -2,10 +2,10 @@
 
 from collections.abc import Iterator
 
-from figures import in_files, in_memory, tools
-from figures.desk import Desk
-from figures.figure import Figure
-from figures.runs import Run, instructions_of
+from bench.figures import in_files, in_memory, tools
+from bench.figures.desk import Desk
+from bench.figures.figure import Figure
+from bench.figures.runs import Run, instructions_of
 
 UNIT = "thousand instructions"
 

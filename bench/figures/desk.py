@@ -3,7 +3,7 @@
 from collections.abc import Iterable
 from pathlib import Path
 
-from figures.runs import NOTHING, Run, beyond, usage_of
+from bench.figures.runs import NOTHING, Run, beyond, usage_of
 
 # Of a batch that has a refusal among its answers.
 REFUSED = 1

@@ -11,14 +11,14 @@ from collections.abc import Callable, Iterator
 from statistics import mean, median
 from typing import NamedTuple
 
-from figures import articles, tables, texts
-from figures.desk import Desk
-from figures.kept import Kept, Message, Size
-from figures.runs import BenchmarkFault
-from figures.served import Served, free_port
-from figures.taken import Taken
-from figures.tools import SOURCES
-from figures.twin import Twin, tests_of
+from bench.figures import articles, tables, texts
+from bench.figures.desk import Desk
+from bench.figures.kept import Kept, Message, Size
+from bench.figures.runs import BenchmarkFault
+from bench.figures.served import Served, free_port
+from bench.figures.taken import Taken
+from bench.figures.tools import SOURCES
+from bench.figures.twin import Twin, tests_of
 
 GAPS = f"/series/{articles.SERIES}/gaps"
 CATALOGUE = f"/series/{articles.SERIES}/catalogue"

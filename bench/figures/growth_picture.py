@@ -5,7 +5,7 @@ from math import ceil, floor, log10
 from typing import NamedTuple
 from xml.sax.saxutils import escape
 
-from figures.kept import Size
+from bench.figures.kept import Size
 
 
 class Line(NamedTuple):

@@ -10,10 +10,10 @@ from contextlib import closing
 from pathlib import Path
 from typing import NamedTuple
 
-from figures import texts, tools
-from figures.desk import Desk
-from figures.figure import Figure
-from figures.runs import BenchmarkFault, Run, beyond, least, least_of_each, usage_of
+from bench.figures import texts, tools
+from bench.figures.desk import Desk
+from bench.figures.figure import Figure
+from bench.figures.runs import BenchmarkFault, Run, beyond, least, least_of_each, usage_of
 
 TABLES = ("series", "record", "article", "offer", "price", "price_minimum", "applied")
 

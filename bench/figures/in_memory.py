@@ -4,10 +4,10 @@ import subprocess
 from collections.abc import Iterator
 from pathlib import Path
 
-from figures import texts, tools
-from figures.desk import REFUSED, Desk
-from figures.figure import Figure
-from figures.runs import BenchmarkFault, Run, beyond, kilobytes_of, least_of_each, usage_of
+from bench.figures import texts, tools
+from bench.figures.desk import REFUSED, Desk
+from bench.figures.figure import Figure
+from bench.figures.runs import BenchmarkFault, Run, beyond, kilobytes_of, least_of_each, usage_of
 
 # How often the answer to a catalogue question is written.
 ANSWERS = 40

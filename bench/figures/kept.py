@@ -5,7 +5,7 @@ import csv
 from pathlib import Path
 from typing import NamedTuple
 
-from figures.taken import Taken
+from bench.figures.taken import Taken
 
 
 class Message(NamedTuple):

@@ -3,7 +3,8 @@
 import subprocess
 from pathlib import Path
 
-ROOT = Path(__file__).resolve().parent.parent.parent
+from tools.root import ROOT
+
 
 
 def proved_program() -> Path:

@@ -7,8 +7,8 @@ import subprocess
 import time
 from pathlib import Path
 
-from figures.runs import BenchmarkFault
-from figures.taken import Taken
+from bench.figures.runs import BenchmarkFault
+from bench.figures.taken import Taken
 
 HOST = "127.0.0.1"
 

@@ -2,8 +2,8 @@
 
 from collections.abc import Iterator
 
-from figures.figure import Figure
-from figures.kept import Size
+from bench.figures.figure import Figure
+from bench.figures.kept import Size
 
 PROCESSOR = "nanoseconds of the processor"
 CLOCK = "nanoseconds by the clock"

@@ -7,7 +7,7 @@ from contextlib import closing
 from itertools import zip_longest
 from pathlib import Path
 
-from figures.runs import BenchmarkFault
+from bench.figures.runs import BenchmarkFault
 
 CREATION = Path(__file__).resolve().parent.parent.parent / "crates/desk_tables/src/creation.rt"
 

@@ -4,7 +4,7 @@ import shutil
 import subprocess
 from pathlib import Path
 
-from figures.runs import BenchmarkFault
+from bench.figures.runs import BenchmarkFault
 
 SOURCES = Path(__file__).resolve().parent.parent / "tools"
 

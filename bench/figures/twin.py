@@ -6,9 +6,9 @@ import time
 from contextlib import closing
 from pathlib import Path
 
-from figures import articles, tables
-from figures.runs import BenchmarkFault
-from figures.taken import Taken
+from bench.figures import articles, tables
+from bench.figures.runs import BenchmarkFault
+from bench.figures.taken import Taken
 
 # As a desk keeps its own: a log that is synced at each commit, 2,000 pages in memory, foreign keys.
 SETTINGS = """

@@ -6,7 +6,8 @@ import time
 from collections import Counter
 from pathlib import Path
 
-ROOT = Path(__file__).resolve().parent.parent.parent
+from tools.root import ROOT
+
 TICK = os.sysconf("SC_CLK_TCK")
 
 # What all weights are a multiple of.

@@ -3,7 +3,7 @@
 from random import Random
 from typing import NamedTuple
 
-from kills.desk import Desk, KillFault, answers
+from bench.kills.desk import Desk, KillFault, answers
 
 
 class Killed(NamedTuple):

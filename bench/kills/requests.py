@@ -2,7 +2,7 @@
 
 from random import Random
 
-from kills.messages import ARTICLES, Series, article, day
+from bench.kills.messages import ARTICLES, Series, article, day
 
 RULES = """\
 [[rule]]

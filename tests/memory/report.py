@@ -4,12 +4,11 @@ import sys
 import tempfile
 from pathlib import Path
 
-from memory.sweep import MemoryFault, Sweep, Swept, Tests
+from tests.memory.sweep import MemoryFault, Sweep, Swept, Tests
+from tools.root import ROOT
 
 # How many of the runs of a sweep that failed are shown.
 SHOWN = 5
-
-ROOT = Path(__file__).resolve().parent.parent.parent
 
 PROGRAM = ROOT / "crates/library_tests/out/library_tests_tests"
 

@@ -2,8 +2,8 @@
 
 from datetime import date
 
-from page.week import ISBN, OTHER_ISBN, article
-from program.room import Outcome
+from tests.page.week import ISBN, OTHER_ISBN, article
+from tests.program.room import Outcome
 
 NORTH = ["North Books (north)", "N-100", "21 – in stock"]
 SOUTH = ["South Books (south)", "S1", "21 – in stock"]

@@ -10,9 +10,9 @@ from selenium.webdriver.chrome.options import Options
 from selenium.webdriver.chrome.service import Service
 from selenium.webdriver.common.by import By
 
-from page.site import NAME, PASSWORD, USER, Site
-from program.room import SECONDS
-from program.serving import HOST
+from tests.page.site import NAME, PASSWORD, USER, Site
+from tests.program.room import SECONDS
+from tests.program.serving import HOST
 
 CHROMIUM = "/usr/bin/chromium"
 DRIVER = "/usr/bin/chromedriver"

@@ -2,8 +2,8 @@
 
 from datetime import date
 
-from page.week import HOSTILE_ISBN, ISBN, article
-from program.room import Outcome
+from tests.page.week import HOSTILE_ISBN, ISBN, article
+from tests.program.room import Outcome
 
 SPANS = [
     ["north", "20250325", "20250331", "12.990"],

@@ -2,9 +2,9 @@
 
 from datetime import date, timedelta
 
-from page.articles import answered
-from page.week import ISBN, article
-from program.room import Outcome
+from tests.page.articles import answered
+from tests.page.week import ISBN, article
+from tests.program.room import Outcome
 
 # The page's clock, moved on by as many days as the tests say.
 CLOCK = """

@@ -1,7 +1,7 @@
 """Texts of messages are shown as they are, whatever they would mean in HTML."""
 
-from page.week import HOSTILE, HOSTILE_ISBN, LONG, TURNING, TURNING_ISBN, article
-from program.room import Outcome
+from tests.page.week import HOSTILE, HOSTILE_ISBN, LONG, TURNING, TURNING_ISBN, article
+from tests.program.room import Outcome
 
 
 def references(site, browser):

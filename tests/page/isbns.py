@@ -2,9 +2,9 @@
 
 from selenium.webdriver.common.action_chains import ActionChains
 
-from page.articles import answered
-from page.week import ISBN, OTHER_ISBN, article
-from program.room import Outcome
+from tests.page.articles import answered
+from tests.page.week import ISBN, OTHER_ISBN, article
+from tests.program.room import Outcome
 
 FOCUS = "return [document.activeElement.id, String(getSelection())]"
 

@@ -3,10 +3,10 @@
 from selenium.webdriver.common.action_chains import ActionChains
 from selenium.webdriver.common.keys import Keys
 
-from page.articles import TEN_COPIES, answered
-from page.reports import allow_clipboard
-from page.week import ISBN
-from program.room import Outcome
+from tests.page.articles import TEN_COPIES, answered
+from tests.page.reports import allow_clipboard
+from tests.page.week import ISBN
+from tests.program.room import Outcome
 
 # A page has fewer places for the focus.
 MOST = 60

@@ -9,12 +9,12 @@ import threading
 import time
 from urllib.parse import urlsplit
 
-from page.articles import answered
-from page.browser import STRANGER
-from page.site import NAME
-from page.week import ISBN, article, empty_message
-from program.room import Outcome
-from program.serving import HOST
+from tests.page.articles import answered
+from tests.page.browser import STRANGER
+from tests.page.site import NAME
+from tests.page.week import ISBN, article, empty_message
+from tests.program.room import Outcome
+from tests.program.serving import HOST
 
 PRICE = f"/desk/articles/{ISBN}/price?day=20250410&country=GB&currency=GBP&type=02"
 GAPS = "/desk/series/north/gaps"

@@ -8,10 +8,11 @@ import shutil
 import stat
 import subprocess
 
-from page.origins import GAPS
-from page.site import NAME, NO_LIMIT, PASSWORD, RATE, ROOT, basic
-from program.room import Outcome
-from program.serving import HOST
+from tests.page.origins import GAPS
+from tests.page.site import NAME, NO_LIMIT, PASSWORD, RATE, basic
+from tests.program.room import Outcome
+from tests.program.serving import HOST
+from tools.root import ROOT
 
 
 def without(site, browser):

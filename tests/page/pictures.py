@@ -3,11 +3,11 @@
 import base64
 from datetime import date
 
-from page.articles import answered
-from page.days import with_clock
-from page.site import ROOT
-from page.week import ISBN
-from program.room import Outcome
+from tests.page.articles import answered
+from tests.page.days import with_clock
+from tests.page.week import ISBN
+from tests.program.room import Outcome
+from tools.root import ROOT
 
 # The shop's week is asked for on this day, as if it were today.
 DAY = date(2025, 4, 10)

@@ -3,9 +3,9 @@
 import contextlib
 import json
 
-from page.articles import SAME, answered, said
-from page.week import NET_ISBN, article
-from program.room import Outcome
+from tests.page.articles import SAME, answered, said
+from tests.page.week import NET_ISBN, article
+from tests.program.room import Outcome
 
 NET = {"type": "05", "currency": "GBP", "country": "GB"}
 

@@ -1,9 +1,9 @@
 """What is wrong is told in words, at the field that it comes from."""
 
-from page.articles import answered
-from page.site import PAGE
-from page.week import ISBN, article
-from program.room import Outcome
+from tests.page.articles import answered
+from tests.page.site import PAGE
+from tests.page.week import ISBN, article
+from tests.program.room import Outcome
 
 DAY = "Please give a whole day: day, month and year."
 COUNTRY = "A country is two letters, such as GB or IE."

@@ -3,9 +3,9 @@
 import re
 from datetime import date, timedelta
 
-from page.site import PAGE
-from page.week import MISSING, empty_message
-from program.room import Outcome
+from tests.page.site import PAGE
+from tests.page.week import MISSING, empty_message
+from tests.program.room import Outcome
 
 NORTH, SOUTH, WEST = "#report-north", "#report-south", "#report-west"
 

@@ -1,7 +1,7 @@
 """Narrow screens, paper, and what a screen reader and weak eyes have of the page."""
 
-from page.week import HOSTILE_ISBN, article
-from program.room import Outcome
+from tests.page.week import HOSTILE_ISBN, article
+from tests.program.room import Outcome
 
 CALENDAR = {"from": "2025-03-25", "until": "2025-04-25"}
 

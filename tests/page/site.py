@@ -12,12 +12,11 @@ import socket
 import ssl
 import subprocess
 import time
-from pathlib import Path
 
-from program.room import SECONDS, Room
-from program.serving import HOST, TRIES, connected, free_port, receive
+from tests.program.room import SECONDS, Room
+from tests.program.serving import HOST, TRIES, connected, free_port, receive
+from tools.root import ROOT
 
-ROOT = Path(__file__).resolve().parent.parent.parent
 PAGE = ROOT / "page"
 
 NAME = "desk.example.org"

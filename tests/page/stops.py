@@ -3,10 +3,10 @@
 import contextlib
 import sqlite3
 
-from page.articles import ONE_COPY, answered
-from page.site import DATABASE
-from page.week import ISBN, article
-from program.room import Outcome
+from tests.page.articles import ONE_COPY, answered
+from tests.page.site import DATABASE
+from tests.page.week import ISBN, article
+from tests.program.room import Outcome
 
 AGAIN = " The page asks again by itself every 5 seconds."
 

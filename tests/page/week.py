@@ -1,7 +1,8 @@
 """The desk that the page is tried on: the week of the shop, and more messages of its wholesalers."""
 
-from program.room import Room
-from page.site import DATABASE, ROOT
+from tests.program.room import Room
+from tests.page.site import DATABASE
+from tools.root import ROOT
 
 ISBN = "9781234567897"
 

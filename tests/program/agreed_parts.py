@@ -5,10 +5,10 @@ from functools import partial
 from pathlib import Path
 from typing import NamedTuple
 
-from program.conversions import FRAMES
-from program.converter import convert
-from program.converter_runs import PRODUCT
-from program.room import Group, Outcome, Ran
+from tests.program.conversions import FRAMES
+from tests.program.converter import convert
+from tests.program.converter_runs import PRODUCT
+from tests.program.room import Group, Outcome, Ran
 
 ONIX = Path(__file__).resolve().parent.parent.parent / "docs/ONIX.md"
 

@@ -4,9 +4,10 @@ import re
 from collections.abc import Iterator
 from functools import cache
 
-from drawing import picture
-from drawing.crates import LAYERS, ROOT, direct, families, read_crates, read_lines, upward
-from program.room import Group, Outcome
+from tools.drawing import picture
+from tools.drawing.crates import LAYERS, direct, families, read_crates, read_lines, upward
+from tests.program.room import Group, Outcome
+from tools.root import ROOT
 
 PAGE = ROOT / "docs/ARCHITECTURE.md"
 
@@ -23,8 +24,9 @@ high: middle other low
 
 
 def current(room):
-    came = picture.PICTURE.read_text(encoding="utf-8").splitlines()
-    yield Outcome("docs/crates.svg is what tests/architecture writes", came, picture.svg().splitlines())
+    (crates, arrows), (wanted_crates, wanted_arrows) = picture.shown(picture.PICTURE), picture.wanted()
+    yield Outcome("docs/crates.svg: the crates, their layers and what they take", crates, wanted_crates)
+    yield Outcome("docs/crates.svg: the arrows", sorted(arrows), sorted(wanted_arrows))
     named = f"({picture.PICTURE.name})" in PAGE.read_text(encoding="utf-8")
     yield Outcome("docs/ARCHITECTURE.md has the picture", named, True)
 

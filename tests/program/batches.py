@@ -10,8 +10,8 @@ from functools import partial
 from pathlib import Path
 from typing import NamedTuple
 
-from program.databases import DATABASE, complaints
-from program.room import Group, Outcome, Ran
+from tests.program.databases import DATABASE, complaints
+from tests.program.room import Group, Outcome, Ran
 
 FOLDER = Path(__file__).resolve().parent.parent / "batches"
 

@@ -6,11 +6,11 @@ import socket
 import subprocess
 from pathlib import Path
 
-from program.clients import RESET
-from program.databases import DATABASE, batch, complaints
-from program.exchange_cases import AGREEMENTS, APPLIED, DELIVERY, NO_NUMBERS
-from program.room import SECONDS, Group, Outcome, Ran, Room
-from program.serving import Exchange, connected, posted, serving
+from tests.program.clients import RESET
+from tests.program.databases import DATABASE, batch, complaints
+from tests.program.exchange_cases import AGREEMENTS, APPLIED, DELIVERY, NO_NUMBERS
+from tests.program.room import SECONDS, Group, Outcome, Ran, Room
+from tests.program.serving import Exchange, connected, posted, serving
 
 # A batch in parts, and what a batch is answered that ends within this part or at its end. A record whose first
 # field begins no request belongs to the request before it.

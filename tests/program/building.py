@@ -7,8 +7,8 @@ import shutil
 import subprocess
 import time
 
-from program.room import SECONDS, Group, Outcome, Ran
-from program.stand_in import (
+from tests.program.room import SECONDS, Group, Outcome, Ran
+from tests.program.stand_in import (
     FAILS,
     PAUSES,
     PROVES,
@@ -220,7 +220,7 @@ def other_words(room):
 def tests_of_an_old_program(room):
     """The tests refuse a program whose sources have changed."""
     make_repository(room)
-    for name in ("tests", "bench"):
+    for name in ("tests", "bench", "lib"):
         shutil.copytree(ROOT / name, room.path(name))
     build(room)
     change_source(room)

@@ -9,10 +9,10 @@ import struct
 from pathlib import Path
 from typing import NamedTuple
 
-from program.commands import AGREEMENT, APPLIED, FIRST
-from program.databases import DATABASE, batch
-from program.room import UNREADABLE, Group, Outcome, Ran
-from program.serving import HOST, TRIES, Exchange, connected, free_port, receive, serving
+from tests.program.commands import AGREEMENT, APPLIED, FIRST
+from tests.program.databases import DATABASE, batch
+from tests.program.room import UNREADABLE, Group, Outcome, Ran
+from tests.program.serving import HOST, TRIES, Exchange, connected, free_port, receive, serving
 
 
 class Client(NamedTuple):

@@ -1,6 +1,6 @@
 """Command lines, each by what stands behind the program's name."""
 
-from program.room import Group, Outcome, Ran
+from tests.program.room import Group, Outcome, Ran
 
 # Name, words, status. With status 0 the program prints to standard output, else to standard error, and
 # in clap's words, not as a fault of its own.

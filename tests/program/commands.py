@@ -3,8 +3,8 @@
 from functools import partial
 from typing import NamedTuple
 
-from program.databases import DATABASE, batch, gaps
-from program.room import UNREADABLE, Group, Outcome, Ran
+from tests.program.databases import DATABASE, batch, gaps
+from tests.program.room import UNREADABLE, Group, Outcome, Ran
 
 AGREEMENT = b"Agree,north,06,4012345000009,06,5012345678900,1\n"
 

@@ -25,8 +25,8 @@ from functools import partial
 from pathlib import Path
 from typing import NamedTuple
 
-from program.converter import convert
-from program.room import Group, Outcome
+from tests.program.converter import convert
+from tests.program.room import Group, Outcome
 
 FOLDER = Path(__file__).resolve().parent.parent / "conversions"
 

@@ -8,10 +8,11 @@ import subprocess
 import time
 from functools import partial
 
-from program.conversions import FRAMES, said
-from program.converter import CONVERTER, convert
-from program.converter_runs import BAD, ONE, TWO, feed_of, message_of
-from program.room import SECONDS, Group, Outcome, Ran
+from bench.figures.conversion import within
+from tests.program.conversions import FRAMES, said
+from tests.program.converter import CONVERTER, convert
+from tests.program.converter_runs import BAD, ONE, TWO, feed_of, message_of
+from tests.program.room import SECONDS, Group, Outcome, Ran
 
 # The longest name of a file.
 LONGEST = 255
@@ -169,7 +170,7 @@ def came_meanwhile(room):
         "runpy.run_path(sys.argv[0], run_name='__main__')\n"
     )
     done = subprocess.run(
-        ["python3", "-I", "-S", "-c", script, CONVERTER, "--parts", "2", "-o", "out", "a.xml"],
+        within(script, CONVERTER, "--parts", "2", "-o", "out", "a.xml"),
         cwd=room.folder,
         capture_output=True,
         timeout=SECONDS,
@@ -197,7 +198,7 @@ def without_second_names(room):
     )
     for first, status, data in [("none", 0, message_of("R1")), ("late", 3, b"other")]:
         done = subprocess.run(
-            ["python3", "-I", "-S", "-c", script, first, CONVERTER, "-o", "out", "a.xml"],
+            within(script, first, CONVERTER, "-o", "out", "a.xml"),
             cwd=room.folder,
             capture_output=True,
             timeout=SECONDS,

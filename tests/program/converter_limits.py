@@ -1,9 +1,9 @@
 """Messages up to the desk's limits of 20,000 records and 4,194,304 bytes, beyond them, and in parts."""
 
-from program.conversions import FRAMES, said
-from program.converter import FEED, convert
-from program.converter_runs import PRODUCT, feed_of, message_of
-from program.room import Group, Outcome, Ran
+from tests.program.conversions import FRAMES, said
+from tests.program.converter import FEED, convert
+from tests.program.converter_runs import PRODUCT, feed_of, message_of
+from tests.program.room import Group, Outcome, Ran
 
 RECORDS = 20_000
 BYTES = 4_194_304

@@ -3,9 +3,9 @@
 from itertools import product
 from string import ascii_uppercase
 
-from program.conversions import FRAMES, MENDED, SUPPLIER, said
-from program.converter import FEED, convert
-from program.room import Group, Outcome, Ran
+from tests.program.conversions import FRAMES, MENDED, SUPPLIER, said
+from tests.program.converter import FEED, convert
+from tests.program.room import Group, Outcome, Ran
 
 # The most lines of notes on a file, and the most bytes of a field.
 LINES = 1_000

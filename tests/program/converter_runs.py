@@ -11,9 +11,9 @@ import zipfile
 from functools import partial
 from typing import NamedTuple
 
-from program.conversions import FRAMES, said
-from program.converter import CONVERTER, FEED, convert
-from program.room import SECONDS, Group, Outcome, Ran
+from tests.program.conversions import FRAMES, said
+from tests.program.converter import CONVERTER, FEED, convert
+from tests.program.room import SECONDS, Group, Outcome, Ran
 
 FRAME = FRAMES["products"]
 

@@ -1,8 +1,8 @@
 """What `onix-to-csv` takes for the words of a sender, of numbers and of parts."""
 
-from program.conversions import FRAMES
-from program.converter import FEED, convert
-from program.room import Group, Outcome, Ran
+from tests.program.conversions import FRAMES
+from tests.program.converter import FEED, convert
+from tests.program.room import Group, Outcome, Ran
 
 HEADER = "<Header>{}<MessageNumber>1</MessageNumber></Header>"
 SENDER = (

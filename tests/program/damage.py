@@ -5,8 +5,8 @@ import sqlite3
 from contextlib import closing
 from functools import partial
 
-from program.databases import DATABASE, batch, execute
-from program.room import Group, Outcome, Ran
+from tests.program.databases import DATABASE, batch, execute
+from tests.program.room import Group, Outcome, Ran
 
 # What the desk is asked before, and what it answers.
 BEFORE = (

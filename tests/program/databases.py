@@ -6,7 +6,7 @@ from contextlib import closing
 from functools import partial
 from typing import NamedTuple
 
-from program.room import UNREADABLE, Group, Outcome, Ran
+from tests.program.room import UNREADABLE, Group, Outcome, Ran
 
 # The database of each room.
 DATABASE = "cases.db"

@@ -1,9 +1,9 @@
 """The page of definitions, which `make docs` makes of the comments of specs/."""
 
-from program.room import Group, Outcome
-from specs import page
-from specs.contracts import Clauses, public_modules
-from specs.definitions import Name, imported, names_in, read_file
+from tests.program.room import Group, Outcome
+from tools.specs import page
+from tools.specs.contracts import Clauses, public_modules
+from tools.specs.definitions import Name, imported, names_in, read_file
 
 # Definitions of public contracts that have no comment, since their names say all.
 NAMES_SAY_ALL = set(

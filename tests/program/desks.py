@@ -1,8 +1,8 @@
 """Desks that go on: what a desk in a file answers once it was closed and opened again, and what it and the
 desk in memory answer to many messages."""
 
-from program.databases import DATABASE, batch
-from program.room import Group, Outcome, Ran
+from tests.program.databases import DATABASE, batch
+from tests.program.room import Group, Outcome, Ran
 
 # What a desk is asked first, and what it answers.
 FIRST = (

@@ -3,12 +3,10 @@
 import os
 import shlex
 import subprocess
-from pathlib import Path
 
-from program.room import SECONDS, Group, Outcome, Ran
-from program.serving import free_port, posted, serving
-
-ROOT = Path(__file__).resolve().parent.parent.parent
+from tests.program.room import SECONDS, Group, Outcome, Ran
+from tests.program.serving import free_port, posted, serving
+from tools.root import ROOT
 
 MARGIN = "    "
 

@@ -1,6 +1,6 @@
 """What is sent to a desk over HTTP, and what is replied. See `exchanges`."""
 
-from program.serving import Exchange, got, posted
+from tests.program.serving import Exchange, got, posted
 
 # The agreements of the desk: `north` from number 1 on, and `south` from number 5 on, of which 7 is waived.
 AGREEMENTS = b"""\

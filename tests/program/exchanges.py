@@ -3,8 +3,8 @@ prepared. What is sent and replied stands in `exchange_cases`."""
 
 from functools import partial
 
-from program.databases import DATABASE, batch, execute
-from program.exchange_cases import (
+from tests.program.databases import DATABASE, batch, execute
+from tests.program.exchange_cases import (
     AFTER_A_WAIVER,
     AGREEMENTS,
     APPLIED,
@@ -26,8 +26,8 @@ from program.exchange_cases import (
     WITHOUT_AGREEMENTS,
     refusal,
 )
-from program.room import Group, Outcome, Ran
-from program.serving import Exchange, got, in_pieces, serving
+from tests.program.room import Group, Outcome, Ran
+from tests.program.serving import Exchange, got, in_pieces, serving
 
 WORDS = ["--db", DATABASE, "--rules", "rules.toml"]
 

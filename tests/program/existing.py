@@ -2,10 +2,10 @@
 
 from functools import partial
 
-from program.commands import AGREEMENT, APPLIED, FIRST
-from program.databases import DATABASE, complaints
-from program.room import UNREADABLE, Group, Outcome, Ran
-from program.serving import got, serving
+from tests.program.commands import AGREEMENT, APPLIED, FIRST
+from tests.program.databases import DATABASE, complaints
+from tests.program.room import UNREADABLE, Group, Outcome, Ran
+from tests.program.serving import got, serving
 
 UNUSABLE = Ran(3, b"", b"onixdesk: storage: unusable\n")
 

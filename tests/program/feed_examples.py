@@ -2,9 +2,10 @@
 
 import subprocess
 
-from program.converter import CONVERTER
-from program.examples import ROOT, blocks, written
-from program.room import SECONDS, Group, Outcome, Room
+from tests.program.converter import CONVERTER
+from tests.program.examples import blocks, written
+from tests.program.room import SECONDS, Group, Outcome, Room
+from tools.root import ROOT
 
 README = "examples/shop/onix/README.md"
 

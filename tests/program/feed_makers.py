@@ -2,7 +2,7 @@
 
 from random import Random
 
-from program.feed_trees import (
+from tests.program.feed_trees import (
     Detail,
     Identifier,
     Market,

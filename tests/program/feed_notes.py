@@ -4,8 +4,8 @@ import re
 from collections.abc import Iterable
 from typing import NamedTuple
 
-from program.feed_oracle import Note
-from program.feed_writing import Place
+from tests.program.feed_oracle import Note
+from tests.program.feed_writing import Place
 
 # So many lines of notes a file has at most.
 MOST_LINES = 1000

@@ -3,16 +3,16 @@ it is refused."""
 
 from dataclasses import dataclass, field
 
-from program.feed_prices import REGION, is_priced, price_record, reasons_of
-from program.feed_terms import is_code, is_currency, is_empty_or, is_field, is_filled, is_number, is_repeat
-from program.feed_territories import (
+from tests.program.feed_prices import REGION, is_priced, price_record, reasons_of
+from tests.program.feed_terms import is_code, is_currency, is_empty_or, is_field, is_filled, is_number, is_repeat
+from tests.program.feed_territories import (
     are_taken,
     regions_in_the_way,
     regions_left_out,
     territory_fields,
     union_fields,
 )
-from program.feed_trees import Detail, Identifier, Market, Message, Price, Product, Supply, Territory, Words
+from tests.program.feed_trees import Detail, Identifier, Market, Message, Price, Product, Supply, Territory, Words
 
 GLN = "06"
 GREATEST_NUMBER = 999_999_999

@@ -1,6 +1,6 @@
 """Prices of the trees: which are left out and why, and the records of the others."""
 
-from program.feed_terms import (
+from tests.program.feed_terms import (
     is_amount,
     is_code,
     is_currency,
@@ -9,8 +9,8 @@ from program.feed_terms import (
     is_quantity,
     matches,
 )
-from program.feed_territories import are_taken, regions_in_the_way, territory_fields
-from program.feed_trees import Message, Price, PriceDate
+from tests.program.feed_territories import are_taken, regions_in_the_way, territory_fields
+from tests.program.feed_trees import Message, Price, PriceDate
 
 # The reason where a region is in the way.
 REGION = "Region"

@@ -1,8 +1,8 @@
 """Territories of the trees: which the desk can hold, what is left out of them, and what several are
 together."""
 
-from program.feed_terms import are_countries, is_country, matches
-from program.feed_trees import Territory
+from tests.program.feed_terms import are_countries, is_country, matches
+from tests.program.feed_trees import Territory
 
 WORLD = "WORLD"
 

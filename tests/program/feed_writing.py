@@ -7,8 +7,8 @@ from re import finditer
 from typing import NamedTuple
 from xml.sax.saxutils import escape, quoteattr
 
-from program.conversions import SHORT_TAGS
-from program.feed_trees import (
+from tests.program.conversions import SHORT_TAGS
+from tests.program.feed_trees import (
     Detail,
     Identifier,
     Market,

@@ -2,19 +2,15 @@
 where a run was stopped."""
 
 import subprocess
-import sys
 from pathlib import Path
 from xml.etree import ElementTree
 
-from program.examples import ROOT
-from program.room import SECONDS, Group, Outcome
-
-sys.path.append(str(ROOT / "bench"))
-
-from figures import tables
-from figures.growing import planned
-from figures.runs import BenchmarkFault
-from figures.twin import Twin
+from bench.figures import tables
+from bench.figures.growing import planned
+from bench.figures.runs import BenchmarkFault
+from bench.figures.twin import Twin
+from tests.program.room import SECONDS, Group, Outcome
+from tools.root import ROOT
 
 # Messages of three articles; a size of 6 articles, and then one of 12.
 WORDS = ["--message", "3", "--start", "6", "--step", "2", "--questions", "2", "--picture", "growth.svg"]

@@ -4,7 +4,7 @@ written by hand: clap's layout, and sentences that say what docs/FORMATS.md and 
 import os
 from pathlib import Path
 
-from program.room import Group, Outcome, Ran
+from tests.program.room import Group, Outcome, Ran
 
 FILE = Path(__file__).resolve().parent.parent / "help/commands.txt"
 

@@ -10,10 +10,10 @@ from collections.abc import Callable, Iterator
 from functools import partial
 from typing import NamedTuple
 
-from program.conversions import FRAMES
-from program.converter import measured
-from program.converter_runs import PRODUCT, message_of
-from program.room import SECONDS, Group, Outcome, Ran
+from tests.program.conversions import FRAMES
+from tests.program.converter import measured
+from tests.program.converter_runs import PRODUCT, message_of
+from tests.program.room import SECONDS, Group, Outcome, Ran
 
 MEMORY = 64 * 1_048_576
 

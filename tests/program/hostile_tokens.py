@@ -5,9 +5,9 @@ import codecs
 from collections.abc import Iterator
 from functools import partial
 
-from program.converter import measured
-from program.converter_runs import PRODUCT, message_of
-from program.hostile_feeds import (
+from tests.program.converter import measured
+from tests.program.converter_runs import PRODUCT, message_of
+from tests.program.hostile_feeds import (
     AMPLIFIED,
     ATTRIBUTES,
     CHAIN,
@@ -21,7 +21,7 @@ from program.hostile_feeds import (
     check,
     typed,
 )
-from program.room import SECONDS, Group, Outcome, Ran
+from tests.program.room import SECONDS, Group, Outcome, Ran
 
 MEGABYTE = "x" * 1_000_000
 

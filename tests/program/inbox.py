@@ -10,10 +10,10 @@ import zipfile
 from functools import partial
 from io import BytesIO
 
-from program.converter import CONVERTER
-from program.converter_runs import feed_of, message_of
-from program.databases import batch, execute
-from program.inboxes import (
+from tests.program.converter import CONVERTER
+from tests.program.converter_runs import feed_of, message_of
+from tests.program.databases import batch, execute
+from tests.program.inboxes import (
     AGREEMENT,
     HELD,
     MALFORMED,
@@ -28,8 +28,8 @@ from program.inboxes import (
     script,
     taken,
 )
-from program.room import Group, Outcome, Ran
-from program.serving import free_port, serving
+from tests.program.room import Group, Outcome, Ran
+from tests.program.serving import free_port, serving
 
 UNREAD_XML = b"<ONIXMessage release='2.1'/>"
 

@@ -8,11 +8,12 @@ import sys
 from functools import partial
 from pathlib import Path
 
-from program.converter_runs import feed_of, message_of
-from program.databases import batch
-from program.inboxes import AGREEMENT, WORDS, Inbox, ended, of_series, said, taken
-from program.room import Group, Outcome, Room
-from program.serving import serving
+from bench.figures.conversion import within
+from tests.program.converter_runs import feed_of, message_of
+from tests.program.databases import batch
+from tests.program.inboxes import AGREEMENT, WORDS, Inbox, ended, of_series, said, taken
+from tests.program.room import Group, Outcome, Room
+from tests.program.serving import serving
 
 SECRET = b"of the shop alone"
 
@@ -163,7 +164,7 @@ def swapped(what: str, room: Room):
     inbox.put({"a.csv": message_of("R1"), "a.csv.part": message_of("R2")})
     if what != "another file":
         inbox.incoming.joinpath("a.csv.part").unlink()
-    before = [sys.executable, "-I", "-S", "-c", SWAPPING, inbox.incoming / "a.csv", room.path("secret.csv"), statement]
+    before = within(SWAPPING, inbox.incoming / "a.csv", room.path("secret.csv"), statement)
     came = ended(inbox.start(before=before))
     lines = [line for line in came.errors.decode().splitlines() if " a.csv: " in line]
     found = came.status, came.output, lines
@@ -209,7 +210,7 @@ def as_another_user(room):
     for path in [inbox.incoming, inbox.state]:
         os.chown(path, 65534, 65534)
     inbox.incoming.joinpath("a.csv").chmod(0o600)
-    before = ["setpriv", "--reuid=65534", "--regid=65534", "--clear-groups", "/usr/bin/python3", "-I", "-S"]
+    before = ["setpriv", "--reuid=65534", "--regid=65534", "--clear-groups", "/usr/bin/python3", "-EsSB"]
     wanted = said("a.csv: not taken: it cannot be read: Permission denied")
     yield Outcome("inbox: a file that cannot be read", ended(inbox.start(before=before)), wanted)
     inbox.incoming.chmod(0o1777)

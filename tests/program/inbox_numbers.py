@@ -7,13 +7,13 @@ import os
 import re
 import shutil
 import signal
-import sys
 import threading
 from functools import partial
 
-from program.converter_runs import message_of
-from program.databases import batch
-from program.inboxes import (
+from bench.figures.conversion import within
+from tests.program.converter_runs import message_of
+from tests.program.databases import batch
+from tests.program.inboxes import (
     AGREEMENT,
     CONNECTIONS,
     HELD,
@@ -28,8 +28,8 @@ from program.inboxes import (
     taken,
     unnumbered,
 )
-from program.room import Group, Outcome, Room
-from program.serving import serving
+from tests.program.room import Group, Outcome, Room
+from tests.program.serving import serving
 
 BEFORE = "; these bytes had that number before"
 
@@ -209,7 +209,7 @@ def unwritten(sender: str, reference: str) -> bytes:
 
 
 def killed_run(inbox: Inbox, step: int, converter):
-    before = [sys.executable, "-I", "-S", "-c", KILLING, str(step)]
+    before = within(KILLING, str(step))
     return ended(inbox.start("--converter", converter, before=before)).status
 
 

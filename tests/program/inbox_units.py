@@ -2,10 +2,11 @@
 
 import re
 import subprocess
-import sys
 
-from program.inboxes import PROGRAM, ROOT, script
-from program.room import SECONDS, Group, Outcome, Room
+from bench.figures.conversion import within
+from tests.program.inboxes import PROGRAM, script
+from tests.program.room import SECONDS, Group, Outcome, Room
+from tools.root import ROOT
 
 FOLDER = ROOT / "examples/inbox"
 UNITS = {
@@ -89,13 +90,13 @@ def example_of_settings(room: Room):
     text = FOLDER.joinpath("example.conf").read_text(encoding="utf-8")
     names = re.findall("^([A-Z_]+)=", text, flags=re.MULTILINE)
     reading = (
-        "import sys; sys.path.insert(0, sys.argv[1]); from pathlib import Path;"
-        " from onixdesk_inbox.settings import *; print(read_settings(Path('example.conf')) == Settings())"
+        "from pathlib import Path; from onixdesk_inbox.settings import *;"
+        " print(read_settings(Path('example.conf')) == Settings())"
     )
     for name in [None, *names]:
         room.write("example.conf", (without_line(text, name) if name else text).encode())
         done = subprocess.run(
-            [sys.executable, "-I", "-S", "-B", "-c", reading, ROOT / "lib"],
+            within(reading),
             cwd=room.folder, capture_output=True, text=True, timeout=SECONDS,
         )
         yield Outcome(f"units: the example of settings without {name}", (done.stdout, done.stderr), ("True\n", ""))

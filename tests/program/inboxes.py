@@ -4,12 +4,12 @@ import os
 import subprocess
 from pathlib import Path
 
-from program.converter_runs import feed_of
-from program.databases import DATABASE
-from program.room import SECONDS, Ran, Room
-from program.serving import Serving
+from tests.program.converter_runs import feed_of
+from tests.program.databases import DATABASE
+from tests.program.room import SECONDS, Ran, Room
+from tests.program.serving import Serving
+from tools.root import ROOT
 
-ROOT = Path(__file__).resolve().parent.parent.parent
 PROGRAM = ROOT / "bin/onixdesk-inbox"
 
 WORDS = ["--db", DATABASE]

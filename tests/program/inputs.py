@@ -2,8 +2,8 @@
 
 import subprocess
 
-from program.databases import DATABASE, batch, gaps
-from program.room import SECONDS, UNREADABLE, Group, Outcome, Ran
+from tests.program.databases import DATABASE, batch, gaps
+from tests.program.room import SECONDS, UNREADABLE, Group, Outcome, Ran
 
 AGREEMENT = b"Agree,north,06,4012345000009,06,5012345678900,1\n"
 

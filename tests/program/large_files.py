@@ -5,7 +5,7 @@ import os
 import pty
 import subprocess
 
-from program.room import SECONDS, Group, Outcome
+from tests.program.room import SECONDS, Group, Outcome
 
 WORDS = ["--db", "large.db", "--existing", "gaps", "north"]
 

@@ -5,8 +5,8 @@ import shutil
 import subprocess
 import time
 
-from program.room import SECONDS, UNREADABLE, Group, Outcome, Ran
-from program.stand_in import FAILS, WAITS, begun, calls, change_source, command, environment, make_repository, tries
+from tests.program.room import SECONDS, UNREADABLE, Group, Outcome, Ran
+from tests.program.stand_in import FAILS, WAITS, begun, calls, change_source, command, environment, make_repository, tries
 
 TO_BUILD = "'make build' proves and builds it, in about an hour the first time"
 TO_WAIT = "'make build' waits for it"

@@ -1,16 +1,11 @@
 """What `bench/run` measures: its batches are answered as they are meant, and its ratios are read right."""
 
-import sys
 from functools import partial
 from itertools import islice
 
-from program.examples import ROOT
-from program.room import Group, Outcome, Ran
-
-sys.path.append(str(ROOT / "bench"))
-
-from figures import in_files, in_memory, texts
-from figures.figure import Figure
+from bench.figures import in_files, in_memory, texts
+from bench.figures.figure import Figure
+from tests.program.room import Group, Outcome, Ran
 
 AGREED = b"agreed,north,1\n"
 

@@ -4,7 +4,7 @@ until they are migrated, and then the desk in them goes on."""
 from functools import partial
 from typing import NamedTuple
 
-from program.databases import (
+from tests.program.databases import (
     DATABASE,
     all_rows,
     batch,
@@ -13,7 +13,7 @@ from program.databases import (
     rows,
     table_names,
 )
-from program.room import Group, Outcome, Ran
+from tests.program.room import Group, Outcome, Ran
 
 # The tables of version 1, without a series.
 TABLES = """\

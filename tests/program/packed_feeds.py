@@ -5,19 +5,18 @@ import gzip
 import itertools
 import os
 import struct
-import sys
 import threading
 import zipfile
 from functools import partial
 from pathlib import Path
 from typing import NamedTuple
 
-from program.conversions import FRAMES, said
-from program.converter import convert
-from program.converter_runs import ONE, message_of, zipped
-from program.room import Group, Outcome, Ran
-
-LIBRARY = Path(__file__).resolve().parent.parent.parent / "lib"
+from onix_to_csv.faults import Damage
+from onix_to_csv.packed import Unpacked
+from tests.program.conversions import FRAMES, said
+from tests.program.converter import convert
+from tests.program.converter_runs import ONE, message_of, zipped
+from tests.program.room import Group, Outcome, Ran
 
 DONE = Ran(0, message_of("R1"))
 
@@ -177,10 +176,6 @@ class Repeating:
 
 def bound_on_all(room):
     """What unpacks to more than 4 GiB is refused, here by the class alone, since a file would take long."""
-    sys.path.insert(0, str(LIBRARY))
-    from onix_to_csv.faults import Damage
-    from onix_to_csv.packed import Unpacked
-
     unpacked = Unpacked(None, ".gz", lambda: GIB)
     unpacked.stream = Repeating()
     given = 0

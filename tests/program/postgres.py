@@ -11,8 +11,8 @@ import sys
 from contextlib import closing
 from pathlib import Path
 
-from program.databases import AFTER_FIRST, DATABASE, FIRST, batch, execute
-from program.room import SECONDS, Group, Outcome, Ran
+from tests.program.databases import AFTER_FIRST, DATABASE, FIRST, batch, execute
+from tests.program.room import SECONDS, Group, Outcome, Ran
 
 FOLDER = Path(__file__).resolve().parent.parent.parent / "examples/postgres"
 

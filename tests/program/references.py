@@ -3,8 +3,9 @@
 import re
 from pathlib import Path
 
-from program.room import Group, Outcome
-from specs.page import PAGE, ROOT, crates
+from tests.program.room import Group, Outcome
+from tools.specs.page import PAGE, crates
+from tools.root import ROOT
 
 # `crate::module::name`, or several names in braces; perhaps a type before them, perhaps clauses behind.
 REFERENCE = re.compile(r"`(\w+)::([a-z]\w*(?:::[a-z]\w*)*)::(?:([A-Z]\w+)::)?(?:(\w+)|{([\w, ]+)})(?:: ([\w, ]+))?`")

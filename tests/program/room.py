@@ -3,23 +3,20 @@
 import contextlib
 import os
 import subprocess
+import tempfile
 from collections.abc import Callable, Iterator
+from functools import partial
 from pathlib import Path
-from typing import Any, NamedTuple
+from typing import NamedTuple
+
+from tests.running import Cases, Outcome
+from tools.root import ROOT
 
 # No run of a case takes a tenth of it; a program that hangs fails its case.
 SECONDS = 120
 
 # An input of which each read fails, as that of a folder does.
 UNREADABLE = None
-
-
-class Outcome(NamedTuple):
-    """What came of a case, and what was wanted."""
-
-    name: str
-    came: Any
-    wanted: Any
 
 
 class Ran(NamedTuple):
@@ -69,6 +66,16 @@ class Room:
         )
 
 
-class Group(NamedTuple):
-    name: str
-    check: Callable[[Room], Iterator[Outcome]]
+class Group(Cases):
+    """Cases over a room of their own."""
+
+    # The program that is tested.
+    program = ROOT / "crates/onixdesk/out/onixdesk"
+
+    def __init__(self, name: str, check: Callable[[Room], Iterator[Outcome]]):
+        super().__init__(name, (check.func if isinstance(check, partial) else check).__module__)
+        self.check = check
+
+    def outcomes(self) -> Iterator[Outcome]:
+        with tempfile.TemporaryDirectory(prefix="onixdesk-") as folder:
+            yield from self.check(Room(self.program, Path(folder)))

@@ -1,7 +1,7 @@
 """Rules files that are read or refused. With each the program answers no requests, and writes the
 line of a fault or nothing."""
 
-from program.room import UNREADABLE, Group, Outcome, Ran
+from tests.program.room import UNREADABLE, Group, Outcome, Ran
 
 RULE = b'[[rule]]\nseries="*"\ncodes=["20"]\n'
 

@@ -5,10 +5,10 @@ import re
 from functools import partial
 from pathlib import Path
 
-from program.converter import convert
-from program.feed_notes import Said, count_line, read_errors, read_summary
-from program.feed_writing import Place
-from program.room import Group, Outcome, Ran
+from tests.program.converter import convert
+from tests.program.feed_notes import Said, count_line, read_errors, read_summary
+from tests.program.feed_writing import Place
+from tests.program.room import Group, Outcome, Ran
 
 FOLDER = Path(__file__).resolve().parent.parent / "feeds"
 

@@ -13,9 +13,9 @@ from functools import partial
 from random import Random
 from typing import NamedTuple
 
-from program.converter import convert
-from program.feed_makers import BAD_CODES, NO_PARTS, PARTS, REGIONS, Maker
-from program.feed_notes import (
+from tests.program.converter import convert
+from tests.program.feed_makers import BAD_CODES, NO_PARTS, PARTS, REGIONS, Maker
+from tests.program.feed_notes import (
     MOST_LINES,
     Errors,
     compared,
@@ -25,11 +25,11 @@ from program.feed_notes import (
     read_errors,
     read_summary,
 )
-from program.feed_territories import WORLD
-from program.feed_oracle import Verdict, effect, judge, records_text
-from program.feed_trees import Identifier, Words
-from program.feed_writing import Writer, Written
-from program.room import Group, Outcome, Ran
+from tests.program.feed_territories import WORLD
+from tests.program.feed_oracle import Verdict, effect, judge, records_text
+from tests.program.feed_trees import Identifier, Words
+from tests.program.feed_writing import Writer, Written
+from tests.program.room import Group, Outcome, Ran
 
 # So many messages a series has.
 MESSAGES = 250

@@ -4,13 +4,13 @@ file does not give."""
 from functools import partial
 from random import Random
 
-from program.converter import FEED, convert
-from program.feed_makers import Maker
-from program.feed_oracle import effect, judge, records_text
-from program.feed_trees import Detail, Identifier, Message, Product, Supply, Words
-from program.feed_writing import Writer
-from program.room import Group, Outcome, Ran
-from program.seeded_feeds import SHOP, Case, converted, part_names
+from tests.program.converter import FEED, convert
+from tests.program.feed_makers import Maker
+from tests.program.feed_oracle import effect, judge, records_text
+from tests.program.feed_trees import Detail, Identifier, Message, Product, Supply, Words
+from tests.program.feed_writing import Writer
+from tests.program.room import Group, Outcome, Ran
+from tests.program.seeded_feeds import SHOP, Case, converted, part_names
 
 LARGE = 5
 

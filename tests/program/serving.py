@@ -5,7 +5,7 @@ import socket
 import subprocess
 from typing import NamedTuple
 
-from program.room import SECONDS, Ran, Room
+from tests.program.room import SECONDS, Ran, Room
 
 HOST = "127.0.0.1"
 

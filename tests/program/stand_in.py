@@ -4,11 +4,9 @@ import contextlib
 import os
 import shutil
 import subprocess
-from pathlib import Path
 
-from program.room import SECONDS, UNREADABLE, Ran
-
-ROOT = Path(__file__).resolve().parent.parent.parent
+from tests.program.room import SECONDS, UNREADABLE, Ran
+from tools.root import ROOT
 
 # The program stands on two of the three others.
 CRATES = "# A remark.\nlow: csv\nhigh: low toml\nbeside: low\nonixdesk: high low clap # and another\n"

@@ -4,9 +4,9 @@ were. So it does with a desk of which a page is damaged, which is to be restored
 import random
 from functools import partial
 
-from program.commands import AGREEMENT, FIRST
-from program.databases import DATABASE
-from program.room import Group, Outcome
+from tests.program.commands import AGREEMENT, FIRST
+from tests.program.databases import DATABASE
+from tests.program.room import Group, Outcome
 
 # How many bytes a page of a desk's file has.
 PAGE = 4096

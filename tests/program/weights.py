@@ -3,18 +3,14 @@ the functions of a crate by what their proofs took."""
 
 import os
 import subprocess
-import sys
 from collections import Counter
 from unittest import mock
 
-from program.examples import ROOT
-from program.room import SECONDS, Group, Outcome
-
-sys.path.append(str(ROOT / "bench"))
-
-from figures import weighing
-from figures.profile import profile
-from figures.weighing import ELSE, Sampler, crates_below, part_named, report
+from bench.figures import weighing
+from bench.figures.profile import profile
+from bench.figures.weighing import ELSE, Sampler, crates_below, part_named, report
+from tests.program.room import SECONDS, Group, Outcome
+from tools.root import ROOT
 
 # The words of a process, the folder that it works in, and its part.
 PARTS = [

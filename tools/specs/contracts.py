@@ -3,7 +3,7 @@
 import re
 from pathlib import Path
 
-from specs.definitions import Name, imported, names_in
+from tools.specs.definitions import Name, imported, names_in
 
 MODULE = re.compile(r"^pub mod (\w+);", re.M)
 

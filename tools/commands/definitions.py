@@ -1,16 +1,11 @@
-#!/usr/bin/env python3
 """Writes docs/DEFINITIONS.md from the comments of specs/.
 
-    tests/definitions
+    tools/definitions
 
 Status 0.
 """
 
-import sys
-
-sys.dont_write_bytecode = True
-
-from specs import page
+from tools.specs import page
 
 if __name__ == "__main__":
     page.PAGE.write_text(page.text(), encoding="utf-8")

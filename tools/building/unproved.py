@@ -8,8 +8,9 @@ import tempfile
 from pathlib import Path
 from typing import BinaryIO, NamedTuple
 
-from program.built import BUILT, is_being_built
-from program.sources import PROGRAM, ROOT
+from tools.building.built import BUILT, is_being_built
+from tools.building.sources import PROGRAM
+from tools.root import ROOT
 
 # The last line of `rt try` where the program ended.
 ENDED = re.compile(rb"^run=ended status=\d+ .*\n\Z", re.MULTILINE)

@@ -4,7 +4,7 @@ from collections.abc import Callable
 from dataclasses import dataclass
 from pathlib import Path
 
-ROOT = Path(__file__).resolve().parent.parent.parent
+from tools.root import ROOT
 
 # The layers, highest first, each with what it is for and its crates.
 LAYERS = {
@@ -58,7 +58,7 @@ def layer_of(name: str) -> int:
     """Its number, counted from the highest."""
     found = [number for number, (_, names) in enumerate(LAYERS.values()) if name in names]
     if len(found) != 1:
-        raise ValueError(f"{name} is in {len(found)} layers of tests/drawing/crates.py")
+        raise ValueError(f"{name} is in {len(found)} layers of tools/drawing/crates.py")
     return found[0]
 
 

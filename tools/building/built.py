@@ -9,7 +9,8 @@ import subprocess
 from collections.abc import Callable
 from pathlib import Path
 
-from program.sources import PROGRAM, ROOT, digest, source_files
+from tools.building.sources import PROGRAM, digest, source_files
+from tools.root import ROOT
 
 OUT = ROOT / "crates" / PROGRAM / "out"
 BUILT = OUT / PROGRAM

@@ -13,8 +13,9 @@ import tempfile
 import time
 from pathlib import Path
 
-from program.built import BUILT, OUT, held_lock, install, is_built_of
-from program.sources import PROGRAM, ROOT, copy_sources, digest
+from tools.building.built import BUILT, OUT, held_lock, install, is_built_of
+from tools.building.sources import PROGRAM, copy_sources, digest
+from tools.root import ROOT
 
 LOG = OUT / f"{PROGRAM}.log"
 

@@ -3,10 +3,9 @@
 import re
 from pathlib import Path
 
-from specs.contracts import cited_by
-from specs.definitions import File, Name, read_crate
-
-ROOT = Path(__file__).resolve().parent.parent.parent
+from tools.specs.contracts import cited_by
+from tools.specs.definitions import File, Name, read_crate
+from tools.root import ROOT
 
 PAGE = ROOT / "docs/DEFINITIONS.md"
 

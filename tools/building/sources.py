@@ -5,7 +5,7 @@ import os
 import shutil
 from pathlib import Path
 
-ROOT = Path(__file__).resolve().parent.parent.parent
+from tools.root import ROOT
 
 PROGRAM = "onixdesk"
 

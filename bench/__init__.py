@@ -1,0 +1,1 @@
+"""What measures the program and the gate. It may use `tools`, and none of `tests`."""

@@ -1,0 +1,65 @@
+"""Refuses memory, one request in each run, to tests of the libraries that take too long for the gate.
+
+    bench/refused_memory
+    bench/refused_memory TEST CASES [FIRST STEP]
+
+The first proves and builds the tests, where a source has changed, and refuses the requests named below of
+each test. The second refuses those of one test alone, as the program of tests names it, on the cases of that
+name, or `-` for all: the request FIRST, 1 where none is given, and each STEPth from there, so that a long
+test is swept in parts, one after the other. The last line is `memory: N requests refused, M runs failed`.
+Status 0; 1 where a run failed.
+"""
+
+import argparse
+import subprocess
+import sys
+
+from tests.memory.report import PROGRAM, report
+from tests.memory.sweep import Sweep
+from tools.root import ROOT
+
+# Beside those of tests/refused-memory. The longer ones by every so many requests, so that they end in
+# minutes.
+SWEEPS = [
+    Sweep("stores::desks::desk_in_memory", "questions"),
+    Sweep("stores::desks::desk_in_memory", "exchanges"),
+    Sweep("stores::desks::desk_in_memory", "drain"),
+    Sweep("stores::desks::tables_in_memory", "steps", step=3),
+    Sweep("stores::desks::tables_in_memory", "questions", step=3),
+    Sweep("stores::desks::tables_in_memory", "exchanges", step=7),
+    Sweep("stores::desks::tables_in_memory", "drain", step=31),
+    Sweep("stores::desks::desk_in_files", "steps", step=499),
+    Sweep("stores::desks::desk_in_files", "drain", step=97),
+    Sweep("stores::desks::tables_in_files", "calls", step=29),
+    Sweep("stores::desks::tables_in_files", "refused", step=101),
+    Sweep("stores::desks::tables_in_files", "versions", step=101),
+]
+
+
+def named_sweeps() -> list[Sweep]:
+    """The one sweep that the command line names, or none."""
+    parser = argparse.ArgumentParser(
+        prog="bench/refused_memory",
+        usage="bench/refused_memory [TEST CASES [FIRST STEP]]",
+        description="Refuses memory, one request in each run, to tests of the libraries.",
+    )
+    parser.add_argument("words", nargs="*", help=argparse.SUPPRESS)
+    words = parser.parse_args().words
+    if not words:
+        return []
+    if len(words) not in (2, 4) or not all(word.isdecimal() and int(word) > 0 for word in words[2:]):
+        parser.error("TEST CASES, or TEST CASES FIRST STEP with numbers from 1 on")
+    test, cases, *numbers = words
+    return [Sweep(test, "" if cases == "-" else cases, *map(int, numbers))]
+
+
+def main() -> int:
+    sweeps = named_sweeps() or SWEEPS
+    print("bench/refused_memory: proving and building the tests, where a source has changed", file=sys.stderr)
+    crate = ROOT / "crates/library_tests"
+    subprocess.run(["rt", "test"], cwd=crate, stdin=subprocess.DEVNULL, stdout=subprocess.DEVNULL, check=True)
+    return report(PROGRAM, sweeps)
+
+
+if __name__ == "__main__":
+    sys.exit(main())

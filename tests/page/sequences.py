@@ -1,0 +1,85 @@
+"""Cases that are tried one after the other at one site."""
+
+import os
+import tempfile
+from collections.abc import Callable, Iterator
+from functools import partial
+from pathlib import Path
+from typing import NamedTuple
+
+from tests.page import (
+    articles,
+    calendars,
+    days,
+    hostile,
+    isbns,
+    keyboard,
+    origins,
+    passwords,
+    pictures,
+    prices,
+    refusals,
+    reports,
+    screens,
+    stops,
+)
+from tests.page.browser import Browser, browsing
+from tests.page.site import Site, running
+from tests.page.week import fill
+from tests.program.room import Room
+from tests.running import Cases, Chosen, Counted, Outcome, count_all
+
+Check = Callable[[Site, Browser], Iterator[Outcome]]
+
+
+class Sequence(NamedTuple):
+    """Cases at one site, by their functions."""
+
+    name: str
+    cases: list[Check]
+
+
+SEQUENCES = [
+    Sequence("stops", stops.CASES),
+    Sequence("minutes", [*reports.OVER_TIME, *passwords.CASES, *origins.AT_THE_END]),
+    Sequence("questions", [*articles.CASES, *isbns.CASES, *days.CASES, *prices.CASES]),
+    Sequence("views", [*calendars.CASES, *reports.CASES, *hostile.CASES, *refusals.CASES]),
+    Sequence("screens", [*keyboard.CASES, *screens.CASES, *origins.CASES]),
+]
+PICTURES = Sequence("pictures", pictures.CASES)
+
+
+class Group(Cases):
+    """Cases at the site of their sequence, which is put up before."""
+
+    def __init__(self, check: Check):
+        super().__init__(check.__name__, check.__module__)
+        self.check = check
+        self.place: tuple[Site, Browser] | None = None
+
+    def outcomes(self) -> Iterator[Outcome]:
+        if self.place is None:
+            raise RuntimeError(f"{self.id()} has no site")
+        return self.check(*self.place)
+
+
+def try_at_a_site(program: Path, groups: list[Group], case: str) -> Counted:
+    with tempfile.TemporaryDirectory(prefix="onixdesk-page-") as folder:
+        # nginx's workers read the page as another user.
+        os.chmod(folder, 0o755)
+        room = Room(program, Path(folder))
+        fill(room)
+        with running(room) as site, browsing(site) as browser:
+            for group in groups:
+                group.place = site, browser
+            return count_all(groups, case)
+
+
+def chosen_groups(sequences: list[Sequence], chosen: Chosen) -> list[list[Group]]:
+    """The groups of each sequence that are chosen, without sequences of none."""
+    found = [[group for group in map(Group, sequence.cases) if chosen.has(group)] for sequence in sequences]
+    return [groups for groups in found if groups]
+
+
+def lanes(program: Path, sequences: list[list[Group]], case: str) -> list[Callable[[], Counted]]:
+    return [partial(try_at_a_site, program, groups, case) for groups in sequences]

@@ -1,0 +1,61 @@
+"""The packages of Python: what ships imports the standard library alone, no package imports one above it, and none
+changes where packages are looked for."""
+
+import ast
+import sys
+from collections.abc import Iterator
+from pathlib import Path
+
+from tests.program.room import Group, Outcome
+from tools.root import ROOT
+
+# What each package may import beside the standard library and itself.
+MAY_IMPORT = {
+    "lib/onix_to_csv": set(),
+    "lib/onixdesk_inbox": set(),
+    "tools": set(),
+    "bench": {"tools"},
+    # The tests of the page drive a browser.
+    "tests": {"bench", "onix_to_csv", "selenium", "tools"},
+}
+
+
+def trees(package: str) -> Iterator[tuple[Path, ast.AST]]:
+    for path in sorted(ROOT.joinpath(package).rglob("*.py")):
+        yield path.relative_to(ROOT), ast.parse(path.read_text(encoding="utf-8"))
+
+
+def imported(tree: ast.AST) -> set[str]:
+    """The packages that a module imports, wherever in it."""
+    found: set[str] = set()
+    for node in ast.walk(tree):
+        if isinstance(node, ast.Import):
+            found |= {name.name.partition(".")[0] for name in node.names}
+        elif isinstance(node, ast.ImportFrom):
+            found.add("." if node.level else (node.module or "").partition(".")[0])
+    return found
+
+
+def names_path(tree: ast.AST) -> bool:
+    """Whether a module names `sys.path`."""
+    return any(ast.unparse(node) == "sys.path" for node in ast.walk(tree) if isinstance(node, ast.Attribute))
+
+
+def imports(room):
+    for package, others in MAY_IMPORT.items():
+        allowed = others | {Path(package).name} | sys.stdlib_module_names
+        wrong = [(str(path), sorted(more)) for path, tree in trees(package) if (more := imported(tree) - allowed)]
+        yield Outcome(f"{package}: what it imports", wrong, [])
+        yield Outcome(f"{package}: sys.path", [str(path) for path, tree in trees(package) if names_path(tree)], [])
+
+
+def planted(room):
+    tree = ast.parse("import os.path\nfrom tools.root import ROOT\ndef f():\n    import bench.figures, sys\n    sys.path[0] = ''\n")
+    yield Outcome("packages: imports that are found", imported(tree), {"os", "tools", "bench", "sys"})
+    yield Outcome("packages: sys.path that is found", names_path(tree), True)
+
+
+GROUPS = [
+    Group("what packages import", imports),
+    Group("imports that are found", planted),
+]

@@ -1,0 +1,128 @@
+"""Runs groups of cases side by side, all of them or those that are named, and counts the cases that failed.
+
+A group is a test of `unittest`, and each of its cases a subtest.
+"""
+
+import argparse
+import os
+import unittest
+from collections.abc import Callable, Iterable, Iterator
+from concurrent.futures import ThreadPoolExecutor
+from fnmatch import fnmatchcase
+from types import TracebackType
+from typing import Any, NamedTuple
+
+# How much of a value a line shows.
+SHOWN = 2000
+
+
+class Outcome(NamedTuple):
+    """What came of a case, and what was wanted."""
+
+    name: str
+    came: Any
+    wanted: Any
+
+
+class Cases(unittest.TestCase):
+    """A group of cases, each of which may build on those before it: it has a name, and the module where it stands."""
+
+    def __init__(self, name: str, module: str):
+        super().__init__("try_all")
+        self.name = name
+        self.module = module.rpartition(".")[2]
+
+    def id(self) -> str:
+        return f"{self.module}: {self.name}"
+
+    def outcomes(self) -> Iterator[Outcome]:
+        raise NotImplementedError
+
+    def try_all(self) -> None:
+        for name, came, wanted in self.outcomes():
+            with self.subTest(name):
+                if came != wanted:
+                    self.fail(f"wanted {shown(wanted)}, came {shown(came)}")
+
+
+def shown(value: object) -> str:
+    text = repr(value)
+    return text if len(text) <= SHOWN else f"{text[:SHOWN]}.. ({len(text)} characters)"
+
+
+Raised = tuple[type[BaseException], BaseException, TracebackType] | tuple[None, None, None]
+
+
+class Counted(unittest.TestResult):
+    """What came of groups: how many cases were tried, of those whose name has a text, and a line for each that
+    failed."""
+
+    def __init__(self, case: str = ""):
+        super().__init__()
+        self.case = case
+        self.count = 0
+        self.lines: list[str] = []
+
+    def addSubTest(self, test: unittest.TestCase, subtest: Any, raised: Raised | None) -> None:
+        name = subtest._message
+        if self.case not in name:
+            return
+        self.count += 1
+        if raised:
+            self.lines.append(f"{name}: {raised[1]}")
+
+    def addError(self, test: unittest.TestCase, raised: Raised) -> None:
+        """A group that ended by an exception is a case that failed."""
+        self.count += 1
+        text = self._exc_info_to_string(raised, test).strip()  # type: ignore[attr-defined]
+        self.lines.append(f"{test.id()}: wanted its cases to run, came {text}")
+
+
+class Chosen(NamedTuple):
+    """Which cases are tried: of the groups whose name keeps to one of the patterns those whose name has a text."""
+
+    patterns: list[str]
+    case: str = ""
+
+    def has(self, group: Cases) -> bool:
+        return not self.patterns or any(fnmatchcase(group.id(), pattern) for pattern in self.patterns)
+
+
+def pattern_of(text: str) -> str:
+    """As for unittest's -k: a text without a wildcard stands anywhere in the name."""
+    return text if "*" in text else f"*{text}*"
+
+
+def add_choice(parser: argparse.ArgumentParser) -> None:
+    """Adds the words by which cases are chosen."""
+    parser.add_argument("-k", metavar="PATTERN", action="append", type=pattern_of, default=[], dest="patterns",
+        help="only the groups 'MODULE: NAME' that have this text, or keep to it where it has a *; several are joined")
+    parser.add_argument("--case", metavar="TEXT", default="", help="of these only the cases whose name has this text;"
+        " what the others before them do is done")
+    parser.add_argument("--list", action="store_true", help="write the names of the groups, and try none")
+
+
+def choice(given: argparse.Namespace) -> Chosen:
+    return Chosen(given.patterns, given.case)
+
+
+def count_all(groups: Iterable[Cases], case: str = "") -> Counted:
+    """Tries groups one after the other."""
+    counted = Counted(case)
+    for group in groups:
+        group.run(counted)
+    return counted
+
+
+def run_side_by_side(label: str, lanes: list[Callable[[], Counted]], most: int | None = None) -> int:
+    """Runs lanes side by side, prints what failed and the last line `LABEL: N cases, M failed`, and gives the status:
+    0; 1 where a case failed; 2 where none was tried."""
+    count = failed = 0
+    with ThreadPoolExecutor(most or os.cpu_count()) as pool:
+        for counted in pool.map(lambda lane: lane(), lanes):
+            count += counted.count
+            failed += len(counted.lines)
+            for line in counted.lines:
+                print(line, flush=True)
+    print(f"{label}: {count} cases, {failed} failed")
+    return 1 if failed else 0 if count else 2

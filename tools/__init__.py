@@ -1,0 +1,1 @@
+"""What builds the program, and makes what is made of the sources."""

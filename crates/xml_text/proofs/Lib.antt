@@ -1,0 +1,12 @@
+pub mod Runs
+pub mod StepLaws
+pub mod PartLaws
+pub mod AttributeLaws
+pub mod AttributeRuns
+pub mod SkimLaws
+pub mod TokenLaws
+pub mod PieceLaws
+pub mod PlaceLaws
+pub mod DocumentLaws
+pub mod Numbers
+pub mod TreeLaws

@@ -1,0 +1,15 @@
+use Rattle.std.proofs.Common.{◌≡◌, ◌≤◌, true, length}
+use Rattle.std.specs.List.{list_all}
+use Rattle.xml_text.specs.Grammar.{is_digit}
+use Rattle.xml_text.specs.References.{decimal}
+use Rattle.xml_text.proofs.references.decimal.Given as goal
+
+abbrev pub invariant-loop-rest : goal.invariant-loop-rest
+invariant-loop-rest l = record {
+  so_far : decimal l.number l.rest ≡ decimal 0 l.digits;
+  digits : list_all is_digit l.rest ≡ true;
+  bound : l.number ≤ 1114111;
+}
+
+abbrev pub decreases-loop-rest : goal.decreases-loop-rest
+decreases-loop-rest l = length l.rest

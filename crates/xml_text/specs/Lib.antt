@@ -1,0 +1,16 @@
+pub mod Grammar
+pub mod Steps
+pub mod Reading
+pub mod View
+pub mod Kinds
+pub mod AttributeView
+pub mod Pieces
+pub mod Places
+pub mod Stacks
+pub mod Documents
+pub mod Distinct
+pub mod Skims
+pub mod References
+pub mod EntityView
+pub mod Tree
+pub mod Trees

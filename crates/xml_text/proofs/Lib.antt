@@ -1,12 +1,14 @@
 pub mod Runs
 pub mod StepLaws
+pub mod CharacterLaws
 pub mod PartLaws
 pub mod AttributeLaws
 pub mod AttributeRuns
 pub mod SkimLaws
 pub mod TokenLaws
 pub mod PieceLaws
+pub mod NestingLaws
 pub mod PlaceLaws
 pub mod DocumentLaws
-pub mod Numbers
+pub mod NumberLaws
 pub mod TreeLaws

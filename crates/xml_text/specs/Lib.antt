@@ -1,3 +1,4 @@
+pub mod Characters
 pub mod Grammar
 pub mod Steps
 pub mod Reading
@@ -14,3 +15,4 @@ pub mod References
 pub mod EntityView
 pub mod Tree
 pub mod Trees
+pub mod private

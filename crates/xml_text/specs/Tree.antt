@@ -1,6 +1,6 @@
 -- What stands between a start tag and its end tag.
 use Rattle.std.specs.Prelude.{ℕ, List, [], ◌∷◌, ◌++◌}
-use Rattle.xml_text.specs.Grammar.{Attribute, Token, start, end}
+use Rattle.xml_text.specs.Grammar.{Attribute, Token, declaration, doctype, start, end}
 
 pub data Content : Type 0 where
   nothing : Content
@@ -14,8 +14,10 @@ tokens_of nothing = []
 tokens_of (leaf token rest) = token ∷ tokens_of rest
 tokens_of (element name attributes space inside closing rest) = start name attributes space ∷ (tokens_of inside ++ end name closing ∷ tokens_of rest)
 
--- a leaf is no start tag and no end tag
+-- a leaf is no start tag and no end tag, and nothing that stands only before the root
 abbrev pub IsLeaf : Token → Type 0
+IsLeaf (declaration body) = ⊥
+IsLeaf (doctype body) = ⊥
 IsLeaf (start name attributes space) = ⊥
 IsLeaf (end name space) = ⊥
 IsLeaf other = Unit {0}

@@ -1,17 +1,25 @@
 -- A document as a tree.
-use Rattle.std.specs.Prelude.{◌≡◌, ℕ, true, List, [], ◌∷◌, ◌++◌}
-use Rattle.std.specs.List.{AllByRecursion}
-use Rattle.xml_text.specs.Grammar.{is_space, Token, raw, comment, instruction, declaration, doctype, start, empty, end}
+use Rattle.std.specs.Prelude.{◌≡◌, ℕ, true, Some, List, [], ◌∷◌, ◌++◌}
+use Rattle.std.specs.List.{AllByRecursion, list_all}
+use Rattle.xml_text.specs.Grammar.{is_space, Token, raw, comment, instruction, declaration, doctype, start, empty, end, is_token}
+use Rattle.xml_text.specs.Places.{has_distinct, brackets_after}
 use Rattle.xml_text.specs.Tree.{Content, nothing, tokens_of, HasLeaves}
 
--- what may stand outside of the root: white space, comments, instructions and the declaration
+-- what may stand behind the root: white space, comments and instructions
 abbrev pub IsMisc : Token → Type 0
 IsMisc (raw b) = is_space b ≡ true
 IsMisc (comment body) = Unit {0}
 IsMisc (instruction body) = Unit {0}
-IsMisc (declaration body) = Unit {0}
-IsMisc (doctype body) = Unit {0}
 IsMisc other = ⊥
+
+-- what may stand before it: also the declaration and the DOCTYPE
+abbrev pub IsProlog : Token → Type 0
+IsProlog (raw b) = is_space b ≡ true
+IsProlog (comment body) = Unit {0}
+IsProlog (instruction body) = Unit {0}
+IsProlog (declaration body) = Unit {0}
+IsProlog (doctype body) = Unit {0}
+IsProlog other = ⊥
 
 -- the tokens of a root element with its tags, or of an empty one
 abbrev pub IsRoot : List Token → List ℕ → Content → Type 0
@@ -28,5 +36,11 @@ pub record IsTree (tokens : List Token) (name : List ℕ) (inside : Content) : T
   pub parts : tokens ≡ before ++ (root ++ behind)
   pub is_root : IsRoot root name inside
   pub leaves : HasLeaves inside
-  pub misc_before : AllByRecursion IsMisc before
-  pub misc_behind : AllByRecursion IsMisc behind
+  pub prolog : AllByRecursion IsProlog before
+  pub misc : AllByRecursion IsMisc behind
+
+-- each token is well formed, its attributes have names of their own, and no text has ]]>
+pub record AreSound (tokens : List Token) : Type 0 where
+  pub each : list_all is_token tokens ≡ true
+  pub distinct : list_all has_distinct tokens ≡ true
+  pub apart : brackets_after 0 tokens ≡ Some 0

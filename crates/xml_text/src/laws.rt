@@ -1,12 +1,13 @@
-//! Laws of the definitions. Each is the contract of a function that does nothing.
+//! Laws of the definitions: contracts of functions that have nothing to run.
 
 ghost use Rattle.std.specs.Prelude.{◌≡◌, ℕ, List, ◌++◌, true, Ok, Err};
+ghost use Rattle.std.specs.List.{flat_map};
 ghost use Rattle.xml_text.specs.declared.stop.Stop.TheVariants.{More, Never};
 ghost use Rattle.xml_text.specs.Grammar.{Token, spelling, is_token};
 ghost use Rattle.xml_text.specs.Reading.{token_at};
 ghost use Rattle.xml_text.specs.Places.{IsDocument};
 ghost use Rattle.xml_text.specs.Tree.{Content};
-ghost use Rattle.xml_text.specs.Trees.{IsTree};
+ghost use Rattle.xml_text.specs.Trees.{IsTree, AreSound};
 
 /// What is read is spelled so, and what is spelled so is read, whatever follows.
 pub fn tokens_are_read()
@@ -20,7 +21,10 @@ pub fn one_document()
     ensures { (bytes : List ℕ) (a b : List Token) → IsDocument bytes a → IsDocument bytes b → a ≡ b }
 {}
 
-/// The tokens of a document are those of a tree.
+/// The texts whose tokens are sound and those of a tree are the documents.
 pub fn documents_are_trees()
-    ensures { (bytes : List ℕ) (tokens : List Token) → IsDocument bytes tokens → (name : List ℕ) × (inside : Content) × IsTree tokens name inside }
+    ensures trees { (bytes : List ℕ) (tokens : List Token) → IsDocument bytes tokens → (name : List ℕ) × (inside : Content) × IsTree tokens name inside }
+    ensures sound { (bytes : List ℕ) (tokens : List Token) → IsDocument bytes tokens → AreSound tokens }
+    ensures documents { (bytes : List ℕ) (tokens : List Token) (name : List ℕ) (inside : Content) → bytes ≡ flat_map spelling tokens
+        → AreSound tokens → IsTree tokens name inside → IsDocument bytes tokens }
 {}

@@ -1,11 +1,15 @@
-//! The tokens of an XML text, read one after the other.
+//! The tokens of an XML document, read one after the other from any stream.
 #![tactic(auto)]
 
 mod attributes;
+mod characters;
 mod classes;
 mod fault;
+mod instructions;
 mod laws;
 mod names;
+mod nesting;
+mod numbers;
 mod pieces;
 mod place;
 mod reading;
@@ -16,14 +20,11 @@ mod skim;
 mod stop;
 mod tags;
 
-pub use attributes::{Attribute, next_attribute, value_of};
+pub use attributes::{Attribute, Attributes};
 pub use fault::Fault;
 pub use laws::{documents_are_trees, one_document, tokens_are_read};
-pub use names::Names;
-pub use pieces::{Piece, read_piece};
-pub use place::Place;
+pub use pieces::Piece;
 pub use reading::read_document;
 pub use references::{Entity, push_reference};
 pub use sink::Sink;
-pub use stop::Stop;
 pub use tags::Token;

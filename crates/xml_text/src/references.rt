@@ -1,102 +1,82 @@
-//! References.
+//! References, and what they stand for.
 
-ghost use Rattle.std.specs.Prelude.{◌≡◌, ◌<◌, ◌≤◌, ◌+◌, ◌*◌, ◌++◌, ◌-◌, true, false, IfOk, OnErr, Some, None, MatchOption, option_map, encode_utf8};
-ghost use Rattle.std.specs.List.{list_all};
-ghost use Rattle.xml_text.specs.Grammar.{is_digit, is_hex_digit, is_number, is_reference};
-ghost use Rattle.xml_text.specs.References.{is_char, decimal, hex_digit, hexadecimal, number_code, char_text, entity_text, reference_text};
+ghost use Rattle.std.specs.Prelude.{◌≡◌, ◌&&◌, ◌∷◌, [], ◌++◌, true, false, IfOk, Some, None, option_map, encode_utf8};
+ghost use Rattle.xml_text.specs.Characters.{is_char, number_code};
 ghost use Rattle.xml_text.specs.EntityView.{entity_views};
+ghost use Rattle.xml_text.specs.Grammar.{begins, is_number, is_reference, begins_reference, refers};
+ghost use Rattle.xml_text.specs.References.{char_text, entity_text, reference_text};
 
+use crate::characters::is_char;
+use crate::classes::{Kind, is_name};
+use crate::numbers::{is_number, number_code};
+use crate::scan::run;
 use std::alloc::AllocError;
 
-/// The greatest code of a character.
-const GREATEST: u32 = 1_114_111;
-
-/// A name, and what stands for it.
+/// An entity.
 #[derive(Clone, Copy, Debug)]
 pub struct Entity<'a> {
+    /// The name.
     pub name: &'a [u8],
+    /// What stands for it.
     pub text: &'a [u8],
 }
 
-// The number of decimal digits, where it is no greater than a code may be.
-fn decimal(digits: &[u8]) -> Option<u32>
-    requires { list_all is_digit digits.now ≡ true }
-    ensures { MatchOption result (GREATEST < decimal 0 digits.now) (λ n. (n ≡ decimal 0 digits.now) × (n ≤ GREATEST)) }
+// Whether this is the number of a character that a document may have.
+fn is_char_number(number: &[u8]) -> bool
+    ensures { result ≡ (is_number number.now && is_char (number_code number.now)) }
 {
-    let mut number = 0u32;
-    let mut rest = digits;
-    while let [b, tail @ ..] = rest {
-        number = 10 * number + digit(*b);
-        if number > GREATEST {
-            return None;
-        }
-        rest = tail;
+    if !is_number(number) {
+        return false;
     }
-    Some(number)
-}
-
-// The number of a decimal digit.
-fn digit(b: u8) -> u32
-    requires { is_digit b ≡ true }
-    ensures value { result ≡ b - 48 }
-    ensures bound { result < 10 }
-{
-    u32::from(b - 48)
-}
-
-// The number of a hexadecimal digit.
-fn hex_digit(b: u8) -> u32
-    requires { is_hex_digit b ≡ true }
-    ensures value { result ≡ hex_digit b }
-    ensures bound { result < 16 }
-{
-    if b <= 57 {
-        u32::from(b - 48)
-    } else if b >= 97 {
-        u32::from(b - 87)
-    } else {
-        u32::from(b - 55)
+    match number_code(number) {
+        Some(code) => is_char(code),
+        None => false,
     }
 }
 
-// The number of hexadecimal digits, where it is no greater than a code may be.
-fn hexadecimal(digits: &[u8]) -> Option<u32>
-    requires { list_all is_hex_digit digits.now ≡ true }
-    ensures { MatchOption result (GREATEST < hexadecimal 0 digits.now) (λ n. (n ≡ hexadecimal 0 digits.now) × (n ≤ GREATEST)) }
-{
-    let mut number = 0u32;
-    let mut rest = digits;
-    while let [b, tail @ ..] = rest {
-        number = 16 * number + hex_digit(*b);
-        if number > GREATEST {
-            return None;
-        }
-        rest = tail;
-    }
-    Some(number)
-}
-
-// The code of a character that is written as a number.
-fn number_code(body: &[u8]) -> Option<u32>
-    requires { is_number body.now ≡ true }
-    ensures { MatchOption result (GREATEST < number_code body.now) (λ n. (n ≡ number_code body.now) × (n ≤ GREATEST)) }
+/// Whether this may stand between `&` and `;`.
+pub(crate) fn is_reference(body: &[u8]) -> bool
+    ensures { result ≡ is_reference body.now }
 {
     match body {
-        [b'x', digits @ ..] => hexadecimal(digits),
-        _ => decimal(body),
+        [] => false,
+        [b'#', number @ ..] => is_char_number(number),
+        [_first, ..] => is_name(body),
     }
 }
 
-// Whether a code is of a character of XML.
-fn is_char(c: u32) -> bool
-    ensures { result ≡ is_char c }
+// Whether the first byte is `;`.
+fn begins_mark(bytes: &[u8]) -> bool
+    ensures { result ≡ begins (59 ∷ []) bytes.now }
 {
-    c == 9
-        || c == 10
-        || c == 13
-        || (c >= 32 && c <= 55295)
-        || (c >= 57344 && c <= 65533)
-        || (c >= 65536 && c <= 1_114_111)
+    match bytes {
+        [] => false,
+        [first, ..] => *first == b';',
+    }
+}
+
+// Whether a reference follows.
+fn begins_reference(bytes: &[u8]) -> bool
+    ensures { result ≡ begins_reference bytes.now }
+{
+    match run(Kind::Reference, bytes) {
+        Ok((body, rest)) => is_reference(body) && begins_mark(rest),
+        Err(_) => false,
+    }
+}
+
+/// Whether each `&` of a value begins a reference.
+pub(crate) fn refers(value: &[u8]) -> bool
+    ensures { result ≡ refers value.now }
+{
+    let mut rest = value;
+    while let [b, tail @ ..] = rest {
+        if *b == b'&' && !begins_reference(tail) {
+            return false;
+        }
+        rest = tail;
+    }
+    true
 }
 
 // Adds a character, and tells whether there is one of that code.

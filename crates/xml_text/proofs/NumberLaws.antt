@@ -1,6 +1,6 @@
 -- Numbers only grow by more digits.
 use Rattle.std.proofs.Common.{ℕ, ◌+◌, ◌-◌, ◌*◌, ◌≤◌, List, [], ◌∷◌, length, get_or, arith}
-use Rattle.xml_text.specs.References.{decimal, hex_digit, hexadecimal}
+use Rattle.xml_text.specs.Characters.{decimal, hex_digit, hexadecimal}
 
 pub decimal_grows : (n : ℕ) (digits : List ℕ) → n ≤ decimal n digits
 decimal_grows n [] = omega arith

@@ -1,6 +1,6 @@
 use Rattle.std.proofs.Common.{arith}
-use Rattle.xml_text.proofs.Numbers.{hexadecimal_first}
-use Rattle.xml_text.proofs.references.hexadecimal.Goals as goal
+use Rattle.xml_text.proofs.NumberLaws.{hexadecimal_first}
+use Rattle.xml_text.proofs.numbers.hexadecimal.Goals as goal
 
 pub returns-then-number-gt-GREATEST : goal.returns-then-number-gt-GREATEST
 returns-then-number-gt-GREATEST c =

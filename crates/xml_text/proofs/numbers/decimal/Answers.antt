@@ -1,6 +1,6 @@
 use Rattle.std.proofs.Common.{arith}
-use Rattle.xml_text.proofs.Numbers.{decimal_first}
-use Rattle.xml_text.proofs.references.decimal.Goals as goal
+use Rattle.xml_text.proofs.NumberLaws.{decimal_first}
+use Rattle.xml_text.proofs.numbers.decimal.Goals as goal
 
 pub returns-then-number-gt-GREATEST : goal.returns-then-number-gt-GREATEST
 returns-then-number-gt-GREATEST c =

@@ -1,0 +1,44 @@
+-- The characters of XML and those of its names, by their code points.
+use Rattle.std.specs.Prelude.{ℕ, ◌+◌, ◌-◌, ◌*◌, Bool, true, false, ◌&&◌, ◌||◌, ◌==◌, nat_le, List, [], ◌∷◌, if◌then◌else◌}
+use Rattle.std.specs.List.{list_all}
+
+abbrev pub within : ℕ → ℕ → ℕ → Bool
+within least most c = nat_le least c && nat_le c most
+
+-- a character that a document may have
+abbrev pub is_char : ℕ → Bool
+is_char c = (c == 9) || (c == 10) || (c == 13) || within 32 55295 c || within 57344 65533 c || within 65536 1114111 c
+
+-- a character that a name may begin with
+abbrev pub starts_name_char : ℕ → Bool
+starts_name_char c =
+    (c == 58) || within 65 90 c || (c == 95) || within 97 122 c || within 192 214 c || within 216 246 c || within 248 767 c || within 880 893 c
+    || within 895 8191 c || within 8204 8205 c || within 8304 8591 c || within 11264 12271 c || within 12289 55295 c || within 63744 64975 c
+    || within 65008 65533 c || within 65536 983039 c
+
+-- a character that a name may have
+abbrev pub is_name_char : ℕ → Bool
+is_name_char c = starts_name_char c || (c == 45) || (c == 46) || within 48 57 c || (c == 183) || within 768 879 c || within 8255 8256 c
+
+-- the characters are those of a name
+abbrev pub are_of_name : List ℕ → Bool
+are_of_name [] = false
+are_of_name (c ∷ cs) = starts_name_char c && list_all is_name_char cs
+
+-- a number in decimal digits, behind the digits of n
+abbrev pub decimal : ℕ → List ℕ → ℕ
+decimal n [] = n
+decimal n (b ∷ digits) = decimal (10 * n + (b - 48)) digits
+
+abbrev pub hex_digit : ℕ → ℕ
+hex_digit b = if nat_le b 57 then b - 48 else if nat_le 97 b then b - 87 else b - 55
+
+-- the same in hexadecimal digits
+abbrev pub hexadecimal : ℕ → List ℕ → ℕ
+hexadecimal n [] = n
+hexadecimal n (b ∷ digits) = hexadecimal (16 * n + hex_digit b) digits
+
+-- the code point that a number says, which is hexadecimal behind an x
+abbrev pub number_code : List ℕ → ℕ
+number_code [] = 0
+number_code (b ∷ digits) = if b == 120 then hexadecimal 0 digits else decimal 0 (b ∷ digits)

@@ -1,0 +1,18 @@
+-- What is left of the characters of a name.
+use Rattle.std.specs.Prelude.{ℕ, Bool, true, false, not, ◌&&◌, List, [], ◌∷◌, if◌then◌else◌}
+use Rattle.std.specs.Str.{continuation_len, lead_bits, chars_after}
+use Rattle.xml_text.specs.Characters.{starts_name_char, is_name_char}
+
+abbrev pub passes : Bool → ℕ → Bool
+passes true = starts_name_char
+passes false = is_name_char
+
+-- the first of them may be the first of a name
+abbrev pub are_left : Bool → List ℕ → Bool
+are_left first [] = not first
+are_left first (c ∷ cs) = passes first c && are_left false cs
+
+-- the characters of the bytes are those of a name
+abbrev pub are_named : List ℕ → Bool
+are_named [] = false
+are_named (b ∷ bytes) = are_left true (chars_after (continuation_len b) (lead_bits b) bytes)

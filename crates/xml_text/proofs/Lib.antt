@@ -1,6 +1,7 @@
 pub mod Runs
 pub mod StepLaws
 pub mod CharacterLaws
+pub mod TextLaws
 pub mod PartLaws
 pub mod AttributeLaws
 pub mod AttributeRuns

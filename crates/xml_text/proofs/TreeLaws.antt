@@ -7,6 +7,7 @@ use Rattle.std.proofs.lemmas.Slice.Eq.{bytes_eq-Decides}
 use Rattle.xml_text.specs.declared.nesting.Nesting.{Nesting}
 use Rattle.xml_text.specs.Grammar.{is_space, spelling, is_token, Token, raw, reference, cdata, comment, instruction, declaration, doctype, start, empty, end}
 use Rattle.xml_text.specs.Places.{nested, nests, brackets_after, has_distinct, first_nesting, last_nesting, first_place, last_place, IsDocument}
+use Rattle.xml_text.specs.Texts.{IsText}
 use Rattle.xml_text.specs.Tree.{Content, nothing, leaf, element, tokens_of, IsLeaf, HasLeaves}
 use Rattle.xml_text.specs.Trees.{IsMisc, IsProlog, IsRoot, IsTree, AreSound}
 use Rattle.xml_text.proofs.PlaceLaws.{nests-append, parts_of, steps_of}
@@ -254,8 +255,9 @@ tree_nests tokens name inside t =
     ap (nests first_nesting) t.parts ∙ then_go first_nesting first_nesting t.before (t.root ++ t.behind) (prolog_stays t.before t.prolog)
     ∙ then_go first_nesting last_nesting t.root t.behind (root_ends t.root name inside t.leaves t.is_root) ∙ misc_stays t.behind t.misc
 
-pub document_of : (bytes : List ℕ) (tokens : List Token) (name : List ℕ) (inside : Content) → bytes ≡ flat_map spelling tokens → AreSound tokens → IsTree tokens name inside → IsDocument bytes tokens
-document_of bytes tokens name inside spelled sound tree = record {
+pub document_of : (bytes : List ℕ) (tokens : List Token) (name : List ℕ) (inside : Content) → IsText bytes → bytes ≡ flat_map spelling tokens → AreSound tokens → IsTree tokens name inside → IsDocument bytes tokens
+document_of bytes tokens name inside text spelled sound tree = record {
+  text = text;
   spelled = spelled;
   each = sound.each;
   ends = steps_of first_place tokens last_place (record { distinct = sound.distinct; nesting = tree_nests tokens name inside tree; count = sound.apart });

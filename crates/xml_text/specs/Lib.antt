@@ -1,5 +1,6 @@
 pub mod Characters
 pub mod Grammar
+pub mod Texts
 pub mod Steps
 pub mod Reading
 pub mod View

@@ -6,6 +6,7 @@ ghost use Rattle.xml_text.specs.declared.stop.Stop.TheVariants.{More, Never};
 ghost use Rattle.xml_text.specs.Grammar.{Token, spelling, is_token};
 ghost use Rattle.xml_text.specs.Reading.{token_at};
 ghost use Rattle.xml_text.specs.Places.{IsDocument};
+ghost use Rattle.xml_text.specs.Texts.{IsText};
 ghost use Rattle.xml_text.specs.Tree.{Content};
 ghost use Rattle.xml_text.specs.Trees.{IsTree, AreSound};
 
@@ -25,6 +26,6 @@ pub fn one_document()
 pub fn documents_are_trees()
     ensures trees { (bytes : List ℕ) (tokens : List Token) → IsDocument bytes tokens → (name : List ℕ) × (inside : Content) × IsTree tokens name inside }
     ensures sound { (bytes : List ℕ) (tokens : List Token) → IsDocument bytes tokens → AreSound tokens }
-    ensures documents { (bytes : List ℕ) (tokens : List Token) (name : List ℕ) (inside : Content) → bytes ≡ flat_map spelling tokens
+    ensures documents { (bytes : List ℕ) (tokens : List Token) (name : List ℕ) (inside : Content) → IsText bytes → bytes ≡ flat_map spelling tokens
         → AreSound tokens → IsTree tokens name inside → IsDocument bytes tokens }
 {}

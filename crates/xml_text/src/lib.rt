@@ -19,6 +19,7 @@ mod sink;
 mod skim;
 mod stop;
 mod tags;
+mod texts;
 
 pub use attributes::{Attribute, Attributes};
 pub use fault::Fault;

@@ -1,0 +1,12 @@
+use Rattle.std.proofs.Common.{◌≡◌, length}
+use Rattle.xml_text.specs.Texts.{follow, IsSmall}
+use Rattle.xml_text.proofs.texts.follow.Given as goal
+
+abbrev pub invariant-loop-rest : goal.invariant-loop-rest
+invariant-loop-rest l = record {
+  so_far : follow l.part l.rest ≡ follow l.fn.part l.bytes;
+  small : IsSmall l.part;
+}
+
+abbrev pub decreases-loop-rest : goal.decreases-loop-rest
+decreases-loop-rest l = length l.rest

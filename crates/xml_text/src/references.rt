@@ -4,7 +4,7 @@ ghost use Rattle.std.specs.Prelude.{◌≡◌, ◌&&◌, ◌∷◌, [], ◌++◌
 ghost use Rattle.xml_text.specs.Characters.{is_char, number_code};
 ghost use Rattle.xml_text.specs.EntityView.{entity_views};
 ghost use Rattle.xml_text.specs.Grammar.{begins, is_number, is_reference, begins_reference, refers};
-ghost use Rattle.xml_text.specs.References.{char_text, entity_text, reference_text};
+ghost use Rattle.xml_text.specs.References.{char_text, entity_text, standing_text, reference_text};
 
 use crate::characters::is_char;
 use crate::classes::{Kind, is_name};
@@ -82,6 +82,7 @@ pub(crate) fn refers(value: &[u8]) -> bool
 // Adds a character, and tells whether there is one of that code.
 fn push_char(out: &mut Vec<u8>, code: u32) -> Result<bool, AllocError>
     ensures known { IfOk result (λ known. known ≡ true → (is_char code ≡ true) × (out.new.items ≡ out.old.items ++ encode_utf8 code)) }
+    ensures kept { IfOk result (λ known. known ≡ false → out.new.items ≡ out.old.items) }
     ensures unknown { IfOk result (λ known. known ≡ false → is_char code ≡ false) }
 {
     if is_char(code) {
@@ -108,15 +109,16 @@ fn find_entity<'a>(table: &'a [Entity<'a>], name: &[u8]) -> Option<&'a [u8]>
     None
 }
 
-/// Adds what stands for a reference, and tells whether anything does.
-pub fn push_reference(
+// The same of what may stand between `&` and `;`.
+fn push_standing(
     out: &mut Vec<u8>,
     table: &[Entity<'_>],
     body: &[u8],
 ) -> Result<bool, AllocError>
     requires { is_reference body.now ≡ true }
-    ensures known { IfOk result (λ known. known ≡ true → option_map (λ text. out.old.items ++ text) (reference_text (entity_views table.now) body.now) ≡ Some out.new.items) }
-    ensures unknown { IfOk result (λ known. known ≡ false → reference_text (entity_views table.now) body.now ≡ None) }
+    ensures known { IfOk result (λ known. known ≡ true → option_map (λ text. out.old.items ++ text) (standing_text (entity_views table.now) body.now) ≡ Some out.new.items) }
+    ensures kept { IfOk result (λ known. known ≡ false → out.new.items ≡ out.old.items) }
+    ensures unknown { IfOk result (λ known. known ≡ false → standing_text (entity_views table.now) body.now ≡ None) }
 {
     match body {
         [b'#', number @ ..] => match number_code(number) {
@@ -130,5 +132,23 @@ pub fn push_reference(
                 Ok(true)
             }
         },
+    }
+}
+
+/// Adds what stands for the body of a reference, by the number of a character or the table, and tells whether anything
+/// does.
+pub fn push_reference(
+    out: &mut Vec<u8>,
+    table: &[Entity<'_>],
+    body: &[u8],
+) -> Result<bool, AllocError>
+    ensures known { IfOk result (λ known. known ≡ true → option_map (λ text. out.old.items ++ text) (reference_text (entity_views table.now) body.now) ≡ Some out.new.items) }
+    ensures kept { IfOk result (λ known. known ≡ false → out.new.items ≡ out.old.items) }
+    ensures unknown { IfOk result (λ known. known ≡ false → reference_text (entity_views table.now) body.now ≡ None) }
+{
+    if is_reference(body) {
+        push_standing(out, table, body)
+    } else {
+        Ok(false)
     }
 }

@@ -1,0 +1,197 @@
+//! Calls over whole tables, and over a record, that no crate of the desk makes: tests do alone. They are
+//! part of what the tables offer.
+
+ghost use Rattle.std.specs.Prelude.{◌≡◌};
+ghost use Rattle.desk_tables.specs.Calls.{Adds, Asks, Changes};
+ghost use Rattle.desk_tables.specs.RecordAnswers.{AreArticlesInOrder, AreMinimums, AreOffersInOrder, ArePricesInOrder, ArePricesWith, AreRising};
+ghost use Rattle.desk_tables.specs.RecordChanges.{has_record, with_record, without_articles};
+ghost use Rattle.desk_tables.specs.Rows.{AreSeriesInOrder};
+
+use crate::rows::articles::all_articles;
+use crate::rows::offers::all_offers;
+use crate::rows::prices::{all_minimums, all_prices};
+use crate::rows::records::has_row;
+use crate::rows::row_types::{ArticleRow, MinimumRow, OfferRow, PriceRow};
+use crate::rows::series::{SeriesRow, all_series};
+use crate::work::Work;
+use desk_terms::StoreFault;
+use onix_terms::series_name::SeriesName;
+use sqlite::{Alter, params};
+
+impl<S: Alter> Work<'_, S> {
+    /// All series, in the order of the bytes of their names.
+    pub fn series_rows(&mut self) -> Result<Vec<SeriesRow>, StoreFault>
+        ensures { Asks S.Store (λ rows series. AreSeriesInOrder rows series.items)
+            self.old self.new result }
+    {
+        let rows = match self.rows(
+            "SELECT name, sender_type, sender_value, addressee_type, addressee_value, first_number, next_number FROM series ORDER BY name",
+            &[],
+        ) {
+            Ok(rows) => rows,
+            Err(fault) => return Err(fault),
+        };
+        match all_series(&rows) {
+            Ok(series) => Ok(series),
+            Err(fault) => {
+                self.spent = true;
+                Err(fault)
+            }
+        }
+    }
+
+    /// Sees to it that the series has the record: adds its row, or nothing where it is there.
+    /// `Unusable` where no series has that name.
+    pub fn put_record(&mut self, series: &SeriesName, reference: &str) -> Result<(), StoreFault>
+        ensures { Adds S.Store
+            (with_record (record { series = series.now; reference = reference.now }))
+            self.old self.new result }
+    {
+        match self.run(
+            "INSERT INTO record (series, reference) VALUES (?1, ?2) ON CONFLICT DO NOTHING",
+            params![series.as_str(), reference],
+        ) {
+            Ok(_) => Ok(()),
+            Err(fault) => Err(fault),
+        }
+    }
+
+    /// Whether the series has the record.
+    pub fn has_record(&mut self, series: &SeriesName, reference: &str) -> Result<bool, StoreFault>
+        ensures { Asks S.Store (λ rows there. there ≡ has_record series.now reference.now rows)
+            self.old self.new result }
+    {
+        match self.rows(
+            "SELECT reference FROM record WHERE series = ?1 AND reference = ?2",
+            params![series.as_str(), reference],
+        ) {
+            Ok(rows) => Ok(has_row(&rows)),
+            Err(fault) => Err(fault),
+        }
+    }
+
+    /// Removes all rows of a record.
+    pub fn delete_articles(
+        &mut self,
+        series: &SeriesName,
+        reference: &str,
+    ) -> Result<(), StoreFault>
+        ensures { Changes S.Store (without_articles series.now reference.now)
+            self.old self.new result }
+    {
+        match self.run(
+            "DELETE FROM article WHERE series = ?1 AND reference = ?2",
+            params![series.as_str(), reference],
+        ) {
+            Ok(_) => Ok(()),
+            Err(fault) => Err(fault),
+        }
+    }
+
+    /// All rows of a series, in the order of the bytes of their references, and then of their
+    /// places.
+    pub fn article_rows(&mut self, series: &SeriesName) -> Result<Vec<ArticleRow>, StoreFault>
+        ensures { Asks S.Store (λ rows articles. AreArticlesInOrder series.now rows articles.items)
+            self.old self.new result }
+    {
+        let rows = match self.rows(
+            "SELECT series, reference, id_place, id_type, id_value FROM article WHERE series = ?1 ORDER BY reference, id_place",
+            params![series.as_str()],
+        ) {
+            Ok(rows) => rows,
+            Err(fault) => return Err(fault),
+        };
+        match all_articles(&rows) {
+            Ok(articles) => Ok(articles),
+            Err(fault) => {
+                self.spent = true;
+                Err(fault)
+            }
+        }
+    }
+
+    /// All rows of a series, in the order of the bytes of their references, and then of their
+    /// places.
+    pub fn offer_rows(&mut self, series: &SeriesName) -> Result<Vec<OfferRow>, StoreFault>
+        ensures { Asks S.Store (λ rows offers. AreOffersInOrder series.now rows offers.items)
+            self.old self.new result }
+    {
+        let rows = match self.rows(
+            "SELECT series, reference, place, supply, included, world, excluded, role, supplier_type, supplier_value, supplier_name, availability, unpriced FROM offer WHERE series = ?1 ORDER BY reference, place",
+            params![series.as_str()],
+        ) {
+            Ok(rows) => rows,
+            Err(fault) => return Err(fault),
+        };
+        match all_offers(&rows) {
+            Ok(offers) => Ok(offers),
+            Err(fault) => {
+                self.spent = true;
+                Err(fault)
+            }
+        }
+    }
+
+    // The minimums of a series, in the order of its prices.
+    fn shown_minimums(&mut self, series: &SeriesName) -> Result<Vec<MinimumRow>, StoreFault>
+        ensures { Asks S.Store
+            (λ rows minimums. AreMinimums series.now rows minimums.items
+            × AreRising minimums.items)
+            self.old self.new result }
+    {
+        let rows = match self.rows(
+            "SELECT series, reference, place, price_place, minimum FROM price_minimum WHERE series = ?1 ORDER BY reference, place, price_place",
+            params![series.as_str()],
+        ) {
+            Ok(rows) => rows,
+            Err(fault) => return Err(fault),
+        };
+        match all_minimums(&rows) {
+            Ok(minimums) => Ok(minimums),
+            Err(fault) => {
+                self.spent = true;
+                Err(fault)
+            }
+        }
+    }
+
+    // The prices of a series, with those minimums.
+    fn shown_prices(
+        &mut self,
+        series: &SeriesName,
+        minimums: &[MinimumRow],
+    ) -> Result<Vec<PriceRow>, StoreFault>
+        ensures { Asks S.Store
+            (λ rows prices. AreRising minimums.now
+            → ArePricesWith minimums.now series.now rows prices.items)
+            self.old self.new result }
+    {
+        let rows = match self.rows(
+            "SELECT series, reference, place, price_place, price_type, amount, currency, included, world, excluded, from_day, until_day FROM price WHERE series = ?1 ORDER BY reference, place, price_place",
+            params![series.as_str()],
+        ) {
+            Ok(rows) => rows,
+            Err(fault) => return Err(fault),
+        };
+        match all_prices(&rows, minimums) {
+            Ok(prices) => Ok(prices),
+            Err(fault) => {
+                self.spent = true;
+                Err(fault)
+            }
+        }
+    }
+
+    /// All prices of a series, in the order of the bytes of their references, then of the places
+    /// of their offers, and then of their own.
+    pub fn price_rows(&mut self, series: &SeriesName) -> Result<Vec<PriceRow>, StoreFault>
+        ensures { Asks S.Store (λ rows prices. ArePricesInOrder series.now rows prices.items)
+            self.old self.new result }
+    {
+        let minimums = match self.shown_minimums(series) {
+            Ok(minimums) => minimums,
+            Err(fault) => return Err(fault),
+        };
+        self.shown_prices(series, minimums.as_slice())
+    }
+}

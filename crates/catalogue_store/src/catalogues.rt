@@ -1,10 +1,7 @@
 //! The catalogue of a series, read.
 
-ghost use Rattle.std.specs.Prelude.{◌≡◌};
-ghost use Rattle.sqlite.specs.Held.{state};
-ghost use Rattle.catalogue_rules.specs.Records.{ByReference};
-ghost use Rattle.catalogue_store.specs.Holding.{HoldsCatalogue};
-ghost use Rattle.catalogue_store.specs.Achieves.{Achieves};
+ghost use Rattle.catalogue_store.specs.Achieves.{Does};
+ghost use Rattle.catalogue_store.specs.Calls.{KeepsRows, IsCatalogueOf};
 ghost use Rattle.catalogue_store.specs.ReadRecords.{AreReadOf};
 
 use crate::reading::read_record;
@@ -22,9 +19,7 @@ fn read_records<S: Alter>(
     work: &mut Work<'_, S>,
     records: &[RecordRow],
 ) -> Result<Catalogue, StoreFault>
-    ensures same_reference { work.new.tables.ghost_name ≡ work.old.tables.ghost_name }
-    ensures achieves { Achieves (λ rows catalogue after. (after ≡ rows) × AreReadOf records.now rows catalogue)
-        (state S.Store work.old.tables.now.connection) (state S.Store work.new.tables.now.connection) result }
+    ensures { Does S.Store (KeepsRows (AreReadOf records.now)) work.old work.new result }
 {
     let mut catalogue = Catalogue::new(alloc);
     for record in records {
@@ -46,9 +41,7 @@ pub fn read_catalogue<S: Alter>(
     work: &mut Work<'_, S>,
     series: &SeriesName,
 ) -> Result<Catalogue, StoreFault>
-    ensures same_reference { work.new.tables.ghost_name ≡ work.old.tables.ghost_name }
-    ensures achieves { Achieves (λ rows catalogue after. (after ≡ rows) × ((m : ByReference) → HoldsCatalogue series.now m rows → catalogue ≡ m))
-        (state S.Store work.old.tables.now.connection) (state S.Store work.new.tables.now.connection) result }
+    ensures { Does S.Store (KeepsRows (IsCatalogueOf series.now)) work.old work.new result }
 {
     let records = match work.record_rows(series) {
         Ok(records) => records,

@@ -1,19 +1,12 @@
 //! A message applied to the rows of a catalogue.
 
-ghost use Rattle.std.specs.Prelude.{◌≡◌, ◌≢◌, ◌+◌, ◌<◌, ◌^◌, [], false, IfOk, Option, Some};
-ghost use Rattle.std.specs.Option.{is_some};
-ghost use Rattle.sqlite.specs.Held.{state};
-ghost use Rattle.catalogue_rules.specs.Effects.{change_of, counted};
+ghost use Rattle.std.specs.Prelude.{◌≡◌, ◌+◌, ◌<◌, ◌^◌, false, IfOk};
+ghost use Rattle.catalogue_rules.specs.Effects.{counted};
 ghost use Rattle.catalogue_rules.specs.Plans.{total};
-ghost use Rattle.catalogue_rules.specs.Records.{ByReference};
 ghost use Rattle.catalogue_rules.specs.declared.change.Change.TheVariants as asked;
-ghost use Rattle.catalogue_rules.specs.declared.entry.Entry.{Entry};
-ghost use Rattle.catalogue_store.specs.Holding.{Became, HoldsCatalogue, HoldsEntry, IsApplied};
-ghost use Rattle.catalogue_store.specs.Storable.{AreStorable, IsStorableProduct};
-ghost use Rattle.catalogue_store.specs.Achieves.{Achieves};
+ghost use Rattle.catalogue_store.specs.Achieves.{Does};
+ghost use Rattle.catalogue_store.specs.Calls.{KeepsRows, Rewrites, ReplacesSuppliesAs, ReplacesRecordAs, CarriesOutAs, CarriesOut, AppliesProduct, AppliesMessage};
 ghost use Rattle.catalogue_store.specs.Minimums.{products_have_minimums};
-ghost use Rattle.catalogue_store.specs.AppliedProducts.{IsCatalogueReadAs, IsChanged, IsProductApplied};
-ghost use Rattle.catalogue_store.specs.ReadRows.{IsFound, IsReadAs};
 ghost use Rattle.catalogue_store.specs.declared.reading.FoundRecord.{FoundRecord};
 ghost use Rattle.desk_tables.specs.RecordAnswers.{has_minimums};
 
@@ -39,9 +32,7 @@ fn rewrite_record<S: Alter>(
     ids: &[ProductIdentifier],
     supplies: &[ProductSupply],
 ) -> Result<(), StoreFault>
-    ensures same_reference { work.new.tables.ghost_name ≡ work.old.tables.ghost_name }
-    ensures achieves { Achieves (λ rows _ after. ids.now ≢ [] → AreStorable supplies.now → Became row.now.series row.now.reference (Some (record { ids = ids.now; supplies = supplies.now })) rows after)
-        (state S.Store work.old.tables.now.connection) (state S.Store work.new.tables.now.connection) result }
+    ensures { Does S.Store (Rewrites row.now ids.now supplies.now) work.old work.new result }
 {
     match remove_record(work, row) {
         Ok(()) => {}
@@ -59,10 +50,8 @@ fn keep_record<S: Alter>(
     supplies: &[ProductSupply],
     with_minimums: bool,
 ) -> Result<(), StoreFault>
-    ensures same_reference { work.new.tables.ghost_name ≡ work.old.tables.ghost_name }
-    ensures achieves { Achieves (λ rows _ after. IsReadAs with_minimums row.now rows → (e : Entry) → HoldsEntry row.now.series row.now.reference (Some e) rows → IsFound row.now ids.now (Some e) FoundRecord.SameIdentifiers → ids.now ≢ [] → AreStorable supplies.now
-        → Became row.now.series row.now.reference (Some (record { ids = ids.now; supplies = supplies.now })) rows after)
-        (state S.Store work.old.tables.now.connection) (state S.Store work.new.tables.now.connection) result }
+    ensures { Does S.Store (ReplacesRecordAs with_minimums row.now ids.now supplies.now)
+        work.old work.new result }
 {
     let same = match has_supplies(alloc, work, row, supplies, with_minimums) {
         Ok(same) => same,
@@ -82,10 +71,8 @@ fn keep_supplies<S: Alter>(
     supplies: &[ProductSupply],
     with_minimums: bool,
 ) -> Result<(), StoreFault>
-    ensures same_reference { work.new.tables.ghost_name ≡ work.old.tables.ghost_name }
-    ensures achieves { Achieves (λ rows _ after. IsReadAs with_minimums row.now rows → (e : Entry) → HoldsEntry row.now.series row.now.reference (Some e) rows → AreStorable supplies.now
-        → Became row.now.series row.now.reference (Some (record e { supplies = supplies.now })) rows after)
-        (state S.Store work.old.tables.now.connection) (state S.Store work.new.tables.now.connection) result }
+    ensures { Does S.Store (ReplacesSuppliesAs with_minimums row.now supplies.now)
+        work.old work.new result }
 {
     let same = match has_supplies(alloc, work, row, supplies, with_minimums) {
         Ok(same) => same,
@@ -106,9 +93,8 @@ fn replace<S: Alter>(
     found: FoundRecord,
     with_minimums: bool,
 ) -> Result<(), StoreFault>
-    ensures same_reference { work.new.tables.ghost_name ≡ work.old.tables.ghost_name }
-    ensures achieves { Achieves (λ rows _ after. IsReadAs with_minimums row.now rows → IsChanged asked.Replace row.now product.now found rows after)
-        (state S.Store work.old.tables.now.connection) (state S.Store work.new.tables.now.connection) result }
+    ensures { Does S.Store (CarriesOutAs with_minimums asked.Replace row.now product.now found)
+        work.old work.new result }
 {
     let ids = product.ids.as_slice();
     let supplies = product.supplies.as_slice();
@@ -130,9 +116,8 @@ fn update<S: Alter>(
     found: FoundRecord,
     with_minimums: bool,
 ) -> Result<(), StoreFault>
-    ensures same_reference { work.new.tables.ghost_name ≡ work.old.tables.ghost_name }
-    ensures achieves { Achieves (λ rows _ after. IsReadAs with_minimums row.now rows → IsChanged asked.Update row.now product.now found rows after)
-        (state S.Store work.old.tables.now.connection) (state S.Store work.new.tables.now.connection) result }
+    ensures { Does S.Store (CarriesOutAs with_minimums asked.Update row.now product.now found)
+        work.old work.new result }
 {
     let is_empty = product.supplies.is_empty();
     if is_empty {
@@ -152,9 +137,8 @@ fn delete<S: Alter>(
     product: &Product,
     found: FoundRecord,
 ) -> Result<(), StoreFault>
-    ensures same_reference { work.new.tables.ghost_name ≡ work.old.tables.ghost_name }
-    ensures achieves { Achieves (λ rows _ after. IsChanged asked.Delete row.now product.now found rows after)
-        (state S.Store work.old.tables.now.connection) (state S.Store work.new.tables.now.connection) result }
+    ensures { Does S.Store (CarriesOut asked.Delete row.now product.now found)
+        work.old work.new result }
 {
     let is_there = found.is_there();
     if is_there {
@@ -173,9 +157,8 @@ fn change_record<S: Alter>(
     found: FoundRecord,
     with_minimums: bool,
 ) -> Result<(), StoreFault>
-    ensures same_reference { work.new.tables.ghost_name ≡ work.old.tables.ghost_name }
-    ensures achieves { Achieves (λ rows _ after. IsReadAs with_minimums row.now rows → IsChanged change row.now product.now found rows after)
-        (state S.Store work.old.tables.now.connection) (state S.Store work.new.tables.now.connection) result }
+    ensures { Does S.Store (CarriesOutAs with_minimums change row.now product.now found)
+        work.old work.new result }
 {
     match change {
         Change::Replace => replace(alloc, work, row, product, found, with_minimums),
@@ -195,10 +178,9 @@ fn apply_product<S: Alter>(
     with_minimums: bool,
 ) -> Result<Effect, StoreFault>
     requires { total effect + 1 < 2 ^ 32 }
-    ensures same_reference { work.new.tables.ghost_name ≡ work.old.tables.ghost_name }
     ensures one { IfOk result (λ e. total e ≡ total effect + 1) }
-    ensures achieves { Achieves (λ rows counts after. (m : ByReference) → HoldsCatalogue series.now m rows → IsCatalogueReadAs with_minimums m → IsStorableProduct product.now → IsProductApplied series.now m product.now effect rows counts after)
-        (state S.Store work.old.tables.now.connection) (state S.Store work.new.tables.now.connection) result }
+    ensures does { Does S.Store (AppliesProduct with_minimums series.now product.now effect)
+        work.old work.new result }
 {
     let row = match product.reference.copy(alloc) {
         Ok(reference) => RecordRow {
@@ -225,10 +207,11 @@ fn may_have_minimums<S: Alter>(
     series: &SeriesName,
     products: &[Product],
 ) -> Result<bool, StoreFault>
-    ensures same_reference { work.new.tables.ghost_name ≡ work.old.tables.ghost_name }
-    ensures products { IfOk result (λ may. may ≡ false → products_have_minimums products.now ≡ false) }
-    ensures achieves { Achieves (λ rows may after. (after ≡ rows) × (may ≡ false → has_minimums series.now rows ≡ false))
-        (state S.Store work.old.tables.now.connection) (state S.Store work.new.tables.now.connection) result }
+    ensures products { IfOk result
+        (λ may. may ≡ false → products_have_minimums products.now ≡ false) }
+    ensures does { Does S.Store
+        (KeepsRows (λ rows may. may ≡ false → has_minimums series.now rows ≡ false))
+        work.old work.new result }
 {
     let among = products_have_minimums(products);
     if among {
@@ -246,9 +229,7 @@ pub fn apply_message<S: Alter>(
     series: &SeriesName,
     contents: &Contents,
 ) -> Result<Effect, StoreFault>
-    ensures same_reference { work.new.tables.ghost_name ≡ work.old.tables.ghost_name }
-    ensures achieves { Achieves (λ rows effect after. (m : ByReference) → HoldsCatalogue series.now m rows → IsApplied series.now m contents.now rows effect after)
-        (state S.Store work.old.tables.now.connection) (state S.Store work.new.tables.now.connection) result }
+    ensures { Does S.Store (AppliesMessage series.now contents.now) work.old work.new result }
 {
     contents.is_contents();
     let products = contents.products();

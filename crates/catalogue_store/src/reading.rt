@@ -1,15 +1,11 @@
 //! The rows of one record, read and compared.
 
-ghost use Rattle.std.specs.Prelude.{◌≡◌, false, IfOk, Some, if◌then◌else◌};
-ghost use Rattle.std.specs.List.{AllZip};
-ghost use Rattle.sqlite.specs.Held.{state};
+ghost use Rattle.std.specs.Prelude.{◌≡◌, false, IfOk, if◌then◌else◌};
 ghost use Rattle.catalogue_rules.specs.Records.{HasFewDetails};
-ghost use Rattle.catalogue_rules.specs.declared.entry.Entry.{Entry as TheEntry};
-ghost use Rattle.catalogue_store.specs.Holding.{HoldsEntry};
-ghost use Rattle.catalogue_store.specs.Achieves.{Achieves};
-ghost use Rattle.catalogue_store.specs.ReadRows.{AreReadAs, is_there, Finds, HasPricesOf, HoldsSupplies, IsReadAs};
+ghost use Rattle.catalogue_store.specs.Achieves.{Does};
+ghost use Rattle.catalogue_store.specs.Calls.{KeepsRows, HasPricesAs, HavePricesAs, IsEntryOf, HoldsSuppliesAs};
+ghost use Rattle.catalogue_store.specs.ReadRows.{is_there, Finds};
 ghost use Rattle.catalogue_store.specs.declared.reading.FoundRecord.{FoundRecord};
-ghost use Rattle.desk_tables.specs.RecordChanges.{has_minimums_of};
 
 use crate::assemble::entry_of;
 use crate::build::{article_rows, detail_rows};
@@ -29,9 +25,8 @@ fn read_own_prices<S: Alter>(
     detail: &OfferRow,
     with_minimums: bool,
 ) -> Result<Items<Price>, StoreFault>
-    ensures same_reference { work.new.tables.ghost_name ≡ work.old.tables.ghost_name }
-    ensures achieves { Achieves (λ rows prices after. (after ≡ rows) × ((with_minimums ≡ false → has_minimums_of detail.now.series detail.now.reference rows ≡ false) → HasPricesOf rows detail.now prices))
-        (state S.Store work.old.tables.now.connection) (state S.Store work.new.tables.now.connection) result }
+    ensures { Does S.Store (KeepsRows (HasPricesAs with_minimums detail.now))
+        work.old work.new result }
 {
     if with_minimums {
         return work.offer_prices(detail);
@@ -46,9 +41,9 @@ fn read_prices<S: Alter>(
     details: &[OfferRow],
     with_minimums: bool,
 ) -> Result<Vec<Items<Price>>, StoreFault>
-    ensures same_reference { work.new.tables.ghost_name ≡ work.old.tables.ghost_name }
-    ensures achieves { Achieves (λ rows prices after. (after ≡ rows) × (AreReadAs with_minimums details.now rows → AllZip (HasPricesOf rows) details.now prices.items))
-        (state S.Store work.old.tables.now.connection) (state S.Store work.new.tables.now.connection) result }
+    ensures { Does S.Store
+        (KeepsRows (λ rows prices. HavePricesAs with_minimums details.now rows prices.items))
+        work.old work.new result }
 {
     let mut prices = Vec::new(alloc);
     for detail in details {
@@ -70,10 +65,8 @@ pub fn read_record<S: Alter>(
     work: &mut Work<'_, S>,
     row: &RecordRow,
 ) -> Result<Entry, StoreFault>
-    ensures same_reference { work.new.tables.ghost_name ≡ work.old.tables.ghost_name }
     ensures few { IfOk result HasFewDetails }
-    ensures achieves { Achieves (λ rows entry after. (after ≡ rows) × ((e : TheEntry) → HoldsEntry row.now.series row.now.reference (Some e) rows → entry ≡ e))
-        (state S.Store work.old.tables.now.connection) (state S.Store work.new.tables.now.connection) result }
+    ensures does { Does S.Store (KeepsRows (IsEntryOf row.now)) work.old work.new result }
 {
     let articles = match work.record_articles(row) {
         Ok(articles) => articles,
@@ -109,7 +102,8 @@ pub enum FoundRecord {
 impl FoundRecord {
     // A record that is there, with these identifiers or with others.
     fn with(is_same: bool) -> FoundRecord
-        ensures { result ≡ (if is_same then FoundRecord.SameIdentifiers else FoundRecord.OtherIdentifiers) }
+        ensures { result
+            ≡ (if is_same then FoundRecord.SameIdentifiers else FoundRecord.OtherIdentifiers) }
     {
         if is_same {
             FoundRecord::SameIdentifiers
@@ -138,9 +132,7 @@ pub fn find_record<S: Alter>(
     row: &RecordRow,
     ids: &[ProductIdentifier],
 ) -> Result<FoundRecord, StoreFault>
-    ensures same_reference { work.new.tables.ghost_name ≡ work.old.tables.ghost_name }
-    ensures achieves { Achieves (λ rows found after. (after ≡ rows) × Finds row.now ids.now rows found)
-        (state S.Store work.old.tables.now.connection) (state S.Store work.new.tables.now.connection) result }
+    ensures { Does S.Store (KeepsRows (Finds row.now ids.now)) work.old work.new result }
 {
     let articles = match work.record_articles(row) {
         Ok(articles) => articles,
@@ -166,9 +158,8 @@ pub fn has_supplies<S: Alter>(
     supplies: &[ProductSupply],
     with_minimums: bool,
 ) -> Result<bool, StoreFault>
-    ensures same_reference { work.new.tables.ghost_name ≡ work.old.tables.ghost_name }
-    ensures achieves { Achieves (λ rows b after. (after ≡ rows) × (IsReadAs with_minimums row.now rows → HoldsSupplies row.now supplies.now rows b))
-        (state S.Store work.old.tables.now.connection) (state S.Store work.new.tables.now.connection) result }
+    ensures { Does S.Store (KeepsRows (HoldsSuppliesAs with_minimums row.now supplies.now))
+        work.old work.new result }
 {
     let wanted = match detail_rows(alloc, &row.series, &row.reference, supplies) {
         Ok(wanted) => wanted,

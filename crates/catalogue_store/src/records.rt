@@ -1,11 +1,7 @@
 //! The rows of one record, written.
 
-ghost use Rattle.std.specs.Prelude.{◌≡◌, ◌≢◌, [], Some, None};
-ghost use Rattle.sqlite.specs.Held.{state};
-ghost use Rattle.catalogue_rules.specs.declared.entry.Entry.{Entry};
-ghost use Rattle.catalogue_store.specs.Holding.{Became, HoldsEntry};
-ghost use Rattle.catalogue_store.specs.Storable.{AreStorable};
-ghost use Rattle.catalogue_store.specs.Achieves.{Achieves};
+ghost use Rattle.catalogue_store.specs.Achieves.{Does};
+ghost use Rattle.catalogue_store.specs.Calls.{ChangesRows, Writes, Removes, ReplacesSupplies};
 ghost use Rattle.catalogue_store.specs.WrittenRows.{with_articles, with_details, with_identified, with_prices, with_supplies};
 
 use crate::build::{article_rows, detail_rows, price_rows};
@@ -17,9 +13,7 @@ use sqlite::Alter;
 use std::alloc::Global;
 
 fn put_articles<S: Alter>(work: &mut Work<'_, S>, added: &[ArticleRow]) -> Result<(), StoreFault>
-    ensures same_reference { work.new.tables.ghost_name ≡ work.old.tables.ghost_name }
-    ensures achieves { Achieves (λ rows _ after. after ≡ with_articles added.now rows)
-        (state S.Store work.old.tables.now.connection) (state S.Store work.new.tables.now.connection) result }
+    ensures { Does S.Store (ChangesRows (with_articles added.now)) work.old work.new result }
 {
     for row in added {
         match work.put_article(row) {
@@ -31,9 +25,7 @@ fn put_articles<S: Alter>(work: &mut Work<'_, S>, added: &[ArticleRow]) -> Resul
 }
 
 fn put_details<S: Alter>(work: &mut Work<'_, S>, added: &[OfferRow]) -> Result<(), StoreFault>
-    ensures same_reference { work.new.tables.ghost_name ≡ work.old.tables.ghost_name }
-    ensures achieves { Achieves (λ rows _ after. after ≡ with_details added.now rows)
-        (state S.Store work.old.tables.now.connection) (state S.Store work.new.tables.now.connection) result }
+    ensures { Does S.Store (ChangesRows (with_details added.now)) work.old work.new result }
 {
     for row in added {
         match work.put_offer(row) {
@@ -45,9 +37,7 @@ fn put_details<S: Alter>(work: &mut Work<'_, S>, added: &[OfferRow]) -> Result<(
 }
 
 fn put_prices<S: Alter>(work: &mut Work<'_, S>, added: &[PriceRow]) -> Result<(), StoreFault>
-    ensures same_reference { work.new.tables.ghost_name ≡ work.old.tables.ghost_name }
-    ensures achieves { Achieves (λ rows _ after. after ≡ with_prices added.now rows)
-        (state S.Store work.old.tables.now.connection) (state S.Store work.new.tables.now.connection) result }
+    ensures { Does S.Store (ChangesRows (with_prices added.now)) work.old work.new result }
 {
     for row in added {
         match work.put_price(row) {
@@ -65,9 +55,9 @@ fn put_supplies<S: Alter>(
     row: &RecordRow,
     supplies: &[ProductSupply],
 ) -> Result<(), StoreFault>
-    ensures same_reference { work.new.tables.ghost_name ≡ work.old.tables.ghost_name }
-    ensures achieves { Achieves (λ rows _ after. after ≡ with_supplies row.now.series row.now.reference supplies.now rows)
-        (state S.Store work.old.tables.now.connection) (state S.Store work.new.tables.now.connection) result }
+    ensures { Does S.Store
+        (ChangesRows (with_supplies row.now.series row.now.reference supplies.now))
+        work.old work.new result }
 {
     let details = match detail_rows(alloc, &row.series, &row.reference, supplies) {
         Ok(details) => details,
@@ -91,9 +81,8 @@ fn put_identified<S: Alter>(
     row: &RecordRow,
     ids: &[ProductIdentifier],
 ) -> Result<(), StoreFault>
-    ensures same_reference { work.new.tables.ghost_name ≡ work.old.tables.ghost_name }
-    ensures achieves { Achieves (λ rows _ after. after ≡ with_identified row.now ids.now rows)
-        (state S.Store work.old.tables.now.connection) (state S.Store work.new.tables.now.connection) result }
+    ensures { Does S.Store (ChangesRows (with_identified row.now ids.now))
+        work.old work.new result }
 {
     let articles = match article_rows(alloc, &row.series, &row.reference, ids) {
         Ok(articles) => articles,
@@ -116,10 +105,7 @@ pub fn write_record<S: Alter>(
     ids: &[ProductIdentifier],
     supplies: &[ProductSupply],
 ) -> Result<(), StoreFault>
-    ensures same_reference { work.new.tables.ghost_name ≡ work.old.tables.ghost_name }
-    ensures achieves { Achieves (λ rows _ after. HoldsEntry row.now.series row.now.reference None rows → ids.now ≢ [] → AreStorable supplies.now
-        → Became row.now.series row.now.reference (Some (record { ids = ids.now; supplies = supplies.now })) rows after)
-        (state S.Store work.old.tables.now.connection) (state S.Store work.new.tables.now.connection) result }
+    ensures { Does S.Store (Writes row.now ids.now supplies.now) work.old work.new result }
 {
     match put_identified(alloc, work, row, ids) {
         Ok(()) => {}
@@ -130,9 +116,7 @@ pub fn write_record<S: Alter>(
 
 /// Removes all rows of a record. A fault is one of the store.
 pub fn remove_record<S: Alter>(work: &mut Work<'_, S>, row: &RecordRow) -> Result<(), StoreFault>
-    ensures same_reference { work.new.tables.ghost_name ≡ work.old.tables.ghost_name }
-    ensures achieves { Achieves (λ rows _ after. Became row.now.series row.now.reference None rows after)
-        (state S.Store work.old.tables.now.connection) (state S.Store work.new.tables.now.connection) result }
+    ensures { Does S.Store (Removes row.now) work.old work.new result }
 {
     work.delete_record(&row.series, row.reference.as_str())
 }
@@ -145,10 +129,7 @@ pub fn replace_supplies<S: Alter>(
     row: &RecordRow,
     supplies: &[ProductSupply],
 ) -> Result<(), StoreFault>
-    ensures same_reference { work.new.tables.ghost_name ≡ work.old.tables.ghost_name }
-    ensures achieves { Achieves (λ rows _ after. (e : Entry) → HoldsEntry row.now.series row.now.reference (Some e) rows → AreStorable supplies.now
-        → Became row.now.series row.now.reference (Some (record e { supplies = supplies.now })) rows after)
-        (state S.Store work.old.tables.now.connection) (state S.Store work.new.tables.now.connection) result }
+    ensures { Does S.Store (ReplacesSupplies row.now supplies.now) work.old work.new result }
 {
     match work.delete_offers(&row.series, row.reference.as_str()) {
         Ok(()) => {}

@@ -6,7 +6,7 @@ use Rattle.desk_terms.specs.declared.faults.StoreFault.TheVariants.{Memory}
 use Rattle.onix_records.specs.declared.parts.Price.{Price}
 use Rattle.desk_tables.specs.RecordChanges.{has_minimums_of}
 use Rattle.desk_tables.specs.Rows.{DeskRows}
-use Rattle.catalogue_store.specs.AchievesLemmas.{achieves_as, achieves_failed, achieves_nothing, achieves_stopped, achieves_then}
+use Rattle.catalogue_store.specs.AchievesLemmas.{achieves_as, achieves_failed, achieves_nothing, achieves_stopped, achieves_then, does}
 use Rattle.catalogue_store.specs.ReadRows.{AreReadAs, HasPricesOf}
 use Rattle.catalogue_store.proofs.ReadLemmas.{one_read_as, prices_read}
 use Rattle.catalogue_store.proofs.reading.read_prices.Goals as goal
@@ -47,8 +47,8 @@ loop-detail-preserved g c = record {
       (λ rows after h n one. (one.0, λ reads. subst (λ (l : List (List Price)). AllZip (HasPricesOf rows) (take (i + 1) details) l) (sym pushed) (one.1 reads)));
 }
 
-pub returns-in-Err-clause-achieves : goal.returns-in-Err-clause-achieves
-returns-in-Err-clause-achieves g c =
+pub returns-in-Err : goal.returns-in-Err
+returns-in-Err g c =
     let old = state g.S.Store c.args.work.now.tables.now.connection in
     let mid = state g.S.Store c.loop-detail.work.tables.now.connection in
     let new = state g.S.Store c.read_own_prices.new.work.tables.now.connection in
@@ -57,10 +57,11 @@ returns-in-Err-clause-achieves g c =
     let x = c.detail-item.result in
     let SoFar : DeskRows → Unit {0} → DeskRows → Type 0 = λ rows _ after. (after ≡ rows) × (AreReadAs minimums details rows → AllZip (HasPricesOf rows) (take c.loop-detail.detail-index details) c.loop-detail.prices.items) in
     let Own : DeskRows → List Price → DeskRows → Type 0 = λ rows own after. (after ≡ rows) × ((minimums ≡ false → has_minimums_of x.series x.reference rows ≡ false) → HasPricesOf rows x own) in
-    achieves_failed SoFar Own _ old mid new tt c.in-Err.fault c.loop-detail.invariant.so_far c.in-Err.ensures.achieves
+    does (search rules)
+    (achieves_failed SoFar Own _ old mid new tt c.in-Err.fault c.loop-detail.invariant.so_far c.in-Err.ensures.achieves)
 
-pub returns-then-is_err-clause-achieves : goal.returns-then-is_err-clause-achieves
-returns-then-is_err-clause-achieves g c =
+pub returns-then-is_err : goal.returns-then-is_err
+returns-then-is_err g c =
     let old = state g.S.Store c.args.work.now.tables.now.connection in
     let mid = state g.S.Store c.loop-detail.work.tables.now.connection in
     let new = state g.S.Store c.read_own_prices.new.work.tables.now.connection in
@@ -71,11 +72,12 @@ returns-then-is_err-clause-achieves g c =
     let SoFar : DeskRows → Unit {0} → DeskRows → Type 0 = λ rows _ after. (after ≡ rows) × (AreReadAs minimums details rows → AllZip (HasPricesOf rows) (take c.loop-detail.detail-index details) c.loop-detail.prices.items) in
     let Own : DeskRows → List Price → DeskRows → Type 0 = λ rows own after. (after ≡ rows) × ((minimums ≡ false → has_minimums_of x.series x.reference rows ≡ false) → HasPricesOf rows x own) in
     let Any : DeskRows → List Price → DeskRows → Type 0 = λ rows own after. Unit {0} in
-    achieves_stopped Any _ old new (Ok own) Memory
-    (achieves_then SoFar Own Any old mid new tt (Ok own) c.loop-detail.invariant.so_far c.in-Ok.ensures.achieves (λ rows between after b h m n one two. tt))
+    does (search rules)
+    (achieves_stopped Any _ old new (Ok own) Memory
+    (achieves_then SoFar Own Any old mid new tt (Ok own) c.loop-detail.invariant.so_far c.in-Ok.ensures.achieves (λ rows between after b h m n one two. tt)))
 
-pub returns-clause-achieves : goal.returns-clause-achieves
-returns-clause-achieves g c =
+pub returns : goal.returns
+returns g c =
     let old = state g.S.Store c.args.work.now.tables.now.connection in
     let new = state g.S.Store c.loop-detail.work.tables.now.connection in
     let minimums = c.args.with_minimums in
@@ -84,4 +86,5 @@ returns-clause-achieves g c =
     let prices = c.loop-detail.prices.items in
     let all = take_all i details c.loop-detail-test.false in
     let SoFar : DeskRows → Unit {0} → DeskRows → Type 0 = λ rows _ after. (after ≡ rows) × (AreReadAs minimums details rows → AllZip (HasPricesOf rows) (take i details) prices) in
-    achieves_as SoFar _ old new tt c.loop-detail.prices c.loop-detail.invariant.so_far (λ rows after h n one. (one.0, λ reads. subst (λ l. AllZip (HasPricesOf rows) l prices) all (one.1 reads)))
+    does (search rules)
+    (achieves_as SoFar _ old new tt c.loop-detail.prices c.loop-detail.invariant.so_far (λ rows after h n one. (one.0, λ reads. subst (λ l. AllZip (HasPricesOf rows) l prices) all (one.1 reads))))

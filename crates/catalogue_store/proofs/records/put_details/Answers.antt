@@ -4,18 +4,19 @@ use Rattle.desk_tables.specs.RecordChanges.{with_offer}
 use Rattle.desk_tables.specs.RecordRows.{offer_row}
 use Rattle.desk_tables.specs.Rows.{DeskRows}
 use Rattle.desk_tables.specs.Transactions.{NoAnswer}
-use Rattle.catalogue_store.specs.AchievesLemmas.{achieves_call_failed, achieves_calls}
+use Rattle.catalogue_store.specs.AchievesLemmas.{achieves_call_failed, achieves_calls, does}
 use Rattle.catalogue_store.specs.WrittenRows.{with_details}
 use Rattle.catalogue_store.proofs.Additions.{details_more}
 use Rattle.catalogue_store.proofs.records.put_details.Goals as goal
 
-pub returns-in-Err-clause-achieves : goal.returns-in-Err-clause-achieves
-returns-in-Err-clause-achieves g c =
+pub returns-in-Err : goal.returns-in-Err
+returns-in-Err g c =
     let old = state g.S.Store c.args.work.now.tables.now.connection in
     let mid = state g.S.Store c.loop-row.work.tables.now.connection in
     let new = state g.S.Store c.put_offer.new.self.tables.now.connection in
     let SoFar : DeskRows → Unit {0} → DeskRows → Type 0 = λ rows _ after. after ≡ with_details (take c.loop-row.row-index c.args.added.now) rows in
-    achieves_call_failed {C = Unit {0}} SoFar (NoAnswer {A = Unit {0}}) (with_offer (offer_row c.row-item.result)) _ old mid new c.loop-row.work.spent c.put_offer.new.self.spent tt c.in-Err.fault c.loop-row.invariant.so_far c.in-Err.ensures.works
+    does (search rules)
+    (achieves_call_failed {C = Unit {0}} SoFar (NoAnswer {A = Unit {0}}) (with_offer (offer_row c.row-item.result)) _ old mid new c.loop-row.work.spent c.put_offer.new.self.spent tt c.in-Err.fault c.loop-row.invariant.so_far c.in-Err.ensures.works)
 
 pub loop-row-preserved : goal.loop-row-preserved
 loop-row-preserved g c = record {

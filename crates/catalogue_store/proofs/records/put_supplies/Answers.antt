@@ -1,13 +1,13 @@
-use Rattle.std.proofs.Common.{◌≡◌, ◌∙◌}
+use Rattle.std.proofs.Common.{◌≡◌, ◌∙◌, rules}
 use Rattle.sqlite.specs.Held.{state}
 use Rattle.desk_tables.specs.Rows.{DeskRows}
-use Rattle.catalogue_store.specs.AchievesLemmas.{achieves_then}
+use Rattle.catalogue_store.specs.AchievesLemmas.{achieves_then, does}
 use Rattle.catalogue_store.specs.WrittenRows.{with_details, with_prices}
 use Rattle.catalogue_store.proofs.Additions.{supplies_put}
 use Rattle.catalogue_store.proofs.records.put_supplies.Goals as goal
 
-pub returns-clause-achieves : goal.returns-clause-achieves
-returns-clause-achieves g c =
+pub returns : goal.returns
+returns g c =
     let old = state g.S.Store c.args.work.now.tables.now.connection in
     let mid = state g.S.Store c.put_details.new.work.tables.now.connection in
     let new = state g.S.Store c.put_prices.new.work.tables.now.connection in
@@ -16,5 +16,6 @@ returns-clause-achieves g c =
     let prices = c.as_slice-2.result.now in
     let First : DeskRows → Unit {0} → DeskRows → Type 0 = λ rows _ after. after ≡ with_details details rows in
     let Second : DeskRows → Unit {0} → DeskRows → Type 0 = λ rows _ after. after ≡ with_prices prices rows in
-    achieves_then First Second _ old mid new tt c.put_prices.result c.in-Ok-put_details.ensures.achieves c.put_prices.ensures.achieves
-    (λ rows between after b h m n one two. supplies_put row.series row.reference c.args.supplies.now details prices rows between after (c.as_slice.ensures.value ∙ c.in-Ok.ensures) (c.as_slice-2.ensures.value ∙ c.in-Ok-price_rows.ensures) one two)
+    does (search rules)
+    (achieves_then First Second _ old mid new tt c.put_prices.result c.in-Ok-put_details.ensures.achieves c.put_prices.ensures.achieves
+    (λ rows between after b h m n one two. supplies_put row.series row.reference c.args.supplies.now details prices rows between after (c.as_slice.ensures.value ∙ c.in-Ok.ensures) (c.as_slice-2.ensures.value ∙ c.in-Ok-price_rows.ensures) one two))

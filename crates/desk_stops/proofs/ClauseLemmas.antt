@@ -79,7 +79,7 @@ module _ {Store : Type 0} (g : Ghosts Store) (rules : List Rule) where
       → (result : Result X StoreFault) (old new : Held Store) → Tells answer (seen g rules old) (seen g rules new) result → IsQuestionEvent g rules r answer_of result old new
   question r answer_of answer is answers result old new it = (
     asked r answer_of answer answers result old new (asks_of r answer _ _ result is it),
-    record { err = λ sound L stands. it.left L stands sound; crash = λ sound L stands d leaves. inl (it.crash sound d leaves) },
+    record { err = λ sound L stands. it.left L stands sound; crash = λ sound L stands d leaves. inl ((it.stays sound d).1 leaves) },
   )
 
   pub questions_are_events : QuestionsAreEvents g rules

@@ -9,14 +9,13 @@ use Rattle.sqlite_trees.specs.View.{IsClean}
 use Rattle.sqlite_wal.specs.Files.{outcomes}
 use Rattle.sqlite_wal.specs.Reads.{AreClean}
 use Rattle.sqlite_wal.specs.Recovery.{Image}
-use Rattle.series_rules.specs.Content.{SameContent}
+use Rattle.series_rules.specs.Content.{SameContent, same_trans}
 use Rattle.series_rules.specs.Views.{View}
 use Rattle.series_rules.specs.declared.requests.Request.{Request}
 use Rattle.desk_store.specs.ContentLemmas.{rows_by_content}
 use Rattle.desk_store.specs.Desks.{AreRowsOf}
 use Rattle.desk_store.specs.Openings.{AreFilesOf, AreFoundAs, HoldRowsOf, left_in}
 use Rattle.desk_store.specs.Seen.{in_tables}
-use Rattle.onixdesk.specs.SameContents.{same_trans}
 use Rattle.onixdesk.specs.declared.files.FilesLeft.{FilesLeft}
 use Rattle.onixdesk.specs.declared.files.FilesLeft.TheVariants.{Closed, Unclosed, Unopened}
 

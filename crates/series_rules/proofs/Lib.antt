@@ -6,3 +6,5 @@ pub mod GapLaw
 pub mod HeldNumbers
 pub mod RunLemmas
 pub mod TraceLemmas
+pub mod Elements
+pub mod OfferLaw

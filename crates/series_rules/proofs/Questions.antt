@@ -1,15 +1,12 @@
 -- Requests that change nothing leave what the requests come to.
 use Rattle.std.specs.Prelude.{is_none, not}
-use Rattle.std.proofs.Common.{◌≡◌, ℕ, Bool, true, false, List, ◌∷◌, ◌++◌, [], Option, Some, None, ◌⊎◌, inl, inr, Result, Ok, Err, refl, sym, ap, ◌∙◌, cond}
-use Rattle.std.specs.Prelude.{OnOk}
+use Rattle.std.proofs.Common.{◌≡◌, ℕ, Bool, true, false, List, ◌∷◌, ◌++◌, [], Option, Some, None, refl, sym, ap, ◌∙◌, cond}
 use Rattle.desk_terms.specs.declared.agreements.Agreement.{Agreement}
-use Rattle.desk_terms.specs.declared.faults.StoreFault.{StoreFault}
 use Rattle.series_rules.specs.Agreements.{agreements_of, clashes, named, with_agreement}
 use Rattle.series_rules.specs.Changes.{changes, is_question, puts_something}
 use Rattle.series_rules.specs.Content.{SameContent}
 use Rattle.series_rules.specs.FirstLemmas.{first_again, first_left, first_other}
 use Rattle.series_rules.specs.Firsts.{Placement, admitted, first_at}
-use Rattle.series_rules.specs.Views.{Asks, DeskKind, IsFaultOf, LeavesOnly, Tells, View}
 use Rattle.series_rules.specs.declared.requests.Request.{Request}
 use Rattle.series_rules.specs.declared.requests.Request.TheVariants.{Agree, Deliver, Waive, AskPrice, AskChoice, AskCalendar, AskGaps, AskCatalogue, Malformed}
 use Rattle.series_rules.specs.declared.requests.Standing.{Standing}

@@ -13,16 +13,18 @@ asks_of r answer old new (Ok a) is told = record {
   premise = told.premise;
   ok = λ L stands sound. (told.ok L stands sound, new.by_content L (r ∷ L) (question_left L r is) (told.left L stands sound));
   err = λ L stands sound. tt;
-  crash = λ L stands sound x may. inl (told.crash sound x may);
+  crash = λ L stands sound x may. inl ((told.stays sound x).1 may);
   changed = λ L stands sound did. let kept = question_changes_nothing L r is in absurd cc;
+  question = λ asks. told.stays;
   fault = tt;
 }
 asks_of r answer old new (Err f) is told = record {
   premise = told.premise;
   ok = λ L stands sound. tt;
   err = λ L stands sound. told.left L stands sound;
-  crash = λ L stands sound x may. inl (told.crash sound x may);
+  crash = λ L stands sound x may. inl ((told.stays sound x).1 may);
   changed = λ L stands sound did. tt;
+  question = λ asks. told.stays;
   fault = told.fault;
 }
 
@@ -32,7 +34,7 @@ tells_unasked answer desk a is = record {
   premise = λ sound. sound;
   ok = λ L stands sound. is L;
   left = λ L stands sound. stands;
-  crash = λ sound x may. may;
+  stays = λ sound x. (λ held. held, λ may. may);
   fault = tt;
 }
 

@@ -16,5 +16,6 @@ pub mod Changes
 pub mod Views
 pub mod Traces
 pub mod Laws
+pub mod OfferLaws
 pub mod PriceLaws
 pub mod Runs

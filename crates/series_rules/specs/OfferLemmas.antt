@@ -22,7 +22,7 @@ pub equal_maps : {X : Type 0} (m n : FinMap (slice_cmp nat_cmp) X) → ((q : Lis
 equal_maps m n alike = same_map nat_list_cmp_total (slice_cmp-IsAntisymmetric nat_cmp-IsAntisymmetric) m n alike
 
 -- two texts are equal bytes where the order of bytes ties them
-same_test : (k q : List ℕ) → eq_by_cmp (slice_cmp nat_cmp) q k ≡ bytes_eq k q
+pub same_test : (k q : List ℕ) → eq_by_cmp (slice_cmp nat_cmp) q k ≡ bytes_eq k q
 same_test k q = (eq_by_cmp_equiv nat_list_cmp_total).symm q k ∙ is_eq-slice_cmp k q
 
 -- the first entry of a name has the agreement of that name

@@ -1,5 +1,5 @@
 -- What is seen of a desk, and what each kind of call does to that.
-use Rattle.std.specs.Prelude.{◌≡◌, ◌⊎◌, Bool, true, false, List, ◌∷◌, Result, IfErr, IfOk, OnErr, OnOk}
+use Rattle.std.specs.Prelude.{◌≡◌, ◌⊎◌, true, false, List, ◌∷◌, Result, IfErr, IfOk, OnErr, OnOk}
 use Rattle.desk_terms.specs.declared.faults.StoreFault.{StoreFault}
 use Rattle.desk_terms.specs.declared.faults.StoreFault.TheVariants as fault
 use Rattle.series_rules.specs.Changes.{changes, is_question}
@@ -25,6 +25,8 @@ pub record View (k : DeskKind) : Type 1 where
   pub stands_for : List Request → Type 0
   -- it is so of each list that comes to the same
   pub by_content : (L M : List Request) → SameContent L M → stands_for L → stands_for M
+  -- it keeps that thing, of a list or not
+  pub holds : k.Left → Type 0
   -- a crash may now leave that thing
   pub may_leave : k.Left → Type 0
 
@@ -35,6 +37,10 @@ LeavesOnly {k} desk L = (x : k.Left) → desk.may_leave x → k.comes_to x L
 -- a crash leaves what L comes to or what M comes to
 abbrev pub LeavesEither : {k : DeskKind} → View k → List Request → List Request → Type 0
 LeavesEither {k} desk L M = (x : k.Left) → desk.may_leave x → k.comes_to x L ⊎ k.comes_to x M
+
+-- nothing changed, whatever it holds: what it held it holds, and a crash leaves nothing more
+abbrev pub Stays : {k : DeskKind} → View k → View k → Type 0
+Stays {k} old new = (x : k.Left) → (old.holds x → new.holds x) × (new.may_leave x → old.may_leave x)
 
 -- the fault is want of memory or one of the store's
 abbrev pub IsFaultOf : DeskKind → StoreFault → Type 0
@@ -49,12 +55,14 @@ pub record Asks {A : Type 0} {k : DeskKind} (r : Request) (answer : List Request
   pub crash : (L : List Request) → old.stands_for L → new.sound → (x : k.Left) → new.may_leave x → old.may_leave x ⊎ ((is_question r ≡ false) × k.comes_to x (r ∷ L))
   -- once it is answered and changed something, the list with the request alone
   pub changed : (L : List Request) → old.stands_for L → new.sound → changes L r ≡ true → OnOk result (LeavesOnly new (r ∷ L))
+  -- a question changes nothing
+  pub question : is_question r ≡ true → new.sound → Stays old new
   pub fault : IfErr result (IsFaultOf k)
 
--- A desk was asked a question, with that answer after each list. It stands for what it did; and whatever it holds, of a list or not, a crash leaves nothing more.
+-- A desk was asked a question, with that answer after each list. It stands for what it did, and nothing changed
 pub record Tells {A : Type 0} {k : DeskKind} (answer : List Request → A) (old new : View k) (result : Result A StoreFault) : Type 0 where
   pub premise : new.sound → old.sound
   pub ok : (L : List Request) → old.stands_for L → new.sound → IfOk result (λ a. a ≡ answer L)
   pub left : (L : List Request) → old.stands_for L → new.sound → new.stands_for L
-  pub crash : new.sound → (x : k.Left) → new.may_leave x → old.may_leave x
+  pub stays : new.sound → Stays old new
   pub fault : IfErr result (IsFaultOf k)

@@ -1,6 +1,7 @@
 //! Laws of the definitions.
 
 ghost use Rattle.series_rules.specs.Laws.{AgreementsAreDistinct, NextIsLeast, FrontIsExact, ByContentAlone, FrontOnlyGrows, GapsAreTrue};
+ghost use Rattle.series_rules.specs.OfferLaws.{OffersAreTrue};
 ghost use Rattle.series_rules.specs.PriceLaws.{CalendarsAreTrue, ChoiceIsTrue, PricesAreTrue};
 
 use price_rules::laws::{calendar_is_exact, choice_is_exact, current_is_exact};
@@ -38,6 +39,13 @@ pub fn front_only_grows()
 /// two touch just the numbers up to it that have nothing.
 pub fn gaps_are_true()
     ensures { GapsAreTrue }
+{}
+
+/// The offers of an article are each SupplyDetail of each record of an agreed series that has an
+/// identifier of type 03 or 15 with its number, and no other, each once, in order of series,
+/// reference and place.
+pub fn offers_are_true()
+    ensures { OffersAreTrue }
 {}
 
 /// An answer about prices has the offers in their order, each with its current price.

@@ -2,6 +2,7 @@ pub mod AskLemmas
 pub mod AsksLaws
 pub mod ExchangeLemmas
 pub mod ServesLemmas
+pub mod ConnectionLemmas
 pub mod WantedLemmas
 pub mod Statuses
 pub mod InsertLemmas

@@ -24,12 +24,6 @@ pub data Exchanges (rules : List Rule) (may_give : StoreFault → Type 0) (L : L
   answers : {r : Request} → Exchanges rules may_give L (Asked r) (reply_of_answer (answer_to rules L r)) (r ∷ L)
   faults : {r : Request} {f : StoreFault} → may_give f → Exchanges rules may_give L (Asked r) (reply_of_fault f) L
 
--- inputs were replied to one after the other, by a desk that stood for L at first, and no reply is of a fault of its store. The list is L with each request that was answered
-pub data AreReplied (rules : List Rule) (L : List Request) : List Reply → List Request → Type 0 where
-  none : AreReplied rules L [] L
-  further : {replies : List Reply} {kept after : List Request} {wanted : Wanted} {reply : Reply}
-      → AreReplied rules L replies kept → Exchanges rules (λ f. ⊥) kept wanted reply after → AreReplied rules L (replies ++ reply ∷ []) after
-
 -- What a crash may leave then of a desk of which it left only L: what the desk stands for. After a fault it may leave the request too
 abbrev pub LeavesAfter : {k : DeskKind} → List Request → Wanted → List Request → View k → Type 0
 LeavesAfter L (Asked r) after left = LeavesEither left after (r ∷ L)
@@ -77,10 +71,6 @@ LeavesAtMostOneMore L left = (more : List Request) × (length more ≤ 1) × Lea
 -- a crash leaves what it could leave before, or what L comes to
 abbrev pub LeavesOneMore : {k : DeskKind} → View k → View k → List Request → Type 0
 LeavesOneMore {k} old new L = (x : k.Left) → new.may_leave x → old.may_leave x ⊎ k.comes_to x L
-
--- it leaves what it could leave before
-abbrev pub LeavesNoMore : {k : DeskKind} → View k → View k → Type 0
-LeavesNoMore {k} old new = (x : k.Left) → new.may_leave x → old.may_leave x
 
 -- a crash may leave what it could leave before, or L and at most one request more
 abbrev pub LeavesRequestMore : {k : DeskKind} → List Request → View k → View k → Type 0

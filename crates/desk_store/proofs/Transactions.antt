@@ -9,7 +9,7 @@ use Rattle.desk_tables.specs.Transactions.{BeginsWork, EndsWork, IsUndone, Leave
 use Rattle.desk_terms.specs.declared.faults.StoreFault.{StoreFault}
 use Rattle.series_rules.specs.declared.requests.Request.{Request}
 use Rattle.series_rules.specs.Changes.{changes, is_question}
-use Rattle.series_rules.specs.Views.{Asks, IsFaultOf, Tells}
+use Rattle.series_rules.specs.Views.{Asks, IsFaultOf, Stays, Tells}
 use Rattle.desk_store.specs.Desks.{Answers, AreRowsOf, HoldsRequests, KeepsRequests, OnlyAnswers}
 use Rattle.desk_store.specs.Seen.{in_tables, seen_in}
 use Rattle.desk_store.specs.Stands.{StandsFor}
@@ -50,6 +50,25 @@ undone_keeps L s0 s1 s2 s3 begun kept undone = λ up.
       subst (λ db. HoldsRequests db L) (sym (undone.committed up ∙ committed)) begun.committed,
     )
 
+-- whatever was committed stays, and a crash leaves nothing more
+stays_seen : (s0 s3 : State) → (IsTrue s3.is_open → IsTrue s0.is_open × (s3.committed ≡ s0.committed)) → ((d : Trees) → s3.may_leave d → s0.may_leave d) → Stays (seen_in s0) (seen_in s3)
+stays_seen s0 s3 kept left = λ d. (
+  λ held up. let still = kept up in ap (λ (db : Database). db.trees) still.1 ∙ held still.0,
+  λ may. left d may,
+)
+
+-- so where a transaction is undone
+undone_stays : {W : Type 0} (w : W) (s0 s1 s2 s3 : State) → HasCleanDisk s1 → BeginsWork {A = W} {E = StoreFault} s0 s1 (Ok w) → KeepsCommit s1 s2 → IsUndone s2 s3 → ((d : Trees) → s3.may_leave d → s0.may_leave d) → Stays (seen_in s0) (seen_in s3)
+undone_stays w s0 s1 s2 s3 clean begins kept undone left =
+    let shows = (begins.begun clean).0 in
+    stays_seen s0 s3 (λ up. (shows.was_open, undone.committed up ∙ kept.committed (undone.was_open up) ∙ shows.committed_is)) left
+
+-- so where none began
+pub unbegun_stays : {A E : Type 0} (s0 s1 : State) (e : E) → BeginsWork {A = A} s0 s1 (Err e) → HasCleanDisk s1 → Stays (seen_in s0) (seen_in s1)
+unbegun_stays s0 s1 e begins clean =
+    let kept = begins.refused clean in
+    stays_seen s0 s1 (λ up. (kept.was_open up, kept.committed up)) (λ d may. either (begins.survives.crash clean d may))
+
 -- a fault in it undoes it
 pub asked_failed : {A B W : Type 0} (w : W) (r : Request) (answer : List Request → A) (Post : DeskRows → B → DeskRows → Type 0) (s0 s1 s2 s3 : State) (e : StoreFault) → BeginsWork {A = W} {E = StoreFault} s0 s1 (Ok w) → Achieves {A = B} Post s1 s2 (Err e)
     → (HasCleanDisk s3 → IsUndone s2 s3) → Survives s2 s3 NoTrees → Asks {A = A} r answer (seen_in s0) (seen_in s3) (Err e)
@@ -61,6 +80,8 @@ asked_failed w r answer Post s0 s1 s2 s3 e begins done undone survives = record 
       let begun = is_begun w L s0 s1 (clean1 (clean2 clean)) begins keeps in
       inl (begun.crash d (either (done.survives.crash (clean2 clean) d (either (survives.crash clean d may)))));
   changed = λ L keeps clean change. tt;
+  question = λ is clean. undone_stays w s0 s1 s2 s3 (clean1 (clean2 clean)) begins (done.kept (clean2 clean)) (undone clean)
+      (λ d may. either (begins.survives.crash (clean1 (clean2 clean)) d (either (done.survives.crash (clean2 clean) d (either (survives.crash clean d may))))));
   fault = inr tt;
 }
   where
@@ -74,6 +95,9 @@ asked_failed w r answer Post s0 s1 s2 s3 e begins done undone survives = record 
     clean0 clean = omega (arith, begins.survives.clean)
 
 -- ---- done
+
+differ : false ≡ true → ⊥
+differ e = absurd cc
 
 module _ {A W : Type 0} (w : W) (r : Request) (plain : is_question r ≡ false) (answer : List Request → A) (s0 s1 s2 s3 : State) (a : A) (spent : Bool) (begins : BeginsWork {A = W} {E = StoreFault} s0 s1 (Ok w)) (done : Achieves (Answers r answer) s1 s2 (Ok a)) where
   clean1 : HasCleanDisk s2 → HasCleanDisk s1
@@ -112,6 +136,7 @@ module _ {A W : Type 0} (w : W) (r : Request) (plain : is_question r ≡ false) 
     err = λ L keeps clean. tt;
     crash = λ L keeps clean. crash_done (Ok b) ends clean L keeps;
     changed = λ L keeps clean change. λ d may. (s2.now, sym (durable clean d may ∙ ap (λ (db : Database). db.trees) (ends.committed clean).committed), (stands_now (clean2 clean) L keeps).0);
+    question = λ is. absurd (differ (sym plain ∙ is));
     fault = tt;
   }
     where
@@ -126,6 +151,7 @@ module _ {A W : Type 0} (w : W) (r : Request) (plain : is_question r ≡ false) 
     err = λ L keeps clean. let begun = is_begun w L s0 s1 (clean1 (clean2 clean)) begins keeps in undone_keeps L s0 s1 s2 s3 begun (done.kept (clean2 clean)) (ends.undone clean);
     crash = λ L keeps clean. crash_done (Err e) ends clean L keeps;
     changed = λ L keeps clean change. tt;
+    question = λ is. absurd (differ (sym plain ∙ is));
     fault = inr tt;
   }
     where
@@ -142,11 +168,9 @@ asked_alone r answer s a is nothing stands = record {
   err = λ L keeps clean. tt;
   crash = λ L keeps clean d may. inl may;
   changed = λ L keeps clean change. absurd (differ (sym (nothing L) ∙ change));
+  question = λ is clean d. (λ held. held, λ may. may);
   fault = tt;
 }
-  where
-    differ : false ≡ true → ⊥
-    differ e = absurd cc
 
 -- ---- questions
 
@@ -156,7 +180,8 @@ questioned {A} w answer s0 s1 s2 s3 result begins done undone survives = record 
   premise = λ clean. clean0 (clean1 (clean2 clean));
   ok = λ L keeps clean. let begun = is_begun w L s0 s1 (clean1 (clean2 clean)) begins keeps in told L begun.now.0 begun.now.2 result (done.gives (clean2 clean) begun.now.0 begun.now.1);
   left = λ L keeps clean. let begun = is_begun w L s0 s1 (clean1 (clean2 clean)) begins keeps in undone_keeps L s0 s1 s2 s3 begun (done.kept (clean2 clean)) (undone clean);
-  crash = λ clean d may. either (begins.survives.crash (clean1 (clean2 clean)) d (either (done.survives.crash (clean2 clean) d (either (survives.crash clean d may)))));
+  stays = λ clean. undone_stays w s0 s1 s2 s3 (clean1 (clean2 clean)) begins (done.kept (clean2 clean)) (undone clean)
+      (λ d may. either (begins.survives.crash (clean1 (clean2 clean)) d (either (done.survives.crash (clean2 clean) d (either (survives.crash clean d may))))));
   fault = may_be result;
 }
   where

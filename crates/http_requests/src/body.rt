@@ -69,7 +69,8 @@ fn read_front<R: Read>(
     size: usize,
 ) -> Result<Vec<u8>, InputFault>
     requires { size ≤ limit }
-    ensures front { IfOk result (λ bytes. IfSome (R.remaining reader.old) (λ more. bytes.items ≡ take size (behind.now ++ more))) }
+    ensures front { IfOk result (λ bytes. IfSome (R.remaining reader.old) (λ more.
+        bytes.items ≡ take size (behind.now ++ more))) }
     ensures size { IfOk result (λ bytes. length bytes.items ≤ size) }
     ensures fault { RefusesNothing result }
     ensures taken { TakesAtMost (size - length behind.now) (R.remaining reader.old) (R.remaining reader.new) }
@@ -102,7 +103,8 @@ fn read_delivery<R: Read>(
     size: usize,
 ) -> Result<RecordBuffer, InputFault>
     requires { size ≤ limit }
-    ensures gives { IfSome (R.remaining reader.old) (λ more. Gives result (records_behind size (behind.now ++ more))) }
+    ensures gives { IfSome (R.remaining reader.old) (λ more.
+        Gives result (records_behind size (behind.now ++ more))) }
     ensures taken { TakesAtMost (size - length behind.now) (R.remaining reader.old) (R.remaining reader.new) }
 {
     let body = match read_front(alloc, reader, behind, size) {

@@ -25,6 +25,7 @@ seen_image image = record {
   sound = Unit {0};
   stands_for = λ M. (L : List Request) × AreFilesOf image L × SameContent L M;
   by_content = λ L M same files. (files.0, files.1, same_trans files.0 L M files.2 same);
+  holds = λ d. AreFoundAs image d;
   may_leave = λ d. (L : List Request) → AreFilesOf image L → AreRowsOf d L;
 }
 
@@ -37,6 +38,7 @@ seen_files g files = record {
   sound = AreClean g files.log files.db;
   stands_for = HoldRowsOf (image_of g files);
   by_content = held_by_content (image_of g files);
+  holds = λ d. AreFoundAs (image_of g files) d;
   may_leave = λ d. (image : Image) × outcomes g files.log files.db image × AreFoundAs image d;
 }
 
@@ -46,6 +48,7 @@ seen_store {g} store = record {
   sound = IsClean ((over_files {g = g}).view store);
   stands_for = λ M. Unit {0};
   by_content = λ L M same is. is;
+  holds = λ d. Unit {0};
   may_leave = (over_files {g = g}).recovers store;
 }
 
@@ -55,6 +58,7 @@ seen_unopened left = record {
   sound = IsCleanLeft left;
   stands_for = λ M. Unit {0};
   by_content = λ L M same is. is;
+  holds = λ d. Unit {0};
   may_leave = left_in left;
 }
 

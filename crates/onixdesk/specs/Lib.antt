@@ -6,6 +6,5 @@ pub mod GapsEnd
 pub mod MigrationEnd
 pub mod Serving
 pub mod TaskEnds
-pub mod SameContents
 pub mod FileViews
 pub mod FileEnds

@@ -5,9 +5,11 @@ use Rattle.std.specs.Vec.Iter.{into_iter_items, into_iter_len}
 use Rattle.std.proofs.lemmas.List.{take_all}
 use Rattle.series_rules.specs.Answers.{followed_by}
 use Rattle.desk_batch.specs.Batch.{output}
-use Rattle.desk_batch.specs.RunLemmas.{first_ones, next_ones, one_more}
+use Rattle.desk_batch.specs.RunLemmas.{one_more}
 use Rattle.desk_batch.specs.Steps.{answered_all}
-use Rattle.desk_batch.proofs.StepLemmas.{answered_more, asked_more, faulted_more}
+use Rattle.desk_batch.specs.declared.batch.RequestFault.TheVariants as fault
+use Rattle.desk_batch.proofs.StepLemmas.{answered_more, asked_more}
+use Rattle.desk_batch.proofs.Stopped.{stopped}
 use Rattle.desk_batch.proofs.batch.run_requests.Goals as goal
 
 pub loop-request-init : goal.loop-request-init
@@ -63,102 +65,26 @@ loop-request-preserved g c =
 pub returns-in-Err-Store : goal.returns-in-Err-Store
 returns-in-Err-Store g c =
     let inv = c.loop-request.invariant in
-    let r = c.in-Some.request in
-    let rest = into_iter_items c.next.new.self in
-    let split = inv.split ∙ ap (λ t. inv.some ++ t) c.in-Some.ensures.steps.0 in
-    let first = first_ones c.args.requests inv.some (r ∷ rest) c.loop-request.done split inv.counted in
-    let next = next_ones c.args.requests inv.some rest r c.loop-request.done split inv.counted in
-    let back : c.loop-request.done + 1 - 1 ≡ c.loop-request.done = omega arith in
-    let asked = rw c.in-Err-Store.field-0-is at c.in-Err-Store.ensures.asked in
-    rw c.in-Err-Store.field-0-is (record {
-      premise = λ sound. inv.premise (c.run_and_drop.ensures.premise sound);
-      run = λ L stands sound.
-          let before = inv.so_far L stands (c.run_and_drop.ensures.premise sound) in
-          let one = rw c.in-Err-Store.field-0-is at (c.in-Err-Store.ensures.run (followed_by L inv.some) before.2 sound) in
-          rw first (
-            omega (arith, next.1),
-            subst (Appends _ _) (append-nil (output c.args.precedence.now L inv.some)) (Appends-trans _ _ _ _ _ before.1 one.0),
-            one.1,
-          );
-      left = λ L stands sound only.
-          let still = c.run_and_drop.ensures.premise sound in
-          let one = rw c.in-Err-Store.field-0-is at (c.in-Err-Store.ensures.left (followed_by L inv.some) (inv.so_far L stands still).2 sound (inv.leaves L stands still only)) in
-          let more = one_more c.args.precedence.now L inv.some r in
-          rw (first, next.0, more.stood) one;
-      asked = (
-        answered_all inv.pairs ++ (r, _) ∷ [],
-        faulted_more g.D.Desk.seen c.args.precedence.now inv.pairs r asked.0 c.in-Err-Store.fault c.args.desk.now c.loop-request.desk c.run_and_drop.new.desk asked.2 inv.trace asked.1,
-        (answered_all inv.pairs, r, (inv.pairs, inv.asked ∙ sym first, refl), next.0 ∙ ap (λ xs. xs ++ r ∷ []) (sym first), refl),
-      );
-      fault = rw c.in-Err-Store.field-0-is at c.in-Err-Store.ensures.fault;
-    })
+    rw c.in-Err-Store.field-0-is (stopped g.D.Desk.seen c.args.precedence.now c.args.requests inv.some (into_iter_items c.next.new.self) c.in-Some.request c.loop-request.done
+    (inv.split ∙ ap (λ t. inv.some ++ t) c.in-Some.ensures.steps.0) inv.counted
+    (g.W.Write.contents c.args.writer.now) (g.W.Write.contents c.loop-request.writer) (g.W.Write.contents c.run_and_drop.new.writer)
+    c.args.desk.now c.loop-request.desk c.run_and_drop.new.desk inv.pairs inv.asked inv.trace (fault.Store c.in-Err-Store.fault) (rw c.in-Err-Store.field-0-is at c.in-Err-Store.ensures) inv.premise
+    (λ L stands sound. let standing = inv.so_far L stands sound in (standing.1, standing.2)) inv.leaves)
 
 pub returns-in-Err-Write : goal.returns-in-Err-Write
 returns-in-Err-Write g c =
     let inv = c.loop-request.invariant in
-    let r = c.in-Some.request in
-    let rest = into_iter_items c.next.new.self in
-    let split = inv.split ∙ ap (λ t. inv.some ++ t) c.in-Some.ensures.steps.0 in
-    let first = first_ones c.args.requests inv.some (r ∷ rest) c.loop-request.done split inv.counted in
-    let next = next_ones c.args.requests inv.some rest r c.loop-request.done split inv.counted in
-    let back : c.loop-request.done + 1 - 1 ≡ c.loop-request.done = omega arith in
-    let asked = rw c.in-Err-Write.field-0-is at c.in-Err-Write.ensures.asked in
-    record {
-      premise = λ sound. inv.premise (c.run_and_drop.ensures.premise sound);
-      run = λ L stands sound.
-          let before = inv.so_far L stands (c.run_and_drop.ensures.premise sound) in
-          let one = rw c.in-Err-Write.field-0-is at (c.in-Err-Write.ensures.run (followed_by L inv.some) before.2 sound) in
-          let more = one_more c.args.precedence.now L inv.some r in
-          rw (back, first, next.0) (
-            omega arith,
-            next.1,
-            (one.0.0, one.0.1, ap (λ t. output c.args.precedence.now L inv.some ++ t) one.0.2 ∙ sym more.written, Appends-trans _ _ _ _ _ before.1 one.0.3),
-            rw more.stood one.1,
-          );
-      left = λ L stands sound only.
-          let still = c.run_and_drop.ensures.premise sound in
-          let one = rw c.in-Err-Write.field-0-is at (c.in-Err-Write.ensures.left (followed_by L inv.some) (inv.so_far L stands still).2 sound (inv.leaves L stands still only)) in
-          let more = one_more c.args.precedence.now L inv.some r in
-          rw (next.0, more.stood) one;
-      asked = (
-        answered_all (inv.pairs ++ (r, asked.2.0) ∷ []),
-        answered_more g.D.Desk.seen c.args.precedence.now inv.pairs r asked.0 asked.2.0 c.args.desk.now c.loop-request.desk c.run_and_drop.new.desk asked.2.1 inv.trace asked.1,
-        (inv.pairs ++ (r, asked.2.0) ∷ [], asked_more inv.pairs inv.some r asked.2.0 inv.asked ∙ sym next.0, refl),
-      );
-      fault = tt;
-    }
+    stopped g.D.Desk.seen c.args.precedence.now c.args.requests inv.some (into_iter_items c.next.new.self) c.in-Some.request c.loop-request.done
+    (inv.split ∙ ap (λ t. inv.some ++ t) c.in-Some.ensures.steps.0) inv.counted
+    (g.W.Write.contents c.args.writer.now) (g.W.Write.contents c.loop-request.writer) (g.W.Write.contents c.run_and_drop.new.writer)
+    c.args.desk.now c.loop-request.desk c.run_and_drop.new.desk inv.pairs inv.asked inv.trace fault.Write (rw c.in-Err-Write.field-0-is at c.in-Err-Write.ensures) inv.premise
+    (λ L stands sound. let standing = inv.so_far L stands sound in (standing.1, standing.2)) inv.leaves
 
 pub returns-in-Err-Memory : goal.returns-in-Err-Memory
 returns-in-Err-Memory g c =
     let inv = c.loop-request.invariant in
-    let r = c.in-Some.request in
-    let rest = into_iter_items c.next.new.self in
-    let split = inv.split ∙ ap (λ t. inv.some ++ t) c.in-Some.ensures.steps.0 in
-    let first = first_ones c.args.requests inv.some (r ∷ rest) c.loop-request.done split inv.counted in
-    let next = next_ones c.args.requests inv.some rest r c.loop-request.done split inv.counted in
-    let back : c.loop-request.done + 1 - 1 ≡ c.loop-request.done = omega arith in
-    let asked = rw c.in-Err-Memory.field-0-is at c.in-Err-Memory.ensures.asked in
-    record {
-      premise = λ sound. inv.premise (c.run_and_drop.ensures.premise sound);
-      run = λ L stands sound.
-          let before = inv.so_far L stands (c.run_and_drop.ensures.premise sound) in
-          let one = rw c.in-Err-Memory.field-0-is at (c.in-Err-Memory.ensures.run (followed_by L inv.some) before.2 sound) in
-          let more = one_more c.args.precedence.now L inv.some r in
-          rw (back, first, next.0) (
-            omega arith,
-            next.1,
-            subst (Appends _ _) (append-nil (output c.args.precedence.now L inv.some)) (Appends-trans _ _ _ _ _ before.1 one.0),
-            rw more.stood one.1,
-          );
-      left = λ L stands sound only.
-          let still = c.run_and_drop.ensures.premise sound in
-          let one = rw c.in-Err-Memory.field-0-is at (c.in-Err-Memory.ensures.left (followed_by L inv.some) (inv.so_far L stands still).2 sound (inv.leaves L stands still only)) in
-          let more = one_more c.args.precedence.now L inv.some r in
-          rw (next.0, more.stood) one;
-      asked = (
-        answered_all (inv.pairs ++ (r, asked.2.0) ∷ []),
-        answered_more g.D.Desk.seen c.args.precedence.now inv.pairs r asked.0 asked.2.0 c.args.desk.now c.loop-request.desk c.run_and_drop.new.desk asked.2.1 inv.trace asked.1,
-        (inv.pairs ++ (r, asked.2.0) ∷ [], asked_more inv.pairs inv.some r asked.2.0 inv.asked ∙ sym next.0, refl),
-      );
-      fault = tt;
-    }
+    stopped g.D.Desk.seen c.args.precedence.now c.args.requests inv.some (into_iter_items c.next.new.self) c.in-Some.request c.loop-request.done
+    (inv.split ∙ ap (λ t. inv.some ++ t) c.in-Some.ensures.steps.0) inv.counted
+    (g.W.Write.contents c.args.writer.now) (g.W.Write.contents c.loop-request.writer) (g.W.Write.contents c.run_and_drop.new.writer)
+    c.args.desk.now c.loop-request.desk c.run_and_drop.new.desk inv.pairs inv.asked inv.trace fault.Memory (rw c.in-Err-Memory.field-0-is at c.in-Err-Memory.ensures) inv.premise
+    (λ L stands sound. let standing = inv.so_far L stands sound in (standing.1, standing.2)) inv.leaves

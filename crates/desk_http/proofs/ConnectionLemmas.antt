@@ -1,5 +1,5 @@
 -- One more connection of those that were served.
-use Rattle.std.proofs.Common.{◌≡◌, ◌++◌, ◌∷◌, ◌∙◌, ◌⊎◌, ℕ, zero, suc, Bool, true, false, List, [], Option, Some, None, Result, Ok, Err, inl, inr, refl, sym, subst, ap, arith, cond, append-nil}
+use Rattle.std.proofs.Common.{◌≡◌, ◌++◌, ◌∷◌, ◌∙◌, ◌⊎◌, ℕ, zero, suc, Bool, true, false, List, [], Option, Some, None, Result, Ok, Err, inl, inr, refl, sym, subst, ap, arith, cond}
 use Rattle.std.specs.Prelude.{Contains, IfSome}
 use Rattle.std.specs.Io.KnownBytes.{Appends}
 use Rattle.desk_terms.specs.declared.faults.StoreFault.{StoreFault}
@@ -16,10 +16,9 @@ use Rattle.desk_http.proofs.ExchangeLemmas.{none_asked, one_asked}
 use Rattle.desk_http.specs.AnswerReply.{reply_of_answer, reply_of_fault}
 use Rattle.desk_http.specs.Asks.{AsksFor}
 use Rattle.desk_http.specs.Connections.{AreServed, AskedFor, Connection, IsRepliedBy, IsUnasked, LeavesKept, answered, faulted, unasked}
-use Rattle.desk_http.specs.ExchangeSteps.{AreAsked, AreRepliedTo, AreStepsOf, IsReplied, IsUnsent}
+use Rattle.desk_http.specs.ExchangeSteps.{AreAsked, AreRepliedTo, AreStepsOf, IsUnsent}
 use Rattle.desk_http.specs.Reply.{Reply, reply_text}
 use Rattle.desk_http.specs.Serves.{Serves}
-use Rattle.desk_http.specs.Writing.{WritesFront}
 use Rattle.desk_http.specs.declared.exchange.HttpFault.{HttpFault}
 use Rattle.desk_http.specs.declared.exchange.HttpFault.TheVariants as fault
 use Rattle.desk_http.specs.declared.exchange.Wanted.{Wanted}

@@ -1,19 +1,20 @@
 -- A command that ended over a desk ended so over what comes of it, as over its files once they are closed.
-use Rattle.std.proofs.Common.{◌≡◌, ◌∙◌, ◌≤◌, ◌⊎◌, ◌∷◌, ◌++◌, ℕ, List, [], Option, Some, None, Result, inl, inr, arith, length, append-nil, append_assoc, refl, subst, sym}
+use Rattle.std.proofs.Common.{◌≡◌, ◌∙◌, ◌≤◌, ◌⊎◌, ◌∷◌, ◌++◌, ℕ, List, [], Option, Some, None, Result, inl, inr, arith, length, map, append-nil, append_assoc, refl, subst, sym}
 use Rattle.std.proofs.Math.Seq.{take-length}
 use Rattle.std.specs.Prelude.{take}
+use Rattle.std.specs.Borrow.{Bor}
 use Rattle.onix_terms.specs.SeriesName.{series_name_of}
 use Rattle.series_rules.specs.Views.{DeskKind, LeavesEither, LeavesOnly, View}
 use Rattle.series_rules.specs.declared.requests.Request.{Request}
 use Rattle.desk_batch.specs.Batch.{output, requests_of}
 use Rattle.desk_batch.specs.Leaves.{KeepsAnswered}
-use Rattle.desk_http.specs.declared.exchange.HttpFault.{HttpFault}
+use Rattle.desk_http.specs.Connections.{Connection, LeavesKept}
 use Rattle.onixdesk.proofs.QuestionLemmas.{without_question}
 use Rattle.onixdesk.specs.Course.{Course}
 use Rattle.onixdesk.specs.Deliveries.{DeliveriesEnd, KeepsDelivered}
 use Rattle.onixdesk.specs.Ends.{Ends}
 use Rattle.onixdesk.specs.GapsEnd.{GapsEnd, with_question}
-use Rattle.onixdesk.specs.Serving.{AtMostMore, KeepsReplied, LeavesAtMostMore}
+use Rattle.onixdesk.specs.Serving.{KeepsServed}
 use Rattle.onixdesk.specs.TaskEnds.{TaskEnds}
 use Rattle.onixdesk.specs.declared.command_line.Task.{Task}
 use Rattle.onixdesk.specs.declared.command_line.Task.TheVariants as task
@@ -141,27 +142,18 @@ module _ {k : DeskKind} (c : Course k) (new : View k) (comes : ComesOf c new) (s
   stood_still L name (inr stood) = inr (comes.stands sound _ stood)
 
   -- `serve`
-  more_still : (count : ℕ) (L : List Request) → AtMostMore count L c.stands → AtMostMore count L new.stands_for
-  more_still count L more = (more.0, more.1, comes.stands sound _ more.2)
-
-  more_left_still : (count : ℕ) (L : List Request) → AtMostMore count L c.stands → LeavesAtMostMore count L c.left → LeavesAtMostMore count L new
-  more_left_still count L more most = go (comes.left sound)
-    where
-      go : ((x : k.Left) → new.may_leave x → c.left.may_leave x) ⊎ ((K : List Request) → c.stands K → LeavesOnly new K) → LeavesAtMostMore count L new
-      go (inl no_more) = λ x may. most x (no_more x may)
-      go (inr alone) = λ x may. (more.0, more.1, alone _ more.2 x may)
-
-  replied_still : (L : List Request) (outcomes : List (Result ℕ HttpFault)) → KeepsReplied c.rules L outcomes c.stands c.left → KeepsReplied c.rules L outcomes new.stands_for new
-  replied_still L outcomes kept = record {
-    replies = kept.replies;
-    kept = kept.kept;
-    replied = kept.replied;
-    others = kept.others;
-    in_doubt = kept.in_doubt;
-    all = kept.all;
-    stands_after = more_still (length kept.others) kept.kept kept.stands_after;
-    left_after = more_left_still (length kept.others) kept.kept kept.stands_after kept.left_after;
+  served_still : (L : List Request) (served : List Connection) → KeepsServed c.rules L served c.stands c.was c.left → KeepsServed c.rules L served new.stands_for c.was new
+  served_still L served keeps = record {
+    kept = keeps.kept;
+    doubted = keeps.doubted;
+    are_served = keeps.are_served;
+    stands_after = comes.stands sound _ keeps.stands_after;
+    left_after = λ only. go (keeps.left_after only) (comes.left sound);
   }
+    where
+      go : LeavesKept keeps.doubted keeps.kept c.left → ((x : k.Left) → new.may_leave x → c.left.may_leave x) ⊎ ((K : List Request) → c.stands K → LeavesOnly new K) → LeavesKept keeps.doubted keeps.kept new
+      go leaves (inl no_more) = λ x may. leaves x (no_more x may)
+      go leaves (inr alone) = λ x may. inl (alone _ keeps.stands_after x may)
 
 pub task_ended : {k : DeskKind} (c : Course k) (new : View k) → ComesOf c new → (task : Task) (told : Option (List ℕ)) (status : ℕ) → TaskEnds c task told status → TaskEnds (ended_over c new) task told status
 task_ended c new comes task.Batch told status ended = (
@@ -174,10 +166,11 @@ task_ended c new comes task.Batch told status ended = (
 task_ended c new comes (task.Deliver names) told status ended = (
   ended.0,
   ended.1,
+  ended.2,
   λ L stood sound.
-      let end = ended.2 L stood (comes.premise sound) in (
-        deliveries_still c new comes sound L (length names.items) ended.0 ended.1 status end.0,
-        λ only. delivered_still c new comes sound L (length names.items) ended.0 ended.1 status end.0 (end.1 only),
+      let end = ended.3 L stood (comes.premise sound) in (
+        deliveries_still c new comes sound L (length (map (λ (name : Bor (List ℕ)). name.now) names.items)) ended.0 ended.1 status end.0,
+        λ only. delivered_still c new comes sound L (length (map (λ (name : Bor (List ℕ)). name.now) names.items)) ended.0 ended.1 status end.0 (end.1 only),
       ),
 )
 task_ended c new comes (task.Gaps name) told status ended = λ L stood sound.
@@ -186,16 +179,7 @@ task_ended c new comes (task.Gaps name) told status ended = λ L stood sound.
     ((end.0.0, stood_still c new comes sound L named end.0.1), λ only. question_still c new comes sound L named end.0.1 (end.1 only))
 task_ended c new comes (task.Serve port requests) told status ended = (
   ended.0,
-  (
-    ended.1.0,
-    λ L stood sound.
-        let end = ended.1.1 L stood (comes.premise sound) in (
-          more_still c new comes sound requests L end.0,
-          λ only.
-              let kept = end.1 only in
-              (more_left_still c new comes sound requests L end.0 kept.0, replied_still c new comes sound L ended.0 kept.1),
-        ),
-  ),
+  (ended.1.0, λ L stood sound. served_still c new comes sound L ended.0 (ended.1.1 L stood (comes.premise sound))),
   ended.2,
   ended.3,
 )

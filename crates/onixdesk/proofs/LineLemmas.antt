@@ -3,7 +3,7 @@ use Rattle.std.proofs.Common.{◌≡◌, ◌≤◌, ◌++◌, ◌∷◌, ◌∙�
 use Rattle.std.specs.Prelude.{OnErr, OnOk}
 use Rattle.std.specs.Io.KnownBytes.{Appends}
 use Rattle.std.proofs.KnownBytes.{Appends-trans}
-use Rattle.desk_http.specs.declared.exchange.HttpFault.{HttpFault}
+use Rattle.desk_http.specs.Connections.{Connection}
 use Rattle.desk_http.specs.Writing.{WritesFront}
 use Rattle.onixdesk.specs.Serving.{WritesLines, WritesWhole, line_of, lines_of}
 
@@ -18,19 +18,19 @@ module _ (was before holds : Option (List ℕ)) where
       (a ++ part, rest, append_assoc a part rest ∙ ap (λ t. a ++ t) is, Appends-trans was before holds _ _ first wrote)
 
   -- lines behind a text
-  pub lines_behind : (a : List ℕ) (outcomes : List (Result ℕ HttpFault)) → Appends was before a → WritesLines (Appends before holds) outcomes → WritesLines (λ lines. Appends was holds (a ++ lines)) outcomes
-  lines_behind a outcomes first (lines, last, is, few, (part, rest, cut, wrote)) = (lines, last, is, few, (part, rest, cut, Appends-trans was before holds _ _ first wrote))
+  pub lines_behind : (a : List ℕ) (served : List Connection) → Appends was before a → WritesLines (Appends before holds) served → WritesLines (λ lines. Appends was holds (a ++ lines)) served
+  lines_behind a served first (lines, last, is, few, (part, rest, cut, wrote)) = (lines, last, is, few, (part, rest, cut, Appends-trans was before holds _ _ first wrote))
 
   -- a first part of one line more
-  pub cut_line : (outcomes : List (Result ℕ HttpFault)) (outcome : Result ℕ HttpFault) → Appends was before (lines_of outcomes) → WritesFront (Appends before holds) (line_of outcome)
-      → WritesLines (Appends was holds) (outcomes ++ outcome ∷ [])
-  cut_line outcomes outcome lines (part, rest, is, wrote) =
-      (outcomes, outcome ∷ [], refl, omega arith, (part, rest, is ∙ sym (append-nil (line_of outcome)), Appends-trans was before holds _ _ lines wrote))
+  pub cut_line : (served : List Connection) (c : Connection) → Appends was before (lines_of served) → WritesFront (Appends before holds) (line_of c.outcome)
+      → WritesLines (Appends was holds) (served ++ c ∷ [])
+  cut_line served c lines (part, rest, is, wrote) =
+      (served, c ∷ [], refl, omega arith, (part, rest, is ∙ sym (append-nil (line_of c.outcome)), Appends-trans was before holds _ _ lines wrote))
 
 -- all lines, each whole
-pub whole_lines : (was holds : Option (List ℕ)) (outcomes : List (Result ℕ HttpFault)) → Appends was holds (lines_of outcomes) → WritesLines (Appends was holds) outcomes
-whole_lines was holds outcomes wrote =
-    (outcomes, [], append-nil outcomes, omega arith, ([], [], refl, subst (Appends was holds) (sym (append-nil (lines_of outcomes))) wrote))
+pub whole_lines : (was holds : Option (List ℕ)) (served : List Connection) → Appends was holds (lines_of served) → WritesLines (Appends was holds) served
+whole_lines was holds served wrote =
+    (served, [], append-nil served, omega arith, ([], [], refl, subst (Appends was holds) (sym (append-nil (lines_of served))) wrote))
 
 -- what was written whole or in part is so behind a text
 pub all_behind : {T F : Type 0} (was before holds : Option (List ℕ)) (a b : List ℕ) (result : Result T F) → Appends was before a → WritesWhole (Appends before holds) b result → WritesWhole (Appends was holds) (a ++ b) result

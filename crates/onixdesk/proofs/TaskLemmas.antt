@@ -1,6 +1,7 @@
 -- A command that ends from one beginning ends so from each that comes to it.
 use Rattle.series_rules.specs.Views.{DeskKind, View}
-use Rattle.std.proofs.Common.{inl, inr, ℕ, List, Option, length}
+use Rattle.std.proofs.Common.{inl, inr, ℕ, List, Option, length, map}
+use Rattle.std.specs.Borrow.{Bor}
 use Rattle.series_rules.specs.Views.{LeavesOnly}
 use Rattle.series_rules.specs.declared.requests.Request.{Request}
 use Rattle.onixdesk.specs.Course.{Course}
@@ -73,10 +74,11 @@ task_begun c stood was task.Batch told status ended begins = (
 task_begun c stood was (task.Deliver names) told status ended begins = (
   ended.0,
   ended.1,
+  ended.2,
   λ L began sound.
       let from = begins L began sound in
-      let end = ended.2 L from.0 sound in
-      (deliveries_begun c stood was L (length names.items) ended.0 ended.1 status end.0, λ only. end.1 from.1),
+      let end = ended.3 L from.0 sound in
+      (deliveries_begun c stood was L (length (map (λ (name : Bor (List ℕ)). name.now) names.items)) ended.0 ended.1 status end.0, λ only. end.1 from.1),
 )
 task_begun c stood was (task.Gaps name) told status ended begins = λ L began sound.
     let from = begins L began sound in
@@ -88,8 +90,14 @@ task_begun c stood was (task.Serve port requests) told status ended begins = (
     ended.1.0,
     λ L began sound.
         let from = begins L began sound in
-        let end = ended.1.1 L from.0 sound in
-        (end.0, λ only. end.1 from.1),
+        let keeps = ended.1.1 L from.0 sound in
+        record {
+          kept = keeps.kept;
+          doubted = keeps.doubted;
+          are_served = keeps.are_served;
+          stands_after = keeps.stands_after;
+          left_after = λ only. keeps.left_after from.1;
+        },
   ),
   ended.2,
   ended.3,

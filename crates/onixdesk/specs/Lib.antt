@@ -5,6 +5,7 @@ pub mod Deliveries
 pub mod GapsEnd
 pub mod MigrationEnd
 pub mod Serving
+pub mod Clients
 pub mod TaskEnds
 pub mod FileViews
 pub mod FileEnds

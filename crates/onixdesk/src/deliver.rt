@@ -1,6 +1,6 @@
 //! The command `deliver`: one message a file.
 
-ghost use Rattle.std.specs.Prelude.{◌≡◌, ◌≤◌, ℕ, List, length, if◌then◌else◌};
+ghost use Rattle.std.specs.Prelude.{◌≡◌, ◌≢◌, ◌≤◌, ℕ, List, codes, map, if◌then◌else◌};
 ghost use Rattle.std.specs.Io.KnownBytes.{Appends};
 ghost use Rattle.csv_records.specs.Streams.{IsTold};
 ghost use Rattle.onixdesk.specs.Course.{Course, course};
@@ -118,9 +118,11 @@ fn deliver_named<D: Desk, R: Read, W: Write>(
     writer: &mut W,
 ) -> Result<bool, DeliveryFault>
     ensures premise { (D.seen desk.new).sound → (D.seen desk.old).sound }
-    ensures run { (text : List ℕ) × DeliveryEnds
+    // Of some text, which is that of the input where it is read and tells its bytes.
+    ensures run { (text : List ℕ) × (name.now ≡ codes "-" → IsTold (R.remaining input.old) text) × DeliveryEnds
         (course precedence.now (D.seen desk.old) (D.seen desk.new)
         (Appends (W.contents writer.old) (W.contents writer.new))) text result }
+    ensures untouched { name.now ≢ codes "-" → input.new ≡ input.old }
 {
     if name == "-" {
         deliver_one(rt.alloc(), desk, precedence, input, writer)
@@ -164,10 +166,12 @@ pub fn run<D: Desk, R: Read, W: Write, E: Write>(
 ) -> u8
     ensures status { result ≤ 3 }
     ensures premise { (D.seen desk.new).sound → (D.seen desk.old).sound }
-    // There are texts, one for each file that was delivered: no clause can say what a file holds.
+    // There are texts, one for each file that was delivered. That of `-` is what the input tells of its
+    // bytes; of other files no clause can say what they hold.
     // Where a crash left only what the desk stood for, it leaves the deliveries that were answered.
     ensures end { DeliverEnds (course precedence.now (D.seen desk.old) (D.seen desk.new)
-        (Appends (W.contents output.old) (W.contents output.new))) (length names.now) result }
+        (Appends (W.contents output.old) (W.contents output.new)))
+        (R.remaining input.old) (map (λ name. name.now) names.now) result }
 {
     let mut has_refusal = false;
     for name in names {

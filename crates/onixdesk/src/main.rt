@@ -8,6 +8,7 @@
 #![tactic(auto)]
 
 mod batch;
+mod clients;
 mod command_line;
 mod commands;
 mod connection;
@@ -17,6 +18,7 @@ mod fault;
 mod files;
 mod gaps;
 mod migrate;
+mod port;
 mod program;
 mod rules;
 mod serve;

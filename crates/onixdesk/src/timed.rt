@@ -9,14 +9,14 @@ use std::time::{Duration, Instant};
 #[derive(Drop)]
 pub struct Timed<'a> {
     rt: &'a HostRuntime,
-    stream: &'a TcpStream,
+    stream: TcpStream,
     limit: Duration,
     began: Option<Instant>,
 }
 
 impl<'a> Timed<'a> {
     /// One way of this connection, with so much time for all its reads, or for all its writes.
-    pub fn new(rt: &'a HostRuntime, stream: &'a TcpStream, limit: Duration) -> Timed<'a> {
+    pub fn new(rt: &'a HostRuntime, stream: TcpStream, limit: Duration) -> Timed<'a> {
         Timed {
             rt,
             stream,
@@ -31,6 +31,22 @@ impl<'a> Timed<'a> {
         let began = self.began.unwrap_or(now);
         self.began = Some(began);
         Ok(self.limit.saturating_sub(now.duration_since(began)))
+    }
+
+    /// Takes what a client sent behind its request, as far as it is there, and closes: where such
+    /// bytes are left, the close can undo a reply that is still on its way.
+    pub fn close(mut self) {
+        let mut rest = [0u8; 4096];
+        if self.stream.set_nonblocking(true).is_err() {
+            return;
+        }
+        for _ in 0..1024 {
+            match self.stream.read(&mut rest) {
+                Ok(0) => return,
+                Ok(_) => {}
+                Err(_) => return,
+            }
+        }
     }
 }
 

@@ -1,0 +1,52 @@
+-- Which of the texts that were delivered is that of the input.
+use Rattle.std.proofs.Common.{◌≡◌, ◌<◌, ◌+◌, ◌++◌, ◌∷◌, ◌∙◌, ◌⊎◌, ℕ, zero, suc, List, [], Option, Some, None, inl, inr, refl, sym, ap, subst, arith, length, append-nil}
+use Rattle.std.specs.Prelude.{◌≢◌, codes, slice_get}
+use Rattle.csv_records.specs.Streams.{IsTold}
+use Rattle.desk_batch.specs.declared.batch.RequestFault.TheVariants as request_fault
+use Rattle.onixdesk.specs.Deliveries.{IsFirstInput, TellsInput}
+use Rattle.onixdesk.specs.declared.deliver.DeliveryFault.{DeliveryFault}
+use Rattle.onixdesk.specs.declared.deliver.DeliveryFault.TheVariants as fault
+use Rattle.onixdesk.proofs.DeliveryLemmas.{last_of}
+
+-- none of the first i names is the input
+abbrev pub NoInput : List (List ℕ) → ℕ → Type 0
+NoInput names i = (j : ℕ) → j < i → slice_get names j ≢ Some (codes "-")
+
+some_same : {X : Type 0} (a b : X) → Some a ≡ Some b → a ≡ b
+some_same a b e = cc
+
+-- an element of a list with one more at the end
+of_more : {X : Type 0} (xs : List X) (y : X) (k : ℕ) (x : X) → slice_get (xs ++ y ∷ []) k ≡ Some x → (slice_get xs k ≡ Some x) ⊎ ((k ≡ length xs) × (y ≡ x))
+of_more [] y zero x is = inr (refl, some_same y x is)
+of_more [] y (suc k) x is = absurd cc
+of_more (z ∷ xs) y zero x is = inl is
+of_more (z ∷ xs) y (suc k) x is = further (of_more xs y k x is)
+  where
+    further : (slice_get xs k ≡ Some x) ⊎ ((k ≡ length xs) × (y ≡ x)) → (slice_get xs k ≡ Some x) ⊎ ((suc k ≡ length (z ∷ xs)) × (y ≡ x))
+    further (inl there) = inl there
+    further (inr last) = inr (omega (arith, last.0), last.1)
+
+-- the i-th file has that name. Told: what the input told at first; now: what it tells
+module _ (told now : Option (List ℕ)) (names : List (List ℕ)) (i : ℕ) (name : List ℕ) (named : slice_get names i ≡ Some name) (untouched : NoInput names i → now ≡ told) where
+  pub tells_more : (texts : List (List ℕ)) (text : List ℕ) → length texts ≡ i → TellsInput told names texts → (name ≡ codes "-" → IsTold now text) → TellsInput told names (texts ++ text ∷ [])
+  tells_more texts text counted tells reads = λ k t first is. go k t first (of_more texts text k t is)
+    where
+      go : (k : ℕ) (t : List ℕ) → IsFirstInput names k → (slice_get texts k ≡ Some t) ⊎ ((k ≡ length texts) × (text ≡ t)) → IsTold told t
+      go k t first (inl before) = tells k t first before
+      go k t first (inr last) =
+          let at : k ≡ i = last.0 ∙ counted in
+          let input : name ≡ codes "-" = some_same name (codes "-") (sym named ∙ subst (λ n. slice_get names n ≡ Some (codes "-")) at first.0) in
+          let same : now ≡ told = untouched (λ j less. first.1 j (omega (arith, less, at))) in
+          subst (IsTold told) last.1 (subst (λ o. IsTold o text) same (reads input))
+
+  pub untouched_more : (new : Option (List ℕ)) → (name ≢ codes "-" → new ≡ now) → NoInput names (i + 1) → new ≡ told
+  untouched_more new left no_input =
+      left (λ input. no_input i (omega arith) (named ∙ ap Some input)) ∙ untouched (λ j less. no_input j (omega (arith, less)))
+
+  -- where a fault ends it
+  pub tells_last : (texts : List (List ℕ)) (text : List ℕ) (f : DeliveryFault) → length texts ≡ i → TellsInput told names texts → (name ≡ codes "-" → IsTold now text) → TellsInput told names (texts ++ last_of f text)
+  tells_last texts text (fault.Request request_fault.Write) counted tells reads = tells_more texts text counted tells reads
+  tells_last texts text (fault.Request request_fault.Memory) counted tells reads = tells_more texts text counted tells reads
+  tells_last texts text (fault.Request (request_fault.Store f)) counted tells reads = subst (TellsInput told names) (sym (append-nil texts)) tells
+  tells_last texts text (fault.Records f) counted tells reads = subst (TellsInput told names) (sym (append-nil texts)) tells
+  tells_last texts text fault.Unreadable counted tells reads = subst (TellsInput told names) (sym (append-nil texts)) tells

@@ -6,7 +6,7 @@ import hashlib
 import os
 import shutil
 import subprocess
-from collections.abc import Callable
+from collections.abc import Callable, Iterator
 from pathlib import Path
 
 from tools.building.sources import PROGRAM, digest, source_files
@@ -35,14 +35,14 @@ def is_built_of(sources: str) -> bool:
         return False
 
 
-def keep_stamp(sources: str):
+def keep_stamp(sources: str) -> None:
     """Keeps that the program is built of these sources, and by which toolchain."""
     version = subprocess.run(["rt", "version"], stdout=subprocess.PIPE, check=True).stdout
     TOOLCHAIN.write_bytes(version)
     STAMP.write_text(stamp_of(sources))
 
 
-def install(program: Path, sources: str):
+def install(program: Path, sources: str) -> None:
     """Puts a program that was built of these sources where it is looked for."""
     OUT.mkdir(exist_ok=True)
     STAMP.unlink(missing_ok=True)
@@ -52,7 +52,7 @@ def install(program: Path, sources: str):
     keep_stamp(sources)
 
 
-def adopt():
+def adopt() -> None:
     """Takes the program that the gate has just built here, where no source is newer than it."""
     if os.access(BUILT, os.X_OK):
         built = BUILT.stat().st_mtime
@@ -61,7 +61,7 @@ def adopt():
 
 
 @contextlib.contextmanager
-def held_lock(tell_of_waiting: Callable[[], None]):
+def held_lock(tell_of_waiting: Callable[[], None]) -> Iterator[None]:
     """Waits until nobody else builds here, and tells first where it has to."""
     with open(LOCK, "rb") as lock:
         try:

@@ -32,7 +32,7 @@ class BuildFault(Exception):
     """Why the program is not built."""
 
 
-def tell(text: str):
+def tell(text: str) -> None:
     print(f"onixdesk: {text}", file=sys.stderr, flush=True)
 
 
@@ -42,7 +42,7 @@ def keeps_results() -> bool:
     return b"--anew" in said
 
 
-def follow(build: subprocess.Popen, log: Path, crates: int):
+def follow(build: subprocess.Popen[bytes], log: Path, crates: int) -> None:
     """Tells how far the build is, at each crate that is done and every half minute, until it has ended."""
     start, shown, due = time.monotonic(), -1, 0.0
     every = float(os.environ.get("ONIXDESK_TOLD_EVERY", "30"))
@@ -81,7 +81,7 @@ def copied(repository: Path) -> tuple[str, list[str]]:
     return sources, crates
 
 
-def build_in(room: Path, words: list[str]):
+def build_in(room: Path, words: list[str]) -> None:
     """Builds the program in a folder of its own, and puts it where it is looked for."""
     repository, log = room / "repository", room / "log"
     sources, crates = copied(repository)
@@ -102,7 +102,7 @@ def build_in(room: Path, words: list[str]):
     tell(f"built {BUILT.relative_to(ROOT)}")
 
 
-def build(*words: str):
+def build(*words: str) -> None:
     """Builds the program where it is not built of the sources. The words are those of `rt ci`."""
     if not shutil.which("rt"):
         raise BuildFault("the Rattle toolchain's command 'rt' is not on the PATH")

@@ -78,7 +78,7 @@ def take_rules(batch: Batch, to: Path) -> tuple[list[str], list[str]]:
     return ["--data", f"{RULES}={to}"], ["--rules", RULES, "batch"]
 
 
-def take_input(to: Path):
+def take_input(to: Path) -> None:
     """Copies the batch: `rt try` would take an input that pauses for one that has ended."""
     try:
         with open(0, "rb", closefd=False) as given:

@@ -10,24 +10,25 @@ Status 0; 1 where the program is not built; 2 where the words are others.
 
 import signal
 import sys
+from collections.abc import Callable
 
 from tools.building.built import adopt, is_built_of
 from tools.building.proving import BuildFault, build
 from tools.building.sources import digest
 
 
-def write_sources():
+def write_sources() -> None:
     sources = digest()
     if not is_built_of(sources):
         raise BuildFault("no program is built of these sources; 'make build' builds it")
     print(sources)
 
 
-def build_anew():
+def build_anew() -> None:
     build("--anew")
 
 
-COMMANDS = {(): build, ("anew",): build_anew, ("sources",): write_sources, ("adopt",): adopt}
+COMMANDS: dict[tuple[str, ...], Callable[[], None]] = {(): build, ("anew",): build_anew, ("sources",): write_sources, ("adopt",): adopt}
 
 
 def main(words: list[str]) -> int:

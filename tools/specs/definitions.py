@@ -41,11 +41,11 @@ def imported(text: str) -> dict[str, tuple[str, str, str]]:
     """Crate, file and word of each name that a text imports, by the name that it has there.
 
     A whole file that is imported under an alias has an empty word."""
-    found = {}
+    found: dict[str, tuple[str, str, str]] = {}
     for crate, file, words, alias in IMPORT.findall(text):
         if alias:
             found[alias] = (crate, file, "")
-        for word in filter(None, (part.strip() for part in words.split(","))):
+        for word in (part.strip() for part in words.split(",") if part.strip()):
             theirs, _, ours = word.partition(" as ")
             found[ours or theirs] = (crate, file, theirs)
     return found

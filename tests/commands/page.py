@@ -37,12 +37,12 @@ def missing_packages() -> list[str]:
     return missing
 
 
-def why_not(program: Path) -> str | None:
-    """Why the page cannot be tested with that program."""
-    if not os.access(program, os.X_OK):
-        return f"no program {program}; make build builds it"
+def why_not(program: Path | None) -> str | None:
+    """Why the page cannot be tested with that program, or the tests not be listed without one."""
     if missing := missing_packages():
         return f"needs Debian's packages {' '.join(missing)}"
+    if program and not os.access(program, os.X_OK):
+        return f"no program {program}; make build builds it"
     return None
 
 
@@ -58,7 +58,7 @@ def main() -> int:
     given = command_line().parse_args()
     os.environ["PATH"] += ":/usr/sbin"
     program = given.program.resolve()
-    if why := why_not(program):
+    if why := why_not(None if given.list else program):
         print(f"tests/page/run: {why}", file=sys.stderr)
         return 2
     # It needs Selenium.

@@ -1,5 +1,5 @@
 .DEFAULT_GOAL := help
-.PHONY: help build test check lint docs definitions wrong-bodies page-test page-pictures package package-test
+.PHONY: help build test check lint docs definitions mutants wrong-bodies page-test page-pictures package package-test
 
 help: ## this list
 	@awk -F ':.*## ' '/^[a-z-]+:.*## / { printf "make %-13s %s\n", $$1, $$2 }' Makefile
@@ -29,8 +29,10 @@ definitions:
 	tools/definitions
 
 # The prover must refuse each of them too.
-wrong-bodies: ## tries the wrong bodies that the gate leaves out
-	tests/wrong-bodies
+mutants: ## tries the mutants, wrong bodies that the gate leaves out
+	@tools/mutants
+
+wrong-bodies: mutants
 
 # tests/page/run says which of Debian's packages it needs. The modules of the page are tried by node before, where
 # there is one. The last line is 'page: N cases, M failed'.

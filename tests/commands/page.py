@@ -47,10 +47,12 @@ def why_not(program: Path | None) -> str | None:
 
 
 def command_line() -> argparse.ArgumentParser:
-    parser = argparse.ArgumentParser("tests/page/run", description=__doc__, formatter_class=argparse.RawDescriptionHelpFormatter)
+    parser = argparse.ArgumentParser("tests/page/run",
+        description=__doc__, formatter_class=argparse.RawDescriptionHelpFormatter)
     add_choice(parser)
     parser.add_argument("--pictures", action="store_true", help="take the pictures of docs/ anew, and try nothing else")
-    parser.add_argument("program", metavar="PROGRAM", type=Path, nargs="?", default=ROOT / "crates/onixdesk/out/onixdesk")
+    parser.add_argument("program", metavar="PROGRAM", type=Path, nargs="?",
+        default=ROOT / "crates/onixdesk/out/onixdesk")
     return parser
 
 

@@ -23,7 +23,8 @@ from tools.root import ROOT
 
 
 def command_line() -> argparse.ArgumentParser:
-    parser = argparse.ArgumentParser("tests/run", description=__doc__, formatter_class=argparse.RawDescriptionHelpFormatter)
+    parser = argparse.ArgumentParser("tests/run",
+        description=__doc__, formatter_class=argparse.RawDescriptionHelpFormatter)
     add_choice(parser)
     parser.add_argument("program", metavar="PROGRAM", type=Path, nargs="?")
     return parser

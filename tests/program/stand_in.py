@@ -73,14 +73,15 @@ def tries(status: int) -> str:
 
 def make_repository(room, ci: str = PROVES, unproved: str = "", help: str = KEEPS):
     """Makes the repository in the room, with what the toolchain does for `rt ci` and for `rt try`."""
-    for name in ("tools", "bin", "crates/low/src", "crates/low/out", "crates/low/must-fail", "crates/high/specs"):
+    for name in ("tools", "bin", "crates/low/src", "crates/low/out", "crates/low/must-fail", "crates/low/mutants"):
         room.path(name).mkdir(parents=True)
-    for name in ("crates/beside/src", "crates/onixdesk/src", "tmp"):
+    for name in ("crates/high/specs", "crates/beside/src", "crates/onixdesk/src", "tmp"):
         room.path(name).mkdir(parents=True)
     shutil.copytree(ROOT / "tools", room.path("tools"), dirs_exist_ok=True)
     shutil.copy(ROOT / "bin/onixdesk", room.path("bin"))
     files = {"crates.txt": CRATES, "HANDLES": "Handles allowed: none.\n", SOURCE: "fn main() {}\n"}
-    files |= {"crates/low/src/lib.rt": "", "crates/low/out/old.rt": "", "crates/low/must-fail/wrong.edit": ""}
+    files |= {"crates/low/src/lib.rt": "", "crates/low/out/old.rt": ""}
+    files |= {"crates/low/must-fail/wrong.edit": "", "crates/low/mutants/more.edit": ""}
     files |= {"crates/high/specs/High.antt": "", "crates/beside/src/lib.rt": ""}
     files |= {"tools/rt": RT, "tools/ci": ci, "tools/try-unproved": unproved, "tools/help": help}
     for name, text in files.items():

@@ -9,8 +9,8 @@ from tools.root import ROOT
 
 PROGRAM = "onixdesk"
 
-# What the proof of a crate does not read: what was built of it, and the wrong bodies, which the gate tries.
-UNREAD = ("out", "must-fail")
+# What the proof of a crate does not read: what was built of it, and the wrong bodies, which are tried.
+UNREAD = ("out", "must-fail", "mutants")
 
 
 def source_files() -> list[str]:

@@ -24,13 +24,10 @@ impl<S: Alter> Work<'_, S> {
         ensures { Asks S.Store (λ rows series. AreSeriesInOrder rows series.items)
             self.old self.new result }
     {
-        let rows = match self.rows(
+        let rows = self.rows(
             "SELECT name, sender_type, sender_value, addressee_type, addressee_value, first_number, next_number FROM series ORDER BY name",
             &[],
-        ) {
-            Ok(rows) => rows,
-            Err(fault) => return Err(fault),
-        };
+        )?;
         match all_series(&rows) {
             Ok(series) => Ok(series),
             Err(fault) => {
@@ -47,13 +44,11 @@ impl<S: Alter> Work<'_, S> {
             (with_record (record { series = series.now; reference = reference.now }))
             self.old self.new result }
     {
-        match self.run(
+        self.run(
             "INSERT INTO record (series, reference) VALUES (?1, ?2) ON CONFLICT DO NOTHING",
             params![series.as_str(), reference],
-        ) {
-            Ok(_) => Ok(()),
-            Err(fault) => Err(fault),
-        }
+        )?;
+        Ok(())
     }
 
     /// Whether the series has the record.
@@ -61,13 +56,11 @@ impl<S: Alter> Work<'_, S> {
         ensures { Asks S.Store (λ rows there. there ≡ has_record series.now reference.now rows)
             self.old self.new result }
     {
-        match self.rows(
+        let rows = self.rows(
             "SELECT reference FROM record WHERE series = ?1 AND reference = ?2",
             params![series.as_str(), reference],
-        ) {
-            Ok(rows) => Ok(has_row(&rows)),
-            Err(fault) => Err(fault),
-        }
+        )?;
+        Ok(has_row(&rows))
     }
 
     /// Removes all rows of a record.
@@ -79,13 +72,11 @@ impl<S: Alter> Work<'_, S> {
         ensures { Changes S.Store (without_articles series.now reference.now)
             self.old self.new result }
     {
-        match self.run(
+        self.run(
             "DELETE FROM article WHERE series = ?1 AND reference = ?2",
             params![series.as_str(), reference],
-        ) {
-            Ok(_) => Ok(()),
-            Err(fault) => Err(fault),
-        }
+        )?;
+        Ok(())
     }
 
     /// All rows of a series, in the order of the bytes of their references, and then of their
@@ -94,13 +85,10 @@ impl<S: Alter> Work<'_, S> {
         ensures { Asks S.Store (λ rows articles. AreArticlesInOrder series.now rows articles.items)
             self.old self.new result }
     {
-        let rows = match self.rows(
+        let rows = self.rows(
             "SELECT series, reference, id_place, id_type, id_value FROM article WHERE series = ?1 ORDER BY reference, id_place",
             params![series.as_str()],
-        ) {
-            Ok(rows) => rows,
-            Err(fault) => return Err(fault),
-        };
+        )?;
         match all_articles(&rows) {
             Ok(articles) => Ok(articles),
             Err(fault) => {
@@ -116,13 +104,10 @@ impl<S: Alter> Work<'_, S> {
         ensures { Asks S.Store (λ rows offers. AreOffersInOrder series.now rows offers.items)
             self.old self.new result }
     {
-        let rows = match self.rows(
+        let rows = self.rows(
             "SELECT series, reference, place, supply, included, world, excluded, role, supplier_type, supplier_value, supplier_name, availability, unpriced FROM offer WHERE series = ?1 ORDER BY reference, place",
             params![series.as_str()],
-        ) {
-            Ok(rows) => rows,
-            Err(fault) => return Err(fault),
-        };
+        )?;
         match all_offers(&rows) {
             Ok(offers) => Ok(offers),
             Err(fault) => {
@@ -139,13 +124,10 @@ impl<S: Alter> Work<'_, S> {
             × AreRising minimums.items)
             self.old self.new result }
     {
-        let rows = match self.rows(
+        let rows = self.rows(
             "SELECT series, reference, place, price_place, minimum FROM price_minimum WHERE series = ?1 ORDER BY reference, place, price_place",
             params![series.as_str()],
-        ) {
-            Ok(rows) => rows,
-            Err(fault) => return Err(fault),
-        };
+        )?;
         match all_minimums(&rows) {
             Ok(minimums) => Ok(minimums),
             Err(fault) => {
@@ -166,13 +148,10 @@ impl<S: Alter> Work<'_, S> {
             → ArePricesWith minimums.now series.now rows prices.items)
             self.old self.new result }
     {
-        let rows = match self.rows(
+        let rows = self.rows(
             "SELECT series, reference, place, price_place, price_type, amount, currency, included, world, excluded, from_day, until_day FROM price WHERE series = ?1 ORDER BY reference, place, price_place",
             params![series.as_str()],
-        ) {
-            Ok(rows) => rows,
-            Err(fault) => return Err(fault),
-        };
+        )?;
         match all_prices(&rows, minimums) {
             Ok(prices) => Ok(prices),
             Err(fault) => {

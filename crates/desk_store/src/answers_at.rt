@@ -1,8 +1,7 @@
 //! What comes at a number of a series.
 
 ghost use Rattle.std.specs.Prelude.{◌≡◌};
-ghost use Rattle.sqlite.specs.Held.{state};
-ghost use Rattle.catalogue_store.specs.Achieves.{Achieves};
+ghost use Rattle.catalogue_store.specs.Achieves.{Does};
 ghost use Rattle.desk_store.specs.Answering.{AnswersAgain, DeliversAt, IsStored, WaivesAt};
 
 use crate::applying::{placed, put_new};
@@ -32,9 +31,9 @@ fn stored_at<S: Alter>(
     series: &SeriesName,
     number: Number,
 ) -> Result<Option<Stored>, StoreFault>
-    ensures same_reference { work.new.tables.ghost_name ≡ work.old.tables.ghost_name }
-    ensures achieves { Achieves (λ rows stored now. (now ≡ rows) × IsStored series.now number rows stored)
-        (state S.Store work.old.tables.now.connection) (state S.Store work.new.tables.now.connection) result }
+    ensures { Does S.Store
+        (λ rows stored now. (now ≡ rows) × IsStored series.now number rows stored)
+        work.old work.new result }
 {
     let applied = match work.applied_at(series, number) {
         Ok(applied) => applied,
@@ -90,9 +89,7 @@ pub(crate) fn deliver_at<S: Alter>(
     number: Number,
     contents: Contents,
 ) -> Result<DeliveryAnswer, StoreFault>
-    ensures same_reference { work.new.tables.ghost_name ≡ work.old.tables.ghost_name }
-    ensures achieves { Achieves (DeliversAt series.now next number contents)
-        (state S.Store work.old.tables.now.connection) (state S.Store work.new.tables.now.connection) result }
+    ensures { Does S.Store (DeliversAt series.now next number contents) work.old work.new result }
 {
     let Ok(text) = write_contents(alloc, &contents) else {
         return Err(StoreFault::Memory);
@@ -119,9 +116,7 @@ pub(crate) fn waive_at<S: Alter>(
     next: u32,
     number: Number,
 ) -> Result<WaiveAnswer, StoreFault>
-    ensures same_reference { work.new.tables.ghost_name ≡ work.old.tables.ghost_name }
-    ensures achieves { Achieves (WaivesAt series.now next number)
-        (state S.Store work.old.tables.now.connection) (state S.Store work.new.tables.now.connection) result }
+    ensures { Does S.Store (WaivesAt series.now next number) work.old work.new result }
 {
     one_standing_text();
     let stored = match stored_at(work, series, number) {

@@ -1,9 +1,9 @@
 //! Requests in one transaction.
 
 ghost use Rattle.std.specs.Prelude.{◌≡◌, List, Some, ℕ, if◌then◌else◌};
-ghost use Rattle.sqlite.specs.Held.{state};
-ghost use Rattle.catalogue_store.specs.Achieves.{Achieves};
+ghost use Rattle.catalogue_store.specs.Achieves.{Achieves, Does};
 ghost use Rattle.desk_store.specs.Desks.{Answers};
+ghost use Rattle.desk_tables.specs.Calls.{seen};
 ghost use Rattle.onix_message.specs.Message.{message_of};
 ghost use Rattle.series_rules.specs.Answers.{agree_answer, delivery_answer, same_agreement, waive_answer};
 ghost use Rattle.series_rules.specs.declared.requests.Request.{Request};
@@ -21,7 +21,8 @@ use std::alloc::Global;
 
 // What an agreement is answered whose name this one has.
 fn answer_named(agreed: &Agreement, agreement: &Agreement) -> AgreeAnswer
-    ensures { result ≡ (if same_agreement agreed.now agreement.now then AgreeAnswer.Agreed else AgreeAnswer.NameTaken) }
+    ensures { result ≡ (if same_agreement agreed.now agreement.now
+        then AgreeAnswer.Agreed else AgreeAnswer.NameTaken) }
 {
     if agreed == agreement {
         AgreeAnswer::Agreed
@@ -35,9 +36,9 @@ pub(crate) fn agree_in<S: Alter>(
     work: &mut Work<'_, S>,
     agreement: &Agreement,
 ) -> Result<AgreeAnswer, StoreFault>
-    ensures same_reference { work.new.tables.ghost_name ≡ work.old.tables.ghost_name }
-    ensures achieves { Achieves (Answers (Request.Agree agreement.now) (λ L. agree_answer L agreement.now))
-        (state S.Store work.old.tables.now.connection) (state S.Store work.new.tables.now.connection) result }
+    ensures { Does S.Store
+        (Answers (Request.Agree agreement.now) (λ L. agree_answer L agreement.now))
+        work.old work.new result }
 {
     let named = match work.series_by_name(&agreement.name) {
         Ok(named) => named,
@@ -72,8 +73,10 @@ pub(crate) fn deliver_in<S: Alter>(
     contents: Contents,
 ) -> Result<DeliveryAnswer, StoreFault>
     ensures same_reference { work.new.tables.ghost_name ≡ work.old.tables.ghost_name }
-    ensures achieves { (records : List (List (List ℕ))) → message_of records ≡ Some (header.now, contents) → header.now.number ≡ Some number → Achieves (Answers (Request.Deliver records) (λ L. delivery_answer L records))
-        (state S.Store work.old.tables.now.connection) (state S.Store work.new.tables.now.connection) result }
+    ensures achieves { (records : List (List (List ℕ)))
+        → message_of records ≡ Some (header.now, contents) → header.now.number ≡ Some number
+        → Achieves (Answers (Request.Deliver records) (λ L. delivery_answer L records))
+            (seen S.Store work.old) (seen S.Store work.new) result }
 {
     let found = match work.series_by_parties(&header.sender, &header.addressee) {
         Ok(found) => found,
@@ -102,9 +105,9 @@ pub(crate) fn waive_in<S: Alter>(
     series: &SeriesName,
     number: Number,
 ) -> Result<WaiveAnswer, StoreFault>
-    ensures same_reference { work.new.tables.ghost_name ≡ work.old.tables.ghost_name }
-    ensures achieves { Achieves (Answers (Request.Waive series.now number) (λ L. waive_answer L series.now number))
-        (state S.Store work.old.tables.now.connection) (state S.Store work.new.tables.now.connection) result }
+    ensures { Does S.Store
+        (Answers (Request.Waive series.now number) (λ L. waive_answer L series.now number))
+        work.old work.new result }
 {
     let found = match work.series_by_name(series) {
         Ok(found) => found,

@@ -101,11 +101,13 @@ impl<S: Alter> DeskStore<S> {
 impl DeskStore<MemStore> {
     /// A desk whose tables are in memory. It has seen no request.
     pub fn open_in_memory(alloc: Global) -> Result<DeskStore<MemStore>, OpenFault>
-        ensures stands { IfOk result (λ d. KeepsRequests (state over_memory d.tables.connection) []) }
+        ensures stands { IfOk result
+            (λ d. KeepsRequests (state over_memory d.tables.connection) []) }
         ensures alone { IfOk result (λ d. (left : Trees)
             → (state over_memory d.tables.connection).may_leave left
             → AreRowsOf left []) }
-        ensures is_open { IfOk result (λ d. IsTrue (state over_memory d.tables.connection).is_open) }
+        ensures is_open { IfOk result
+            (λ d. IsTrue (state over_memory d.tables.connection).is_open) }
         ensures fault { IfErr result (λ e. ¬ IsOther e) }
     {
         let connection = match Connection::open_in_memory(alloc) {

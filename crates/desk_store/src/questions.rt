@@ -1,8 +1,8 @@
 //! Questions, each in a transaction that is let go.
 
-ghost use Rattle.std.specs.Prelude.{◌≡◌, IfOk, IsTrue};
+ghost use Rattle.std.specs.Prelude.{IfOk, IsTrue};
 ghost use Rattle.sqlite.specs.Held.{state};
-ghost use Rattle.catalogue_store.specs.Achieves.{Achieves};
+ghost use Rattle.catalogue_store.specs.Achieves.{Does};
 ghost use Rattle.desk_store.specs.Desks.{OnlyAnswers, Reports};
 ghost use Rattle.desk_store.specs.Seen.{seen_in};
 ghost use Rattle.series_rules.specs.Answers.{catalogue_answer, gaps_answer};
@@ -32,10 +32,8 @@ fn catalogue_in<S: Alter>(
     work: &mut Work<'_, S>,
     series: &SeriesName,
 ) -> Result<Option<Catalogue>, StoreFault>
-    ensures same_reference { work.new.tables.ghost_name ≡ work.old.tables.ghost_name }
-    ensures achieves { Achieves (OnlyAnswers (λ L. catalogue_answer L series.now))
-        (state S.Store work.old.tables.now.connection)
-        (state S.Store work.new.tables.now.connection) result }
+    ensures { Does S.Store (OnlyAnswers (λ L. catalogue_answer L series.now))
+        work.old work.new result }
 {
     let found = match work.series_by_name(series) {
         Ok(found) => found,
@@ -119,10 +117,7 @@ fn gaps_in<S: Alter>(
     work: &mut Work<'_, S>,
     series: &SeriesName,
 ) -> Result<Option<GapReport>, StoreFault>
-    ensures same_reference { work.new.tables.ghost_name ≡ work.old.tables.ghost_name }
-    ensures achieves { Achieves (OnlyAnswers (λ L. gaps_answer L series.now))
-        (state S.Store work.old.tables.now.connection)
-        (state S.Store work.new.tables.now.connection) result }
+    ensures { Does S.Store (OnlyAnswers (λ L. gaps_answer L series.now)) work.old work.new result }
 {
     let found = match work.series_by_name(series) {
         Ok(found) => found,

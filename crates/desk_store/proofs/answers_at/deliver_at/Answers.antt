@@ -1,6 +1,6 @@
-use Rattle.std.proofs.Common.{◌≡◌, ℕ, List, Option, sym, subst, ◌∙◌}
+use Rattle.std.proofs.Common.{◌≡◌, ℕ, List, Option, sym, subst, ◌∙◌, rules}
 use Rattle.sqlite.specs.Held.{state}
-use Rattle.catalogue_store.specs.AchievesLemmas.{achieves_as, achieves_then}
+use Rattle.catalogue_store.specs.AchievesLemmas.{achieves_as, achieves_then, does}
 use Rattle.desk_tables.specs.Rows.{DeskRows}
 use Rattle.onix_records.specs.declared.parts.Product.{Product}
 use Rattle.series_rules.specs.declared.answers.DeliveryAnswer.{DeliveryAnswer}
@@ -15,8 +15,8 @@ use Rattle.desk_store.proofs.answers_at.deliver_at.Goals as goal
 abbrev Finds : List ℕ → ℕ → DeskRows → Option Stored → DeskRows → Type 0
 Finds s n rows stored now = (now ≡ rows) × IsStored s n rows stored
 
-pub returns-in-Some-clause-achieves : goal.returns-in-Some-clause-achieves
-returns-in-Some-clause-achieves g c =
+pub returns-in-Some : goal.returns-in-Some
+returns-in-Some g c =
     let old = state g.S.Store c.args.work.now.tables.now.connection in
     let new = state g.S.Store c.stored_at.new.work.tables.now.connection in
     let s = c.args.series.now in
@@ -24,11 +24,12 @@ returns-in-Some-clause-achieves g c =
     let products : List Product = c.args.contents in
     let text = c.as_str.result.now in
     let own = sym c.in-Ok.ensures ∙ sym c.as_str.ensures.value in
-    achieves_as (Finds s n) _ old new c.in-Ok-stored_at.stored c.answer_again.result c.in-Ok-stored_at.ensures.achieves
-    (λ rows now h m one. delivers_again s c.args.next n products c.in-Some.stored text rows now c.answer_again.result own one.0 (subst (IsStored s n rows) c.in-Some.is one.1) c.answer_again.ensures)
+    does (search rules)
+    (achieves_as (Finds s n) _ old new c.in-Ok-stored_at.stored c.answer_again.result c.in-Ok-stored_at.ensures.achieves
+    (λ rows now h m one. delivers_again s c.args.next n products c.in-Some.stored text rows now c.answer_again.result own one.0 (subst (IsStored s n rows) c.in-Some.is one.1) c.answer_again.ensures))
 
-pub returns-in-None-clause-achieves : goal.returns-in-None-clause-achieves
-returns-in-None-clause-achieves g c =
+pub returns-in-None : goal.returns-in-None
+returns-in-None g c =
     let old = state g.S.Store c.args.work.now.tables.now.connection in
     let mid = state g.S.Store c.stored_at.new.work.tables.now.connection in
     let new = state g.S.Store c.put_new.new.work.tables.now.connection in
@@ -38,5 +39,6 @@ returns-in-None-clause-achieves g c =
     let text = c.as_str-in-None.result.now in
     let Put : DeskRows → DeliveryAnswer → DeskRows → Type 0 = PutsNew s c.args.next n (Message products) text in
     let own = sym c.in-Ok.ensures ∙ sym c.as_str-in-None.ensures.value in
-    achieves_then (Finds s n) Put _ old mid new c.in-Ok-stored_at.stored c.put_new.result c.in-Ok-stored_at.ensures.achieves c.put_new.ensures.achieves
-    (λ rows between now answer h m k one two. delivers_new s c.args.next n products text rows between now answer own one.0 (subst (IsStored s n rows) c.in-None.is one.1) two)
+    does (search rules)
+    (achieves_then (Finds s n) Put _ old mid new c.in-Ok-stored_at.stored c.put_new.result c.in-Ok-stored_at.ensures.achieves c.put_new.ensures.achieves
+    (λ rows between now answer h m k one two. delivers_new s c.args.next n products text rows between now answer own one.0 (subst (IsStored s n rows) c.in-None.is one.1) two))

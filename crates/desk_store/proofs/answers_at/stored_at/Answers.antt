@@ -1,6 +1,6 @@
-use Rattle.std.proofs.Common.{◌≡◌, ℕ, List, Option, None, Some, Ok, sym, refl, ◌∙◌, ap}
+use Rattle.std.proofs.Common.{◌≡◌, ℕ, List, Option, None, Some, Ok, sym, refl, ◌∙◌, ap, rules}
 use Rattle.sqlite.specs.Held.{state}
-use Rattle.catalogue_store.specs.AchievesLemmas.{achieves_as, achieves_call, achieves_call_failed, achieves_then}
+use Rattle.catalogue_store.specs.AchievesLemmas.{achieves_as, achieves_call, achieves_call_failed, achieves_then, does}
 use Rattle.desk_tables.specs.Rows.{DeskRows, applied_at, held_at}
 use Rattle.desk_terms.specs.declared.effects.Effect.{Effect}
 use Rattle.desk_store.specs.declared.answers_at.Stored.{Stored}
@@ -21,19 +21,20 @@ ShowsApplied s n rows applied now = Applied s n rows applied × (now ≡ rows)
 abbrev ShowsHeld : List ℕ → ℕ → DeskRows → Option (List ℕ) → DeskRows → Type 0
 ShowsHeld s n rows text now = Held s n rows text × (now ≡ rows)
 
-pub returns-in-Some-clause-achieves : goal.returns-in-Some-clause-achieves
-returns-in-Some-clause-achieves g c =
+pub returns-in-Some : goal.returns-in-Some
+returns-in-Some g c =
     let old = state g.S.Store c.args.work.now.tables.now.connection in
     let new = state g.S.Store c.applied_at.new.self.tables.now.connection in
     let s = c.args.series.now in
     let n = c.args.number in
     let x : Stored = record { text = c.in-Some.text; effect = Some c.in-Some.effect } in
-    achieves_as (ShowsApplied s n) _ old new c.in-Ok.applied (Some x)
+    does (search rules)
+    (achieves_as (ShowsApplied s n) _ old new c.in-Ok.applied (Some x)
     (achieves_call (Applied s n) (λ rows. rows) old new c.args.work.now.spent c.applied_at.new.self.spent (Ok c.in-Ok.applied) c.in-Ok.ensures.works)
-    (λ rows now h m one. (one.1, stored_applied s n rows (c.in-Some.text, c.in-Some.effect) c.in-Ok.applied x one.0 c.in-Some.is refl refl))
+    (λ rows now h m one. (one.1, stored_applied s n rows (c.in-Some.text, c.in-Some.effect) c.in-Ok.applied x one.0 c.in-Some.is refl refl)))
 
-pub returns-in-Ok-Some-clause-achieves : goal.returns-in-Ok-Some-clause-achieves
-returns-in-Ok-Some-clause-achieves g c =
+pub returns-in-Ok-Some : goal.returns-in-Ok-Some
+returns-in-Ok-Some g c =
     let old = state g.S.Store c.args.work.now.tables.now.connection in
     let mid = state g.S.Store c.applied_at.new.self.tables.now.connection in
     let new = state g.S.Store c.next_held.new.self.tables.now.connection in
@@ -41,34 +42,37 @@ returns-in-Ok-Some-clause-achieves g c =
     let n = c.args.number in
     let x : Stored = record { text = c.in-Ok-Some.text; effect = None } in
     let Both : DeskRows → Option (List ℕ) → DeskRows → Type 0 = λ rows text now. (now ≡ rows) × Applied s n rows c.in-Ok.applied × Held s n rows text in
-    achieves_as Both _ old new c.in-Ok-Some.field-0 (Some x)
+    does (search rules)
+    (achieves_as Both _ old new c.in-Ok-Some.field-0 (Some x)
     (achieves_then (ShowsApplied s n) (ShowsHeld s n) Both old mid new c.in-Ok.applied (Ok c.in-Ok-Some.field-0)
     (achieves_call (Applied s n) (λ rows. rows) old mid c.args.work.now.spent c.applied_at.new.self.spent (Ok c.in-Ok.applied) c.in-Ok.ensures.works)
     (achieves_call (Held s n) (λ rows. rows) mid new c.applied_at.new.self.spent c.next_held.new.self.spent (Ok c.in-Ok-Some.field-0) c.in-Ok-Some.ensures.works)
     (λ rows between now text h m k one two. (two.1 ∙ one.1, one.0, two.0 ∙ ap (held_at s n) one.1)))
-    (λ rows now h m one. (one.0, stored_held s n rows c.in-Ok-Some.field-0 (Some x) (sym one.1 ∙ c.in_default.is) one.2 (sym c.in-Ok-Some.field-0-is) refl))
+    (λ rows now h m one. (one.0, stored_held s n rows c.in-Ok-Some.field-0 (Some x) (sym one.1 ∙ c.in_default.is) one.2 (sym c.in-Ok-Some.field-0-is) refl)))
 
-pub returns-in-Ok-None-clause-achieves : goal.returns-in-Ok-None-clause-achieves
-returns-in-Ok-None-clause-achieves g c =
+pub returns-in-Ok-None : goal.returns-in-Ok-None
+returns-in-Ok-None g c =
     let old = state g.S.Store c.args.work.now.tables.now.connection in
     let mid = state g.S.Store c.applied_at.new.self.tables.now.connection in
     let new = state g.S.Store c.next_held.new.self.tables.now.connection in
     let s = c.args.series.now in
     let n = c.args.number in
     let Both : DeskRows → Option (List ℕ) → DeskRows → Type 0 = λ rows text now. (now ≡ rows) × Applied s n rows c.in-Ok.applied × Held s n rows text in
-    achieves_as Both _ old new c.in-Ok-None.field-0 None
+    does (search rules)
+    (achieves_as Both _ old new c.in-Ok-None.field-0 None
     (achieves_then (ShowsApplied s n) (ShowsHeld s n) Both old mid new c.in-Ok.applied (Ok c.in-Ok-None.field-0)
     (achieves_call (Applied s n) (λ rows. rows) old mid c.args.work.now.spent c.applied_at.new.self.spent (Ok c.in-Ok.applied) c.in-Ok.ensures.works)
     (achieves_call (Held s n) (λ rows. rows) mid new c.applied_at.new.self.spent c.next_held.new.self.spent (Ok c.in-Ok-None.field-0) c.in-Ok-None.ensures.works)
     (λ rows between now text h m k one two. (two.1 ∙ one.1, one.0, two.0 ∙ ap (held_at s n) one.1)))
-    (λ rows now h m one. (one.0, stored_held s n rows c.in-Ok-None.field-0 None (sym one.1 ∙ c.in_default.is) one.2 (sym c.in-Ok-None.field-0-is) refl))
+    (λ rows now h m one. (one.0, stored_held s n rows c.in-Ok-None.field-0 None (sym one.1 ∙ c.in_default.is) one.2 (sym c.in-Ok-None.field-0-is) refl)))
 
-pub returns-in-Err-next_held-clause-achieves : goal.returns-in-Err-next_held-clause-achieves
-returns-in-Err-next_held-clause-achieves g c =
+pub returns-in-Err-next_held : goal.returns-in-Err-next_held
+returns-in-Err-next_held g c =
     let old = state g.S.Store c.args.work.now.tables.now.connection in
     let mid = state g.S.Store c.applied_at.new.self.tables.now.connection in
     let new = state g.S.Store c.next_held.new.self.tables.now.connection in
     let s = c.args.series.now in
     let n = c.args.number in
-    achieves_call_failed {C = Option Stored} (ShowsApplied s n) (Held s n) (λ rows. rows) _ old mid new c.applied_at.new.self.spent c.next_held.new.self.spent c.in-Ok.applied c.in-Err-next_held.fault
-    (achieves_call (Applied s n) (λ rows. rows) old mid c.args.work.now.spent c.applied_at.new.self.spent (Ok c.in-Ok.applied) c.in-Ok.ensures.works) c.in-Err-next_held.ensures.works
+    does (search rules)
+    (achieves_call_failed {C = Option Stored} (ShowsApplied s n) (Held s n) (λ rows. rows) _ old mid new c.applied_at.new.self.spent c.next_held.new.self.spent c.in-Ok.applied c.in-Err-next_held.fault
+    (achieves_call (Applied s n) (λ rows. rows) old mid c.args.work.now.spent c.applied_at.new.self.spent (Ok c.in-Ok.applied) c.in-Ok.ensures.works) c.in-Err-next_held.ensures.works)

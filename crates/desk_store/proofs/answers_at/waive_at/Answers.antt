@@ -1,7 +1,7 @@
-use Rattle.std.proofs.Common.{◌≡◌, ℕ, List, Option, Some, Ok, codes, sym, subst, ap, ◌∙◌, true, false, refl}
+use Rattle.std.proofs.Common.{◌≡◌, ℕ, List, Option, Some, Ok, codes, sym, subst, ap, ◌∙◌, true, false, refl, rules}
 use Rattle.std.specs.Prelude.{bytes_eq}
 use Rattle.sqlite.specs.Held.{state}
-use Rattle.catalogue_store.specs.AchievesLemmas.{achieves_as, achieves_failed, achieves_then}
+use Rattle.catalogue_store.specs.AchievesLemmas.{achieves_as, achieves_failed, achieves_then, does}
 use Rattle.desk_tables.specs.Rows.{DeskRows}
 use Rattle.series_rules.specs.declared.answers.DeliveryAnswer.{DeliveryAnswer}
 use Rattle.series_rules.specs.declared.answers.WaiveAnswer.TheVariants as waiver
@@ -16,30 +16,32 @@ use Rattle.desk_store.proofs.answers_at.waive_at.Goals as goal
 abbrev Finds : List ℕ → ℕ → DeskRows → Option Stored → DeskRows → Type 0
 Finds s n rows stored now = (now ≡ rows) × IsStored s n rows stored
 
-pub returns-then-is_waived-clause-achieves : goal.returns-then-is_waived-clause-achieves
-returns-then-is_waived-clause-achieves g c =
+pub returns-then-is_waived : goal.returns-then-is_waived
+returns-then-is_waived g c =
     let old = state g.S.Store c.args.work.now.tables.now.connection in
     let new = state g.S.Store c.stored_at.new.work.tables.now.connection in
     let s = c.args.series.now in
     let n = c.args.number in
     let stored = c.as_str.result.now in
     let w : bytes_eq stored (codes "waived") ≡ true = sym c.is_waived.ensures ∙ c.if-is_waived.true in
-    achieves_as (Finds s n) _ old new c.in-Ok.stored waiver.Waived c.in-Ok.ensures.achieves
-    (λ rows now h m one. waives_again c.one_standing_text.ensures s c.args.next n stored rows now one.0 (ap (λ (t : List ℕ). Some t) c.as_str.ensures ∙ (subst (IsStored s n rows) c.in-Some.is one.1).0) w)
+    does (search rules)
+    (achieves_as (Finds s n) _ old new c.in-Ok.stored waiver.Waived c.in-Ok.ensures.achieves
+    (λ rows now h m one. waives_again c.one_standing_text.ensures s c.args.next n stored rows now one.0 (ap (λ (t : List ℕ). Some t) c.as_str.ensures ∙ (subst (IsStored s n rows) c.in-Some.is one.1).0) w))
 
-pub returns-clause-achieves : goal.returns-clause-achieves
-returns-clause-achieves g c =
+pub returns : goal.returns
+returns g c =
     let old = state g.S.Store c.args.work.now.tables.now.connection in
     let new = state g.S.Store c.stored_at.new.work.tables.now.connection in
     let s = c.args.series.now in
     let n = c.args.number in
     let stored = c.as_str.result.now in
     let w : bytes_eq stored (codes "waived") ≡ false = sym c.is_waived.ensures ∙ c.if-is_waived.false in
-    achieves_as (Finds s n) _ old new c.in-Ok.stored waiver.HasMessage c.in-Ok.ensures.achieves
-    (λ rows now h m one. waives_late s c.args.next n stored rows now one.0 (ap (λ (t : List ℕ). Some t) c.as_str.ensures ∙ (subst (IsStored s n rows) c.in-Some.is one.1).0) w)
+    does (search rules)
+    (achieves_as (Finds s n) _ old new c.in-Ok.stored waiver.HasMessage c.in-Ok.ensures.achieves
+    (λ rows now h m one. waives_late s c.args.next n stored rows now one.0 (ap (λ (t : List ℕ). Some t) c.as_str.ensures ∙ (subst (IsStored s n rows) c.in-Some.is one.1).0) w))
 
-pub returns-in-Ok-put_new-clause-achieves : goal.returns-in-Ok-put_new-clause-achieves
-returns-in-Ok-put_new-clause-achieves g c =
+pub returns-in-Ok-put_new : goal.returns-in-Ok-put_new
+returns-in-Ok-put_new g c =
     let old = state g.S.Store c.args.work.now.tables.now.connection in
     let mid = state g.S.Store c.stored_at.new.work.tables.now.connection in
     let new = state g.S.Store c.put_new.new.work.tables.now.connection in
@@ -47,17 +49,19 @@ returns-in-Ok-put_new-clause-achieves g c =
     let n = c.args.number in
     let Put : DeskRows → DeliveryAnswer → DeskRows → Type 0 = PutsNew s c.args.next n Waived (codes "waived") in
     let Done : DeskRows → DeliveryAnswer → DeskRows → Type 0 = λ rows _ now. WaivesAt s c.args.next n rows waiver.Waived now in
-    achieves_as Done _ old new c.in-Ok-put_new.field-0 waiver.Waived
+    does (search rules)
+    (achieves_as Done _ old new c.in-Ok-put_new.field-0 waiver.Waived
     (achieves_then (Finds s n) Put Done old mid new c.in-Ok.stored (Ok c.in-Ok-put_new.field-0) c.in-Ok.ensures.achieves c.in-Ok-put_new.ensures.achieves
     (λ rows between now answer h m k one two. waives_new s c.args.next n (codes "waived") rows between now answer refl one.0 (subst (IsStored s n rows) c.in_default.is one.1) two))
-    (λ rows now h m one. one)
+    (λ rows now h m one. one))
 
-pub returns-in-Err-put_new-clause-achieves : goal.returns-in-Err-put_new-clause-achieves
-returns-in-Err-put_new-clause-achieves g c =
+pub returns-in-Err-put_new : goal.returns-in-Err-put_new
+returns-in-Err-put_new g c =
     let old = state g.S.Store c.args.work.now.tables.now.connection in
     let mid = state g.S.Store c.stored_at.new.work.tables.now.connection in
     let new = state g.S.Store c.put_new.new.work.tables.now.connection in
     let s = c.args.series.now in
     let n = c.args.number in
     let Put : DeskRows → DeliveryAnswer → DeskRows → Type 0 = PutsNew s c.args.next n Waived (codes "waived") in
-    achieves_failed (Finds s n) Put _ old mid new c.in-Ok.stored c.in-Err-put_new.fault c.in-Ok.ensures.achieves c.in-Err-put_new.ensures.achieves
+    does (search rules)
+    (achieves_failed (Finds s n) Put _ old mid new c.in-Ok.stored c.in-Err-put_new.fault c.in-Ok.ensures.achieves c.in-Err-put_new.ensures.achieves)

@@ -1,12 +1,14 @@
+use Rattle.std.proofs.Common.{rules}
 use Rattle.sqlite.specs.Held.{state}
-use Rattle.catalogue_store.specs.AchievesLemmas.{achieves_as}
+use Rattle.catalogue_store.specs.AchievesLemmas.{achieves_as, does}
 use Rattle.desk_store.specs.Changes.{AppliesAt}
 use Rattle.desk_store.proofs.applying.apply_text.Goals as goal
 
-pub returns-in-Ok-apply_at-clause-achieves : goal.returns-in-Ok-apply_at-clause-achieves
-returns-in-Ok-apply_at-clause-achieves g c =
+pub returns-in-Ok-apply_at : goal.returns-in-Ok-apply_at
+returns-in-Ok-apply_at g c =
     let old = state g.S.Store c.args.work.now.tables.now.connection in
     let new = state g.S.Store c.apply_at.new.work.tables.now.connection in
     let e = c.in-Ok-apply_at.field-0 in
-    achieves_as (AppliesAt c.args.series.now c.args.number c.in-Ok.standing c.args.text.now) _ old new e tt c.in-Ok-apply_at.ensures.achieves
-    (λ rows now h n one. (c.in-Ok.standing, c.in-Ok.ensures.0, c.in-Ok.ensures.1, e, one))
+    does (search rules)
+    (achieves_as (AppliesAt c.args.series.now c.args.number c.in-Ok.standing c.args.text.now) _ old new e tt c.in-Ok-apply_at.ensures.achieves
+    (λ rows now h n one. (c.in-Ok.standing, c.in-Ok.ensures.0, c.in-Ok.ensures.1, e, one)))

@@ -1,10 +1,10 @@
 use Rattle.std.proofs.Common.{◌≡◌, ◌+◌, Bool, Ok, true, false, arith, subst, rules, sym, ◌∙◌}
 use Rattle.sqlite.specs.Held.{state}
-use Rattle.catalogue_store.specs.AchievesLemmas.{achieves_as, achieves_failed, achieves_nothing, achieves_stopped, achieves_then}
+use Rattle.catalogue_store.specs.AchievesLemmas.{achieves_as, achieves_failed, achieves_nothing, achieves_stopped, achieves_then, does}
 use Rattle.desk_tables.specs.Rows.{DeskRows}
 use Rattle.desk_terms.specs.declared.faults.StoreFault.TheVariants.{Unusable}
-use Rattle.desk_store.specs.Changes.{Drains, DrainsOne, DrainsTo}
-use Rattle.desk_store.proofs.Applied.{drained_all, drained_more, drained_up, step_at}
+use Rattle.desk_store.specs.Changes.{Drains, DrainsOne}
+use Rattle.desk_store.proofs.Applied.{DrainsTo, drained_all, drained_more, drained_up, step_at}
 use Rattle.desk_store.proofs.NumberValues.{number_is}
 use Rattle.desk_store.proofs.applying.drain.Goals as goal
 
@@ -14,19 +14,21 @@ loop-value-init g c = record {
   so_far = achieves_nothing _ (state g.S.Store c.args.work.now.tables.now.connection) tt (λ rows h. λ f a base cut same. cut);
 }
 
-pub returns-in_default-clause-achieves : goal.returns-in_default-clause-achieves
-returns-in_default-clause-achieves g c =
+pub returns-in_default : goal.returns-in_default
+returns-in_default g c =
     let SoFar : DeskRows → Unit {0} → DeskRows → Type 0 = λ rows _ now. DrainsTo c.args.series.now c.args.from c.loop-value.value rows now in
-    achieves_stopped SoFar _ (state g.S.Store c.args.work.now.tables.now.connection) (state g.S.Store c.loop-value.work.tables.now.connection) (Ok tt) Unusable c.loop-value.invariant.so_far
+    does (search rules)
+    (achieves_stopped SoFar _ (state g.S.Store c.args.work.now.tables.now.connection) (state g.S.Store c.loop-value.work.tables.now.connection) (Ok tt) Unusable c.loop-value.invariant.so_far)
 
-pub returns-in-Err-clause-achieves : goal.returns-in-Err-clause-achieves
-returns-in-Err-clause-achieves g c =
+pub returns-in-Err : goal.returns-in-Err
+returns-in-Err g c =
     let SoFar : DeskRows → Unit {0} → DeskRows → Type 0 = λ rows _ now. DrainsTo c.args.series.now c.args.from c.loop-value.value rows now in
-    achieves_failed SoFar (DrainsOne c.args.series.now c.in-Some.number) _ (state g.S.Store c.args.work.now.tables.now.connection) (state g.S.Store c.loop-value.work.tables.now.connection) (state g.S.Store c.drain_step.new.work.tables.now.connection) tt c.in-Err.fault
-    c.loop-value.invariant.so_far c.in-Err.ensures.achieves
+    does (search rules)
+    (achieves_failed SoFar (DrainsOne c.args.series.now c.in-Some.number) _ (state g.S.Store c.args.work.now.tables.now.connection) (state g.S.Store c.loop-value.work.tables.now.connection) (state g.S.Store c.drain_step.new.work.tables.now.connection) tt c.in-Err.fault
+    c.loop-value.invariant.so_far c.in-Err.ensures.achieves)
 
-pub returns-then-not-moved-clause-achieves : goal.returns-then-not-moved-clause-achieves
-returns-then-not-moved-clause-achieves g c =
+pub returns-then-not-moved : goal.returns-then-not-moved
+returns-then-not-moved g c =
     let old = state g.S.Store c.args.work.now.tables.now.connection in
     let mid = state g.S.Store c.loop-value.work.tables.now.connection in
     let new = state g.S.Store c.drain_step.new.work.tables.now.connection in
@@ -37,10 +39,11 @@ returns-then-not-moved-clause-achieves g c =
     let Done : DeskRows → Bool → DeskRows → Type 0 = λ rows moved now. moved ≡ false → Drains s c.args.from rows now in
     let stopped : c.in-Ok.moved ≡ false = search rules in
     let at = number_is k c.in-Some.number (sym c.in-Some.is ∙ c.from_value.ensures) in
-    achieves_as Done _ old new c.in-Ok.moved tt
+    does (search rules)
+    (achieves_as Done _ old new c.in-Ok.moved tt
     (achieves_then SoFar One Done old mid new tt (Ok c.in-Ok.moved) c.loop-value.invariant.so_far c.in-Ok.ensures.achieves
     (λ rows between now b h m n one two. λ e. drained_up s c.args.from k rows between now one (step_at s c.in-Some.number k between b false now at e two)))
-    (λ rows now h m one. one stopped)
+    (λ rows now h m one. one stopped))
 
 pub loop-value-preserved : goal.loop-value-preserved
 loop-value-preserved g c = record {
@@ -62,11 +65,12 @@ loop-value-preserved g c = record {
       (λ rows now h m one. one moved);
 }
 
-pub returns-clause-achieves : goal.returns-clause-achieves
-returns-clause-achieves g c =
+pub returns : goal.returns
+returns g c =
     let old = state g.S.Store c.args.work.now.tables.now.connection in
     let new = state g.S.Store c.loop-value.work.tables.now.connection in
     let s = c.args.series.now in
     let end : c.loop-value.value ≡ 1000000000 = omega arith in
     let SoFar : DeskRows → Unit {0} → DeskRows → Type 0 = λ rows _ now. DrainsTo s c.args.from c.loop-value.value rows now in
-    achieves_as SoFar _ old new tt tt c.loop-value.invariant.so_far (λ rows now h m one. drained_all s c.args.from 1000000000 rows now (omega arith) (subst (λ k. DrainsTo s c.args.from k rows now) end one))
+    does (search rules)
+    (achieves_as SoFar _ old new tt tt c.loop-value.invariant.so_far (λ rows now h m one. drained_all s c.args.from 1000000000 rows now (omega arith) (subst (λ k. DrainsTo s c.args.from k rows now) end one)))

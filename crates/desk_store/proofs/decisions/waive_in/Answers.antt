@@ -1,6 +1,6 @@
-use Rattle.std.proofs.Common.{◌≡◌, ◌<◌, ◌≤◌, Option, Ok, sym, ◌∙◌, arith}
+use Rattle.std.proofs.Common.{◌≡◌, ◌<◌, ◌≤◌, Option, Ok, sym, ◌∙◌, arith, rules}
 use Rattle.sqlite.specs.Held.{state}
-use Rattle.catalogue_store.specs.AchievesLemmas.{achieves_as, achieves_call, achieves_then}
+use Rattle.catalogue_store.specs.AchievesLemmas.{achieves_as, achieves_call, achieves_then, does}
 use Rattle.desk_tables.specs.Rows.{DeskRows, series_at}
 use Rattle.desk_tables.specs.declared.rows.series.SeriesRow.{SeriesRow}
 use Rattle.series_rules.specs.declared.answers.WaiveAnswer.{WaiveAnswer}
@@ -9,19 +9,20 @@ use Rattle.desk_store.specs.Answering.{WaivesAt}
 use Rattle.desk_store.proofs.Found.{waives_before, waives_named, waives_unknown}
 use Rattle.desk_store.proofs.decisions.waive_in.Goals as goal
 
-pub returns-in_default-clause-achieves : goal.returns-in_default-clause-achieves
-returns-in_default-clause-achieves g c =
+pub returns-in_default : goal.returns-in_default
+returns-in_default g c =
     let old = state g.S.Store c.args.work.now.tables.now.connection in
     let new = state g.S.Store c.series_by_name.new.self.tables.now.connection in
     let s = c.args.series.now in
     let Found : DeskRows → Option SeriesRow → Type 0 = λ rows row. row ≡ series_at s rows in
     let Asked : DeskRows → Option SeriesRow → DeskRows → Type 0 = λ rows row now. Found rows row × (now ≡ rows) in
-    achieves_as Asked _ old new c.in-Ok.found waiver.UnknownSeries
+    does (search rules)
+    (achieves_as Asked _ old new c.in-Ok.found waiver.UnknownSeries
     (achieves_call Found (λ rows. rows) old new c.args.work.now.spent c.series_by_name.new.self.spent (Ok c.in-Ok.found) c.in-Ok.ensures.works)
-    (λ rows now h m one. waives_unknown rows now s c.args.number one.1 (sym c.in_default.is ∙ one.0))
+    (λ rows now h m one. waives_unknown rows now s c.args.number one.1 (sym c.in_default.is ∙ one.0)))
 
-pub returns-then-value-clause-achieves : goal.returns-then-value-clause-achieves
-returns-then-value-clause-achieves g c =
+pub returns-then-value : goal.returns-then-value
+returns-then-value g c =
     let old = state g.S.Store c.args.work.now.tables.now.connection in
     let new = state g.S.Store c.series_by_name.new.self.tables.now.connection in
     let s = c.args.series.now in
@@ -29,12 +30,13 @@ returns-then-value-clause-achieves g c =
     let lt : c.args.number < row.agreement.first = omega (arith, c.value.ensures.value, c.value-2.ensures.value, c.if-value.true) in
     let Found : DeskRows → Option SeriesRow → Type 0 = λ rows row. row ≡ series_at s rows in
     let Asked : DeskRows → Option SeriesRow → DeskRows → Type 0 = λ rows row now. Found rows row × (now ≡ rows) in
-    achieves_as Asked _ old new c.in-Ok.found (waiver.BeforeFirst row.agreement.first)
+    does (search rules)
+    (achieves_as Asked _ old new c.in-Ok.found (waiver.BeforeFirst row.agreement.first)
     (achieves_call Found (λ rows. rows) old new c.args.work.now.spent c.series_by_name.new.self.spent (Ok c.in-Ok.found) c.in-Ok.ensures.works)
-    (λ rows now h m one. waives_before rows now s c.args.number row one.1 (sym c.in-Some.is ∙ one.0) lt)
+    (λ rows now h m one. waives_before rows now s c.args.number row one.1 (sym c.in-Some.is ∙ one.0) lt))
 
-pub returns-clause-achieves : goal.returns-clause-achieves
-returns-clause-achieves g c =
+pub returns : goal.returns
+returns g c =
     let old = state g.S.Store c.args.work.now.tables.now.connection in
     let mid = state g.S.Store c.series_by_name.new.self.tables.now.connection in
     let new = state g.S.Store c.waive_at.new.work.tables.now.connection in
@@ -46,6 +48,7 @@ returns-clause-achieves g c =
     let Found : DeskRows → Option SeriesRow → Type 0 = λ rows row. row ≡ series_at s rows in
     let Asked : DeskRows → Option SeriesRow → DeskRows → Type 0 = λ rows row now. Found rows row × (now ≡ rows) in
     let Waived : DeskRows → WaiveAnswer → DeskRows → Type 0 = WaivesAt s row.next n in
-    achieves_then Asked Waived _ old mid new c.in-Ok.found c.waive_at.result
+    does (search rules)
+    (achieves_then Asked Waived _ old mid new c.in-Ok.found c.waive_at.result
     (achieves_call Found (λ rows. rows) old mid c.args.work.now.spent c.series_by_name.new.self.spent (Ok c.in-Ok.found) c.in-Ok.ensures.works) c.waive_at.ensures.achieves
-    (λ rows between now answer h m k one two. waives_named rows between now s n row answer one.1 (sym c.in-Some.is ∙ one.0) le lt two)
+    (λ rows between now answer h m k one two. waives_named rows between now s n row answer one.1 (sym c.in-Some.is ∙ one.0) le lt two))

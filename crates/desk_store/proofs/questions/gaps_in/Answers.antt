@@ -1,6 +1,6 @@
 use Rattle.std.proofs.Common.{◌≡◌, ℕ, List, Option, Some, None, Ok, Vec, refl, rules, sym, ◌∙◌, subst}
 use Rattle.sqlite.specs.Held.{state}
-use Rattle.catalogue_store.specs.AchievesLemmas.{achieves_as, achieves_call, achieves_call_failed, achieves_calls, achieves_stopped}
+use Rattle.catalogue_store.specs.AchievesLemmas.{achieves_as, achieves_call, achieves_call_failed, achieves_calls, achieves_stopped, does}
 use Rattle.desk_tables.specs.Rows.{AreHeldNumbers, DeskRows, series_at}
 use Rattle.desk_tables.specs.declared.rows.series.SeriesRow.{SeriesRow}
 use Rattle.series_rules.specs.Gaps.{AreRisingFrom}
@@ -25,26 +25,28 @@ Read s row rows numbers now = Found s rows row × Listed s rows numbers × (now 
 read_is : {G : Type 0} (s : List ℕ) (row : Option SeriesRow) (rows between : DeskRows) (numbers : Vec ℕ G) → Asked s rows row between → Listed s between numbers → Read s row rows numbers between
 read_is s row rows between numbers one two = (one.0, subst (λ d. Listed s d numbers) one.1 two, one.1)
 
-pub returns-in_default-clause-achieves : goal.returns-in_default-clause-achieves
-returns-in_default-clause-achieves g c =
+pub returns-in_default : goal.returns-in_default
+returns-in_default g c =
     let old = state g.S.Store c.args.work.now.tables.now.connection in
     let new = state g.S.Store c.series_by_name.new.self.tables.now.connection in
     let s = c.args.series.now in
-    achieves_as (Asked s) _ old new c.in-Ok.found None
+    does (search rules)
+    (achieves_as (Asked s) _ old new c.in-Ok.found None
     (achieves_call (Found s) (λ rows. rows) old new c.args.work.now.spent c.series_by_name.new.self.spent (Ok c.in-Ok.found) c.in-Ok.ensures.works)
-    (λ rows now h m one. no_gaps s rows now one.1 (sym c.in_default.is ∙ one.0))
+    (λ rows now h m one. no_gaps s rows now one.1 (sym c.in_default.is ∙ one.0)))
 
-pub returns-in-Err-gap_rows-clause-achieves : goal.returns-in-Err-gap_rows-clause-achieves
-returns-in-Err-gap_rows-clause-achieves g c =
+pub returns-in-Err-gap_rows : goal.returns-in-Err-gap_rows
+returns-in-Err-gap_rows g c =
     let old = state g.S.Store c.args.work.now.tables.now.connection in
     let mid = state g.S.Store c.series_by_name.new.self.tables.now.connection in
     let new = state g.S.Store c.gap_rows.new.self.tables.now.connection in
     let s = c.args.series.now in
-    achieves_call_failed (Asked s) (Listed s) (λ rows. rows) _ old mid new c.series_by_name.new.self.spent c.gap_rows.new.self.spent c.in-Ok.found c.in-Err-gap_rows.fault
-    (achieves_call (Found s) (λ rows. rows) old mid c.args.work.now.spent c.series_by_name.new.self.spent (Ok c.in-Ok.found) c.in-Ok.ensures.works) c.in-Err-gap_rows.ensures.works
+    does (search rules)
+    (achieves_call_failed (Asked s) (Listed s) (λ rows. rows) _ old mid new c.series_by_name.new.self.spent c.gap_rows.new.self.spent c.in-Ok.found c.in-Err-gap_rows.fault
+    (achieves_call (Found s) (λ rows. rows) old mid c.args.work.now.spent c.series_by_name.new.self.spent (Ok c.in-Ok.found) c.in-Ok.ensures.works) c.in-Err-gap_rows.ensures.works)
 
-pub returns-in-Ok-report_of-clause-achieves : goal.returns-in-Ok-report_of-clause-achieves
-returns-in-Ok-report_of-clause-achieves g c =
+pub returns-in-Ok-report_of : goal.returns-in-Ok-report_of
+returns-in-Ok-report_of g c =
     let old = state g.S.Store c.args.work.now.tables.now.connection in
     let mid = state g.S.Store c.series_by_name.new.self.tables.now.connection in
     let new = state g.S.Store c.gap_rows.new.self.tables.now.connection in
@@ -53,21 +55,23 @@ returns-in-Ok-report_of-clause-achieves g c =
     let first = c.in-Some.row.agreement.first in
     let next = c.in-Some.row.next in
     let numbers : c.as_slice.result.now ≡ c.in-Ok-gap_rows.held.items = search rules in
-    achieves_as (Read s row) _ old new c.in-Ok-gap_rows.held (Some c.in-Ok-report_of.report)
+    does (search rules)
+    (achieves_as (Read s row) _ old new c.in-Ok-gap_rows.held (Some c.in-Ok-report_of.report)
     (achieves_calls (Asked s) (Listed s) (λ rows. rows) (Read s row) old mid new c.series_by_name.new.self.spent c.gap_rows.new.self.spent row (Ok c.in-Ok-gap_rows.held)
     (achieves_call (Found s) (λ rows. rows) old mid c.args.work.now.spent c.series_by_name.new.self.spent (Ok row) c.in-Ok.ensures.works) c.in-Ok-gap_rows.ensures.works
     (λ rows between numbers h m one two. read_is s row rows between numbers one two))
     (λ rows now h m one. some_gaps s c.in-Some.row c.in-Ok-gap_rows.held.items rows rows now c.in-Ok-report_of.report refl one.2 (sym c.in-Some.is ∙ one.0) one.1
-    (subst (AreRisingFrom next) numbers c.in-Ok-report_of.ensures.0) (subst (λ ns. Reports s first next ns c.in-Ok-report_of.report) numbers c.in-Ok-report_of.ensures.1))
+    (subst (AreRisingFrom next) numbers c.in-Ok-report_of.ensures.0) (subst (λ ns. Reports s first next ns c.in-Ok-report_of.report) numbers c.in-Ok-report_of.ensures.1)))
 
-pub returns-clause-achieves : goal.returns-clause-achieves
-returns-clause-achieves g c =
+pub returns : goal.returns
+returns g c =
     let old = state g.S.Store c.args.work.now.tables.now.connection in
     let mid = state g.S.Store c.series_by_name.new.self.tables.now.connection in
     let new = state g.S.Store c.gap_rows.new.self.tables.now.connection in
     let s = c.args.series.now in
     let row = c.in-Ok.found in
-    achieves_stopped (Read s row) _ old new (Ok c.in-Ok-gap_rows.held) c.in-Err-report_of.fault
+    does (search rules)
+    (achieves_stopped (Read s row) _ old new (Ok c.in-Ok-gap_rows.held) c.in-Err-report_of.fault
     (achieves_calls (Asked s) (Listed s) (λ rows. rows) (Read s row) old mid new c.series_by_name.new.self.spent c.gap_rows.new.self.spent row (Ok c.in-Ok-gap_rows.held)
     (achieves_call (Found s) (λ rows. rows) old mid c.args.work.now.spent c.series_by_name.new.self.spent (Ok row) c.in-Ok.ensures.works) c.in-Ok-gap_rows.ensures.works
-    (λ rows between numbers h m one two. read_is s row rows between numbers one two))
+    (λ rows between numbers h m one two. read_is s row rows between numbers one two)))

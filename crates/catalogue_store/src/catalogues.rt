@@ -23,10 +23,7 @@ fn read_records<S: Alter>(
 {
     let mut catalogue = Catalogue::new(alloc);
     for record in records {
-        let entry = match read_record(alloc, work, record) {
-            Ok(entry) => entry,
-            Err(fault) => return Err(fault),
-        };
+        let entry = read_record(alloc, work, record)?;
         if catalogue.put(record.reference.as_str(), entry).is_err() {
             return Err(StoreFault::Memory);
         }
@@ -43,9 +40,6 @@ pub fn read_catalogue<S: Alter>(
 ) -> Result<Catalogue, StoreFault>
     ensures { Does S.Store (KeepsRows (IsCatalogueOf series.now)) work.old work.new result }
 {
-    let records = match work.record_rows(series) {
-        Ok(records) => records,
-        Err(fault) => return Err(fault),
-    };
+    let records = work.record_rows(series)?;
     read_records(alloc, work, records.as_slice())
 }

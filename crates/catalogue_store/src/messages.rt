@@ -34,10 +34,7 @@ fn rewrite_record<S: Alter>(
 ) -> Result<(), StoreFault>
     ensures { Does S.Store (Rewrites row.now ids.now supplies.now) work.old work.new result }
 {
-    match remove_record(work, row) {
-        Ok(()) => {}
-        Err(fault) => return Err(fault),
-    }
+    remove_record(work, row)?;
     write_record(alloc, work, row, ids, supplies)
 }
 
@@ -53,10 +50,7 @@ fn keep_record<S: Alter>(
     ensures { Does S.Store (ReplacesRecordAs with_minimums row.now ids.now supplies.now)
         work.old work.new result }
 {
-    let same = match has_supplies(alloc, work, row, supplies, with_minimums) {
-        Ok(same) => same,
-        Err(fault) => return Err(fault),
-    };
+    let same = has_supplies(alloc, work, row, supplies, with_minimums)?;
     if same {
         return Ok(());
     }
@@ -74,10 +68,7 @@ fn keep_supplies<S: Alter>(
     ensures { Does S.Store (ReplacesSuppliesAs with_minimums row.now supplies.now)
         work.old work.new result }
 {
-    let same = match has_supplies(alloc, work, row, supplies, with_minimums) {
-        Ok(same) => same,
-        Err(fault) => return Err(fault),
-    };
+    let same = has_supplies(alloc, work, row, supplies, with_minimums)?;
     if same {
         return Ok(());
     }
@@ -189,15 +180,10 @@ fn apply_product<S: Alter>(
         },
         Err(_) => return Err(StoreFault::Memory),
     };
-    let found = match find_record(alloc, work, &row, product.ids.as_slice()) {
-        Ok(found) => found,
-        Err(fault) => return Err(fault),
-    };
+    let found = find_record(alloc, work, &row, product.ids.as_slice())?;
     let change = Change::of(product.notification);
-    match change_record(alloc, work, &row, product, change, found, with_minimums) {
-        Ok(()) => Ok(counted(effect, change, found.is_there())),
-        Err(fault) => Err(fault),
-    }
+    change_record(alloc, work, &row, product, change, found, with_minimums)?;
+    Ok(counted(effect, change, found.is_there()))
 }
 
 // Whether prices of the series may have minimums while these products are applied: one that is there
@@ -233,16 +219,10 @@ pub fn apply_message<S: Alter>(
 {
     contents.is_contents();
     let products = contents.products();
-    let with_minimums = match may_have_minimums(work, series, products) {
-        Ok(may) => may,
-        Err(fault) => return Err(fault),
-    };
+    let with_minimums = may_have_minimums(work, series, products)?;
     let mut effect = Effect::none();
     for product in products {
-        effect = match apply_product(alloc, work, series, product, effect, with_minimums) {
-            Ok(counts) => counts,
-            Err(fault) => return Err(fault),
-        };
+        effect = apply_product(alloc, work, series, product, effect, with_minimums)?;
     }
     Ok(effect)
 }

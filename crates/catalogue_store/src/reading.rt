@@ -47,10 +47,7 @@ fn read_prices<S: Alter>(
 {
     let mut prices = Vec::new(alloc);
     for detail in details {
-        let own = match read_own_prices(work, detail, with_minimums) {
-            Ok(own) => own,
-            Err(fault) => return Err(fault),
-        };
+        let own = read_own_prices(work, detail, with_minimums)?;
         if prices.push(own).is_err() {
             return Err(StoreFault::Memory);
         }
@@ -68,18 +65,9 @@ pub fn read_record<S: Alter>(
     ensures few { IfOk result HasFewDetails }
     ensures does { Does S.Store (KeepsRows (IsEntryOf row.now)) work.old work.new result }
 {
-    let articles = match work.record_articles(row) {
-        Ok(articles) => articles,
-        Err(fault) => return Err(fault),
-    };
-    let details = match work.record_offers(row) {
-        Ok(details) => details,
-        Err(fault) => return Err(fault),
-    };
-    let prices = match read_prices(alloc, work, details.as_slice(), true) {
-        Ok(prices) => prices,
-        Err(fault) => return Err(fault),
-    };
+    let articles = work.record_articles(row)?;
+    let details = work.record_offers(row)?;
+    let prices = read_prices(alloc, work, details.as_slice(), true)?;
     entry_of(
         alloc,
         articles.as_slice(),
@@ -134,18 +122,13 @@ pub fn find_record<S: Alter>(
 ) -> Result<FoundRecord, StoreFault>
     ensures { Does S.Store (KeepsRows (Finds row.now ids.now)) work.old work.new result }
 {
-    let articles = match work.record_articles(row) {
-        Ok(articles) => articles,
-        Err(fault) => return Err(fault),
-    };
+    let articles = work.record_articles(row)?;
     let is_new = articles.as_slice().is_empty();
     if is_new {
         return Ok(FoundRecord::Absent);
     }
-    match article_rows(alloc, &row.series, &row.reference, ids) {
-        Ok(wanted) => Ok(FoundRecord::with(same_articles(articles.as_slice(), wanted.as_slice()))),
-        Err(fault) => Err(fault),
-    }
+    let wanted = article_rows(alloc, &row.series, &row.reference, ids)?;
+    Ok(FoundRecord::with(same_articles(articles.as_slice(), wanted.as_slice())))
 }
 
 /// Whether the supplies of a record are these. Without `with_minimums` the rows of minimums are not
@@ -161,20 +144,12 @@ pub fn has_supplies<S: Alter>(
     ensures { Does S.Store (KeepsRows (HoldsSuppliesAs with_minimums row.now supplies.now))
         work.old work.new result }
 {
-    let wanted = match detail_rows(alloc, &row.series, &row.reference, supplies) {
-        Ok(wanted) => wanted,
-        Err(fault) => return Err(fault),
-    };
-    let details = match work.record_offers(row) {
-        Ok(details) => details,
-        Err(fault) => return Err(fault),
-    };
+    let wanted = detail_rows(alloc, &row.series, &row.reference, supplies)?;
+    let details = work.record_offers(row)?;
     let same = same_details(details.as_slice(), wanted.as_slice());
     if !same {
         return Ok(false);
     }
-    match read_prices(alloc, work, details.as_slice(), with_minimums) {
-        Ok(prices) => Ok(same_detail_prices(prices.as_slice(), supplies)),
-        Err(fault) => Err(fault),
-    }
+    let prices = read_prices(alloc, work, details.as_slice(), with_minimums)?;
+    Ok(same_detail_prices(prices.as_slice(), supplies))
 }

@@ -16,10 +16,7 @@ fn put_articles<S: Alter>(work: &mut Work<'_, S>, added: &[ArticleRow]) -> Resul
     ensures { Does S.Store (ChangesRows (with_articles added.now)) work.old work.new result }
 {
     for row in added {
-        match work.put_article(row) {
-            Ok(()) => {}
-            Err(fault) => return Err(fault),
-        }
+        work.put_article(row)?;
     }
     Ok(())
 }
@@ -28,10 +25,7 @@ fn put_details<S: Alter>(work: &mut Work<'_, S>, added: &[OfferRow]) -> Result<(
     ensures { Does S.Store (ChangesRows (with_details added.now)) work.old work.new result }
 {
     for row in added {
-        match work.put_offer(row) {
-            Ok(()) => {}
-            Err(fault) => return Err(fault),
-        }
+        work.put_offer(row)?;
     }
     Ok(())
 }
@@ -40,10 +34,7 @@ fn put_prices<S: Alter>(work: &mut Work<'_, S>, added: &[PriceRow]) -> Result<()
     ensures { Does S.Store (ChangesRows (with_prices added.now)) work.old work.new result }
 {
     for row in added {
-        match work.put_price(row) {
-            Ok(()) => {}
-            Err(fault) => return Err(fault),
-        }
+        work.put_price(row)?;
     }
     Ok(())
 }
@@ -59,18 +50,9 @@ fn put_supplies<S: Alter>(
         (ChangesRows (with_supplies row.now.series row.now.reference supplies.now))
         work.old work.new result }
 {
-    let details = match detail_rows(alloc, &row.series, &row.reference, supplies) {
-        Ok(details) => details,
-        Err(fault) => return Err(fault),
-    };
-    let prices = match price_rows(alloc, &row.series, &row.reference, supplies) {
-        Ok(prices) => prices,
-        Err(fault) => return Err(fault),
-    };
-    match put_details(work, details.as_slice()) {
-        Ok(()) => {}
-        Err(fault) => return Err(fault),
-    }
+    let details = detail_rows(alloc, &row.series, &row.reference, supplies)?;
+    let prices = price_rows(alloc, &row.series, &row.reference, supplies)?;
+    put_details(work, details.as_slice())?;
     put_prices(work, prices.as_slice())
 }
 
@@ -84,14 +66,8 @@ fn put_identified<S: Alter>(
     ensures { Does S.Store (ChangesRows (with_identified row.now ids.now))
         work.old work.new result }
 {
-    let articles = match article_rows(alloc, &row.series, &row.reference, ids) {
-        Ok(articles) => articles,
-        Err(fault) => return Err(fault),
-    };
-    match work.add_record(&row.series, row.reference.as_str()) {
-        Ok(()) => {}
-        Err(fault) => return Err(fault),
-    }
+    let articles = article_rows(alloc, &row.series, &row.reference, ids)?;
+    work.add_record(&row.series, row.reference.as_str())?;
     put_articles(work, articles.as_slice())
 }
 
@@ -107,10 +83,7 @@ pub fn write_record<S: Alter>(
 ) -> Result<(), StoreFault>
     ensures { Does S.Store (Writes row.now ids.now supplies.now) work.old work.new result }
 {
-    match put_identified(alloc, work, row, ids) {
-        Ok(()) => {}
-        Err(fault) => return Err(fault),
-    }
+    put_identified(alloc, work, row, ids)?;
     put_supplies(alloc, work, row, supplies)
 }
 
@@ -131,9 +104,6 @@ pub fn replace_supplies<S: Alter>(
 ) -> Result<(), StoreFault>
     ensures { Does S.Store (ReplacesSupplies row.now supplies.now) work.old work.new result }
 {
-    match work.delete_offers(&row.series, row.reference.as_str()) {
-        Ok(()) => {}
-        Err(fault) => return Err(fault),
-    }
+    work.delete_offers(&row.series, row.reference.as_str())?;
     put_supplies(alloc, work, row, supplies)
 }

@@ -14,13 +14,13 @@ returns g c =
     let mid = state g.S.Store c.record_rows.new.self.tables.now.connection in
     let new = state g.S.Store c.read_records.new.work.tables.now.connection in
     let series = c.args.series.now in
-    let records = c.in-Ok.records in
+    let records = c.in_ok-records.records in
     let Records : DeskRows → Vec _ _ → Type 0 = λ rows got. AreRecordsInOrder series rows got.items in
     let First : DeskRows → Vec _ _ → DeskRows → Type 0 = λ rows got after. Records rows got × (after ≡ unchanged rows) in
     let Read : DeskRows → ByReference → DeskRows → Type 0 = λ rows part after. (after ≡ rows) × AreReadOf c.as_slice.result.now rows part in
     does (search rules)
     (achieves_then First Read _ old mid new records c.read_records.result
-    (achieves_call Records unchanged old mid c.args.work.now.spent c.record_rows.new.self.spent (Ok records) c.in-Ok.ensures.works) c.read_records.ensures.achieves
+    (achieves_call Records unchanged old mid c.args.work.now.spent c.record_rows.new.self.spent (Ok records) c.in_ok-records.ensures.works) c.read_records.ensures.achieves
     (λ rows between after part h m n one two. (
       two.0 ∙ one.1,
       λ whole held. catalogue_read series records.items rows whole one.0 held part (subst (λ (d : DeskRows). AreReadOf records.items d part) one.1 (subst (λ l. AreReadOf l between part) c.as_slice.ensures.value two.1)),

@@ -19,7 +19,7 @@ returns-then-same g c =
     let now : Entry = record { ids = ids; supplies = supplies } in
     let Told : DeskRows → Bool → DeskRows → Type 0 = λ rows b after. (after ≡ rows) × (IsReadAs c.args.with_minimums row rows → HoldsSupplies row supplies rows b) in
     does (search rules)
-    (achieves_as Told _ old new c.in-Ok.same tt c.in-Ok.ensures.achieves
+    (achieves_as Told _ old new c.in_ok-same.same tt c.in_ok-same.ensures.achieves
     (λ rows after h n one. λ reads e held finds some storable. subst (λ (x : DeskRows). Became row.series row.reference (Some now) rows x) (sym one.0)
     (became_itself row.series row.reference (Some now) rows (record_stays row e ids supplies rows held some storable (finds.same refl) (one.1 reads (Some e) held c.if-same.true)))))
 
@@ -35,5 +35,5 @@ returns g c =
     let Told : DeskRows → Bool → DeskRows → Type 0 = λ rows b after. (after ≡ rows) × (IsReadAs c.args.with_minimums row rows → HoldsSupplies row supplies rows b) in
     let Rewritten : DeskRows → Unit {0} → DeskRows → Type 0 = λ rows _ after. ids ≢ [] → AreStorable supplies → Became row.series row.reference (Some now) rows after in
     does (search rules)
-    (achieves_then Told Rewritten _ old mid new c.in-Ok.same c.rewrite_record.result c.in-Ok.ensures.achieves c.rewrite_record.ensures.achieves
+    (achieves_then Told Rewritten _ old mid new c.in_ok-same.same c.rewrite_record.result c.in_ok-same.ensures.achieves c.rewrite_record.ensures.achieves
     (λ rows between after b h m n one two. λ reads e held finds some storable. subst (λ (x : DeskRows). Became row.series row.reference (Some now) x after) one.0 (two some storable)))

@@ -17,7 +17,7 @@ returns-then-same g c =
     let supplies = c.args.supplies.now in
     let Told : DeskRows → Bool → DeskRows → Type 0 = λ rows b after. (after ≡ rows) × (IsReadAs c.args.with_minimums row rows → HoldsSupplies row supplies rows b) in
     does (search rules)
-    (achieves_as Told _ old new c.in-Ok.same tt c.in-Ok.ensures.achieves
+    (achieves_as Told _ old new c.in_ok-same.same tt c.in_ok-same.ensures.achieves
     (λ rows after h n one. λ reads e held storable. subst (λ (x : DeskRows). Became row.series row.reference (Some (record e { supplies = supplies })) rows x) (sym one.0)
     (became_itself row.series row.reference (Some (record e { supplies = supplies })) rows (supplies_stay row e supplies rows held storable (one.1 reads (Some e) held c.if-same.true)))))
 
@@ -31,5 +31,5 @@ returns g c =
     let Told : DeskRows → Bool → DeskRows → Type 0 = λ rows b after. (after ≡ rows) × (IsReadAs c.args.with_minimums row rows → HoldsSupplies row supplies rows b) in
     let Replaced : DeskRows → Unit {0} → DeskRows → Type 0 = λ rows _ after. (e : Entry) → HoldsEntry row.series row.reference (Some e) rows → AreStorable supplies → Became row.series row.reference (Some (record e { supplies = supplies })) rows after in
     does (search rules)
-    (achieves_then Told Replaced _ old mid new c.in-Ok.same c.replace_supplies.result c.in-Ok.ensures.achieves c.replace_supplies.ensures.achieves
+    (achieves_then Told Replaced _ old mid new c.in_ok-same.same c.replace_supplies.result c.in_ok-same.ensures.achieves c.replace_supplies.ensures.achieves
     (λ rows between after b h m n one two. λ reads. subst (λ (x : DeskRows). Replaced x tt after) one.0 two))

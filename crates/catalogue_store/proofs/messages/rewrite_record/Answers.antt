@@ -19,5 +19,5 @@ returns g c =
     let Removed : DeskRows → Unit {0} → DeskRows → Type 0 = λ rows _ after. Became s r None rows after in
     let Written : DeskRows → Unit {0} → DeskRows → Type 0 = λ rows _ after. HoldsEntry s r None rows → c.args.ids.now ≢ [] → AreStorable c.args.supplies.now → Became s r (Some e) rows after in
     does (search rules)
-    (achieves_then Removed Written _ old mid new tt c.write_record.result c.in-Ok.ensures.achieves c.write_record.ensures.achieves
+    (achieves_then Removed Written _ old mid new tt c.write_record.result c.in_ok-remove_record.ensures.achieves c.write_record.ensures.achieves
     (λ rows between after b h m n one two. λ some storable. became_then s r None (Some e) rows between after one (two one.entry_held some storable)))

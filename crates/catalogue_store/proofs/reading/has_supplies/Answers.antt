@@ -3,41 +3,10 @@ use Rattle.std.specs.List.{AllZip}
 use Rattle.sqlite.specs.Held.{state}
 use Rattle.desk_tables.specs.ArticleAnswers.{AreOfferRowsOf}
 use Rattle.desk_tables.specs.Rows.{DeskRows, unchanged}
-use Rattle.catalogue_store.specs.AchievesLemmas.{achieves_as, achieves_call, achieves_failed, achieves_then, does}
+use Rattle.catalogue_store.specs.AchievesLemmas.{achieves_as, achieves_call, achieves_failed, achieves_then, does, handed_on}
 use Rattle.catalogue_store.specs.ReadRows.{HasPricesOf, HoldsSupplies, AreReadAs, IsReadAs}
 use Rattle.catalogue_store.proofs.ReadLemmas.{supplies_held}
 use Rattle.catalogue_store.proofs.reading.has_supplies.Goals as goal
-
-pub returns-in-Ok-read_prices : goal.returns-in-Ok-read_prices
-returns-in-Ok-read_prices g c =
-    let old = state g.S.Store c.args.work.now.tables.now.connection in
-    let mid = state g.S.Store c.record_offers.new.self.tables.now.connection in
-    let new = state g.S.Store c.read_prices.new.work.tables.now.connection in
-    let row = c.args.row.now in
-    let minimums = c.args.with_minimums in
-    let details = c.in-Ok-record_offers.details in
-    let prices = c.in-Ok-read_prices.prices in
-    let Details : DeskRows → Vec _ _ → Type 0 = λ rows got. AreOfferRowsOf rows row got.items in
-    let First : DeskRows → Vec _ _ → DeskRows → Type 0 = λ rows got after. Details rows got × (after ≡ unchanged rows) in
-    let Second : DeskRows → Vec _ _ → DeskRows → Type 0 = λ rows got after. (after ≡ rows) × (AreReadAs minimums c.as_slice-3.result.now rows → AllZip (HasPricesOf rows) c.as_slice-3.result.now got.items) in
-    let Both : DeskRows → Vec _ _ → DeskRows → Type 0 = λ rows got after. (after ≡ rows) × AreOfferRowsOf rows row details.items × (AreReadAs minimums details.items rows → AllZip (HasPricesOf rows) details.items got.items) in
-    let alike : c.same_details-same.result ≡ true = search rules in
-    does (search rules)
-    (achieves_as Both (λ (rows : DeskRows) (b : Bool) (after : DeskRows). (after ≡ rows) × (IsReadAs minimums row rows → HoldsSupplies row c.args.supplies.now rows b)) old new prices c.same_detail_prices.result
-    (achieves_then First Second Both old mid new details (Ok prices)
-    (achieves_call Details unchanged old mid c.args.work.now.spent c.record_offers.new.self.spent (Ok details) c.in-Ok-record_offers.ensures.works) c.in-Ok-read_prices.ensures.achieves
-    (λ rows between after got h m n a p. (
-      p.0 ∙ a.1,
-      a.0,
-      λ reads. subst (λ l. AllZip (HasPricesOf rows) l got.items) c.as_slice-3.ensures.value (subst (λ (x : DeskRows). AllZip (HasPricesOf x) c.as_slice-3.result.now got.items) a.1
-          (p.1 (subst (λ (x : DeskRows). AreReadAs minimums c.as_slice-3.result.now x) (sym a.1) (subst (λ l. AreReadAs minimums l rows) (sym c.as_slice-3.ensures.value) reads)))),
-    )))
-    (λ rows after h n a. (
-      a.0,
-      supplies_held minimums row c.args.supplies.now rows details.items c.in-Ok.wanted.items prices.items c.same_detail_prices.result a.1 c.in-Ok.ensures
-          (sym c.as_slice.ensures.value ∙ c.same_details-same.ensures.0 alike ∙ c.as_slice-2.ensures.value) a.2
-          (λ true. sym c.as_slice-in-Ok-read_prices.ensures.value ∙ c.same_detail_prices.ensures.0 true),
-    )))
 
 pub returns : goal.returns
 returns g c =
@@ -46,10 +15,41 @@ returns g c =
     let new = state g.S.Store c.read_prices.new.work.tables.now.connection in
     let row = c.args.row.now in
     let minimums = c.args.with_minimums in
-    let details = c.in-Ok-record_offers.details in
+    let details = c.in_ok-details.details in
+    let prices = c.in_ok-prices.prices in
     let Details : DeskRows → Vec _ _ → Type 0 = λ rows got. AreOfferRowsOf rows row got.items in
     let First : DeskRows → Vec _ _ → DeskRows → Type 0 = λ rows got after. Details rows got × (after ≡ unchanged rows) in
     let Second : DeskRows → Vec _ _ → DeskRows → Type 0 = λ rows got after. (after ≡ rows) × (AreReadAs minimums c.as_slice-3.result.now rows → AllZip (HasPricesOf rows) c.as_slice-3.result.now got.items) in
+    let Both : DeskRows → Vec _ _ → DeskRows → Type 0 = λ rows got after. (after ≡ rows) × AreOfferRowsOf rows row details.items × (AreReadAs minimums details.items rows → AllZip (HasPricesOf rows) details.items got.items) in
+    let alike : c.same_details-same.result ≡ true = search rules in
     does (search rules)
-    (achieves_failed {C = Bool} First Second _ old mid new details c.in-Err-read_prices.fault
-    (achieves_call Details unchanged old mid c.args.work.now.spent c.record_offers.new.self.spent (Ok details) c.in-Ok-record_offers.ensures.works) c.in-Err-read_prices.ensures.achieves)
+    (achieves_as Both (λ (rows : DeskRows) (b : Bool) (after : DeskRows). (after ≡ rows) × (IsReadAs minimums row rows → HoldsSupplies row c.args.supplies.now rows b)) old new prices c.same_detail_prices.result
+    (achieves_then First Second Both old mid new details (Ok prices)
+    (achieves_call Details unchanged old mid c.args.work.now.spent c.record_offers.new.self.spent (Ok details) c.in_ok-details.ensures.works) c.in_ok-prices.ensures.achieves
+    (λ rows between after got h m n a p. (
+      p.0 ∙ a.1,
+      a.0,
+      λ reads. subst (λ l. AllZip (HasPricesOf rows) l got.items) c.as_slice-3.ensures.value (subst (λ (x : DeskRows). AllZip (HasPricesOf x) c.as_slice-3.result.now got.items) a.1
+          (p.1 (subst (λ (x : DeskRows). AreReadAs minimums c.as_slice-3.result.now x) (sym a.1) (subst (λ l. AreReadAs minimums l rows) (sym c.as_slice-3.ensures.value) reads)))),
+    )))
+    (λ rows after h n a. (
+      a.0,
+      supplies_held minimums row c.args.supplies.now rows details.items c.in_ok-wanted.wanted.items prices.items c.same_detail_prices.result a.1 c.in_ok-wanted.ensures
+          (sym c.as_slice.ensures.value ∙ c.same_details-same.ensures.0 alike ∙ c.as_slice-2.ensures.value) a.2
+          (λ true. sym c.as_slice-4.ensures.value ∙ c.same_detail_prices.ensures.0 true),
+    )))
+
+pub returns-in_err-prices : goal.returns-in_err-prices
+returns-in_err-prices g c =
+    let old = state g.S.Store c.args.work.now.tables.now.connection in
+    let mid = state g.S.Store c.record_offers.new.self.tables.now.connection in
+    let new = state g.S.Store c.read_prices.new.work.tables.now.connection in
+    let row = c.args.row.now in
+    let minimums = c.args.with_minimums in
+    let details = c.in_ok-details.details in
+    let Details : DeskRows → Vec _ _ → Type 0 = λ rows got. AreOfferRowsOf rows row got.items in
+    let First : DeskRows → Vec _ _ → DeskRows → Type 0 = λ rows got after. Details rows got × (after ≡ unchanged rows) in
+    let Second : DeskRows → Vec _ _ → DeskRows → Type 0 = λ rows got after. (after ≡ rows) × (AreReadAs minimums c.as_slice-3.result.now rows → AllZip (HasPricesOf rows) c.as_slice-3.result.now got.items) in
+    handed_on (search rules) (search rules)
+    (achieves_failed {C = Bool} First Second _ old mid new details c.in_err-prices.field-0.0
+    (achieves_call Details unchanged old mid c.args.work.now.spent c.record_offers.new.self.spent (Ok details) c.in_ok-details.ensures.works) c.in_err-prices.ensures.achieves)

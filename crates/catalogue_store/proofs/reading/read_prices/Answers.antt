@@ -6,7 +6,7 @@ use Rattle.desk_terms.specs.declared.faults.StoreFault.TheVariants.{Memory}
 use Rattle.onix_records.specs.declared.parts.Price.{Price}
 use Rattle.desk_tables.specs.RecordChanges.{has_minimums_of}
 use Rattle.desk_tables.specs.Rows.{DeskRows}
-use Rattle.catalogue_store.specs.AchievesLemmas.{achieves_as, achieves_failed, achieves_nothing, achieves_stopped, achieves_then, does}
+use Rattle.catalogue_store.specs.AchievesLemmas.{achieves_as, achieves_failed, achieves_nothing, achieves_stopped, achieves_then, does, handed_on}
 use Rattle.catalogue_store.specs.ReadRows.{AreReadAs, HasPricesOf}
 use Rattle.catalogue_store.proofs.ReadLemmas.{one_read_as, prices_read}
 use Rattle.catalogue_store.proofs.reading.read_prices.Goals as goal
@@ -32,13 +32,13 @@ loop-detail-preserved g c = record {
       let x = c.detail-item.result in
       let i = c.loop-detail.detail-index in
       let prices = c.loop-detail.prices.items in
-      let own = c.in-Ok.own in
+      let own = c.in_ok-own.own in
       let pushed : c.push.new.self.items ≡ prices ++ own ∷ [] = search rules in
       let SoFar : DeskRows → Unit {0} → DeskRows → Type 0 = λ rows _ after. (after ≡ rows) × (AreReadAs minimums details rows → AllZip (HasPricesOf rows) (take i details) prices) in
       let Own : DeskRows → List Price → DeskRows → Type 0 = λ rows own after. (after ≡ rows) × ((minimums ≡ false → has_minimums_of x.series x.reference rows ≡ false) → HasPricesOf rows x own) in
       let More : DeskRows → List Price → DeskRows → Type 0 = λ rows own after. (after ≡ rows) × (AreReadAs minimums details rows → AllZip (HasPricesOf rows) (take (i + 1) details) (prices ++ own ∷ [])) in
       achieves_as More (λ (rows : DeskRows) (_ : Unit {0}) (after : DeskRows). (after ≡ rows) × (AreReadAs minimums details rows → AllZip (HasPricesOf rows) (take (i + 1) details) c.push.new.self.items)) old new own tt
-      (achieves_then SoFar Own More old mid new tt (Ok own) c.loop-detail.invariant.so_far c.in-Ok.ensures.achieves
+      (achieves_then SoFar Own More old mid new tt (Ok own) c.loop-detail.invariant.so_far c.in_ok-own.ensures.achieves
       (λ rows between after b h m n one two. (
         two.0 ∙ one.0,
         λ reads. prices_read details i x prices b rows between c.loop-detail-test.true c.detail-item.is one.0 (one.1 reads)
@@ -47,8 +47,8 @@ loop-detail-preserved g c = record {
       (λ rows after h n one. (one.0, λ reads. subst (λ (l : List (List Price)). AllZip (HasPricesOf rows) (take (i + 1) details) l) (sym pushed) (one.1 reads)));
 }
 
-pub returns-in-Err : goal.returns-in-Err
-returns-in-Err g c =
+pub returns-in_err-own : goal.returns-in_err-own
+returns-in_err-own g c =
     let old = state g.S.Store c.args.work.now.tables.now.connection in
     let mid = state g.S.Store c.loop-detail.work.tables.now.connection in
     let new = state g.S.Store c.read_own_prices.new.work.tables.now.connection in
@@ -57,8 +57,8 @@ returns-in-Err g c =
     let x = c.detail-item.result in
     let SoFar : DeskRows → Unit {0} → DeskRows → Type 0 = λ rows _ after. (after ≡ rows) × (AreReadAs minimums details rows → AllZip (HasPricesOf rows) (take c.loop-detail.detail-index details) c.loop-detail.prices.items) in
     let Own : DeskRows → List Price → DeskRows → Type 0 = λ rows own after. (after ≡ rows) × ((minimums ≡ false → has_minimums_of x.series x.reference rows ≡ false) → HasPricesOf rows x own) in
-    does (search rules)
-    (achieves_failed SoFar Own _ old mid new tt c.in-Err.fault c.loop-detail.invariant.so_far c.in-Err.ensures.achieves)
+    handed_on (search rules) (search rules)
+    (achieves_failed SoFar Own _ old mid new tt c.in_err-own.field-0.0 c.loop-detail.invariant.so_far c.in_err-own.ensures.achieves)
 
 pub returns-then-is_err : goal.returns-then-is_err
 returns-then-is_err g c =
@@ -68,13 +68,13 @@ returns-then-is_err g c =
     let minimums = c.args.with_minimums in
     let details = c.args.details.now in
     let x = c.detail-item.result in
-    let own = c.in-Ok.own in
+    let own = c.in_ok-own.own in
     let SoFar : DeskRows → Unit {0} → DeskRows → Type 0 = λ rows _ after. (after ≡ rows) × (AreReadAs minimums details rows → AllZip (HasPricesOf rows) (take c.loop-detail.detail-index details) c.loop-detail.prices.items) in
     let Own : DeskRows → List Price → DeskRows → Type 0 = λ rows own after. (after ≡ rows) × ((minimums ≡ false → has_minimums_of x.series x.reference rows ≡ false) → HasPricesOf rows x own) in
     let Any : DeskRows → List Price → DeskRows → Type 0 = λ rows own after. Unit {0} in
     does (search rules)
     (achieves_stopped Any _ old new (Ok own) Memory
-    (achieves_then SoFar Own Any old mid new tt (Ok own) c.loop-detail.invariant.so_far c.in-Ok.ensures.achieves (λ rows between after b h m n one two. tt)))
+    (achieves_then SoFar Own Any old mid new tt (Ok own) c.loop-detail.invariant.so_far c.in_ok-own.ensures.achieves (λ rows between after b h m n one two. tt)))
 
 pub returns : goal.returns
 returns g c =

@@ -19,5 +19,5 @@ returns g c =
     let Identified : DeskRows → Unit {0} → DeskRows → Type 0 = λ rows _ after. after ≡ with_articles articles rows in
     does (search rules)
     (achieves_then Added Identified _ old mid new tt c.put_articles.result
-    (achieves_call NoAnswer (with_new_record row) old mid c.args.work.now.spent c.add_record.new.self.spent (Ok tt) (rw c.as_str.ensures at c.in-Ok-add_record.ensures.works)) c.put_articles.ensures.achieves
-    (λ rows between after b h m n one two. identified_put row c.args.ids.now articles rows between after (c.as_slice.ensures.value ∙ c.in-Ok.ensures) one.1 two))
+    (achieves_call NoAnswer (with_new_record row) old mid c.args.work.now.spent c.add_record.new.self.spent (Ok tt) (rw c.as_str.ensures at c.in_ok-add_record.ensures.works)) c.put_articles.ensures.achieves
+    (λ rows between after b h m n one two. identified_put row c.args.ids.now articles rows between after (c.as_slice.ensures.value ∙ c.in_ok-articles.ensures) one.1 two))

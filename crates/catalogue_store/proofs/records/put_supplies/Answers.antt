@@ -17,5 +17,5 @@ returns g c =
     let First : DeskRows → Unit {0} → DeskRows → Type 0 = λ rows _ after. after ≡ with_details details rows in
     let Second : DeskRows → Unit {0} → DeskRows → Type 0 = λ rows _ after. after ≡ with_prices prices rows in
     does (search rules)
-    (achieves_then First Second _ old mid new tt c.put_prices.result c.in-Ok-put_details.ensures.achieves c.put_prices.ensures.achieves
-    (λ rows between after b h m n one two. supplies_put row.series row.reference c.args.supplies.now details prices rows between after (c.as_slice.ensures.value ∙ c.in-Ok.ensures) (c.as_slice-2.ensures.value ∙ c.in-Ok-price_rows.ensures) one two))
+    (achieves_then First Second _ old mid new tt c.put_prices.result c.in_ok-put_details.ensures.achieves c.put_prices.ensures.achieves
+    (λ rows between after b h m n one two. supplies_put row.series row.reference c.args.supplies.now details prices rows between after (c.as_slice.ensures.value ∙ c.in_ok-details.ensures) (c.as_slice-2.ensures.value ∙ c.in_ok-prices.ensures) one two))

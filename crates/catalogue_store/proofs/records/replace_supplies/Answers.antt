@@ -21,6 +21,6 @@ returns g c =
     let Second : DeskRows → Unit {0} → DeskRows → Type 0 = λ rows _ after. after ≡ with_supplies s r supplies rows in
     does (search rules)
     (achieves_then First Second _ old mid new tt c.put_supplies.result
-    (achieves_call NoAnswer (without_offers s r) old mid c.args.work.now.spent c.delete_offers.new.self.spent (Ok tt) (rw c.as_str.ensures at c.in-Ok.ensures.works)) c.put_supplies.ensures.achieves
+    (achieves_call NoAnswer (without_offers s r) old mid c.args.work.now.spent c.delete_offers.new.self.spent (Ok tt) (rw c.as_str.ensures at c.in_ok-delete_offers.ensures.works)) c.put_supplies.ensures.achieves
     (λ rows between after b h m n one two. λ e was storable. subst (λ (d : DeskRows). Became s r (Some (record e { supplies = supplies })) rows d) (sym (two ∙ ap (with_supplies s r supplies) one.1))
     (supplies_replaced s r e supplies rows was storable)))

@@ -1,0 +1,41 @@
+-- What is shown of a document: its text, and round brackets with a name for each element, behind which stand the name of its first attribute and the value of the attribute id.
+use Rattle.std.specs.Prelude.{ℕ, List, [], ◌∷◌, ◌++◌, codes, Option, Some, None}
+use Rattle.xml_text.specs.Grammar.{Attribute, Token, raw, reference, cdata, comment, instruction, declaration, doctype, start, empty, end}
+use Rattle.xml_text.specs.Distinct.{value_of}
+use Rattle.xml_text.specs.References.{reference_text}
+
+abbrev pub two_names : List (List ℕ × List ℕ)
+two_names = (codes "amp", codes "&") ∷ (codes "lt", codes "<") ∷ []
+
+abbrev pub or_mark : Option (List ℕ) → List ℕ
+or_mark (Some text) = text
+or_mark None = codes "?"
+
+abbrev pub reference_shown : List ℕ → List ℕ
+reference_shown body = or_mark (reference_text two_names body)
+
+abbrev pub first_shown : List Attribute → List ℕ
+first_shown [] = []
+first_shown (a ∷ list) = codes " " ++ a.name
+
+abbrev pub value_shown : Option (List ℕ) → List ℕ
+value_shown (Some value) = codes "=" ++ value
+value_shown None = []
+
+abbrev pub id_shown : List Attribute → List ℕ
+id_shown list = value_shown (value_of (codes "id") list)
+
+abbrev pub shown : Token → List ℕ
+shown (raw b) = b ∷ []
+shown (reference body) = reference_shown body
+shown (cdata body) = body
+shown (comment body) = []
+shown (instruction body) = []
+shown (declaration body) = []
+shown (doctype body) = []
+shown (start name attributes space) = codes "(" ++ (name ++ (first_shown attributes ++ id_shown attributes))
+shown (empty name attributes space) = codes "(" ++ (name ++ (first_shown attributes ++ (id_shown attributes ++ codes ")")))
+shown (end name space) = codes ")"
+
+abbrev pub after : List ℕ → Token → List ℕ
+after s token = s ++ shown token

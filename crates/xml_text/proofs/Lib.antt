@@ -11,5 +11,6 @@ pub mod PieceLaws
 pub mod NestingLaws
 pub mod PlaceLaws
 pub mod DocumentLaws
+pub mod LimitLaws
 pub mod NumberLaws
 pub mod TreeLaws

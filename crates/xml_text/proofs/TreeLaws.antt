@@ -1,12 +1,12 @@
 -- The tokens of a document are those of a tree.
 use Rattle.std.proofs.Common.{◌≡◌, ℕ, zero, suc, ◌<◌, Bool, true, false, cond, List, [], ◌∷◌, ◌++◌, length, Option, Some, None, refl, sym, ap, ◌∙◌, append_assoc, length-append, arith}
-use Rattle.std.specs.Prelude.{not, ◌&&◌, option_map, option_and_then}
+use Rattle.std.specs.Prelude.{not, option_map, option_and_then}
 use Rattle.std.specs.Str.{bytes_eq}
-use Rattle.std.specs.List.{AllByRecursion, list_all, flat_map}
+use Rattle.std.specs.List.{AllByRecursion, flat_map}
 use Rattle.std.proofs.lemmas.Slice.Eq.{bytes_eq-Decides}
 use Rattle.xml_text.specs.declared.nesting.Nesting.{Nesting}
-use Rattle.xml_text.specs.Grammar.{is_space, spelling, is_token, Token, raw, reference, cdata, comment, instruction, declaration, doctype, start, empty, end}
-use Rattle.xml_text.specs.Places.{nested, nests, brackets_after, has_distinct, first_nesting, last_nesting, first_place, last_place, IsDocument}
+use Rattle.xml_text.specs.Grammar.{is_space, spelling, Token, raw, reference, cdata, comment, instruction, declaration, doctype, start, empty, end}
+use Rattle.xml_text.specs.Places.{nested, nests, first_nesting, last_nesting, first_place, last_place, IsDocument}
 use Rattle.xml_text.specs.Texts.{IsText}
 use Rattle.xml_text.specs.Tree.{Content, nothing, leaf, element, tokens_of, IsLeaf, HasLeaves}
 use Rattle.xml_text.specs.Trees.{IsMisc, IsProlog, IsRoot, IsTree, AreSound}

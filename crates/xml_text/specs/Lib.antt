@@ -10,6 +10,7 @@ pub mod Pieces
 pub mod Places
 pub mod Stacks
 pub mod Documents
+pub mod Limits
 pub mod Distinct
 pub mod Skims
 pub mod References

@@ -63,7 +63,11 @@ fn is_name_char(c: u32) -> bool
 fn passes(first: bool, c: u32) -> bool
     ensures { result ≡ passes first c }
 {
-    if first { starts_name_char(c) } else { is_name_char(c) }
+    if first {
+        starts_name_char(c)
+    } else {
+        is_name_char(c)
+    }
 }
 
 // How many bytes follow the first one of a character.

@@ -32,8 +32,7 @@ fn is_xml(name: &[u8]) -> bool
 {
     match name {
         [x, m, l] => {
-            (*x == b'x' || *x == b'X')
-                && ((*m == b'm' || *m == b'M') && (*l == b'l' || *l == b'L'))
+            (*x == b'x' || *x == b'X') && ((*m == b'm' || *m == b'M') && (*l == b'l' || *l == b'L'))
         }
         _ => false,
     }

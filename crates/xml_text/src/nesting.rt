@@ -46,6 +46,7 @@ impl Nesting {
         ensures malformed { IsErrOf result Fault.Malformed → nests self.old (map raw run.now) ≡ None }
         ensures deep { IsErrOf result Fault.TooDeep → MOST_OPEN ≤ length self.old.names }
         ensures large { ¬ (IsErrOf result Fault.LargeTag) }
+        ensures long { ¬ (IsErrOf result Fault.TooLong) }
     {
         if self.names.is_nothing() {
             if all_pass(Kind::Space, run) {
@@ -64,6 +65,7 @@ impl Nesting {
         ensures malformed { IsErrOf result Fault.Malformed → opened name.now self.old ≡ None }
         ensures deep { IsErrOf result Fault.TooDeep → MOST_OPEN ≤ length self.old.names }
         ensures large { ¬ (IsErrOf result Fault.LargeTag) }
+        ensures long { ¬ (IsErrOf result Fault.TooLong) }
     {
         if self.begun && self.names.is_nothing() {
             return Err(Fault::Malformed);
@@ -84,6 +86,7 @@ impl Nesting {
         ensures malformed { IsErrOf result Fault.Malformed → nested self.old (token_view token.now) ≡ None }
         ensures deep { IsErrOf result Fault.TooDeep → MOST_OPEN ≤ length self.old.names }
         ensures large { ¬ (IsErrOf result Fault.LargeTag) }
+        ensures long { ¬ (IsErrOf result Fault.TooLong) }
     {
         match token {
             Token::Comment(_) => Ok(()),

@@ -110,11 +110,7 @@ fn find_entity<'a>(table: &'a [Entity<'a>], name: &[u8]) -> Option<&'a [u8]>
 }
 
 // The same of what may stand between `&` and `;`.
-fn push_standing(
-    out: &mut Vec<u8>,
-    table: &[Entity<'_>],
-    body: &[u8],
-) -> Result<bool, AllocError>
+fn push_standing(out: &mut Vec<u8>, table: &[Entity<'_>], body: &[u8]) -> Result<bool, AllocError>
     requires { is_reference body.now ≡ true }
     ensures known { IfOk result (λ known. known ≡ true → option_map (λ text. out.old.items ++ text) (standing_text (entity_views table.now) body.now) ≡ Some out.new.items) }
     ensures kept { IfOk result (λ known. known ≡ false → out.new.items ≡ out.old.items) }

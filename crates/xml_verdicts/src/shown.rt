@@ -51,8 +51,14 @@ impl Shown {
         ensures { OnOk result (self.new ≡ self.old ++ reference_shown body.now) }
     {
         let table = [
-            Entity { name: "amp".as_bytes(), text: "&".as_bytes() },
-            Entity { name: "lt".as_bytes(), text: "<".as_bytes() },
+            Entity {
+                name: "amp".as_bytes(),
+                text: "&".as_bytes(),
+            },
+            Entity {
+                name: "lt".as_bytes(),
+                text: "<".as_bytes(),
+            },
         ];
         if push_reference(&mut self.bytes, &table, body)? {
             Ok(())

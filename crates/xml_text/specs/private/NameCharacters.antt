@@ -1,5 +1,5 @@
 -- What is left of the characters of a name.
-use Rattle.std.specs.Prelude.{ℕ, Bool, true, false, not, ◌&&◌, List, [], ◌∷◌, if◌then◌else◌}
+use Rattle.std.specs.Prelude.{ℕ, Bool, true, false, not, ◌&&◌, List, [], ◌∷◌}
 use Rattle.std.specs.Str.{continuation_len, lead_bits, chars_after}
 use Rattle.xml_text.specs.Characters.{starts_name_char, is_name_char}
 

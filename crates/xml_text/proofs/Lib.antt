@@ -14,3 +14,4 @@ pub mod DocumentLaws
 pub mod LimitLaws
 pub mod NumberLaws
 pub mod TreeLaws
+pub mod EncodingLaws

@@ -18,3 +18,4 @@ pub mod EntityView
 pub mod Tree
 pub mod Trees
 pub mod private
+pub mod Encodings

@@ -4,6 +4,7 @@
 mod attributes;
 mod characters;
 mod classes;
+mod encodings;
 mod fault;
 mod instructions;
 mod laws;
@@ -22,10 +23,11 @@ mod tags;
 mod texts;
 
 pub use attributes::{Attribute, Attributes};
+pub use encodings::Encoding;
 pub use fault::Fault;
 pub use laws::{documents_are_trees, one_document, tokens_are_read};
 pub use pieces::Piece;
-pub use reading::read_document;
+pub use reading::{read_document, read_encoded};
 pub use references::{Entity, push_reference};
 pub use sink::Sink;
 pub use tags::Token;

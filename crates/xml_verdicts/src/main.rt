@@ -8,7 +8,7 @@ use crate::lines::split_line;
 use crate::shown::Shown;
 use std::io;
 use std::io::Read;
-use xml_text::{Fault, read_document};
+use xml_text::{Encoding, Fault, read_document, read_encoded};
 
 fn verdict(outcome: &Result<(), Fault>) -> &'static str {
     match outcome {
@@ -22,11 +22,25 @@ fn verdict(outcome: &Result<(), Fault>) -> &'static str {
     }
 }
 
+// Reads a line as a document, in UTF-8 unless it begins with the name of another encoding and a colon.
+fn read_line(rt: HostRuntime, line: &[u8], shown: &mut Shown) -> Result<(), Fault> {
+    if let Some(mut rest) = line.strip_prefix("US-ASCII:".as_bytes()) {
+        return read_encoded(rt.alloc(), &mut rest, Encoding::Ascii, shown);
+    }
+    if let Some(mut rest) = line.strip_prefix("ISO-8859-1:".as_bytes()) {
+        return read_encoded(rt.alloc(), &mut rest, Encoding::Latin1, shown);
+    }
+    if let Some(mut rest) = line.strip_prefix("windows-1252:".as_bytes()) {
+        return read_encoded(rt.alloc(), &mut rest, Encoding::Windows1252, shown);
+    }
+    let mut rest = line;
+    read_document(rt.alloc(), &mut rest, shown)
+}
+
 // Reads a line, and says what it is, with what was shown of it up to a fault.
 fn tell(rt: HostRuntime, line: &[u8]) -> io::Result<()> {
     let mut shown = Shown::new(rt.alloc());
-    let mut reader = line;
-    let outcome = read_document(rt.alloc(), &mut reader, &mut shown);
+    let outcome = read_line(rt, line, &mut shown);
     let told = verdict(&outcome);
     let text = shown.as_text();
     println!(rt; "{told} [{text}]")

@@ -1,0 +1,5 @@
+pub mod GrowerLaws
+pub mod ChangeLaws
+pub mod FeedLaws
+pub mod MessageLaws
+pub mod CompositeLaws

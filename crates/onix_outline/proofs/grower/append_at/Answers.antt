@@ -1,0 +1,17 @@
+use Rattle.std.proofs.Common.{ap, ◌∙◌, List, ℕ, arith}
+use Rattle.onix_outline.specs.Views.{line_view}
+use Rattle.onix_outline.specs.declared.line.Line.{Line}
+use Rattle.onix_outline.specs.Outline.{line}
+use Rattle.onix_outline.specs.Growing.{longer}
+use Rattle.onix_outline.proofs.GrowerLaws.{past_lines, set_line}
+use Rattle.onix_outline.proofs.grower.append_at.Goals as goal
+
+pub returns-in_ok-extend_from_slice : goal.returns-in_ok-extend_from_slice
+returns-in_ok-extend_from_slice c =
+    let l = line_view c.index_mut-line.result.now in
+    let told = λ (t : List ℕ). line l.depth l.name l.format t in
+    set_line (longer c.args.text.now) c.args.lines.now.items c.args.at _ c.index_mut-line.result.now (omega (arith, c.if-at-len.true, c.len.ensures, c.args.lines.now.ok.0))
+    (ap told c.in_ok-extend_from_slice.ensures.items ∙ ap (λ (k : Line). longer c.args.text.now (line_view k)) c.index_mut-line.ensures.value)
+
+pub returns-else-at-len : goal.returns-else-at-len
+returns-else-at-len c = past_lines (longer c.args.text.now) c.args.at c.args.lines.now.items (omega (arith, c.if-at-len.false, c.len.ensures, c.args.lines.now.ok.0))

@@ -1,0 +1,11 @@
+pub mod Names
+pub mod Spaces
+pub mod Dialect
+pub mod Nodes
+pub mod Outline
+pub mod Views
+pub mod Growing
+pub mod Feed
+pub mod Message
+pub mod Faults
+pub mod Composites

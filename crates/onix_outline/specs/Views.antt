@@ -1,0 +1,18 @@
+-- Lines and words without where they lie in memory.
+use Rattle.std.specs.Prelude.{List, map, option_map}
+use Rattle.onix_outline.specs.declared.line.Line.{Line}
+use Rattle.onix_outline.specs.declared.names.Word.{Word}
+use Rattle.onix_outline.specs.Outline.{Line as Told}
+use Rattle.onix_outline.specs.Names.{Word as Spelled}
+
+abbrev pub line_view : Line → Told
+line_view l = record { depth = l.depth; name = l.name.now; format = option_map (λ f. f.items) l.format; text = l.text.items }
+
+abbrev pub line_views : List Line → List Told
+line_views lines = map line_view lines
+
+abbrev pub word_view : Word → Spelled
+word_view w = record { reference = w.reference.now; short = w.short.now }
+
+abbrev pub word_views : List Word → List Spelled
+word_views words = map word_view words

@@ -1,0 +1,70 @@
+//! What stands in a composite, by the lines of its outline.
+
+ghost use Rattle.std.specs.Prelude.{◌≡◌, ◌≤◌, length, option_map};
+ghost use Rattle.onix_outline.specs.Composites.{text_in, text_line, deeper, IsFirst};
+ghost use Rattle.onix_outline.specs.Nodes.{Nodes};
+ghost use Rattle.onix_outline.specs.Outline.{outline};
+ghost use Rattle.onix_outline.specs.Views.{line_views};
+
+use crate::line::Line;
+
+/// The first element of a composite, what stands in it, and the elements that follow it.
+#[derive(Clone, Copy)]
+pub struct Node<'a> {
+    pub line: &'a Line,
+    pub below: &'a [Line],
+    pub rest: &'a [Line],
+}
+
+// How many lines at the front are deeper.
+fn deeper(depth: usize, lines: &[Line]) -> usize
+    ensures count { result ≡ deeper depth (line_views lines.now) }
+    ensures bound { result ≤ length lines.now }
+{
+    let mut count = 0;
+    let mut rest = lines;
+    while let [line, tail @ ..] = rest {
+        if line.depth <= depth {
+            return count;
+        }
+        count += 1;
+        rest = tail;
+    }
+    count
+}
+
+/// The first of the elements that lines of this depth tell.
+pub fn first_node(depth: usize, lines: &[Line]) -> Option<Node<'_>>
+    ensures { (nodes : Nodes) → line_views lines.now ≡ outline depth nodes
+        → IsFirst result depth nodes }
+{
+    match lines {
+        [] => None,
+        [line, tail @ ..] => {
+            let (below, rest) = tail.split_at(deeper(depth, tail));
+            Some(Node { line, below, rest })
+        }
+    }
+}
+
+// The text of the first line of this depth and name that has one.
+fn text_line<'a>(depth: usize, name: &[u8], lines: &'a [Line]) -> Option<&'a [u8]>
+    ensures { option_map (λ t. t.now) result ≡ text_line depth name.now (line_views lines.now) }
+{
+    let mut rest = lines;
+    while let [line, tail @ ..] = rest {
+        if line.depth == depth && line.name == name && !line.text.is_empty() {
+            return Some(line.text.as_slice());
+        }
+        rest = tail;
+    }
+    None
+}
+
+/// The text of the first element of this name that has one.
+pub fn text_in<'a>(depth: usize, name: &[u8], lines: &'a [Line]) -> Option<&'a [u8]>
+    ensures { (nodes : Nodes) → line_views lines.now ≡ outline depth nodes
+        → option_map (λ t. t.now) result ≡ text_in name.now nodes }
+{
+    text_line(depth, name, lines)
+}

@@ -1,0 +1,19 @@
+-- What is shown of an outline: for each line its depth, its name, behind @ its format and behind = its text, and a semicolon; behind them all a bar.
+use Rattle.std.specs.Prelude.{ℕ, ◌+◌, nat_lt, List, [], ◌∷◌, ◌++◌, Option, Some, None, fold, if◌then◌else◌}
+use Rattle.onix_outline.specs.Outline.{Line}
+
+abbrev pub depth_shown : ℕ → ℕ
+depth_shown depth = if nat_lt depth 10 then 48 + depth else 43
+
+abbrev pub format_shown : List ℕ → Option (List ℕ) → List ℕ
+format_shown shown None = shown
+format_shown shown (Some format) = (shown ++ 64 ∷ []) ++ format
+
+abbrev pub line_shown : List ℕ → Line → List ℕ
+line_shown shown l = ((format_shown ((shown ++ depth_shown l.depth ∷ []) ++ l.name) l.format ++ 61 ∷ []) ++ l.text) ++ 59 ∷ []
+
+abbrev pub lines_shown : List ℕ → List Line → List ℕ
+lines_shown shown lines = fold line_shown shown lines
+
+abbrev pub after : List ℕ → List Line → List ℕ
+after shown lines = lines_shown shown lines ++ 124 ∷ []

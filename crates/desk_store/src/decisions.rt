@@ -76,7 +76,7 @@ pub(crate) fn deliver_in<S: Alter>(
     ensures achieves { (records : List (List (List ℕ)))
         → message_of records ≡ Some (header.now, contents) → header.now.number ≡ Some number
         → Achieves (Answers (Request.Deliver records) (λ L. delivery_answer L records))
-            (seen S.Store work.old) (seen S.Store work.new) result }
+        (seen S.Store work.old) (seen S.Store work.new) result }
 {
     let found = match work.series_by_parties(&header.sender, &header.addressee) {
         Ok(found) => found,

@@ -1,5 +1,5 @@
 -- A command that ended over a desk ended so over what comes of it, as over its files once they are closed.
-use Rattle.std.proofs.Common.{◌≡◌, ◌∙◌, ◌≤◌, ◌⊎◌, ◌∷◌, ◌++◌, ℕ, List, [], Option, Some, None, Result, inl, inr, arith, length, map, append-nil, append_assoc, refl, subst, sym}
+use Rattle.std.proofs.Common.{◌≡◌, ◌∙◌, ◌⊎◌, ◌++◌, ℕ, List, [], Option, Some, None, inl, inr, arith, length, map, append-nil, append_assoc, refl, subst, sym}
 use Rattle.std.proofs.Math.Seq.{take-length}
 use Rattle.std.specs.Prelude.{take}
 use Rattle.std.specs.Borrow.{Bor}
@@ -13,7 +13,7 @@ use Rattle.onixdesk.proofs.QuestionLemmas.{without_question}
 use Rattle.onixdesk.specs.Course.{Course}
 use Rattle.onixdesk.specs.Deliveries.{DeliveriesEnd, KeepsDelivered}
 use Rattle.onixdesk.specs.Ends.{Ends}
-use Rattle.onixdesk.specs.GapsEnd.{GapsEnd, with_question}
+use Rattle.onixdesk.specs.GapsEnd.{with_question}
 use Rattle.onixdesk.specs.Serving.{KeepsServed}
 use Rattle.onixdesk.specs.TaskEnds.{TaskEnds}
 use Rattle.onixdesk.specs.declared.command_line.Task.{Task}

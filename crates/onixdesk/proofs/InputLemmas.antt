@@ -1,6 +1,8 @@
 -- Which of the texts that were delivered is that of the input.
-use Rattle.std.proofs.Common.{◌≡◌, ◌<◌, ◌+◌, ◌++◌, ◌∷◌, ◌∙◌, ◌⊎◌, ℕ, zero, suc, List, [], Option, Some, None, inl, inr, refl, sym, ap, subst, arith, length, append-nil}
-use Rattle.std.specs.Prelude.{◌≢◌, codes, slice_get}
+use Rattle.std.proofs.Common.{◌≡◌, ◌<◌, ◌+◌, ◌++◌, ◌∷◌, ◌∙◌, ◌⊎◌, ℕ, zero, suc, List, [], Option, Some, inl, inr, refl, sym, ap, subst, arith, length, map, append-nil}
+use Rattle.std.specs.Borrow.{Bor}
+use Rattle.std.specs.Prelude.{◌≢◌, codes, option_map, slice_get, slice_index_or}
+use Rattle.std.proofs.lemmas.Option.{slice_get-get_or, slice_get-map}
 use Rattle.csv_records.specs.Streams.{IsTold}
 use Rattle.desk_batch.specs.declared.batch.RequestFault.TheVariants as request_fault
 use Rattle.onixdesk.specs.Deliveries.{IsFirstInput, TellsInput}
@@ -14,6 +16,10 @@ NoInput names i = (j : ℕ) → j < i → slice_get names j ≢ Some (codes "-")
 
 some_same : {X : Type 0} (a b : X) → Some a ≡ Some b → a ≡ b
 some_same a b e = cc
+
+-- the i-th of the names that are lent
+pub named_at : (names : List (Bor (List ℕ))) (i : ℕ) (other : Bor (List ℕ)) → i < length names → slice_get (map (λ (name : Bor (List ℕ)). name.now) names) i ≡ Some (slice_index_or names i other).now
+named_at names i other within = slice_get-map (λ (name : Bor (List ℕ)). name.now) names i ∙ ap (option_map (λ (name : Bor (List ℕ)). name.now)) (slice_get-get_or names i other within)
 
 -- an element of a list with one more at the end
 of_more : {X : Type 0} (xs : List X) (y : X) (k : ℕ) (x : X) → slice_get (xs ++ y ∷ []) k ≡ Some x → (slice_get xs k ≡ Some x) ⊎ ((k ≡ length xs) × (y ≡ x))

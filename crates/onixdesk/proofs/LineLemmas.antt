@@ -1,5 +1,5 @@
 -- Lines that are written, of which the last may be cut.
-use Rattle.std.proofs.Common.{◌≡◌, ◌≤◌, ◌++◌, ◌∷◌, ◌∙◌, [], ℕ, List, Option, Result, append-nil, append_assoc, ap, arith, length, refl, subst, sym, Ok, Err}
+use Rattle.std.proofs.Common.{◌++◌, ◌∷◌, ◌∙◌, [], ℕ, List, Option, Result, append-nil, append_assoc, ap, arith, refl, subst, sym, Ok, Err}
 use Rattle.std.specs.Prelude.{OnErr, OnOk}
 use Rattle.std.specs.Io.KnownBytes.{Appends}
 use Rattle.std.proofs.KnownBytes.{Appends-trans}

@@ -2,7 +2,6 @@
 use Rattle.series_rules.specs.Views.{DeskKind, View}
 use Rattle.std.proofs.Common.{◌∷◌, ◌⊎◌, inl, inr, ℕ, Bool, List, Some, Result, Ok, Err, refl, sym}
 use Rattle.series_rules.proofs.Questions.{content_left}
-use Rattle.series_rules.specs.Content.{SameContent}
 use Rattle.series_rules.specs.Views.{LeavesOnly}
 use Rattle.series_rules.specs.declared.requests.Request.{Request}
 use Rattle.series_rules.specs.declared.requests.Request.TheVariants.{AskGaps}

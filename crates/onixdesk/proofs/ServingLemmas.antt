@@ -7,7 +7,7 @@ use Rattle.std.proofs.lemmas.List.{map-append}
 use Rattle.std.proofs.lemmas.List.Concat.{flat_map-append}
 use Rattle.desk_terms.specs.declared.faults.StoreFault.{StoreFault}
 use Rattle.price_rules.specs.declared.precedence.Rule.{Rule}
-use Rattle.series_rules.specs.Views.{DeskKind, LeavesOnly, View}
+use Rattle.series_rules.specs.Views.{DeskKind, View}
 use Rattle.series_rules.specs.declared.answers.Answer.{Answer}
 use Rattle.series_rules.specs.declared.requests.Request.{Request}
 use Rattle.desk_http.proofs.ConnectionLemmas.{served_next}
@@ -113,10 +113,10 @@ one_more_first (Some clients) now new served c (rest, is, all) next =
       others,
       left,
       ap (λ xs. xs ++ map Some others) (map-append (λ (d : Connection). d.sent) served (c ∷ []))
-      ∙ append_assoc (map (λ (d : Connection). d.sent) served) (c.sent ∷ []) (map Some others)
-      ∙ ap (λ x. map (λ (d : Connection). d.sent) served ++ x ∷ map Some others) sends
-      ∙ ap (λ xs. map (λ (d : Connection). d.sent) served ++ map Some xs) (sym split)
-      ∙ all,
+          ∙ append_assoc (map (λ (d : Connection). d.sent) served) (c.sent ∷ []) (map Some others)
+          ∙ ap (λ x. map (λ (d : Connection). d.sent) served ++ x ∷ map Some others) sends
+          ∙ ap (λ xs. map (λ (d : Connection). d.sent) served ++ map Some xs) (sym split)
+          ∙ all,
     )
 
 pub first_of : (coming now : Option (List (List ℕ))) (served : List Connection) → AreFirstOf coming now served → AreFirst coming served

@@ -26,7 +26,7 @@ use Rattle.desk_store.specs.Migrations.{AreFilesOfEither, AreMigrated, IsTrueAns
 use Rattle.desk_store.specs.Openings.{AreEmptyFiles, AreFilesWith, HoldRowsOf, KeepsFiles, MakesNothing}
 use Rattle.desk_store.specs.Seen.{in_tables}
 use Rattle.desk_store.specs.declared.migrating.MigrateAnswer.{MigrateAnswer}
-use Rattle.onixdesk.specs.Course.{Course, course}
+use Rattle.onixdesk.specs.Course.{course}
 use Rattle.onixdesk.specs.FileViews.{seen_image, seen_left}
 use Rattle.onixdesk.specs.MigrationEnd.{MigrationEnd}
 use Rattle.onixdesk.specs.RulesFile.{RulesFit, status_of}

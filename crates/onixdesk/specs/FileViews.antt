@@ -1,5 +1,5 @@
 -- The two files of a desk, as a desk is seen: before they are opened, and as a command leaves them.
-use Rattle.std.specs.Prelude.{List, IsTrue, Option, Some, None}
+use Rattle.std.specs.Prelude.{List}
 use Rattle.sqlite.specs.Files.{IsCleanLeft, image_of, over_files}
 use Rattle.sqlite.specs.declared.file.Leftover.{Leftover}
 use Rattle.sqlite_disk.specs.declared.Disk.{Ghosts}

@@ -1,5 +1,5 @@
 -- How a command ends, and what it has answered that is kept.
-use Rattle.series_rules.specs.Views.{DeskKind, View}
+use Rattle.series_rules.specs.Views.{DeskKind}
 use Rattle.std.specs.Prelude.{◌≡◌, ◌≤◌, ◌++◌, ℕ, List, Option, length, map}
 use Rattle.csv_records.specs.Streams.{IsTold}
 use Rattle.onix_terms.specs.SeriesName.{series_name_of}

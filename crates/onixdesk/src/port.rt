@@ -31,6 +31,7 @@ impl<'a> Clients for Port<'a> {
     ghost coming = { λ port. None };
 
     type Reader = Timed<'a>;
+
     type Writer = Timed<'a>;
 
     fn accept(&mut self) -> Result<Option<(Timed<'a>, Timed<'a>)>, Fault> {

@@ -80,11 +80,7 @@ pub fn serve_port<D: Desk, C: Clients, O: Write, E: Write>(
 }
 
 // Listens at a port of 127.0.0.1, and says so.
-fn listen<'a, O: Write>(
-    rt: &'a HostRuntime,
-    number: u16,
-    output: &mut O,
-) -> Result<Port<'a>, Fault>
+fn listen<'a, O: Write>(rt: &'a HostRuntime, number: u16, output: &mut O) -> Result<Port<'a>, Fault>
     ensures { WritesWhole (Appends (O.contents output.old) (O.contents output.new))
         (listening_line number) result }
 {

@@ -1,4 +1,4 @@
-use Rattle.std.proofs.Common.{◌≡◌, ◌∷◌, [], ap, rules, subst}
+use Rattle.std.proofs.Common.{◌≡◌, ◌∷◌, [], rules, subst}
 use Rattle.std.specs.Fmt.{decimal}
 use Rattle.std.specs.Io.KnownBytes.{Appends}
 use Rattle.desk_http.specs.Writing.{WritesFront}

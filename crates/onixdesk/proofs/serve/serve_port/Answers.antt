@@ -47,16 +47,16 @@ returns-in-Err-clause-end g c =
     let before = g.C.Clients.coming c.serving.clients in
     ⊎_elim
     (λ it.
-        let one = it.connection in (
-          inv.served ++ one ∷ [],
-          first_of at_first (g.C.Clients.coming c.serve_next.new.clients) (inv.served ++ one ∷ []) (one_more_first at_first before (g.C.Clients.coming c.serve_next.new.clients) inv.served one inv.first it.next),
-          (
-            omega (arith, inv.counted, length-append inv.served (one ∷ [])),
-            λ L stands sound. one_more_served g.D.Desk.seen c.args.precedence.now L inv.served one c.args.desk.now c.serving.desk c.serve_next.new.desk (inv.keeps L stands (it.served.premise sound)) it.served sound,
-          ),
-          cut_line _ _ _ inv.served one inv.lines it.line,
-          λ zero. absurd (omega (arith, zero, c.report.ensures)),
-        ))
+    let one = it.connection in (
+      inv.served ++ one ∷ [],
+      first_of at_first (g.C.Clients.coming c.serve_next.new.clients) (inv.served ++ one ∷ []) (one_more_first at_first before (g.C.Clients.coming c.serve_next.new.clients) inv.served one inv.first it.next),
+      (
+        omega (arith, inv.counted, length-append inv.served (one ∷ [])),
+        λ L stands sound. one_more_served g.D.Desk.seen c.args.precedence.now L inv.served one c.args.desk.now c.serving.desk c.serve_next.new.desk (inv.keeps L stands (it.served.premise sound)) it.served sound,
+      ),
+      cut_line _ _ _ inv.served one inv.lines it.line,
+      λ zero. absurd (omega (arith, zero, c.report.ensures)),
+    ))
     (λ nobody. (
       inv.served,
       first_of at_first before inv.served inv.first,

@@ -15,7 +15,8 @@ build: ## proves and builds the program, crates/onixdesk/out/onixdesk
 test: ## the gate: all that is proved and tested, but the buyers' page
 	@tests/gate
 
-check: lint ## in minutes: the lints, and the tests of the built program
+check: lint ## in minutes: the lints, what nothing names, and the tests of the built program
+	@tools/unnamed
 	@tests/run
 
 lint: ## looks over the Python, the shell and the JavaScript

@@ -118,9 +118,3 @@ bounds-agree (suc n) zero s xs h k z = absurd (omega arith)
 bounds-agree (suc n) (suc m) s [] h k z = rw (none-at-end s z) refl
 bounds-agree (suc n) (suc m) s (c ∷ xs) h k z = next-agree n m s c xs (next_record default_config s [] [] (c ∷ xs)) refl
     (λ (p : Read) (less : length p.2 ≤ length xs) (ended : ends_at_end p.1 ≡ false). bounds-agree n m p.1 p.2 (omega arith) (omega arith) ended)
-
--- the records that were read are the records of the text
-pub records-are : (bytes : List ℕ) (rows : List (List (List ℕ))) → AreRecords default_config st.StartRecord (strip_bom bytes) rows → rows ≡ records_of bytes
-unfolding records_of
-records-are bytes rows h = let (s2, ys, reached, none) = h in
-    sym (all-from (length (strip_bom bytes) + 1) st.StartRecord s2 (strip_bom bytes) ys rows (omega arith) refl reached none)

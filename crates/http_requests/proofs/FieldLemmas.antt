@@ -16,10 +16,6 @@ pub one_there : (values : List (List ℕ)) (v : List ℕ) → only_value values 
 one_there [] v e = absurd (cc)
 one_there (w ∷ values) v e = lt-ltb 0 (length (w ∷ values)) (omega arith)
 
-pub more_there : (values : List (List ℕ)) → only_value values ≡ Err tt → nat_lt 0 (length values) ≡ true
-more_there [] e = absurd (cc)
-more_there (w ∷ values) e = lt-ltb 0 (length (w ∷ values)) (omega arith)
-
 -- the size by the only value that was found
 pub size_found : (found : Result (Option (Bor (List ℕ))) Repeated) (only : Result (Option (List ℕ)) (Unit {0})) (size : Result ℕ Refusal)
     → IfOk found (λ o. only ≡ Ok (option_map (λ v. v.now) o)) → OnErr found (only ≡ Err tt)

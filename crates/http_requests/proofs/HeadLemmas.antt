@@ -39,9 +39,6 @@ never_head bytes room enough over more h rest has =
 pub never_now : (bytes : List ℕ) → IsNeverHead bytes → HasNoHead bytes
 never_now bytes never = subst HasNoHead (append-nil bytes) (never [])
 
-pub no_head_yet : (bytes : List ℕ) → HasNoRequest bytes → HasNoHead bytes
-no_head_yet bytes none h rest has = none h rest has.reads
-
 pub no_head_in_nothing : HasNoHead []
 no_head_in_nothing h rest has =
     omega (arith, head_long h has.reads.0.fields, simp length-append at (ap length has.reads.1))

@@ -364,16 +364,6 @@ ends-well records first rest o k d n split header s e ended =
     let front = subst (λ (t : List Record). Reads o t (draft_rows d)) (take_all k rest (omega arith)) s.front in
     is-message records first rest o d.products n split header (rw ended at front) s.details.0
 
--- the contents of a message are of two rows less than a message may have
-pub few-rows : (o : Opening) (done : List Record) (d : Draft) (n : ℕ) → Holds o done d → d.part ≡ part.Ended n → length (content_rows d.products) ≤ 19998
-few-rows o done d n s ended =
-    let size = reads-length o done (draft_rows d) s.front.reads in
-    let within = s.front.within in
-    let rows : draft_rows d ≡ content_rows d.products ++ row.EndMessage n ∷ [] = ap (λ (p : Part). flat_map product_rows d.products ++ part_rows p) ended in
-    let l = ap (λ (t : List Row). length t) rows in
-    let m = length-append (content_rows d.products) (row.EndMessage n ∷ []) in
-    omega (arith, size, within, l, m)
-
 pub stops-none : (records : List Record) → length records ≡ 0 → Breaks records 1
 stops-none [] e = stops-empty
 stops-none (r ∷ records) e = absurd (omega arith)

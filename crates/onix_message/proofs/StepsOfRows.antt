@@ -31,12 +31,6 @@ failed-steps make None fault.Wrong old before new g = λ r is _ _. cc is
 failed-steps make (Some x) fault.Wrong old before new g = cc g
 failed-steps make read fault.Memory old before new g = tt
 
--- an end that counts wrongly
-pub uncounted-steps : {A : Type 0} (make : A → Row) (read : Option A) (x : A) (old : Draft) (before : ℕ) (new : Draft) → read ≡ Some x
-    → is_counted (make x) before ≡ false → Steps (Err steps.OutOfOrder) (option_map make read) old before new
-uncounted-steps make None x old before new e counted = cc e
-uncounted-steps make (Some y) x old before new e counted = λ r is right _. cc (same_Some y x e, same_Some (make y) r is, right, counted)
-
 -- a second header
 pub header-steps : (read : Option Opening) (old : Draft) (before : ℕ) (new : Draft) → Steps (Err steps.OutOfOrder) (option_map message_row read) old before new
 header-steps None old before new = λ r is _ _. cc is

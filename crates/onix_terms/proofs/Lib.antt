@@ -11,4 +11,3 @@ pub mod OneText
 pub mod CodeTexts
 pub mod TerritoryTexts
 pub mod NamedCountries
-pub mod OrTests

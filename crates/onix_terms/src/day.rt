@@ -119,13 +119,6 @@ impl Day {
             number: self.number - 1,
         }
     }
-
-    /// Whether this day comes after the other.
-    pub fn is_after(self, other: Day) -> bool
-        ensures { IsTrue result ↔ (other <ℤ self) }
-    {
-        self.number > other.number
-    }
 }
 
 // The day whose date the number YYYYMMDD is.

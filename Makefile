@@ -1,5 +1,6 @@
 .DEFAULT_GOAL := help
-.PHONY: help build test check lint docs definitions mutants wrong-bodies page-test page-pictures package package-test
+.PHONY: help build test check lint docs definitions mutants wrong-bodies page-test page-pictures postgres-test \
+    package package-test
 
 help: ## this list
 	@awk -F ':.*## ' '/^[a-z-]+:.*## / { printf "make %-13s %s\n", $$1, $$2 }' Makefile
@@ -43,6 +44,10 @@ page-test: ## the buyers' page in a browser, before nginx and the built program
 
 page-pictures: ## takes the pictures of docs/PAGE.md anew
 	@tests/page/run --pictures
+
+# tests/postgres/run says which of Debian's packages it needs. The last line is 'postgres: N cases, M failed'.
+postgres-test: ## the tables and functions in PostgreSQL, on a cluster of the tests' own
+	@tests/postgres/run
 
 package: ## dist/onixdesk_VERSION_amd64.deb, of the built program
 	@packaging/build

@@ -130,7 +130,7 @@ def version(room: Room):
     package = [*ROOT.joinpath("packaging").glob("*.1"), *ROOT.glob("packaging/debian/*"), *ROOT.glob("bin/*")]
     named = [path.name for path in package if path.is_file() and f"{number} " in path.read_text(encoding="utf-8")]
     yield Outcome("the version of the package", named, [])
-    for name in ("onixdesk.1", "onix-to-csv.1"):
+    for name in ("onixdesk.1", "onix-to-csv.1", "desk-copy.1", "desk-follow.1"):
         page = ROOT.joinpath("packaging", name).read_text(encoding="utf-8")
         # The line that packaging/build gives the version.
         yield Outcome(f"the version of {name}", page.splitlines().count(".Os"), 1)

@@ -1,5 +1,5 @@
-"""The packages of Python: what ships imports the standard library alone, no package imports one above it, and none
-changes where packages are looked for."""
+"""The packages of Python: what ships imports the standard library and each other, and psycopg2 for PostgreSQL alone, no
+package imports one above it, and none changes where packages are looked for."""
 
 import ast
 import sys
@@ -11,12 +11,14 @@ from tools.root import ROOT
 
 # What each package may import beside the standard library and itself.
 MAY_IMPORT = {
+    "lib/desk_copy": set(),
+    "lib/desk_follow": {"desk_copy", "psycopg2"},
     "lib/onix_to_csv": set(),
     "lib/onixdesk_inbox": set(),
     "tools": set(),
-    "bench": {"tools"},
+    "bench": {"desk_copy", "desk_follow", "psycopg2", "tools"},
     # The tests of the page drive a browser.
-    "tests": {"bench", "onix_to_csv", "selenium", "tools"},
+    "tests": {"bench", "desk_copy", "desk_follow", "onix_to_csv", "psycopg2", "selenium", "tools"},
 }
 
 

@@ -1,0 +1,1 @@
+"""Brings tables in PostgreSQL after those of a desk, with the desk's questions as functions."""

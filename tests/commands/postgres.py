@@ -1,0 +1,73 @@
+"""Tests bin/desk-follow: tables of a desk in PostgreSQL, and the desk's questions as functions there.
+
+    tests/postgres/run [-k PATTERN].. [--case TEXT] [PROGRAM]
+    tests/postgres/run --list
+
+It makes a cluster in a folder of its own, with a socket there alone, and removes it at the end; as root it runs it as
+the user postgres. It needs Debian's packages postgresql-15 and python3-psycopg2, and Debian's own Python. PROGRAM is
+crates/onixdesk/out/onixdesk where none is named. With -k only the groups are run that have the text in their name,
+which --list tells, and with --case only those of their cases are counted. For each case that failed a line is written,
+and at the end `postgres: N cases, M failed`. Status 0; 1 where a case failed; 2 where no case was run, there is no
+program or a package is missing.
+"""
+
+import argparse
+import importlib.util
+import os
+import sys
+from functools import partial
+from pathlib import Path
+
+from tests.running import add_choice, choice, count_all, run_side_by_side
+from tools.root import ROOT
+
+PROGRAMS = Path(os.environ.get("POSTGRES_BIN", "/usr/lib/postgresql/15/bin"))
+AT_ONCE = 4
+
+
+def missing_packages() -> list[str]:
+    missing = [] if os.access(PROGRAMS / "initdb", os.X_OK) else ["postgresql-15"]
+    return missing + ["python3-psycopg2"] * (importlib.util.find_spec("psycopg2") is None)
+
+
+def why_not(program: Path | None) -> str | None:
+    """Why the follower cannot be tested with that program, or the tests not be listed without one."""
+    if missing := missing_packages():
+        return f"needs Debian's packages {' '.join(missing)}"
+    if program and not os.access(program, os.X_OK):
+        return f"no program {program}; make build builds it"
+    return None
+
+
+def command_line() -> argparse.ArgumentParser:
+    parser = argparse.ArgumentParser("tests/postgres/run",
+        description=__doc__, formatter_class=argparse.RawDescriptionHelpFormatter)
+    add_choice(parser)
+    parser.add_argument("program", metavar="PROGRAM", type=Path, nargs="?",
+        default=ROOT / "crates/onixdesk/out/onixdesk")
+    return parser
+
+
+def main() -> int:
+    given = command_line().parse_args()
+    program = given.program.resolve()
+    if why := why_not(None if given.list else program):
+        print(f"tests/postgres/run: {why}", file=sys.stderr)
+        return 2
+    # They need psycopg2.
+    from bench.figures.cluster import started
+    from tests.postgres.groups import OverCluster, groups
+
+    chosen = choice(given)
+    found = [group for group in groups() if chosen.has(group)]
+    if given.list:
+        print("\n".join(group.id() for group in found))
+        return 0
+    OverCluster.program = program
+    with started(PROGRAMS) as OverCluster.cluster:
+        lanes = [partial(count_all, [group], chosen.case) for group in found]
+        return run_side_by_side("postgres", lanes, most=AT_ONCE)
+
+
+if __name__ == "__main__":
+    sys.exit(main())

@@ -1,0 +1,58 @@
+"""Runs of bin/desk-follow, and what the database and the desk's file hold then."""
+
+import sqlite3
+import subprocess
+from contextlib import closing
+from pathlib import Path
+
+import psycopg2
+
+from tests.program.databases import DATABASE
+from tests.program.room import SECONDS, Ran
+
+PROGRAM = Path(__file__).resolve().parent.parent.parent / "bin/desk-follow"
+
+TABLES = ["meta", "series", "held", "applied", "record", "article", "offer", "price", "price_minimum"]
+
+
+def words_of(room, database: str, *words) -> list:
+    return [PROGRAM, "--room", room.folder, "--database", database, *words, DATABASE]
+
+
+def follow(room, database: str, *words) -> Ran:
+    done = subprocess.run(
+        words_of(room, database, *words), cwd=room.folder, capture_output=True, timeout=SECONDS
+    )
+    return Ran(done.returncode, done.stdout, done.stderr)
+
+
+def kind(ran: Ran) -> str:
+    """What a run says that it did, without the moment; or what is wrong with it."""
+    if ran.status or ran.errors:
+        return f"{ran}"
+    return ran.output.decode().partition(" UTC: ")[2].rstrip("\n")
+
+
+def ask(database: str, query: str, *values) -> list[tuple]:
+    with closing(psycopg2.connect(database)) as connection, connection.cursor() as cursor:
+        cursor.execute(query, values)
+        return cursor.fetchall()
+
+
+def execute(database: str, statements: str):
+    with closing(psycopg2.connect(database)) as connection, connection.cursor() as cursor:
+        cursor.execute(statements)
+        connection.commit()
+
+
+def in_postgres(database: str) -> dict[str, list[tuple]]:
+    """The rows of each table; nothing where there is no schema."""
+    if not ask(database, "SELECT FROM pg_namespace WHERE nspname = 'desk'"):
+        return {}
+    return {table: sorted(ask(database, f"SELECT * FROM desk.{table}"), key=repr) for table in TABLES}
+
+
+def in_file(room) -> dict[str, list[tuple]]:
+    """The rows of the desk's file, which no program has open."""
+    with closing(sqlite3.connect(f"{room.path(DATABASE).as_uri()}?mode=ro", uri=True)) as connection:
+        return {table: sorted(connection.execute(f"SELECT * FROM {table}"), key=repr) for table in TABLES}

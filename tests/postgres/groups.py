@@ -1,0 +1,28 @@
+"""The groups of tests over one cluster."""
+
+from collections.abc import Callable, Iterator
+from functools import partial
+
+from bench.figures.cluster import Cluster
+from tests.postgres import questions, replicas, schemas, steps
+from tests.program.room import Group, Room
+from tests.running import Outcome
+
+MODULES = [steps, questions, schemas, replicas]
+
+
+class OverCluster(Group):
+    """Cases over the cluster, which is started before."""
+
+    cluster: Cluster
+
+    def __init__(self, module: str, name: str, check: Callable[[Cluster, Room], Iterator[Outcome]]):
+        super().__init__(name, partial(self.over, check))
+        self.module = module.rpartition(".")[2]
+
+    def over(self, check: Callable[[Cluster, Room], Iterator[Outcome]], room: Room) -> Iterator[Outcome]:
+        return check(self.cluster, room)
+
+
+def groups() -> list[OverCluster]:
+    return [OverCluster(module.__name__, name, check) for module in MODULES for name, check in module.GROUPS]

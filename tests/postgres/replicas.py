@@ -1,0 +1,51 @@
+"""A streaming replica: it follows the tables, and answers as the desk does."""
+
+import time
+
+import psycopg2
+
+from tests.postgres.follower import ask, execute, follow, in_file, in_postgres, kind
+from tests.postgres.questions import differences
+from tests.postgres.seeds import RULES, Maker, agreements
+from tests.program.databases import DATABASE
+from tests.program.room import SECONDS, Outcome
+
+QUESTIONS = 300
+
+
+def caught_up(database: str, replica: str) -> bool:
+    """Waits until the replica has all that was written by now."""
+    ((written,),) = ask(database, "SELECT pg_current_wal_lsn()::text")
+    end = time.monotonic() + SECONDS
+    while time.monotonic() < end:
+        ((is_there,),) = ask(replica, "SELECT pg_last_wal_replay_lsn() >= %s::pg_lsn", written)
+        if is_there:
+            return True
+        time.sleep(0.1)
+    return False
+
+
+def of_a_desk(cluster, room):
+    maker = Maker(4711)
+    room.write("rules.toml", RULES.encode())
+    database = cluster.make_database("replicated")
+    room.run("--db", DATABASE, "batch", given=(agreements() + maker.messages(40)).encode())
+    follow(room, database, "--rules", "rules.toml")
+    with cluster.replica() as words:
+        replica = f"{database} {words}"
+        room.run("--db", DATABASE, "batch", given=maker.messages(40).encode())
+        came = follow(room, database, "--rules", "rules.toml")
+        yield Outcome("replica: what changed is brought", kind(came).partition(":")[0], "what changed")
+        yield Outcome("replica: it gets it", caught_up(database, replica), True)
+        yield Outcome("replica: the rows", in_postgres(replica) == in_file(room), True)
+        questions = [maker.question() for _ in range(QUESTIONS)]
+        yield Outcome("replica: answers", differences(room, replica, questions)[:2], [])
+        try:
+            execute(replica, "DELETE FROM desk.price")
+            came = "deleted"
+        except psycopg2.Error as error:
+            came = error.pgcode
+        yield Outcome("replica: nobody writes there", came, "25006")
+
+
+GROUPS = [("a replica", of_a_desk)]

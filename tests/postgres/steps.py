@@ -1,0 +1,204 @@
+"""The follower killed between each two steps, two at once, and readers meanwhile: what is seen is of one of two moments,
+whole."""
+
+import signal
+import subprocess
+import sys
+import threading
+from contextlib import closing
+from pathlib import Path
+
+import psycopg2
+
+from tests.postgres.follower import execute, follow, in_file, in_postgres, kind, words_of
+from tests.program.databases import DATABASE
+from tests.program.room import SECONDS, Outcome
+
+HERE = Path(__file__).resolve().parent
+
+AGREEMENT = "Agree,north,06,4012345000009,06,5012345678900,1\n"
+PRODUCTS = 30
+
+
+def message(number: int) -> str:
+    """A message that gives each product the number as its price."""
+    products = [
+        f"Product,R{place},03,15,97800000000{place:02}\nProductSupply,GB IE,,\n"
+        f"SupplyDetail,04,06,4012345000009,North Books,21,\nPrice,02,{number},GBP,,,,,\n"
+        for place in range(PRODUCTS)
+    ]
+    opening = f"Message,1,06,4012345000009,06,5012345678900,{number},1,20250301,,\n"
+    return f"{opening}{''.join(products)}EndMessage,{4 * PRODUCTS + 1}\n"
+
+
+def deliver(room, *numbers: int, agreement: str = ""):
+    text = agreement + "".join(map(message, numbers))
+    assert room.run("--db", DATABASE, "batch", given=text.encode()).status == 0
+
+
+def killed_at(room, database: str, at: int) -> bool:
+    """Whether a run is killed at that step; one that has fewer ends by itself."""
+    words = [str(word) for word in words_of(room, database)]
+    done = subprocess.run(
+        [sys.executable, "-B", HERE / "killed.py", str(at), *words[1:]],
+        cwd=room.folder,
+        capture_output=True,
+        timeout=SECONDS,
+    )
+    if done.returncode not in (0, -signal.SIGKILL):
+        raise RuntimeError(f"the follower ended with {done.returncode}: {done.stderr}")
+    return done.returncode < 0
+
+
+def killed_at_each_step(room, name: str, database: str, before: dict, least: int):
+    """Runs that are killed at step 1, 2 and so on, until one ends."""
+    after = in_file(room)
+    wrong, at = [], 1
+    while killed_at(room, database, at):
+        # Killed right behind its commit, the follower has brought all.
+        if (came := in_postgres(database)) != before and came != after:
+            wrong.append(at)
+        before = came if came == after else before
+        at += 1
+    yield Outcome(f"killed, {name}: seen is one of two moments", wrong, [])
+    yield Outcome(f"killed, {name}: the run that ends brings all", in_postgres(database) == after, True)
+    yield Outcome(f"killed, {name}: it had steps", at >= least, True)
+
+
+def killed_all_along(cluster, room):
+    database = cluster.make_database("killed")
+    deliver(room, 1, 2, agreement=AGREEMENT)
+    yield from killed_at_each_step(room, "a new schema", database, {}, 30)
+    before = in_postgres(database)
+    deliver(room, 3, 5)
+    yield from killed_at_each_step(room, "what changed", database, before, 30)
+    before = in_postgres(database)
+    room.path(DATABASE).unlink()
+    deliver(room, 1, 2, 3, 4, agreement=AGREEMENT)
+    execute(database, "UPDATE desk.front SET digest = 'of another desk'")
+    yield from killed_at_each_step(room, "another desk", database, before, 30)
+    before = in_postgres(database)
+    deliver(room, 5)
+    execute(database, "COMMENT ON SCHEMA desk IS 'Kept by desk-follow of onixdesk, layout of before'")
+    yield from killed_at_each_step(room, "another layout", database, before, 30)
+
+
+def two_at_once(cluster, room):
+    database = cluster.make_database("two")
+    deliver(room, 1, agreement=AGREEMENT)
+    for number in range(2, 8):
+        running = [
+            subprocess.Popen(
+                words_of(room, database), cwd=room.folder, stdout=subprocess.PIPE, stderr=subprocess.PIPE
+            )
+            for _ in range(2)
+        ]
+        ended = [(process.communicate(timeout=SECONDS)[1], process.returncode) for process in running]
+        yield Outcome(f"two at once, {number}: both end", ended, [(b"", 0)] * 2)
+        yield Outcome(f"two at once, {number}: what is there", in_postgres(database) == in_file(room), True)
+        deliver(room, number)
+
+
+SEEN = """\
+SELECT (SELECT next_number - 1 FROM desk.series), (SELECT count(*) FROM desk.price),
+    (SELECT min(amount) / 1000 FROM desk.price), (SELECT max(amount) / 1000 FROM desk.price)"""
+ASKED = "SELECT series, amount FROM desk.prices('9780000000000', '2025-03-01', 'GB', 'GBP', '02')"
+
+
+class Reader:
+    """Asks again and again, each time in a transaction of one snapshot, and keeps what was no moment of the desk."""
+
+    def __init__(self, database: str):
+        self.database = database
+        self.wrong: list = []
+        self.moments: set[int] = set()
+        self.is_to_end = threading.Event()
+        self.thread = threading.Thread(target=self.read)
+
+    def read(self):
+        with closing(psycopg2.connect(self.database)) as connection, connection.cursor() as cursor:
+            connection.set_session(isolation_level="REPEATABLE READ", readonly=True)
+            while not self.is_to_end.is_set():
+                cursor.execute(SEEN)
+                number, *seen = cursor.fetchone()
+                cursor.execute(ASKED)
+                asked = [(series, int(amount)) for series, amount in cursor.fetchall()]
+                connection.rollback()
+                self.moments.add(number)
+                if (seen, asked) != ([PRODUCTS, number, number], [("north", number)]):
+                    self.wrong.append((number, seen, asked))
+
+
+def readers(cluster, room):
+    database = cluster.make_database("readers")
+    deliver(room, 1, agreement=AGREEMENT)
+    follow(room, database)
+    reader = Reader(database)
+    reader.thread.start()
+    try:
+        for number in range(2, 12):
+            deliver(room, number)
+            if number % 3 == 0:
+                execute(database, "UPDATE desk.front SET digest = 'of another desk'")
+            wanted = f"everything: {number} messages" if number % 3 == 0 else "what changed: 1 messages"
+            yield Outcome(f"readers, {number}", kind(follow(room, database)).partition(",")[0], wanted)
+    finally:
+        reader.is_to_end.set()
+        reader.thread.join()
+    yield Outcome("readers: what they see is of one moment", reader.wrong[:3], [])
+    yield Outcome("readers: they see most moments", len(reader.moments) > 5, True)
+
+
+def snapshot_of_before(cluster, room):
+    """A transaction whose snapshot is older than the tables is refused, and not told that there is nothing."""
+    database = cluster.make_database("snapshots")
+    deliver(room, 1, agreement=AGREEMENT)
+    with closing(psycopg2.connect(database)) as connection, connection.cursor() as cursor:
+        connection.set_session(isolation_level="REPEATABLE READ")
+        cursor.execute("SELECT 1")
+        follow(room, database)
+        for question in [ASKED, "SELECT * FROM desk.gaps('north')"]:
+            cursor.execute("SAVEPOINT before")
+            try:
+                cursor.execute(question)
+                came = cursor.fetchall()
+            except psycopg2.Error as error:
+                came = error.diag.message_primary
+            cursor.execute("ROLLBACK TO before")
+            yield Outcome(
+                "a snapshot of before", came, "the tables of schema desk are newer than this transaction"
+            )
+
+
+def several_series(cluster, room):
+    """Held messages come and go, waivers, new series, deleted records: the rows are the file's each time."""
+    database = cluster.make_database("series")
+    for name, text in [
+        ("agreed", AGREEMENT),
+        ("held", message(3) + message(4)),
+        ("drained", message(1) + message(2)),
+        ("another series", "Agree,south,06,S,,,5\nWaive,south,5\nWaive,south,7\n"),
+        (
+            "deleted",
+            "Message,1,06,4012345000009,06,5012345678900,5,,,,\nProduct,R1,05,15,9780000000001\nEndMessage,2\n",
+        ),
+        ("nothing", ""),
+    ]:
+        room.run("--db", DATABASE, "batch", given=text.encode())
+        ran = follow(room, database, "--compare")
+        yield Outcome(
+            f"rows, {name}", (ran.status, ran.errors, in_postgres(database) == in_file(room)), (0, b"", True)
+        )
+    execute(database, "UPDATE desk.price SET amount = amount + 1 WHERE reference = 'R7'")
+    ran = follow(room, database, "--compare")
+    line = b"desk-follow: price: 29 rows, which are not those in the database\n"
+    yield Outcome("a changed price is told", (ran.status, ran.errors), (1, line))
+
+
+GROUPS = [
+    ("killed", killed_all_along),
+    ("two at once", two_at_once),
+    ("readers", readers),
+    ("a snapshot of before", snapshot_of_before),
+    ("several series", several_series),
+]

@@ -1,0 +1,322 @@
+"""Copies of a desk by bin/desk-copy: of one that takes messages all the while, and of files that are changed, wrong or
+missing."""
+
+import os
+import random
+import re
+import sqlite3
+import subprocess
+import threading
+import time
+from concurrent.futures import ThreadPoolExecutor
+from contextlib import closing, contextmanager
+from pathlib import Path
+
+from desk_copy import copying
+from tests.program.databases import DATABASE, batch, execute
+from tests.program.room import SECONDS, Group, Outcome, Ran
+from tests.program.serving import HOST, posted, serving
+from tools.root import ROOT
+
+PROGRAM = ROOT / "bin/desk-copy"
+
+AGREEMENT = b"Agree,north,06,4012345000009,06,5012345678900,1\n"
+
+COPIES = 200
+AT_ONCE = 4
+
+# Products of a message, which brings each of them at a new price. The log is copied into the database every some
+# fifty messages.
+PRODUCTS = 40
+
+# Between two messages: none, or one in which a copy can be taken.
+PAUSES = [0, 0, 0, 0.002, 0.15, 0.4, 0.8]
+
+
+def copy(room, *words) -> Ran:
+    done = subprocess.run([PROGRAM, *words], cwd=room.folder, capture_output=True, timeout=SECONDS)
+    return Ran(done.returncode, done.stdout, done.stderr)
+
+
+def message(number: int) -> str:
+    products = [
+        f"Product,R{place},03,15,9781234567897\nProductSupply,GB IE,,\n"
+        f"SupplyDetail,04,06,4012345000009,North Books,21,\nPrice,02,{number},GBP,,,,,\n"
+        for place in range(PRODUCTS)
+    ]
+    opening = f"Message,1,06,4012345000009,06,5012345678900,{number},1,20250301,,\n"
+    return f"{opening}{''.join(products)}EndMessage,{4 * PRODUCTS + 1}\n"
+
+
+class Sender:
+    """Sends messages to a desk, one after the other, and counts those that it has answered."""
+
+    def __init__(self, desk):
+        self.desk = desk
+        self.sent = self.answered = 0
+        self.unexpected = []
+        self.is_to_end = threading.Event()
+        self.thread = threading.Thread(target=self.send)
+
+    def send(self):
+        seeded = random.Random(20250301)
+        while not self.is_to_end.is_set():
+            self.sent += 1
+            reply = self.desk.reply([posted(message(self.sent))])
+            if not reply.startswith(b"HTTP/1.1 200 "):
+                self.unexpected.append(reply)
+                return
+            self.answered = self.sent
+            self.is_to_end.wait(seeded.choice(PAUSES))
+
+
+@contextmanager
+def sending(room):
+    """A desk that takes messages all the while."""
+    batch(room, AGREEMENT)
+    with serving(room, ["--db", DATABASE], None) as desk:
+        # The lines of `serve` are read, or it would wait.
+        threading.Thread(target=desk.process.stdout.read, daemon=True).start()
+        sender = Sender(desk)
+        sender.thread.start()
+        try:
+            yield sender
+        finally:
+            sender.is_to_end.set()
+            sender.thread.join()
+
+
+COUNTED = """\
+SELECT (SELECT next_number FROM series), (SELECT count(*) FROM applied), (SELECT count(*) FROM price),
+    (SELECT min(amount) FROM price), (SELECT max(amount) FROM price)"""
+
+
+def counted(database: Path) -> tuple:
+    """The next number, how many messages and prices a copy has, and the least and the greatest amount, as SQLite
+    reads it."""
+    with closing(sqlite3.connect(f"{database.as_uri()}?mode=ro", uri=True)) as connection:
+        return connection.execute(COUNTED).fetchone()
+
+
+def first_next(room, database: Path) -> int:
+    """The next number of the series, as the desk says that opens the copy."""
+    ran = room.run("--db", database, "--existing", "gaps", "north")
+    found = re.fullmatch(rb"gaps,north,first=1,next=(\d+),greatest=\d*,held=0,missing=0\n", ran.output)
+    return int(found[1]) if found else -1
+
+
+def taken(room, sender: Sender, place: int) -> str:
+    """What is wrong with a copy that is taken now."""
+    before = sender.answered
+    ran = copy(room, DATABASE, f"copy-{place}")
+    after = sender.sent
+    if ran.status or ran.errors:
+        return f"not taken: {ran}"
+    database = room.path(f"copy-{place}") / DATABASE
+    as_of, messages, *prices = counted(database)
+    amounts = [PRODUCTS, 1000 * messages, 1000 * messages] if messages else [0, None, None]
+    if (messages, prices) != (as_of - 1, amounts):
+        return f"rows of no moment: {(as_of, messages, *prices)}"
+    if not before <= messages <= after:
+        return f"{messages} messages, where {before} were answered before and {after} sent at its end"
+    opened = first_next(room, database)
+    return "" if opened == as_of else f"the desk finds {opened} in place of {as_of}"
+
+
+def under_messages(room):
+    with sending(room) as sender:
+        with ThreadPoolExecutor(AT_ONCE) as pool:
+            wrong = [*filter(None, pool.map(lambda place: taken(room, sender, place), range(COPIES)))]
+    yield Outcome("200 copies of a desk that takes messages", wrong[:3], [])
+    yield Outcome("the desk takes them all the while", (sender.unexpected, sender.answered > 30), ([], True))
+
+
+def files(folder: Path) -> dict[str, bytes]:
+    return {str(each.relative_to(folder)): each.read_bytes() for each in folder.rglob("*") if each.is_file()}
+
+
+def left(room) -> list[str]:
+    """What stands beside the desk."""
+    return sorted(each.name for each in room.folder.iterdir() if not each.name.startswith(DATABASE))
+
+
+SAID = rb"%s: as of \d{4}-\d\d-\d\d \d\d:\d\d:\d\d UTC, %d bytes, and %d of its log\n"
+
+
+def of_a_desk_at_rest(room):
+    batch(room, AGREEMENT)
+    log = f"{DATABASE}-wal"
+    wanted = {name: room.path(name).read_bytes() for name in (DATABASE, log)}
+    ran = copy(room, DATABASE, "copy")
+    yield Outcome("both files, byte by byte", files(room.path("copy")), wanted)
+    said = SAID % (b"copy/cases.db", len(wanted[DATABASE]), len(wanted[log]))
+    yield Outcome(
+        "what is said of it", (ran.status, bool(re.fullmatch(said, ran.output)), ran.errors), (0, True, b"")
+    )
+    modes = [each.stat().st_mode & 0o777 for each in [room.path("copy"), *room.path("copy").iterdir()]]
+    yield Outcome("for its owner alone", modes, [0o700, 0o600, 0o600])
+    room.path(log).unlink()
+    copy(room, DATABASE, "without")
+    yield Outcome("a desk without a log", files(room.path("without")), {DATABASE: wanted[DATABASE]})
+    line = b"desk-copy: copy: it is there already, and no empty folder\n"
+    yield Outcome("a folder that is there", copy(room, DATABASE, "copy"), Ran(3, b"", line))
+    yield Outcome("nothing else is left", left(room), ["copy", "without"])
+
+
+def kept(room):
+    batch(room, AGREEMENT)
+    room.path("copies").mkdir()
+    yield Outcome("--keep needs its folder", copy(room, "--keep", "2", DATABASE, "none").status, 3)
+    names = ["2025-01-01T00-00-00Z", "2025-01-02T00-00-00Z", "2025-01-03T00-00-00Z"]
+    for name in [*names, "of the shop", ".desk-copy-ended"]:
+        room.path(f"copies/{name}").mkdir()
+    ran = copy(room, "--keep", "2", DATABASE, "copies")
+    found = sorted(each.name for each in room.path("copies").iterdir())
+    yield Outcome(
+        "the latest two, and what is no copy",
+        (ran.status, found[0], found[2:]),
+        (0, names[2], ["of the shop"]),
+    )
+    new = room.path("copies") / found[1]
+    yield Outcome("the new one", sorted(each.name for each in new.iterdir()), [DATABASE, f"{DATABASE}-wal"])
+
+
+def refused(room):
+    batch(room, AGREEMENT)
+    for name, words, line in [
+        ("a missing file", ["missing.db", "copy"], "missing.db: there is no such file"),
+        ("a folder", [".", "copy"], ".: it is no regular file"),
+        ("no place", [DATABASE, "none/copy"], "none: No such file or directory"),
+    ]:
+        came = copy(room, *words)
+        shown = re.sub(rb"none/\.desk-copy-\w+", b"none", came.errors)
+        yield Outcome(name, (came.status, came.output, shown), (3, b"", f"desk-copy: {line}\n".encode()))
+    os.symlink(DATABASE, room.path("link.db"))
+    came = copy(room, "link.db", "copy")
+    yield Outcome("a link", came, Ran(3, b"", b"desk-copy: link.db: it is no regular file\n"))
+    yield Outcome("no words", copy(room).status, 2)
+    yield Outcome("no seconds", copy(room, "--seconds", "0", DATABASE, "copy").status, 2)
+    yield Outcome("none is left", left(room), ["link.db"])
+
+
+def unsound(room):
+    room.write("text.db", b"no database" * 1000)
+    execute(room, "CREATE TABLE other (item TEXT)", "other.db")
+    execute(room, "CREATE TABLE meta (item TEXT, amount INTEGER)", "empty.db")
+    batch(room, AGREEMENT)
+    damaged = bytearray(room.path(DATABASE).read_bytes())
+    damaged[3 * 4096 : 3 * 4096 + 200] = b"\xa5" * 200
+    room.write("damaged.db", damaged)
+    for name, found in [
+        ("text.db", b"file is not a database"),
+        ("other.db", b"no such table: meta"),
+        ("empty.db", b"its tables have no version"),
+        ("damaged.db", b""),
+    ]:
+        came = copy(room, name, "copy")
+        begun = b"desk-copy: %s: a copy of it is not sound: %s" % (name.encode(), found)
+        yield Outcome(name, (came.status, came.output, came.errors.startswith(begun)), (1, b"", True))
+    yield Outcome("no copy is left", room.path("copy").exists(), False)
+
+
+def changed_all_the_while(room):
+    batch(room, AGREEMENT)
+    ended = threading.Event()
+    log = room.path(f"{DATABASE}-wal")
+    toucher = threading.Thread(target=lambda: [log.touch() for _ in iter(lambda: ended.wait(0.02), True)])
+    toucher.start()
+    try:
+        came = copy(room, "--seconds", "1", DATABASE, "copy")
+    finally:
+        ended.set()
+        toucher.join()
+    line = f"desk-copy: {DATABASE}-wal: it was never left as it is for long enough, in 1 s\n"
+    yield Outcome("a log that is always written", came, Ran(3, b"", line.encode()))
+    later = time.time() + 86_400
+    os.utime(log, (later, later))
+    line = f"desk-copy: {DATABASE}-wal: it was changed at a time that is still to come; was the clock set back?\n"
+    yield Outcome("a time to come", copy(room, DATABASE, "copy"), Ran(3, b"", line.encode()))
+    yield Outcome("nothing is left of them", left(room), [])
+
+
+@contextmanager
+def before_each_copy(act):
+    """Calls what is given with the file that is copied and how many were copied before, once it was copied."""
+    copied, copy_file = [], copying.copy_file
+
+    def with_it(source: Path, target: Path):
+        copy_file(source, target)
+        copied.append(source.name)
+        act(source, len(copied))
+
+    copying.copy_file = with_it
+    try:
+        yield copied
+    finally:
+        copying.copy_file = copy_file
+
+
+def written_meanwhile(room):
+    """A file that is written between its copy and the end is copied again, and with the database the log."""
+    head = b"a head of thirty-two bytes, ends."
+    room.write("d", b"1")
+    room.write("d-wal", head + b"one")
+    room.path("to").mkdir()
+
+    def write(name: str, data: bytes, at: int):
+        return lambda _, count: room.write(name, data) if count == at else None
+
+    def replace(_, count: int):
+        if count == 2:
+            room.write("new", b"5")
+            room.path("new").rename(room.path("d"))
+
+    for name, act, copied, ends in [
+        ("the database, behind its own copy", write("d", b"2", 1), "d d-wal d d-wal", (b"2", head + b"one")),
+        (
+            "the database, behind that of the log",
+            write("d", b"3", 2),
+            "d d-wal d d-wal",
+            (b"3", head + b"one"),
+        ),
+        ("the log", write("d-wal", head + b"two", 2), "d d-wal d-wal", (b"3", head + b"two")),
+        (
+            "the log, behind the database's copy",
+            write("d-wal", head + b"3", 1),
+            "d d-wal",
+            (b"3", head + b"3"),
+        ),
+        ("a log that begins anew", write("d-wal", b"4", 1), "d d-wal d d-wal", (b"3", b"4")),
+        ("another database in its place", replace, "d d-wal d d-wal", (b"5", b"4")),
+        (
+            "a log that goes",
+            lambda _, count: room.path("d-wal").unlink() if count == 2 else None,
+            "d d-wal d",
+            (b"5",),
+        ),
+    ]:
+        with before_each_copy(act) as order:
+            copying.copy_desk(room.path("d"), room.path("to"), 10)
+        came = tuple(each.read_bytes() for each in sorted(room.path("to").iterdir()))
+        yield Outcome(f"written meanwhile: {name}", (" ".join(order), came), (copied, ends))
+
+
+def of_another_port(room):
+    """A desk that is asked while its files are copied answers as before."""
+    batch(room, AGREEMENT)
+    with serving(room, ["--db", DATABASE], 1) as desk:
+        ran = copy(room, DATABASE, "copy")
+        reply = desk.reply([f"GET /series/north/gaps HTTP/1.1\r\nHost: {HOST}\r\n\r\n".encode()])
+        yield Outcome("a desk that was copied", (ran.status, reply[:15]), (0, b"HTTP/1.1 200 OK"))
+
+
+GROUPS = [
+    Group("copies of a desk that takes messages", under_messages),
+    Group("copies of a desk at rest", of_a_desk_at_rest),
+    Group("copies that are kept", kept),
+    Group("copies: refused", refused),
+    Group("copies: unsound", unsound),
+    Group("copies: always written", changed_all_the_while),
+    Group("copies: written meanwhile", written_meanwhile),
+    Group("copies: the desk goes on", of_another_port),
+]

@@ -1,0 +1,113 @@
+"""The start of a service: examples/wait-for-desk.sh waits until a desk answers, and the unit has it so."""
+
+import os
+import socket
+import subprocess
+import time
+
+from tests.program.databases import DATABASE, batch
+from tests.program.room import SECONDS, Group, Outcome, Ran
+from tests.program.serving import HOST, free_port
+from tools.root import ROOT
+
+SCRIPT = ROOT / "examples/wait-for-desk.sh"
+AGREEMENT = b"Agree,north,06,S,,,1\n"
+
+
+def wait(room, *words, process: int | None = None, user: int | None = None) -> Ran:
+    named = {} if process is None else {"MAINPID": str(process)}
+    done = subprocess.run(
+        [SCRIPT, *map(str, words)],
+        cwd=room.folder,
+        env=os.environ | named,
+        user=user,
+        capture_output=True,
+        timeout=SECONDS,
+    )
+    return Ran(done.returncode, done.stdout, done.stderr)
+
+
+def for_a_desk(room):
+    """A desk that starts a while later is waited for, and goes on."""
+    batch(room, AGREEMENT)
+    port = free_port()
+    words = f'sleep 1; exec "$0" --db {DATABASE} serve --port {port} --requests 2'
+    began = time.monotonic()
+    desk = subprocess.Popen(["sh", "-c", words, room.program], cwd=room.folder, stdout=subprocess.PIPE)
+    try:
+        yield Outcome("wait-for-desk.sh: a desk", wait(room, port, DATABASE, process=desk.pid), Ran(0))
+        yield Outcome("wait-for-desk.sh: not before it listens", time.monotonic() - began >= 1, True)
+        with socket.create_connection((HOST, port), timeout=SECONDS) as peer:
+            peer.sendall(b"GET /series/north/gaps HTTP/1.1\r\n\r\n")
+            yield Outcome("wait-for-desk.sh: the desk answers then", peer.recv(15), b"HTTP/1.1 200 OK")
+        output, _ = desk.communicate(timeout=SECONDS)
+        yield Outcome("wait-for-desk.sh: it was asked nothing", output, b"listening %d\n404\n200\n" % port)
+    finally:
+        desk.kill()
+        desk.communicate()
+
+
+def in_vain(room):
+    port = free_port()
+    room.write("empty.db", b"")
+    line = "wait-for-desk.sh: nobody answers at port {}, after {} s\n"
+    yield Outcome(
+        "wait-for-desk.sh: nobody",
+        wait(room, port, "empty.db", 1),
+        Ran(1, b"", line.format(port, 1).encode()),
+    )
+    with open(room.path("large.db"), "wb") as large:
+        large.truncate(2_999_999)
+    began = time.monotonic()
+    ran = wait(room, port, "large.db", 0)
+    yield Outcome(
+        "wait-for-desk.sh: as long as the file is large",
+        (ran, time.monotonic() - began >= 1),
+        (Ran(1, b"", line.format(port, 2).encode()), True),
+    )
+    os.symlink("large.db", room.path("link.db"))
+    yield Outcome(
+        "wait-for-desk.sh: a link to it",
+        wait(room, port, "link.db", 0),
+        Ran(1, b"", line.format(port, 2).encode()),
+    )
+    ended = subprocess.Popen(["true"])
+    ended.wait()
+    wanted = Ran(1, b"", b"wait-for-desk.sh: the desk has ended\n")
+    yield Outcome(
+        "wait-for-desk.sh: a desk that has ended", wait(room, port, "missing.db", process=ended.pid), wanted
+    )
+    # A process of root, asked after by another user.
+    ran = wait(room, port, "empty.db", 1, process=1, user=None if os.geteuid() else 65534)
+    yield Outcome(
+        "wait-for-desk.sh: a process of another user", ran, Ran(1, b"", line.format(port, 1).encode())
+    )
+    with socket.create_server((HOST, 0)) as other:
+        taken = other.getsockname()[1]
+        ran = wait(room, taken, "empty.db", process=ended.pid)
+        yield Outcome("wait-for-desk.sh: a port that another program has", ran, wanted)
+
+
+def unit(_room):
+    lines = (ROOT / "examples/onixdesk.service").read_text(encoding="utf-8").splitlines()
+    wanted = [
+        "Before=nginx.service",
+        "ExecStartPost=/opt/onixdesk/wait-for-desk.sh 8080 /var/lib/onixdesk/shop.db",
+        "TimeoutStartSec=infinity",
+    ]
+    yield Outcome("the unit of the desk waits for it", [line for line in wanted if line not in lines], [])
+    names = [
+        "inbox/onixdesk-inbox@.service",
+        "copies/onixdesk-copy.service",
+        "follow/onixdesk-follow.service",
+    ]
+    for name in names:
+        text = (ROOT / "examples" / name).read_text(encoding="utf-8")
+        yield Outcome(f"{name} waits for the desk", "\nAfter=onixdesk.service" in text, True)
+
+
+GROUPS = [
+    Group("starts: a desk", for_a_desk),
+    Group("starts: in vain", in_vain),
+    Group("starts: the unit", unit),
+]

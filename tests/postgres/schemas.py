@@ -149,6 +149,8 @@ def moment(cluster, room):
     for text, wanted in [
         (b"", []),
         (b'[[rule]]\nseries = "*"\ncodes = ["21"]\n', ["north"]),
+        (b"", []),
+        (b'[[rule]]\nseries = "north"\ncodes = ["21"]\n', ["north"]),
         (b'[[rule]]\nseries = "*"\ncodes = ["20"]\n', []),
     ]:
         room.write("rules.toml", text)

@@ -187,6 +187,16 @@ def refused(room):
     batch(room, AGREEMENTS.encode())
     yield Outcome("desk-follow: no words", follow(room).status, 2)
     yield Outcome("desk-follow: another word", follow(room, "--schema", "other", DATABASE).status, 2)
+    # No packages are looked for then.
+    calling = "import sys; sys.path.insert(0, sys.argv.pop(1)); from desk_follow.command_line import main; sys.exit(main())"
+    done = subprocess.run(
+        [sys.executable, "-I", "-S", "-B", "-c", calling, ROOT / "lib", DATABASE],
+        cwd=room.folder,
+        capture_output=True,
+        timeout=SECONDS,
+    )
+    line = b"desk-follow: no psycopg2; apt-get install python3-psycopg2\n"
+    yield Outcome("desk-follow: no psycopg2", Ran(done.returncode, done.stdout, done.stderr), Ran(3, b"", line))
     room.write("rules.toml", b"rule = 1\n")
     ran = follow(room, "--rules", "rules.toml", DATABASE)
     yield Outcome("desk-follow: a bad table", ran, Ran(2, b"", b"desk-follow: rules: not TOML\n"))

@@ -19,3 +19,4 @@ pub mod Tree
 pub mod Trees
 pub mod private
 pub mod Encodings
+pub mod EncodingNames

@@ -4,6 +4,7 @@
 mod attributes;
 mod characters;
 mod classes;
+mod encoding_names;
 mod encodings;
 mod fault;
 mod instructions;
@@ -23,6 +24,7 @@ mod tags;
 mod texts;
 
 pub use attributes::{Attribute, Attributes};
+pub use encoding_names::encoding_at;
 pub use encodings::Encoding;
 pub use fault::Fault;
 pub use laws::{documents_are_trees, one_document, tokens_are_read};

@@ -8,33 +8,39 @@ use crate::lines::split_line;
 use crate::shown::Shown;
 use std::io;
 use std::io::Read;
-use xml_text::{Encoding, Fault, read_document, read_encoded};
+use xml_text::{Encoding, Fault, encoding_at, read_document, read_encoded};
 
-fn verdict(outcome: &Result<(), Fault>) -> &'static str {
+fn verdict(outcome: &Outcome) -> &'static str {
     match outcome {
-        Ok(()) => "document",
-        Err(Fault::Malformed) => "malformed",
-        Err(Fault::TooDeep) => "too deep",
-        Err(Fault::TooLong) => "too long",
-        Err(Fault::LargeTag) => "large tag",
-        Err(Fault::Read) => "read",
-        Err(Fault::Memory) => "memory",
+        Outcome::Unknown => "unknown encoding",
+        Outcome::Read(Ok(())) => "document",
+        Outcome::Read(Err(Fault::Malformed)) => "malformed",
+        Outcome::Read(Err(Fault::TooDeep)) => "too deep",
+        Outcome::Read(Err(Fault::TooLong)) => "too long",
+        Outcome::Read(Err(Fault::LargeTag)) => "large tag",
+        Outcome::Read(Err(Fault::Read)) => "read",
+        Outcome::Read(Err(Fault::Memory)) => "memory",
     }
 }
 
-// Reads a line as a document, in UTF-8 unless it begins with the name of another encoding and a colon.
-fn read_line(rt: HostRuntime, line: &[u8], shown: &mut Shown) -> Result<(), Fault> {
-    if let Some(mut rest) = line.strip_prefix("US-ASCII:".as_bytes()) {
-        return read_encoded(rt.alloc(), &mut rest, Encoding::Ascii, shown);
+// What was read of a line.
+#[derive(Drop)]
+enum Outcome {
+    Read(Result<(), Fault>),
+    Unknown,
+}
+
+// Reads a line as a document, in the encoding that it says it has.
+fn read_line(rt: HostRuntime, line: &[u8], shown: &mut Shown) -> Outcome {
+    let mut rest = match line.strip_prefix("\u{feff}".as_bytes()) {
+        Some(behind) => behind,
+        None => line,
+    };
+    match encoding_at(line) {
+        None => Outcome::Unknown,
+        Some(Encoding::Utf8) => Outcome::Read(read_document(rt.alloc(), &mut rest, shown)),
+        Some(encoding) => Outcome::Read(read_encoded(rt.alloc(), &mut rest, encoding, shown)),
     }
-    if let Some(mut rest) = line.strip_prefix("ISO-8859-1:".as_bytes()) {
-        return read_encoded(rt.alloc(), &mut rest, Encoding::Latin1, shown);
-    }
-    if let Some(mut rest) = line.strip_prefix("windows-1252:".as_bytes()) {
-        return read_encoded(rt.alloc(), &mut rest, Encoding::Windows1252, shown);
-    }
-    let mut rest = line;
-    read_document(rt.alloc(), &mut rest, shown)
 }
 
 // Reads a line, and says what it is, with what was shown of it up to a fault.

@@ -1,0 +1,85 @@
+//! The encoding that a document says it has.
+
+ghost use Rattle.std.specs.Prelude.{◌≡◌, ◌∷◌, [], option_map};
+ghost use Rattle.xml_text.specs.EncodingNames.{is_alike, encoding_of, declared_name, encoding_at};
+ghost use Rattle.xml_text.specs.Grammar.{begins};
+
+use crate::attributes::read_attributes;
+use crate::encodings::Encoding;
+use crate::scan::literal;
+
+// Whether the name in small letters is this one.
+fn is_alike(name: &[u8], other: &[u8]) -> bool
+    ensures { result ≡ is_alike name.now other.now }
+{
+    let mut left = name;
+    let mut right = other;
+    while let [b, tail @ ..] = left {
+        match right {
+            [] => return false,
+            [c, behind @ ..] => {
+                if b.to_ascii_lowercase() != *c {
+                    return false;
+                }
+                right = behind;
+            }
+        }
+        left = tail;
+    }
+    right.is_empty()
+}
+
+// The encoding of a name, in capital letters or small ones.
+fn encoding_of(name: &[u8]) -> Option<Encoding>
+    ensures { result ≡ encoding_of name.now }
+{
+    if is_alike(name, "utf-8".as_bytes()) || is_alike(name, "utf8".as_bytes()) {
+        Some(Encoding::Utf8)
+    } else if is_alike(name, "us-ascii".as_bytes()) {
+        Some(Encoding::Ascii)
+    } else if is_alike(name, "iso-8859-1".as_bytes()) {
+        Some(Encoding::Latin1)
+    } else if is_alike(name, "windows-1252".as_bytes()) {
+        Some(Encoding::Windows1252)
+    } else {
+        None
+    }
+}
+
+// The name of an encoding in a declaration at the front.
+fn declared_name(head: &[u8]) -> Option<&[u8]>
+    ensures { option_map (λ n. n.now) result ≡ declared_name head.now }
+{
+    match literal("<?xml".as_bytes(), head) {
+        Ok(behind) => match read_attributes(behind) {
+            Ok((attributes, _)) => attributes.value_of("encoding".as_bytes()),
+            Err(_) => None,
+        },
+        Err(_) => None,
+    }
+}
+
+// Whether the byte order mark of UTF-8 stands at the front.
+fn has_mark(head: &[u8]) -> bool
+    ensures { result ≡ begins (239 ∷ 187 ∷ 191 ∷ []) head.now }
+{
+    match head {
+        [a, b, c, ..] => *a == 239 && (*b == 187 && *c == 191),
+        _ => false,
+    }
+}
+
+/// The encoding of a document that begins so, if it is one that is known: UTF-8 behind its byte order mark, else the one
+/// that the declaration names, in capital letters or small ones, and UTF-8 where none does. The declaration has to be
+/// there whole.
+pub fn encoding_at(head: &[u8]) -> Option<Encoding>
+    ensures { result ≡ encoding_at head.now }
+{
+    if has_mark(head) {
+        return Some(Encoding::Utf8);
+    }
+    match declared_name(head) {
+        None => Some(Encoding::Utf8),
+        Some(name) => encoding_of(name),
+    }
+}

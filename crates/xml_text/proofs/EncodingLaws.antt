@@ -1,6 +1,6 @@
 -- What is read in pieces is decoded in pieces.
 use Rattle.std.proofs.Common.{◌≡◌, ℕ, List, [], ◌++◌, Option, Some, None, refl, ap, ◌∙◌}
-use Rattle.std.specs.Io.KnownBytes.{Consumes, IsAtEnd}
+use Rattle.std.specs.Io.KnownBytes.{Consumes, IsAtEnd, prepend_known}
 use Rattle.std.proofs.lemmas.Grind.{flat_map-append}
 use Rattle.xml_text.specs.declared.encodings.Encoding.{Encoding}
 use Rattle.xml_text.specs.declared.encodings.Encoding.TheVariants.{Utf8, Ascii, Latin1, Windows1252}
@@ -30,3 +30,12 @@ end_decoded e (Some x) h = ap (decoded e) h ∙ decoded-nil e
 pub utf8_rest : (a : Option (List ℕ)) → decoded_rest Utf8 a ≡ a
 utf8_rest None = refl
 utf8_rest (Some x) = refl
+
+-- what was read before comes first
+pub begun : (e : Encoding) (head : List ℕ) (a : Option (List ℕ)) → Consumes (decoded_rest e (prepend_known head a)) (decoded_rest e a) (decoded e head)
+begun e head None = tt
+begun e head (Some x) = decoded-append e head x
+
+pub nothing_before : (a : Option (List ℕ)) → decoded_rest Utf8 (prepend_known [] a) ≡ a
+nothing_before None = refl
+nothing_before (Some x) = refl

@@ -30,16 +30,23 @@ enum Outcome {
     Unknown,
 }
 
-// Reads a line as a document, in the encoding that it says it has.
+// Reads a line as a document, in the encoding that its first bytes say it has.
 fn read_line(rt: HostRuntime, line: &[u8], shown: &mut Shown) -> Outcome {
     let mut rest = match line.strip_prefix("\u{feff}".as_bytes()) {
         Some(behind) => behind,
         None => line,
     };
-    match encoding_at(line) {
+    let (head, mut behind) = line.split_at(line.len().min(80));
+    match encoding_at(head) {
         None => Outcome::Unknown,
         Some(Encoding::Utf8) => Outcome::Read(read_document(rt.alloc(), &mut rest, shown)),
-        Some(encoding) => Outcome::Read(read_encoded(rt.alloc(), &mut rest, encoding, shown)),
+        Some(encoding) => Outcome::Read(read_encoded(
+            rt.alloc(),
+            head,
+            &mut behind,
+            encoding,
+            shown,
+        )),
     }
 }
 

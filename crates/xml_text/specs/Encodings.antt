@@ -1,6 +1,7 @@
 -- Encodings, and the text that bytes are in one.
 use Rattle.std.specs.Prelude.{ℕ, ◌==◌, nat_lt, List, Option, if◌then◌else◌, option_map, encode_utf8}
 use Rattle.std.specs.List.{flat_map}
+use Rattle.std.specs.Io.KnownBytes.{prepend_known}
 use Rattle.xml_text.specs.declared.encodings.Encoding.{Encoding}
 use Rattle.xml_text.specs.declared.encodings.Encoding.TheVariants.{Utf8, Ascii, Latin1, Windows1252}
 
@@ -56,3 +57,7 @@ decoded Windows1252 bytes = flat_map (byte_text Windows1252) bytes
 -- the same of the bytes that a reader has left, where it tells them
 abbrev pub decoded_rest : Encoding → Option (List ℕ) → Option (List ℕ)
 decoded_rest encoding rest = option_map (decoded encoding) rest
+
+-- the text of a head that was read before, and of what a reader has left
+abbrev pub text_left : Encoding → List ℕ → Option (List ℕ) → Option (List ℕ)
+text_left encoding head rest = decoded_rest encoding (prepend_known head rest)

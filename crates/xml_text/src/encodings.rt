@@ -115,7 +115,8 @@ fn push_code(out: &mut Vec<u8>, code: u32) -> Result<(), AllocError>
 
 // Adds the text of bytes, each of which is a character.
 fn push_characters(out: &mut Vec<u8>, encoding: Encoding, bytes: &[u8]) -> Result<(), AllocError>
-    ensures { OnOk result (out.new.items ≡ out.old.items ++ flat_map (byte_text encoding) bytes.now) }
+    ensures { OnOk result (out.new.items ≡ out.old.items ++ flat_map
+        (byte_text encoding) bytes.now) }
 {
     let mut rest = bytes;
     while let [b, tail @ ..] = rest {

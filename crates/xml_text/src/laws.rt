@@ -12,20 +12,27 @@ ghost use Rattle.xml_text.specs.Trees.{IsTree, AreSound};
 
 /// What is read is spelled so, and what is spelled so is read, whatever follows.
 pub fn tokens_are_read()
-    ensures takes { (bytes rest : List ℕ) (token : Token) → token_at bytes ≡ Ok (token, rest) → (bytes ≡ spelling token ++ rest) × (is_token token ≡ true) }
-    ensures again { (token : Token) (rest : List ℕ) → is_token token ≡ true → token_at (spelling token ++ rest) ≡ Ok (token, rest) }
-    ensures never { (bytes more : List ℕ) → token_at bytes ≡ Err Never → token_at (bytes ++ more) ≡ Err Never }
+    ensures takes { (bytes rest : List ℕ) (token : Token) → token_at bytes ≡ Ok (token, rest)
+        → (bytes ≡ spelling token ++ rest) × (is_token token ≡ true) }
+    ensures again { (token : Token) (rest : List ℕ) → is_token token ≡ true
+        → token_at (spelling token ++ rest) ≡ Ok (token, rest) }
+    ensures never { (bytes more : List ℕ) → token_at bytes ≡ Err Never
+        → token_at (bytes ++ more) ≡ Err Never }
 {}
 
 /// A text is a document in one way at most.
 pub fn one_document()
-    ensures { (bytes : List ℕ) (a b : List Token) → IsDocument bytes a → IsDocument bytes b → a ≡ b }
+    ensures { (bytes : List ℕ) (a b : List Token) → IsDocument bytes a → IsDocument bytes b
+        → a ≡ b }
 {}
 
 /// The texts whose tokens are sound and those of a tree are the documents.
 pub fn documents_are_trees()
-    ensures trees { (bytes : List ℕ) (tokens : List Token) → IsDocument bytes tokens → (name : List ℕ) × (inside : Content) × IsTree tokens name inside }
-    ensures sound { (bytes : List ℕ) (tokens : List Token) → IsDocument bytes tokens → AreSound tokens }
-    ensures documents { (bytes : List ℕ) (tokens : List Token) (name : List ℕ) (inside : Content) → IsText bytes → bytes ≡ flat_map spelling tokens
+    ensures trees { (bytes : List ℕ) (tokens : List Token) → IsDocument bytes tokens
+        → (name : List ℕ) × (inside : Content) × IsTree tokens name inside }
+    ensures sound { (bytes : List ℕ) (tokens : List Token) → IsDocument bytes tokens
+        → AreSound tokens }
+    ensures documents { (bytes : List ℕ) (tokens : List Token) (name : List ℕ) (inside : Content)
+        → IsText bytes → bytes ≡ flat_map spelling tokens
         → AreSound tokens → IsTree tokens name inside → IsDocument bytes tokens }
 {}

@@ -43,7 +43,8 @@ impl Nesting {
     /// Goes on by a stretch of text.
     pub(crate) fn take_text(&mut self, run: &[u8]) -> Result<(), Fault>
         ensures ok { OnOk result (nests self.old (map raw run.now) ≡ Some self.new) }
-        ensures malformed { IsErrOf result Fault.Malformed → nests self.old (map raw run.now) ≡ None }
+        ensures malformed { IsErrOf result Fault.Malformed
+            → nests self.old (map raw run.now) ≡ None }
         ensures deep { IsErrOf result Fault.TooDeep → MOST_OPEN ≤ length self.old.names }
         ensures large { ¬ (IsErrOf result Fault.LargeTag) }
         ensures long { ¬ (IsErrOf result Fault.TooLong) }
@@ -83,7 +84,8 @@ impl Nesting {
     /// Goes on by a token.
     pub(crate) fn take_token(&mut self, token: &Token<'_>) -> Result<(), Fault>
         ensures ok { OnOk result (nested self.old (token_view token.now) ≡ Some self.new) }
-        ensures malformed { IsErrOf result Fault.Malformed → nested self.old (token_view token.now) ≡ None }
+        ensures malformed { IsErrOf result Fault.Malformed
+            → nested self.old (token_view token.now) ≡ None }
         ensures deep { IsErrOf result Fault.TooDeep → MOST_OPEN ≤ length self.old.names }
         ensures large { ¬ (IsErrOf result Fault.LargeTag) }
         ensures long { ¬ (IsErrOf result Fault.TooLong) }

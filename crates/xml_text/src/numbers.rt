@@ -24,7 +24,8 @@ pub(crate) fn is_number(bytes: &[u8]) -> bool
 // The number of decimal digits, where it is no greater than a code point may be.
 fn decimal(digits: &[u8]) -> Option<u32>
     requires { list_all is_digit digits.now ≡ true }
-    ensures { MatchOption result (GREATEST < decimal 0 digits.now) (λ n. (n ≡ decimal 0 digits.now) × (n ≤ GREATEST)) }
+    ensures { MatchOption result (GREATEST < decimal 0 digits.now) (λ n. (n ≡ decimal 0 digits.now)
+        × (n ≤ GREATEST)) }
 {
     let mut number = 0u32;
     let mut rest = digits;
@@ -65,7 +66,8 @@ fn hex_digit(b: u8) -> u32
 // The number of hexadecimal digits, where it is no greater than a code point may be.
 fn hexadecimal(digits: &[u8]) -> Option<u32>
     requires { list_all is_hex_digit digits.now ≡ true }
-    ensures { MatchOption result (GREATEST < hexadecimal 0 digits.now) (λ n. (n ≡ hexadecimal 0 digits.now) × (n ≤ GREATEST)) }
+    ensures { MatchOption result (GREATEST < hexadecimal 0 digits.now) (λ n. (n
+        ≡ hexadecimal 0 digits.now) × (n ≤ GREATEST)) }
 {
     let mut number = 0u32;
     let mut rest = digits;
@@ -82,7 +84,8 @@ fn hexadecimal(digits: &[u8]) -> Option<u32>
 // The code point that a number says, where it is no greater than one may be.
 pub(crate) fn number_code(body: &[u8]) -> Option<u32>
     requires { is_number body.now ≡ true }
-    ensures { MatchOption result (GREATEST < number_code body.now) (λ n. (n ≡ number_code body.now) × (n ≤ GREATEST)) }
+    ensures { MatchOption result (GREATEST < number_code body.now) (λ n. (n ≡ number_code body.now)
+        × (n ≤ GREATEST)) }
 {
     match body {
         [b'x', digits @ ..] => hexadecimal(digits),

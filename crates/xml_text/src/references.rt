@@ -81,7 +81,8 @@ pub(crate) fn refers(value: &[u8]) -> bool
 
 // Adds a character, and tells whether there is one of that code.
 fn push_char(out: &mut Vec<u8>, code: u32) -> Result<bool, AllocError>
-    ensures known { IfOk result (λ known. known ≡ true → (is_char code ≡ true) × (out.new.items ≡ out.old.items ++ encode_utf8 code)) }
+    ensures known { IfOk result (λ known. known ≡ true → (is_char code ≡ true)
+        × (out.new.items ≡ out.old.items ++ encode_utf8 code)) }
     ensures kept { IfOk result (λ known. known ≡ false → out.new.items ≡ out.old.items) }
     ensures unknown { IfOk result (λ known. known ≡ false → is_char code ≡ false) }
 {
@@ -112,9 +113,12 @@ fn find_entity<'a>(table: &'a [Entity<'a>], name: &[u8]) -> Option<&'a [u8]>
 // The same of what may stand between `&` and `;`.
 fn push_standing(out: &mut Vec<u8>, table: &[Entity<'_>], body: &[u8]) -> Result<bool, AllocError>
     requires { is_reference body.now ≡ true }
-    ensures known { IfOk result (λ known. known ≡ true → option_map (λ text. out.old.items ++ text) (standing_text (entity_views table.now) body.now) ≡ Some out.new.items) }
+    ensures known { IfOk result (λ known. known ≡ true
+        → option_map (λ text. out.old.items ++ text) (standing_text
+        (entity_views table.now) body.now) ≡ Some out.new.items) }
     ensures kept { IfOk result (λ known. known ≡ false → out.new.items ≡ out.old.items) }
-    ensures unknown { IfOk result (λ known. known ≡ false → standing_text (entity_views table.now) body.now ≡ None) }
+    ensures unknown { IfOk result (λ known. known ≡ false
+        → standing_text (entity_views table.now) body.now ≡ None) }
 {
     match body {
         [b'#', number @ ..] => match number_code(number) {
@@ -138,9 +142,12 @@ pub fn push_reference(
     table: &[Entity<'_>],
     body: &[u8],
 ) -> Result<bool, AllocError>
-    ensures known { IfOk result (λ known. known ≡ true → option_map (λ text. out.old.items ++ text) (reference_text (entity_views table.now) body.now) ≡ Some out.new.items) }
+    ensures known { IfOk result (λ known. known ≡ true
+        → option_map (λ text. out.old.items ++ text) (reference_text
+        (entity_views table.now) body.now) ≡ Some out.new.items) }
     ensures kept { IfOk result (λ known. known ≡ false → out.new.items ≡ out.old.items) }
-    ensures unknown { IfOk result (λ known. known ≡ false → reference_text (entity_views table.now) body.now ≡ None) }
+    ensures unknown { IfOk result (λ known. known ≡ false
+        → reference_text (entity_views table.now) body.now ≡ None) }
 {
     if is_reference(body) {
         push_standing(out, table, body)

@@ -94,7 +94,8 @@ impl Shown {
     }
 
     fn push_tag(&mut self, name: &[u8], attributes: &Attributes<'_>) -> Result<(), AllocError>
-        ensures { OnOk result (self.new ≡ self.old ++ (codes "(" ++ (name.now ++ (first_shown attributes.now ++ id_shown attributes.now)))) }
+        ensures { OnOk result (self.new ≡ self.old ++ (codes "(" ++ (name.now ++
+            (first_shown attributes.now ++ id_shown attributes.now)))) }
     {
         self.push("(".as_bytes())?;
         self.push(name)?;
@@ -103,7 +104,8 @@ impl Shown {
     }
 
     fn push_empty(&mut self, name: &[u8], attributes: &Attributes<'_>) -> Result<(), AllocError>
-        ensures { OnOk result (self.new ≡ self.old ++ (codes "(" ++ (name.now ++ (first_shown attributes.now ++ (id_shown attributes.now ++ codes ")"))))) }
+        ensures { OnOk result (self.new ≡ self.old ++ (codes "(" ++ (name.now ++
+            (first_shown attributes.now ++ (id_shown attributes.now ++ codes ")"))))) }
     {
         self.push_tag(name, attributes)?;
         self.push(")".as_bytes())

@@ -1,6 +1,6 @@
 //! What stands in a composite, by the lines of its outline.
 
-ghost use Rattle.std.specs.Prelude.{◌≡◌, ◌≤◌, length, option_map};
+ghost use Rattle.std.specs.Prelude.{◌≡◌, ◌<◌, ◌≤◌, IfSome, length, option_map};
 ghost use Rattle.onix_outline.specs.Composites.{text_in, text_line, deeper, IsFirst};
 ghost use Rattle.onix_outline.specs.Nodes.{Nodes};
 ghost use Rattle.onix_outline.specs.Outline.{outline};
@@ -35,8 +35,9 @@ fn deeper(depth: usize, lines: &[Line]) -> usize
 
 /// The first of the elements that lines of this depth tell.
 pub fn first_node(depth: usize, lines: &[Line]) -> Option<Node<'_>>
-    ensures { (nodes : Nodes) → line_views lines.now ≡ outline depth nodes
+    ensures first { (nodes : Nodes) → line_views lines.now ≡ outline depth nodes
         → IsFirst result depth nodes }
+    ensures shorter { IfSome result (λ n. length n.rest.now < length lines.now) }
 {
     match lines {
         [] => None,

@@ -1,0 +1,44 @@
+-- The identifiers of senders, addressees, suppliers and products.
+use Rattle.std.specs.Prelude.{ℕ, Bool, false, List, [], ◌∷◌, Option, Some, None, if◌then◌else◌, codes, map}
+use Rattle.std.specs.Str.{bytes_eq}
+use Rattle.onix_outline.specs.Composites.{text_in, composites_in}
+use Rattle.onix_outline.specs.Nodes.{Nodes}
+
+-- the names of an identifier and of its type: SupplierIdentifier and SupplierIDType
+pub record Kind : Type 0 where
+  pub name : List ℕ
+  pub type_name : List ℕ
+
+-- the type and the value, each where it has a text
+pub record Identifier : Type 0 where
+  pub id_type : Option (List ℕ)
+  pub id_value : Option (List ℕ)
+
+-- what stands in an identifier
+abbrev pub identifier_in : Kind → Nodes → Identifier
+identifier_in kind nodes = record { id_type = text_in kind.type_name nodes; id_value = text_in (codes "IDValue") nodes }
+
+-- the identifiers in a composite, in order
+abbrev pub identifiers_in : Kind → Nodes → List Identifier
+identifiers_in kind nodes = map (identifier_in kind) (composites_in kind.name nodes)
+
+abbrev pub is_text : List ℕ → Option (List ℕ) → Bool
+is_text text None = false
+is_text text (Some found) = bytes_eq found text
+
+-- the first identifier of a type
+abbrev pub first_of_type : List ℕ → List Identifier → Option Identifier
+first_of_type id_type [] = None
+first_of_type id_type (i ∷ ids) = if is_text id_type i.id_type then Some i else first_of_type id_type ids
+
+abbrev pub first_of : List Identifier → Option Identifier
+first_of [] = None
+first_of (i ∷ ids) = Some i
+
+abbrev pub or_other : Option Identifier → Option Identifier → Option Identifier
+or_other None other = other
+or_other (Some i) other = Some i
+
+-- the identifier that is written: the first of the preferred type, else the first
+abbrev pub chosen : List ℕ → List Identifier → Option Identifier
+chosen preferred ids = or_other (first_of_type preferred ids) (first_of ids)

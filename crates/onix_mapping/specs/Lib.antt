@@ -1,0 +1,3 @@
+pub mod Identifiers
+pub mod Views
+pub mod Next

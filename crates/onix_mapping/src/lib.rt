@@ -1,0 +1,6 @@
+//! What an ONIX message in XML says to the desk, by the outlines of its Header and Products.
+#![tactic(auto)]
+
+mod identifiers;
+
+pub use identifiers::{ADDRESSEE, Identifier, Kind, PRODUCT, SENDER, SUPPLIER, choose_identifier};

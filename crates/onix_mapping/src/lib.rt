@@ -2,5 +2,7 @@
 #![tactic(auto)]
 
 mod identifiers;
+#[cfg(test)]
+mod tests;
 
 pub use identifiers::{ADDRESSEE, Identifier, Kind, PRODUCT, SENDER, SUPPLIER, choose_identifier};

@@ -2,6 +2,7 @@
 
 ghost use Rattle.std.specs.Prelude.{◌≡◌, ℕ, List, IfOk, IfErr, fold};
 ghost use Rattle.xml_text.specs.Documents.{IsTold};
+ghost use Rattle.xml_text.specs.Encodings.{decoded_rest};
 ghost use Rattle.xml_text.specs.Tree.{Content};
 ghost use Rattle.onix_outline.specs.Dialect.{Dialect};
 ghost use Rattle.onix_outline.specs.Faults.{Explains};
@@ -13,7 +14,7 @@ use crate::dialect::Wrong;
 use crate::outliner::{Outliner, Taker};
 use std::alloc::Global;
 use std::io::Read;
-use xml_text::{documents_are_trees, read_document};
+use xml_text::{Encoding, documents_are_trees, read_encoded};
 
 /// Why no message was read.
 #[derive(Debug, Drop)]
@@ -26,21 +27,22 @@ pub enum Fault {
     Reference,
 }
 
-/// Reads a message, hands on its Header and each of its Products in order, and gives back what
+/// Reads a message in an encoding, hands on its Header and each of its Products in order, and gives back what
 /// took them.
 pub fn read_message<R: Read, T: Taker + Drop>(
     alloc: Global,
     reader: &mut R,
+    encoding: Encoding,
     taker: T,
 ) -> Result<T, Fault>
     ensures message { IfOk result (λ taken. (text : List ℕ) × (d : Dialect) × (inside : Content)
-        × IsTold (R.remaining reader.old) text × IsMessage text d inside
+        × IsTold (decoded_rest encoding (R.remaining reader.old)) text × IsMessage text d inside
         × (taken ≡ fold T.after taker (parts_of (nodes_in d inside)))) }
-    ensures refused { IfErr result (λ fault. Explains (R.remaining reader.old) fault) }
+    ensures refused { IfErr result (λ fault. Explains (decoded_rest encoding (R.remaining reader.old)) fault) }
 {
     documents_are_trees();
     let mut outliner = Outliner::new(alloc, taker);
-    match read_document(alloc, reader, &mut outliner) {
+    match read_encoded(alloc, reader, encoding, &mut outliner) {
         Err(fault) => Err(Fault::Document(fault)),
         Ok(()) => outliner.finish(),
     }

@@ -9,6 +9,7 @@ use crate::shown::Shown;
 use onix_outline::{Fault, Wrong, read_message};
 use std::io;
 use std::io::Read;
+use xml_text::Encoding;
 
 fn verdict(fault: &Fault) -> &'static str {
     match fault {
@@ -22,7 +23,8 @@ fn verdict(fault: &Fault) -> &'static str {
 // Reads a line, and says what it is, with the outlines of a message.
 fn tell(rt: HostRuntime, line: &[u8]) -> io::Result<()> {
     let mut reader = line;
-    match read_message(rt.alloc(), &mut reader, Shown::new(rt.alloc())) {
+    let shown = Shown::new(rt.alloc());
+    match read_message(rt.alloc(), &mut reader, Encoding::Utf8, shown) {
         Ok(shown) => {
             let text = shown.as_text();
             println!(rt; "message {text}")

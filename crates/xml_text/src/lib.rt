@@ -1,26 +1,26 @@
 //! The tokens of an XML document, read one after the other from any stream.
 #![tactic(auto)]
 
-mod attributes;
+pub mod attributes;
 mod characters;
 mod classes;
-mod encoding_names;
-mod encodings;
-mod fault;
+pub mod encoding_names;
+pub mod encodings;
+pub mod fault;
 mod instructions;
-mod laws;
+pub mod laws;
 mod names;
 mod nesting;
 mod numbers;
-mod pieces;
+pub mod pieces;
 mod place;
-mod reading;
-mod references;
+pub mod reading;
+pub mod references;
 mod scan;
-mod sink;
+pub mod sink;
 mod skim;
 mod stop;
-mod tags;
+pub mod tags;
 mod texts;
 
 pub use attributes::{Attribute, Attributes};

@@ -23,7 +23,7 @@ PROGRAM = ROOT / "bin/desk-copy"
 AGREEMENT = b"Agree,north,06,4012345000009,06,5012345678900,1\n"
 
 COPIES = 200
-AT_ONCE = 4
+AT_ONCE = 2
 
 # Products of a message, which brings each of them at a new price. The log is copied into the database every some
 # fifty messages.

@@ -1,7 +1,7 @@
 //! What an ONIX message in XML says to the desk, by the outlines of its Header and Products.
 #![tactic(auto)]
 
-mod identifiers;
+pub mod identifiers;
 #[cfg(test)]
 mod tests;
 

@@ -2,13 +2,13 @@
 //! how deep an element is, its name and its text, in order.
 #![tactic(auto)]
 
-mod composites;
-mod dialect;
+pub mod composites;
+pub mod dialect;
 mod grower;
-mod line;
-mod names;
-mod outliner;
-mod reading;
+pub mod line;
+pub mod names;
+pub mod outliner;
+pub mod reading;
 mod spaces;
 
 pub use composites::{Node, first_node, text_in};

@@ -24,7 +24,7 @@ fn verdict(fault: &Fault) -> &'static str {
 fn tell(rt: HostRuntime, line: &[u8]) -> io::Result<()> {
     let mut reader = line;
     let shown = Shown::new(rt.alloc());
-    match read_message(rt.alloc(), &mut reader, Encoding::Utf8, shown) {
+    match read_message(rt.alloc(), &[], &mut reader, Encoding::Utf8, shown) {
         Ok(shown) => {
             let text = shown.as_text();
             println!(rt; "message {text}")

@@ -11,7 +11,7 @@ from typing import BinaryIO, NamedTuple
 
 from tools.root import ROOT
 
-CONVERTER = ROOT / "bin/onix-to-csv"
+CONVERTER = ROOT / "lib/onix-to-csv"
 
 # How long the last piece of a feed may take to be given.
 SECONDS = 120

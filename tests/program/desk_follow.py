@@ -4,6 +4,7 @@ PostgreSQL are tests/postgres."""
 import re
 import sqlite3
 import subprocess
+import sys
 from contextlib import closing
 
 from desk_copy.copying import Fault

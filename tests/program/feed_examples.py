@@ -2,7 +2,6 @@
 
 import subprocess
 
-from tests.program.converter import CONVERTER
 from tests.program.examples import blocks, written
 from tests.program.room import SECONDS, Group, Outcome, Room
 from tools.root import ROOT
@@ -14,7 +13,7 @@ def like_the_repository(room: Room):
     """The folder of the room with what the commands name, of which bin/onixdesk is the tested program."""
     room.path("bin").mkdir()
     room.path("bin/onixdesk").symlink_to(room.program)
-    room.path("bin/onix-to-csv").symlink_to(CONVERTER)
+    room.path("bin/onix-to-csv").symlink_to(ROOT / "bin/onix-to-csv")
     room.path("examples").symlink_to(ROOT / "examples")
 
 

@@ -10,7 +10,7 @@ from tests.program.room import SECONDS, Ran, Room
 from tests.program.serving import Serving
 from tools.root import ROOT
 
-PROGRAM = ROOT / "bin/onixdesk-inbox"
+PROGRAM = ROOT / "lib/onixdesk-inbox"
 
 WORDS = ["--db", DATABASE]
 AGREEMENT = b"Agree,north,06,S,,,1\n"

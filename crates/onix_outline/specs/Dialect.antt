@@ -36,6 +36,7 @@ declaration_of (b ∷ prefix) = codes "xmlns:" ++ b ∷ prefix
 
 -- ---- the root
 
+-- What the root says of all names below it
 pub record Dialect : Type 0 where
   pub naming : Naming
   -- the prefix of the root and the attribute that declares it

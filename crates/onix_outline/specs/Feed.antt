@@ -51,6 +51,7 @@ spoken None text known f = f
 spoken (Some (Err wrong)) text known f = f
 spoken (Some (Ok d)) text known f = feeding f.taker f.root (texted f.child.passed text f.child) (known && f.known)
 
+-- what a token makes of what was taken of a message so far
 abbrev pub feed : {T : Type 0} → (T → List Line → T) → Feed T → Token → Feed T
 feed after f (start name attributes space) = begun f.root name attributes f
 feed after f (empty name attributes space) = emptied after f.root name attributes f

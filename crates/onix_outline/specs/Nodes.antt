@@ -6,6 +6,7 @@ use Rattle.xml_text.specs.Tree.{Content, nothing, leaf, element}
 use Rattle.onix_outline.specs.Dialect.{Dialect, counted, format_of}
 use Rattle.onix_outline.specs.Spaces.{collapsed}
 
+-- The elements that count, as a tree
 pub data Nodes : Type 0 where
   no_nodes : Nodes
   -- the reference name of an element, its attribute `dateformat`, its text, the elements in it, and those that follow it

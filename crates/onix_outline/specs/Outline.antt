@@ -13,6 +13,7 @@ pub record Line : Type 0 where
 abbrev pub line : ℕ → List ℕ → Option (List ℕ) → List ℕ → Line
 line depth name format text = record { depth = depth; name = name; format = format; text = text }
 
+-- the elements as lines, each with its depth, in the order in which they begin
 abbrev pub outline : ℕ → Nodes → List Line
 outline depth no_nodes = []
 outline depth (node name format text below rest) = line depth name format text ∷ (outline (suc depth) below ++ outline depth rest)

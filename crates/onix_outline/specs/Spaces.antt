@@ -10,6 +10,7 @@ words began waits (b ∷ text) =
     else if began then (if waits then 32 ∷ b ∷ words true false text else b ∷ words true false text)
     else b ∷ words true false text
 
+-- a text without white space at its ends, and with one space for each run of it inside
 abbrev pub collapsed : List ℕ → List ℕ
 collapsed text = words false false text
 

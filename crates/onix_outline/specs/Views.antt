@@ -5,9 +5,11 @@ use Rattle.onix_outline.specs.declared.names.Word.{Word}
 use Rattle.onix_outline.specs.Outline.{Line as Told}
 use Rattle.onix_outline.specs.Names.{Word as Spelled}
 
+-- a line, as its depth and its texts
 abbrev pub line_view : Line → Told
 line_view l = record { depth = l.depth; name = l.name.now; format = option_map (λ f. f.items) l.format; text = l.text.items }
 
+-- lines, as that
 abbrev pub line_views : List Line → List Told
 line_views lines = map line_view lines
 

@@ -2,18 +2,23 @@
 use Rattle.std.specs.Prelude.{ℕ, ◌+◌, nat_lt, List, [], ◌∷◌, ◌++◌, Option, Some, None, fold, if◌then◌else◌}
 use Rattle.onix_outline.specs.Outline.{Line}
 
+-- the digit of a depth, and a plus sign from 10 on
 abbrev pub depth_shown : ℕ → ℕ
 depth_shown depth = if nat_lt depth 10 then 48 + depth else 43
 
+-- behind an at sign, the date format of an element that has one
 abbrev pub format_shown : List ℕ → Option (List ℕ) → List ℕ
 format_shown shown None = shown
 format_shown shown (Some format) = (shown ++ 64 ∷ []) ++ format
 
+-- a line is printed as depth, name, format, an equals sign and its text
 abbrev pub line_shown : List ℕ → Line → List ℕ
 line_shown shown l = ((format_shown ((shown ++ depth_shown l.depth ∷ []) ++ l.name) l.format ++ 61 ∷ []) ++ l.text) ++ 59 ∷ []
 
+-- lines, one after the other
 abbrev pub lines_shown : List ℕ → List Line → List ℕ
 lines_shown shown lines = fold line_shown shown lines
 
+-- what is printed once the lines of one outline more are taken
 abbrev pub after : List ℕ → List Line → List ℕ
 after shown lines = lines_shown shown lines ++ 124 ∷ []

@@ -2,6 +2,7 @@
 use Rattle.std.specs.Prelude.{ℕ, List, [], ◌∷◌, ◌++◌}
 use Rattle.xml_text.specs.Grammar.{Attribute, Token, declaration, doctype, start, end}
 
+-- What stands in an element, as a tree
 pub data Content : Type 0 where
   nothing : Content
   -- a token that is no tag, or an empty element, and what follows
@@ -22,6 +23,7 @@ IsLeaf (start name attributes space) = ⊥
 IsLeaf (end name space) = ⊥
 IsLeaf other = Unit {0}
 
+-- each leaf of the tree is a token that may be one
 abbrev pub HasLeaves : Content → Type 0
 HasLeaves nothing = Unit {0}
 HasLeaves (leaf token rest) = IsLeaf token × HasLeaves rest

@@ -11,9 +11,11 @@ abbrev pub or_mark : Option (List ℕ) → List ℕ
 or_mark (Some text) = text
 or_mark None = codes "?"
 
+-- what a reference stands for, and a question mark where it stands for nothing
 abbrev pub reference_shown : List ℕ → List ℕ
 reference_shown body = or_mark (reference_text two_names body)
 
+-- behind a space, the name of the first attribute
 abbrev pub first_shown : List Attribute → List ℕ
 first_shown [] = []
 first_shown (a ∷ list) = codes " " ++ a.name
@@ -22,9 +24,11 @@ abbrev pub value_shown : Option (List ℕ) → List ℕ
 value_shown (Some value) = codes "=" ++ value
 value_shown None = []
 
+-- the value of the attribute named id
 abbrev pub id_shown : List Attribute → List ℕ
 id_shown list = value_shown (value_of (codes "id") list)
 
+-- what is printed of a token
 abbrev pub shown : Token → List ℕ
 shown (raw b) = b ∷ []
 shown (reference body) = reference_shown body
@@ -37,5 +41,6 @@ shown (start name attributes space) = codes "(" ++ (name ++ (first_shown attribu
 shown (empty name attributes space) = codes "(" ++ (name ++ (first_shown attributes ++ (id_shown attributes ++ codes ")")))
 shown (end name space) = codes ")"
 
+-- what is printed once one token more is taken
 abbrev pub after : List ℕ → Token → List ℕ
 after s token = s ++ shown token

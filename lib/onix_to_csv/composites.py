@@ -36,15 +36,17 @@ class Composites:
     def open(self, word: Word, around: Word, place: Place) -> bool:
         """Opens a composite that begins at that place, unless it does not count."""
         parent = self.composite
-        if self.around and self.items == 0:
-            self.whole.is_too_large = True
-            return False
-        if self.around and not word.is_repeatable and getattr(parent, word.field) is not None:
-            return False
-        composite = word.composite(place)
         if not self.around:
+            composite = word.composite(place)
             assert isinstance(composite, Whole)
             self.whole, self.items, self.characters = composite, ITEMS, CHARACTERS
+        elif self.items == 0:
+            self.whole.is_too_large = True
+            return False
+        elif word.is_repeatable or getattr(parent, word.field) is None:
+            composite = word.composite(place)
+        else:
+            return False
         self.items -= 1
         self.around.append((around, parent, self.items))
         self.composite = composite
@@ -59,7 +61,12 @@ class Composites:
             closed = closer(closed)
             self.items = items
         if self.around:
-            hold(parent, word, closed)
+            if not word.is_repeatable:
+                setattr(parent, word.field, closed)
+            elif held := getattr(parent, word.field):
+                held.append(closed)
+            else:
+                setattr(parent, word.field, [closed])
         self.composite = parent
         return around
 
@@ -79,12 +86,3 @@ class Composites:
             return False
         setattr(composite, field, text)
         return True
-
-
-def hold(parent: Composite, word: Word, closed: object) -> None:
-    if not word.is_repeatable:
-        setattr(parent, word.field, closed)
-    elif held := getattr(parent, word.field):
-        held.append(closed)
-    else:
-        setattr(parent, word.field, [closed])

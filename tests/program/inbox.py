@@ -213,10 +213,11 @@ def what_is_still_written(room):
             "c.xml.part: not taken: its name has no known ending",
         ]
         yield Outcome("inbox: what is still written", (inbox.run(), inbox.lying()), (said(*lines), files))
-        inbox.set(UNCHANGED_SECONDS=2)
-        time.sleep(2.1)
+        # Long enough that a busy machine looks at the renamed file in time.
+        inbox.set(UNCHANGED_SECONDS=10)
+        time.sleep(10.1)
         (inbox.incoming / "c.xml.part").rename(inbox.incoming / "c.xml")
-        lines = "a.xml: done: number 1 applied", "c.xml: waiting: it changed less than 2 s ago"
+        lines = "a.xml: done: number 1 applied", "c.xml: waiting: it changed less than 10 s ago"
         yield Outcome("inbox: what is written", inbox.run(), said(*lines))
 
 

@@ -9,8 +9,7 @@ use crate::spaces::collapse;
 use std::alloc::{AllocError, Global};
 use std::marker::Model;
 
-/// The most lines of an outline, and the most bytes that text comes in at once. What has more is
-/// refused as want of memory is.
+/// The most lines of an outline. One that has more is refused as want of memory is.
 const MOST_LINES: usize = 65_536;
 
 /// The lines of the elements that were begun, and which of them are open.

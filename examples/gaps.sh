@@ -1,8 +1,9 @@
 #!/bin/sh
 # Asks a desk for the gaps of series, and writes the reports of those that lack numbers.
 #     gaps.sh DESK SERIES..
-# DESK is the address of a desk that is served, as http://127.0.0.1:8080, or the database file of one that is
-# not served now. A file that is missing is not made. ONIXDESK names the program where it is not onixdesk.
+# DESK is the address of a desk that is served, as http://127.0.0.1:8080, or its socket for batches, or the
+# database file of one that is not served now. A file that is missing is not made. ONIXDESK names the program
+# where it is not onixdesk.
 # Status 0; 1 where numbers lack; 2 where a series has no report.
 set -u
 desk=$1
@@ -12,7 +13,13 @@ shift
 report_of() {
     case $desk in
     http://* | https://*) curl -q --noproxy 127.0.0.1,localhost --silent --show-error --fail --max-time 60 "$desk/series/$1/gaps" ;;
-    *) "${ONIXDESK:-onixdesk}" --db "$desk" --existing gaps "$1" ;;
+    *)
+        if [ -S "$desk" ]; then
+            echo "AskGaps,$1" | "${ONIXDESK:-onixdesk}" --batches "$desk" batch
+        else
+            "${ONIXDESK:-onixdesk}" --db "$desk" --existing gaps "$1"
+        fi
+        ;;
     esac
 }
 

@@ -1,11 +1,11 @@
 # Completion of onixdesk for bash.
 
-# What stands before the command takes a file behind --db and --rules.
+# What stands before the command takes a file behind --db, --rules and --batches.
 _onixdesk_command() {
     local at
     for ((at = 1; at < cword; at++)); do
         case ${words[at]} in
-            --db | --rules) ((at++)) ;;
+            --db | --rules | --batches) ((at++)) ;;
             batch | deliver | gaps | migrate | serve | help) echo "${words[at]}"; return ;;
         esac
     done
@@ -16,13 +16,13 @@ _onixdesk() {
     _init_completion || return
     local command=$(_onixdesk_command) all="batch deliver gaps migrate serve help"
     case $command:$prev in
-        :--db | :--rules) _filedir; return ;;
+        :--db | :--rules | :--batches | serve:--batches) _filedir; return ;;
         serve:--port | serve:--requests) return ;;
     esac
     case $command:$cur in
-        serve:*) COMPREPLY=($(compgen -W "--port --requests --help" -- "$cur")) ;;
+        serve:*) COMPREPLY=($(compgen -W "--port --batches --requests --help" -- "$cur")) ;;
         help:*) COMPREPLY=($(compgen -W "$all" -- "$cur")) ;;
-        :-*) COMPREPLY=($(compgen -W "--db --existing --rules --help --version" -- "$cur")) ;;
+        :-*) COMPREPLY=($(compgen -W "--db --existing --rules --batches --help --version" -- "$cur")) ;;
         :*) COMPREPLY=($(compgen -W "$all" -- "$cur")) ;;
         *:-*) COMPREPLY=($(compgen -W "--help" -- "$cur")) ;;
         deliver:*) _filedir ;;

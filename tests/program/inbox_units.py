@@ -34,7 +34,6 @@ ProtectKernelModules=yes
 ProtectKernelTunables=yes
 ProtectProc=invisible
 ProtectSystem=strict
-RestrictAddressFamilies=AF_INET
 RestrictNamespaces=yes
 RestrictRealtime=yes
 RestrictSUIDSGID=yes
@@ -43,6 +42,9 @@ SystemCallFilter=@system-service
 SystemCallFilter=~@privileged @resources
 UMask=0077
 """.split("\n")[1:-1]
+
+# How each reaches others: the desk has a socket of the file system beside its port.
+FAMILIES = {"the desk": "AF_INET AF_UNIX", "an inbox": "AF_INET"}
 
 LIMITS = {"the desk": ["MemoryMax"], "an inbox": ["MemoryMax", "OOMPolicy", "TimeoutStartSec"]}
 
@@ -54,7 +56,8 @@ def lines_of(name: str) -> list[str]:
 def what_is_forbidden(_room):
     for name, unit in UNITS.items():
         lines = unit.read_text(encoding="utf-8").splitlines()
-        yield Outcome(f"units: what is forbidden to {name}", [line for line in FORBIDDEN if line not in lines], [])
+        wanted = [*FORBIDDEN, f"RestrictAddressFamilies={FAMILIES[name]}"]
+        yield Outcome(f"units: what is forbidden to {name}", [line for line in wanted if line not in lines], [])
         limits = [word for word in LIMITS[name] if not any(line.startswith(f"{word}=") for line in lines)]
         yield Outcome(f"units: the limits of {name}", limits, [])
 

@@ -110,13 +110,13 @@ def free_port() -> int:
         return listener.getsockname()[1]
 
 
-def started(room: Room, words: list[str], connections: int | None) -> Serving:
+def started(room: Room, words: list[str], connections: int | None, more=()) -> Serving:
     """Starts `serve` for so many connections, or until it is stopped, on a port that no other program
-    has."""
+    has; `more` stands behind its own words."""
     requests = [] if connections is None else ["--requests", str(connections)]
     for _ in range(TRIES):
         port = free_port()
-        process = room.start(*words, "serve", "--port", str(port), *requests)
+        process = room.start(*words, "serve", "--port", str(port), *requests, *more)
         if line := process.stdout.readline():
             return Serving(process, port, line)
         output, errors = process.communicate(timeout=SECONDS)
@@ -126,8 +126,8 @@ def started(room: Room, words: list[str], connections: int | None) -> Serving:
 
 
 @contextlib.contextmanager
-def serving(room: Room, words: list[str], connections: int | None):
-    desk = started(room, words, connections)
+def serving(room: Room, words: list[str], connections: int | None, more=()):
+    desk = started(room, words, connections, more)
     try:
         yield desk
     finally:

@@ -1,6 +1,6 @@
 -- A command that ends from one beginning ends so from each that comes to it.
 use Rattle.series_rules.specs.Views.{DeskKind, View}
-use Rattle.std.proofs.Common.{inl, inr, ℕ, List, Option, length, map}
+use Rattle.std.proofs.Common.{inl, inr, ℕ, List, Option, None, Some, length, map}
 use Rattle.std.specs.Borrow.{Bor}
 use Rattle.series_rules.specs.Views.{LeavesOnly}
 use Rattle.series_rules.specs.declared.requests.Request.{Request}
@@ -84,7 +84,7 @@ task_begun c stood was (task.Gaps name) told status ended begins = λ L began so
     let from = begins L began sound in
     let end = ended L from.0 sound in
     (end.0, λ only. end.1 from.1)
-task_begun c stood was (task.Serve port requests) told status ended begins = (
+task_begun c stood was (task.Serve port requests None) told status ended begins = (
   ended.0,
   (
     ended.1.0,
@@ -98,6 +98,18 @@ task_begun c stood was (task.Serve port requests) told status ended begins = (
           stands_after = keeps.stands_after;
           left_after = λ only. keeps.left_after from.1;
         },
+  ),
+  ended.2,
+  ended.3,
+)
+task_begun c stood was (task.Serve port requests (Some socket)) told status ended begins = (
+  ended.0,
+  (
+    ended.1.0,
+    λ L began sound.
+        let from = begins L began sound in
+        let end = ended.1.1 L from.0 sound in
+        (end.0, λ only. end.1 from.1),
   ),
   ended.2,
   ended.3,

@@ -30,9 +30,10 @@ use Rattle.onixdesk.specs.Course.{course}
 use Rattle.onixdesk.specs.FileViews.{seen_image, seen_left}
 use Rattle.onixdesk.specs.MigrationEnd.{MigrationEnd}
 use Rattle.onixdesk.specs.RulesFile.{RulesFit, status_of}
+use Rattle.onixdesk.specs.Sending.{SendEnds}
 use Rattle.onixdesk.specs.TaskEnds.{TaskEnds}
 use Rattle.onixdesk.specs.declared.command_line.Action.{Action}
-use Rattle.onixdesk.specs.declared.command_line.Action.TheVariants.{InMemory, InFile, Migrate}
+use Rattle.onixdesk.specs.declared.command_line.Action.TheVariants.{InMemory, InFile, Migrate, Send}
 use Rattle.onixdesk.specs.declared.command_line.Invocation.{Invocation}
 use Rattle.onixdesk.specs.declared.command_line.Task.{Task}
 use Rattle.onixdesk.specs.declared.files.FilesLeft.{FilesLeft}
@@ -109,6 +110,7 @@ abbrev pub ActionEnds : {M : Type 0} → {k : DeskKind} → (M → View k) → {
 ActionEnds seen path rules written told (InMemory task) status left = (left ≡ None) × NewDeskEnds seen rules written task told status
 ActionEnds seen path rules written told (InFile db task) status left = FileEnds path rules written task told status left
 ActionEnds seen path rules written told (Migrate db) status left = MigrateEnds path written status left
+ActionEnds seen path rules written told (Send socket) status left = (left ≡ None) × SendEnds told written status
 
 -- the rules of a precedence table: none where none is named, and else those of a text
 abbrev pub AreRulesOf : {N : Type 0} → Option N → List Rule → Type 0

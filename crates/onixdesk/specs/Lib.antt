@@ -6,6 +6,9 @@ pub mod GapsEnd
 pub mod MigrationEnd
 pub mod Serving
 pub mod Clients
+pub mod BatchServing
+pub mod Connections
+pub mod Sending
 pub mod TaskEnds
 pub mod FileViews
 pub mod FileEnds

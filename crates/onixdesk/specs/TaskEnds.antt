@@ -1,6 +1,6 @@
 -- How a command ends, and what it has answered that is kept.
 use Rattle.series_rules.specs.Views.{DeskKind}
-use Rattle.std.specs.Prelude.{◌≡◌, ◌≤◌, ◌++◌, ℕ, List, Option, length, map}
+use Rattle.std.specs.Prelude.{◌≡◌, ◌≤◌, ◌++◌, ℕ, List, Option, None, Some, length, map}
 use Rattle.csv_records.specs.Streams.{IsTold}
 use Rattle.onix_terms.specs.SeriesName.{series_name_of}
 use Rattle.series_rules.specs.Views.{LeavesOnly}
@@ -9,6 +9,7 @@ use Rattle.desk_batch.specs.Batch.{requests_of}
 use Rattle.desk_batch.specs.Leaves.{KeepsAnswered}
 use Rattle.desk_http.specs.Connections.{Connection}
 use Rattle.onixdesk.specs.Clients.{AreFirst}
+use Rattle.onixdesk.specs.Connections.{ServeBothEnds}
 use Rattle.onixdesk.specs.Course.{Course}
 use Rattle.onixdesk.specs.Deliveries.{DeliveriesEnd, KeepsDelivered, TellsInput}
 use Rattle.onixdesk.specs.Ends.{Ends}
@@ -50,9 +51,14 @@ ServeEnds c port count status =
     (served : List Connection) × ConnectionsEnd c count served × WritesServed c.written port served
     × (status ≡ 0 → (length served ≡ count) × c.written (listening_line port ++ lines_of served))
 
+-- so it can end with or without a socket for batches
+abbrev pub ServeAtEnds : {N : Type 0} → {k : DeskKind} → Course k → Option N → ℕ → ℕ → ℕ → Type 0
+ServeAtEnds c None port count status = ServeEnds c port count status
+ServeAtEnds c (Some socket) port count status = ServeBothEnds c port count status
+
 -- how a command can end with this status. No clause can say what a file of a name holds. Told: what the input tells of its bytes
 abbrev pub TaskEnds : {k : DeskKind} → Course k → Task → Option (List ℕ) → ℕ → Type 0
 TaskEnds c task.Batch told status = BatchEnds c told status
 TaskEnds c (task.Deliver names) told status = DeliverEnds c told (map (λ name. name.now) names.items) status
 TaskEnds c (task.Gaps name) told status = GapsEnds c (series_name_of name.now) status
-TaskEnds c (task.Serve port requests) told status = ServeEnds c port requests status
+TaskEnds c (task.Serve port requests batches) told status = ServeAtEnds c batches port requests status

@@ -18,9 +18,14 @@ pub enum Task<'a> {
     Deliver(Vec<&'a str>),
     /// `gaps NAME`: which numbers a series lacks.
     Gaps(&'a str),
-    /// `serve --port N [--requests K]`: the desk over HTTP, for so many connections. Without
-    /// `--requests` these are more than any program lives to see.
-    Serve { port: u16, requests: u64 },
+    /// `serve --port N [--requests K] [--batches SOCKET]`: the desk over HTTP, and for batches at a
+    /// socket of the file system, for so many connections. Without `--requests` these are more than any
+    /// program lives to see.
+    Serve {
+        port: u16,
+        requests: u64,
+        batches: Option<&'a str>,
+    },
 }
 
 /// The database file of `--db`, and whether it has to be there, by `--existing`.
@@ -39,6 +44,8 @@ pub enum Action<'a> {
     InFile { db: Database<'a>, task: Task<'a> },
     /// `migrate`: the desk in this database file is brought to version 2.
     Migrate { db: Database<'a> },
+    /// `--batches SOCKET batch`: the batch is sent to the desk that is open there.
+    Send { socket: &'a str },
 }
 
 /// What the program is asked to do, under the precedence table of a file or under no rules.
@@ -58,6 +65,8 @@ pub enum Reading<'a> {
     Wrong(String),
     /// `migrate` without a database file.
     NoDatabase,
+    /// `--batches` before another command than `batch`.
+    NoBatch,
     /// Memory ran out.
     Memory,
 }
@@ -85,11 +94,12 @@ fn deliver<'a>(alloc: Global, matches: &ArgMatches<'a>) -> Result<Option<Task<'a
     Ok(Some(Task::Deliver(files.to_vec(alloc)?)))
 }
 
-// The port and the number of connections of `serve`.
+// The port, the number of connections and the socket of `serve`.
 fn serve<'a>(matches: &ArgMatches<'a>) -> Option<Task<'a>> {
     Some(Task::Serve {
         port: matches.get_one::<u16>("port")?,
         requests: matches.get_one::<u64>("requests").unwrap_or(u64::MAX),
+        batches: matches.get_str("socket"),
     })
 }
 
@@ -135,11 +145,25 @@ fn migration<'a>(rules: Option<&'a str>, db: Option<Database<'a>>) -> Reading<'a
     }
 }
 
+// What a command asks for whose batch goes to the desk at a socket.
+fn sent<'a>(socket: &'a str, name: &str) -> Reading<'a> {
+    if name != "batch" {
+        return Reading::NoBatch;
+    }
+    Reading::Run(Invocation {
+        rules: None,
+        action: Action::Send { socket },
+    })
+}
+
 // What words that clap let pass ask for.
 fn asked_for<'a>(alloc: Global, matches: &ArgMatches<'a>) -> Reading<'a> {
     let Some((name, words)) = matches.subcommand() else {
         return Reading::Wrong(String::new(alloc));
     };
+    if let Some(socket) = matches.get_str("batches") {
+        return sent(socket, name);
+    }
     let rules = matches.get_str("rules");
     let db = database_of(matches);
     if name == "migrate" {

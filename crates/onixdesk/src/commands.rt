@@ -11,7 +11,7 @@ fn batch<'a>(alloc: Global) -> Command<'a> {
     Command::new(alloc, "batch")
         .about("Read requests from standard input, write their answers to standard output")
         .long_about(
-            "Reads agreements, messages, waivers and questions as CSV records from standard input, up to 4,194,304 bytes of UTF-8, and writes the answer to each, in order, to standard output. A database file and a precedence table are named before the command: onixdesk --db FILE --rules FILE batch. Without a database file the desk ends with the batch.",
+            "Reads agreements, messages, waivers and questions as CSV records from standard input, up to 4,194,304 bytes of UTF-8, and writes the answer to each, in order, to standard output. A database file and a precedence table are named before the command: onixdesk --db FILE --rules FILE batch. Without a database file the desk ends with the batch. With --batches SOCKET before the command the batch goes to the desk that is open there, whose answers are written; then status 3 is a fault of the socket too, or an answer that lacks.",
         )
 }
 
@@ -61,7 +61,17 @@ fn requests<'a>(alloc: Global) -> Arg<'a> {
         .value_parser(ValueParser::unsigned(1, 1_000_000))
         .action(ArgAction::Set)
         .help(
-            "How many connections are served, 1 to 1000000; then the program ends. Without it serving goes on until the program is stopped",
+            "How many connections are served, 1 to 1000000, at the port and at the socket together; then the program ends. Without it serving goes on until the program is stopped",
+        )
+}
+
+fn socket<'a>(alloc: Global) -> Arg<'a> {
+    Arg::new(alloc, "socket")
+        .long("batches")
+        .value_name("SOCKET")
+        .action(ArgAction::Set)
+        .help(
+            "Take batches too, at this socket of the file system: onixdesk --batches SOCKET batch sends one there",
         )
 }
 
@@ -69,9 +79,10 @@ fn serve<'a>(alloc: Global) -> Result<Command<'a>, AllocError> {
     Command::new(alloc, "serve")
         .about("Answer requests over HTTP on a port of this machine")
         .long_about(
-            "Listens at a port of 127.0.0.1, which only programs on this machine reach, writes the line 'listening N', and serves connections one after the other, one request each. For each connection a line is written: the status of the reply, or 'fault' where none was sent whole. A client has 10 seconds to send its request and 10 seconds to take the reply; over that the connection is a fault, and serving goes on. The desk is that of the database file, with the shop's rules: onixdesk --db FILE --rules FILE serve; without one it begins without agreements and ends with the program. A port that cannot be listened at ends the program with status 3. TLS and access control are left to a proxy before it.",
+            "Listens at a port of 127.0.0.1, which only programs on this machine reach, writes the line 'listening N', and serves connections one after the other, one request each. For each connection a line is written: the status of the reply, or 'fault' where none was sent whole. With --batches it listens at a socket of the file system too, which the program's user and group alone may use; each connection there is one batch, the text to the end of what the client sends, and its line is 'batch N', with the number of refusals, or 'fault'. A client may let the desk wait 10 seconds while it sends and 10 seconds while it takes what is sent to it; over that the connection is a fault, and serving goes on. The desk is that of the database file, with the shop's rules: onixdesk --db FILE --rules FILE serve; without one it begins without agreements and ends with the program. A port or a socket that cannot be listened at ends the program with status 3. TLS and access control are left to a proxy before it.",
         )
         .arg(port(alloc))?
+        .arg(socket(alloc))?
         .arg(requests(alloc))
 }
 
@@ -116,6 +127,19 @@ fn rules<'a>(alloc: Global) -> Arg<'a> {
         )
 }
 
+// The option `--batches SOCKET`, which stands before the command `batch`.
+fn batches<'a>(alloc: Global) -> Result<Arg<'a>, AllocError> {
+    Arg::new(alloc, "batches")
+        .long("batches")
+        .value_name("SOCKET")
+        .action(ArgAction::Set)
+        .help(
+            "Send the batch to the desk that is open at this socket, that of serve --batches; it stands before the command batch, and no desk is opened here",
+        )
+        .conflicts_with("db")?
+        .conflicts_with("rules")
+}
+
 // The program's own words.
 fn named<'a>(alloc: Global) -> Command<'a> {
     Command::new(alloc, "onixdesk")
@@ -124,7 +148,7 @@ fn named<'a>(alloc: Global) -> Command<'a> {
             "The intake of a bookshop's buying desk: numbered ONIX messages in, proved answers out",
         )
         .after_help(
-            "Exit status: 0; 1 where an answer of batch, deliver or gaps was a refusal; 2 for a bad command line or rules file; 3 for a fault of storage, a file, input, output or the port, or for want of memory. While serve runs, a request that cannot be answered ends only its connection.",
+            "Exit status: 0; 1 where an answer of batch, deliver or gaps was a refusal; 2 for a bad command line or rules file; 3 for a fault of storage, a file, input, output, the port or the socket, or for want of memory. While serve runs, a request that cannot be answered ends only its connection.",
         )
         .subcommand_required(true)
 }
@@ -149,6 +173,7 @@ fn with_arg<'a>(
 /// The program with all its commands. Without memory there is none.
 pub fn program<'a>(alloc: Global) -> Result<Command<'a>, AllocError> {
     let program = with_arg(named(alloc).arg(db(alloc))?, existing(alloc))?.arg(rules(alloc))?;
+    let program = with_arg(program, batches(alloc))?;
     let program = with_command(program, Ok(batch(alloc)))?;
     let program = with_command(program, deliver(alloc))?;
     let program = with_command(program, gaps(alloc))?;

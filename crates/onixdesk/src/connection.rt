@@ -1,12 +1,14 @@
-//! One connection of the command `serve`, and the line of it.
+//! One connection of the command `serve`, an exchange or a batch, and the line of it.
 
 ghost use Rattle.std.specs.Fmt.{decimal};
 ghost use Rattle.std.specs.Io.KnownBytes.{Appends, Keeps};
-ghost use Rattle.std.specs.Prelude.{◌++◌, ◌∷◌, []};
+ghost use Rattle.std.specs.Prelude.{◌++◌, ◌∷◌, [], codes};
+ghost use Rattle.onixdesk.specs.BatchServing.{ServesBatch, batch_line_of};
 ghost use Rattle.onixdesk.specs.Serving.{ServesConnection, WritesWhole, line_of};
 
 use crate::fault::Fault;
 use csv_records::streams::{WriteFault, write_whole};
+use desk_batch::{BatchFault, run_batch};
 use desk_http::{HttpFault, serve_one};
 use itoa::Buffer;
 use price_rules::precedence::Precedence;
@@ -15,7 +17,7 @@ use std::alloc::Global;
 use std::io::{Read, Write};
 
 // Writes a number and the end of its line, or, with a fault, a first part of that.
-fn write_digits<O: Write>(number: u16, output: &mut O) -> Result<(), WriteFault>
+fn write_digits<O: Write>(number: u64, output: &mut O) -> Result<(), WriteFault>
     ensures { WritesWhole (Appends (O.contents output.old) (O.contents output.new))
         (decimal number ++ 10 ∷ []) result }
 {
@@ -27,7 +29,7 @@ fn write_digits<O: Write>(number: u16, output: &mut O) -> Result<(), WriteFault>
 }
 
 // Writes a line that ends in a number, or, with a fault, a first part of it.
-fn write_number<O: Write>(before: &str, number: u16, output: &mut O) -> Result<(), WriteFault>
+fn write_number<O: Write>(before: &str, number: u64, output: &mut O) -> Result<(), WriteFault>
     ensures { WritesWhole (Appends (O.contents output.old) (O.contents output.new))
         (before.now ++ decimal number ++ 10 ∷ []) result }
 {
@@ -49,7 +51,7 @@ fn flush<O: Write>(output: &mut O) -> Result<(), Fault>
 
 /// Writes a line that ends in a number at once. The fault is `Output`, and then a first part of the
 /// line is written.
-pub fn print_number<O: Write>(before: &str, number: u16, output: &mut O) -> Result<(), Fault>
+pub fn print_number<O: Write>(before: &str, number: u64, output: &mut O) -> Result<(), Fault>
     ensures { WritesWhole (Appends (O.contents output.old) (O.contents output.new))
         (before.now ++ decimal number ++ 10 ∷ []) result }
 {
@@ -59,22 +61,45 @@ pub fn print_number<O: Write>(before: &str, number: u16, output: &mut O) -> Resu
     }
 }
 
-/// Writes the line of a connection at once: the status of the reply, or `fault` where no reply was
+// Writes the line of a connection that was not served whole.
+fn print_fault<O: Write>(output: &mut O) -> Result<(), Fault>
+    ensures { WritesWhole (Appends (O.contents output.old) (O.contents output.new))
+        (codes "fault" ++ 10 ∷ []) result }
+{
+    match write_whole(output, b"fault\n") {
+        Ok(()) => flush(output),
+        Err(WriteFault) => Err(Fault::Output),
+    }
+}
+
+/// Writes the line of an exchange at once: the status of the reply, or `fault` where no reply was
 /// sent whole. The fault is `Output`, and then a first part of the line is written.
 pub fn print_line<O: Write>(outcome: &Result<u16, HttpFault>, output: &mut O) -> Result<(), Fault>
     ensures { WritesWhole (Appends (O.contents output.old) (O.contents output.new))
         (line_of outcome.now) result }
 {
     match outcome {
-        Ok(status) => print_number("", *status, output),
-        Err(_) => match write_whole(output, b"fault\n") {
-            Ok(()) => flush(output),
-            Err(WriteFault) => Err(Fault::Output),
-        },
+        Ok(status) => print_number("", u64::from(*status), output),
+        Err(_) => print_fault(output),
     }
 }
 
-/// Serves one connection, and writes its line.
+// Writes the line of a batch at once: how many answers are refusals, or `fault` where it was not
+// answered to its end.
+fn print_batch_line<O: Write>(
+    outcome: &Result<u64, BatchFault>,
+    output: &mut O,
+) -> Result<(), Fault>
+    ensures { WritesWhole (Appends (O.contents output.old) (O.contents output.new))
+        (batch_line_of outcome.now) result }
+{
+    match outcome {
+        Ok(refused) => print_number("batch ", *refused, output),
+        Err(_) => print_fault(output),
+    }
+}
+
+/// Serves one connection as an exchange over HTTP, and writes its line.
 pub fn serve_connection<D: Desk, R: Read, W: Write, O: Write>(
     alloc: Global,
     desk: &mut D,
@@ -89,4 +114,22 @@ pub fn serve_connection<D: Desk, R: Read, W: Write, O: Write>(
 {
     let outcome = serve_one(alloc, desk, precedence, reader, writer);
     print_line(&outcome, output)
+}
+
+/// Serves one connection as a batch, the text to the end of what the client sends, and writes its
+/// line.
+pub fn serve_batch<D: Desk, R: Read, W: Write, O: Write>(
+    alloc: Global,
+    desk: &mut D,
+    precedence: &Precedence,
+    reader: &mut R,
+    writer: &mut W,
+    output: &mut O,
+) -> Result<(), Fault>
+    ensures { ServesBatch D.seen precedence.now (R.remaining reader.old) desk.old desk.new
+        (Appends (W.contents writer.old) (W.contents writer.new))
+        (Appends (O.contents output.old) (O.contents output.new)) result }
+{
+    let outcome = run_batch(alloc, desk, precedence, reader, writer);
+    print_batch_line(&outcome, output)
 }

@@ -22,6 +22,8 @@ pub enum Fault {
     Output,
     #[error("onixdesk: port {0}\n")]
     Port(u16),
+    #[error("onixdesk: socket\n")]
+    Socket,
     #[error("onixdesk: memory\n")]
     Memory,
     #[error("onixdesk: storage: memory\n")]

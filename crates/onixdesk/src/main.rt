@@ -2,7 +2,8 @@
 //! reads its words by the `commands` of clap, `rules` reads the precedence table, `database` looks at the
 //! database file, and `fault` has the
 //! texts of what can go wrong. The commands are `batch`, `deliver`, `gaps` and `serve`, each over any
-//! desk; `program` gives them one in a database file, or in memory. `migrate` brings a database file of
+//! desk; `program` gives them one in a database file, or in memory. `serve` is reached at the `doors`;
+//! `sending` is a batch to a desk that is open. `migrate` brings a database file of
 //! an earlier version to the one that is kept now. What each request is answered is proved in
 //! `series_rules`.
 #![tactic(auto)]
@@ -14,6 +15,7 @@ mod commands;
 mod connection;
 mod database;
 mod deliver;
+mod doors;
 mod fault;
 mod files;
 mod gaps;
@@ -21,7 +23,10 @@ mod migrate;
 mod port;
 mod program;
 mod rules;
+mod sending;
 mod serve;
+mod serve_both;
+mod sockets;
 mod timed;
 
 ghost use Rattle.std.specs.Prelude.{◌≤◌, IfOk};

@@ -5,14 +5,14 @@ ghost use Rattle.std.specs.Io.KnownBytes.{Appends};
 ghost use Rattle.onixdesk.specs.Course.{course};
 ghost use Rattle.onixdesk.specs.FileEnds.{ActionEnds, AreRulesOf, Closes, FileEnds, InvocationEnds, IsUnruled, EndsLeaving, MigrateEnds, NewDeskEnds, RunEnds, path_of};
 ghost use Rattle.onixdesk.specs.FileViews.{seen_left};
-ghost use Rattle.onixdesk.specs.TaskEnds.{TaskEnds};
+ghost use Rattle.onixdesk.specs.TaskEnds.{ServeAtEnds, TaskEnds};
 
 use crate::command_line::{self, Action, Database, Invocation, Reading, Task};
 use crate::database::look_at;
 use crate::fault::{Fault, report};
 use crate::files::{FilesLeft, unopened};
 use crate::rules::{RulesFault, open_table, report_rules};
-use crate::{batch, deliver, gaps, migrate, serve};
+use crate::{batch, deliver, gaps, migrate, sending, serve, serve_both};
 use desk_memory::MemoryDesk;
 use desk_store::DeskStore;
 use desk_terms::StoreFault;
@@ -22,6 +22,31 @@ use sqlite::{FileFrom, FileStore, Start};
 use sqlite_disk::Disk;
 use std::io::{Read, Write};
 use std::rt::HostRuntime;
+
+// Serves a desk at a port, and at a socket for batches where one is named.
+fn serve_at<D: Desk, W: Write, E: Write>(
+    rt: &HostRuntime,
+    desk: &mut D,
+    precedence: &Precedence,
+    port: u16,
+    batches: Option<&str>,
+    requests: u64,
+    output: &mut W,
+    errors: &mut E,
+) -> u8
+    ensures status { result ≤ 3 }
+    ensures premise { (D.seen desk.new).sound → (D.seen desk.old).sound }
+    ensures end { ServeAtEnds (course precedence.now (D.seen desk.old) (D.seen desk.new)
+        (Appends (W.contents output.old) (W.contents output.new)))
+        batches.entry port requests result }
+{
+    match batches {
+        None => serve::run(rt, desk, precedence, port, requests, output, errors),
+        Some(socket) => {
+            serve_both::run(rt, desk, precedence, port, socket, requests, output, errors)
+        }
+    }
+}
 
 // Runs a command over a desk.
 fn run_task<D: Desk, R: Read, W: Write, E: Write>(
@@ -53,9 +78,13 @@ fn run_task<D: Desk, R: Read, W: Write, E: Write>(
             )
         }
         Task::Gaps(name) => gaps::run(rt.alloc(), desk, precedence, name, output, errors),
-        Task::Serve { port, requests } => {
-            serve::run(rt, desk, precedence, *port, *requests, output, errors)
-        }
+        Task::Serve {
+            port,
+            requests,
+            batches,
+        } => serve_at(
+            rt, desk, precedence, *port, *batches, *requests, output, errors,
+        ),
     }
 }
 
@@ -188,6 +217,7 @@ fn run_action<S: Start, R: Read, W: Write, E: Write>(
             run_in_file(rt, db, start, precedence, task, input, output, errors)
         }
         Action::Migrate { db } => migrate_file(rt, db, start, output, errors),
+        Action::Send { socket } => (sending::run(rt, socket, input, output, errors), None),
     }
 }
 
@@ -243,7 +273,7 @@ pub fn run_invocation<S: Start, R: Read, W: Write, E: Write>(
 
 /// Runs the program on these words, of which the first is its name, and gives its exit status:
 /// 0, or 1 where an answer was a refusal, 2 for a bad command line or rules file, 3 for a fault of
-/// storage, a file, input, output or the port, or for want of memory. The command line is judged first,
+/// storage, a file, input, output, the port or the socket, or for want of memory. The command line is judged first,
 /// then the rules file, then what the command itself meets. `start` says what the database file and its
 /// log hold; beside the status comes what is left of them.
 pub fn run<S: Start, R: Read, W: Write, E: Write>(
@@ -270,6 +300,10 @@ pub fn run<S: Start, R: Read, W: Write, E: Write>(
         Reading::Wrong(text) => (command_line::print_wrong(text.as_str(), errors), None),
         Reading::NoDatabase => {
             let status = command_line::print_wrong("onixdesk: migrate needs --db\n", errors);
+            (status, None)
+        }
+        Reading::NoBatch => {
+            let status = command_line::print_wrong("onixdesk: --batches goes with batch\n", errors);
             (status, None)
         }
         Reading::Memory => (report(&Fault::Memory, errors), None),

@@ -15,11 +15,6 @@ use desk_http::HttpFault;
 use price_rules::precedence::Precedence;
 use series_rules::desk::Desk;
 use std::io::Write;
-use std::net::{Ipv4Addr, SocketAddr, SocketAddrV4, TcpListener};
-use std::time::Duration;
-
-/// How many seconds a client may take to send its request, and again to take the reply.
-const CLIENT_SECONDS: u64 = 10;
 
 // Waits for a client, serves its connection, and writes the line of that. Of a client that was gone
 // before nothing was read, and nothing was asked of the desk.
@@ -84,17 +79,12 @@ fn listen<'a, O: Write>(rt: &'a HostRuntime, number: u16, output: &mut O) -> Res
     ensures { WritesWhole (Appends (O.contents output.old) (O.contents output.new))
         (listening_line number) result }
 {
-    let address = SocketAddr::V4(SocketAddrV4::new(Ipv4Addr::LOCALHOST, number));
-    let Ok(listener) = TcpListener::bind(rt, address) else {
-        return Err(Fault::Port(number));
+    let port = match Port::open(rt, number) {
+        Ok(port) => port,
+        Err(fault) => return Err(fault),
     };
-    match print_number("listening ", number, output) {
-        Ok(()) => Ok(Port {
-            rt,
-            number,
-            listener,
-            limit: Duration::from_secs(CLIENT_SECONDS),
-        }),
+    match print_number("listening ", u64::from(number), output) {
+        Ok(()) => Ok(port),
         Err(fault) => Err(fault),
     }
 }

@@ -15,3 +15,6 @@ returns-in-NoDatabase-clause-end g c = inr refl
 
 pub returns-in-Memory-clause-end : goal.returns-in-Memory-clause-end
 returns-in-Memory-clause-end g c = inr refl
+
+pub returns-in-NoBatch-clause-end : goal.returns-in-NoBatch-clause-end
+returns-in-NoBatch-clause-end g c = inr refl

@@ -9,3 +9,6 @@ returns-in-InFile-clause-end g c = rw c.in-InFile.is c.run_in_file.ensures.end
 
 pub returns-in-Migrate-clause-end : goal.returns-in-Migrate-clause-end
 returns-in-Migrate-clause-end g c = rw c.in-Migrate.is c.migrate_file.ensures.end
+
+pub returns-in-Send-clause-end : goal.returns-in-Send-clause-end
+returns-in-Send-clause-end g c = rw c.in-Send.is (refl, c.run.ensures.end)

@@ -19,7 +19,8 @@ pub trait Clients {
     /// Waits for the next client, and gives the two ways of its connection, or `None` where it was
     /// gone before that was accepted.
     fn accept(&mut self) -> Result<Option<(Self::Reader, Self::Writer)>, Fault>
-        ensures { Accepts Self.Reader.remaining Self.Writer.contents (coming self.old) (coming self.new) result };
+        ensures { Accepts Self.Reader.remaining Self.Writer.contents
+            (coming self.old) (coming self.new) result };
 
     /// Closes the connection of a client.
     fn close(&mut self, reader: Self::Reader, writer: Self::Writer)

@@ -119,7 +119,8 @@ fn deliver_named<D: Desk, R: Read, W: Write>(
 ) -> Result<bool, DeliveryFault>
     ensures premise { (D.seen desk.new).sound → (D.seen desk.old).sound }
     // Of some text, which is that of the input where it is read and tells its bytes.
-    ensures run { (text : List ℕ) × (name.now ≡ codes "-" → IsTold (R.remaining input.old) text) × DeliveryEnds
+    ensures run { (text : List ℕ)
+        × (name.now ≡ codes "-" → IsTold (R.remaining input.old) text) × DeliveryEnds
         (course precedence.now (D.seen desk.old) (D.seen desk.new)
         (Appends (W.contents writer.old) (W.contents writer.new))) text result }
     ensures untouched { name.now ≢ codes "-" → input.new ≡ input.old }

@@ -25,7 +25,8 @@ fn serve_next<D: Desk, C: Clients, O: Write>(
     clients: &mut C,
     output: &mut O,
 ) -> Result<(), Fault>
-    ensures { ServesNext D.seen precedence.now (C.coming clients.old) (C.coming clients.new) desk.old desk.new
+    ensures { ServesNext D.seen precedence.now (C.coming clients.old) (C.coming clients.new)
+        desk.old desk.new
         (Appends (O.contents output.old) (O.contents output.new)) result }
 {
     match clients.accept() {

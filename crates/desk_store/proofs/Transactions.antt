@@ -63,12 +63,6 @@ undone_stays w s0 s1 s2 s3 clean begins kept undone left =
     let shows = (begins.begun clean).0 in
     stays_seen s0 s3 (λ up. (shows.was_open, undone.committed up ∙ kept.committed (undone.was_open up) ∙ shows.committed_is)) left
 
--- so where none began
-pub unbegun_stays : {A E : Type 0} (s0 s1 : State) (e : E) → BeginsWork {A = A} s0 s1 (Err e) → HasCleanDisk s1 → Stays (seen_in s0) (seen_in s1)
-unbegun_stays s0 s1 e begins clean =
-    let kept = begins.refused clean in
-    stays_seen s0 s1 (λ up. (kept.was_open up, kept.committed up)) (λ d may. either (begins.survives.crash clean d may))
-
 -- a fault in it undoes it
 pub asked_failed : {A B W : Type 0} (w : W) (r : Request) (answer : List Request → A) (Post : DeskRows → B → DeskRows → Type 0) (s0 s1 s2 s3 : State) (e : StoreFault) → BeginsWork {A = W} {E = StoreFault} s0 s1 (Ok w) → Achieves {A = B} Post s1 s2 (Err e)
     → (HasCleanDisk s3 → IsUndone s2 s3) → Survives s2 s3 NoTrees → Asks {A = A} r answer (seen_in s0) (seen_in s3) (Err e)

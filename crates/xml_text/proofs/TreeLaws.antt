@@ -36,9 +36,6 @@ add_leaf n os t ts h i = record {
   goes_on = i.goes_on;
 }
 
-same_nesting : (p q : Nesting) → ends_well (Some p) → Some p ≡ Some q → p ≡ q
-same_nesting p q h e = cc
-
 nesting_is : (p : Nesting) → ends_well (Some p) → p ≡ last_nesting
 nesting_is p h = cc
 

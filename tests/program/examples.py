@@ -159,8 +159,8 @@ def script_of_http(room):
 
 
 def gaps_by_night(room):
-    """The script over a database file: numbers that lack, then none, then series and files that are not
-    there."""
+    """The script over a database file, and at the socket of a desk that is open: numbers that lack, then
+    none, then series and files that are not there."""
     agreement = b"Agree,north,06,4012345000009,06,5012345678900,1\n"
     message = "Message,1,06,4012345000009,06,5012345678900,{},,,,\nEndMessage,1\n"
     room.run("--db", "shop.db", "batch", given=agreement + message.format(2).encode())
@@ -170,6 +170,9 @@ def gaps_by_night(room):
     yield Outcome("gaps.sh: a number that lacks", found, Ran(1, report))
     found = gaps_script(room, "shop.db", "west", "north")
     yield Outcome("gaps.sh: a series that is not agreed", found, Ran(2, report, no_report))
+    with serving(room, ["--db", "shop.db"], 2, ["--batches", "shop.socket"]):
+        found = gaps_script(room, "shop.socket", "west", "north")
+        yield Outcome("gaps.sh: at the socket of an open desk", found, Ran(2, report, no_report))
     room.run("--db", "shop.db", "batch", given=message.format(1).encode())
     yield Outcome("gaps.sh: no number lacks", gaps_script(room, "shop.db", "north"), Ran(0))
     found = gaps_script(room, "other.db", "west")

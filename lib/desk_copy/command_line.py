@@ -2,19 +2,17 @@
 
 import argparse
 import os
-import signal
-import sys
 import time
+from functools import partial
 from pathlib import Path
 
-from desk_copy.copying import Copied, Fault, copy_desk
+from command_lines.ending import DONE, end_orderly, status_of, teller
+from command_lines.parsing import count, parser_of
+from desk_copy.copying import Copied, copy_desk
 from desk_copy.places import alone, keep_latest, named, put, unfinished
-from desk_copy.trying import Unsound, try_copy
+from desk_copy.trying import try_copy
 
 PROGRAM = "desk-copy"
-
-DONE, UNSOUND, FAULT = 0, 1, 3
-INTERRUPTED = 130
 
 DESCRIPTION = """\
 Copies a desk whose program goes on answering: the database FILE and its log FILE-wal, as both were at one moment,
@@ -26,49 +24,46 @@ Status 0; 1 where the copy is no sound database of a desk; 2 for a bad command l
 written, or the desk wrote all the while. Then there is no new FOLDER. docs/RELIABILITY.md says what a copy is."""
 
 
-def count(word: str) -> int:
-    number = int(word) if word.isascii() and word.isdigit() else 0
-    if not 1 <= number <= 1_000_000:
-        raise argparse.ArgumentTypeError(f"{ascii(word)} is not 1 to 1000000")
-    return number
-
-
-def command_line() -> argparse.ArgumentParser:
-    parser = argparse.ArgumentParser(
-        PROGRAM,
-        description=DESCRIPTION,
-        epilog=STATUSES,
-        formatter_class=argparse.RawDescriptionHelpFormatter,
-        allow_abbrev=False,
-    )
-    add = parser.add_argument
-    add(
-        "--keep",
-        metavar="N",
-        type=count,
-        help="FOLDER has a folder for each copy, named by its second; all but the latest N are removed at the end",
-    )
-    add(
+def add_source(parser: argparse.ArgumentParser) -> None:
+    """Adds the words that say of which desk a copy is taken."""
+    parser.add_argument(
         "--seconds",
         metavar="N",
         type=count,
         default=600,
         help="how long a moment is waited for in which the desk writes nothing; 600 without it",
     )
-    add("file", metavar="FILE", type=Path, help="the database that the desk has open")
-    add("folder", metavar="FOLDER", type=Path, help="a folder that is not there yet; with --keep one that is")
+    parser.add_argument("file", metavar="FILE", type=Path, help="the database that the desk has open")
+
+
+def command_line() -> argparse.ArgumentParser:
+    parser = parser_of(PROGRAM, DESCRIPTION, STATUSES)
+    parser.add_argument(
+        "--keep",
+        metavar="N",
+        type=count,
+        help="FOLDER has a folder for each copy, named by its second; all but the latest N are removed at the end",
+    )
+    add_source(parser)
+    parser.add_argument(
+        "folder", metavar="FOLDER", type=Path, help="a folder that is not there yet; with --keep one that is"
+    )
     return parser
 
 
+def as_of(moment: int) -> str:
+    """A moment, in nanoseconds since 1970, in words."""
+    return time.strftime("as of %Y-%m-%d %H:%M:%S UTC", time.gmtime(moment // 1_000_000_000))
+
+
 def told(database: Path, copied: Copied) -> str:
-    moment = time.strftime("%Y-%m-%d %H:%M:%S UTC", time.gmtime(copied.moment // 1_000_000_000))
-    return f"{database}: as of {moment}, {copied.database} bytes, and {copied.log} of its log"
+    return f"{database}: {as_of(copied.moment)}, {copied.database} bytes, and {copied.log} of its log"
 
 
 def copy_into(folder: Path, file: Path, seconds: int) -> Copied:
     """Takes a copy into the folder, and tries it."""
     copied = copy_desk(file, folder, seconds)
-    try_copy(folder / file.name)
+    try_copy(folder / file.name, file)
     return copied
 
 
@@ -88,30 +83,17 @@ def copy_beside_others(folder: Path, file: Path, seconds: int, kept: int) -> str
     return told(place / file.name, copied)
 
 
-def end(number: int, _frame):
-    """So that what is unfinished is removed."""
-    sys.exit(128 + number)
+def copy(options: argparse.Namespace) -> int:
+    file, folder = options.file, options.folder
+    if options.keep:
+        print(copy_beside_others(folder, file, options.seconds, options.keep))
+    else:
+        print(copy_to(folder, file, options.seconds))
+    return DONE
 
 
 def main() -> int:
     options = command_line().parse_args()
     os.umask(0o077)
-    signal.signal(signal.SIGTERM, end)
-    file, folder = options.file, options.folder
-    try:
-        if options.keep:
-            print(copy_beside_others(folder, file, options.seconds, options.keep))
-        else:
-            print(copy_to(folder, file, options.seconds))
-        return DONE
-    except Unsound as unsound:
-        print(f"{PROGRAM}: {file}: a copy of it is not sound: {unsound}", file=sys.stderr)
-        return UNSOUND
-    except Fault as fault:
-        print(f"{PROGRAM}: {fault}", file=sys.stderr)
-        return FAULT
-    except OSError as error:
-        print(f"{PROGRAM}: {error.filename or folder}: {error.strerror}", file=sys.stderr)
-        return FAULT
-    except KeyboardInterrupt:
-        return INTERRUPTED
+    end_orderly()
+    return status_of(partial(copy, options), teller(PROGRAM), options.folder)

@@ -14,6 +14,8 @@ import time
 from pathlib import Path
 from typing import NamedTuple
 
+from command_lines.ending import Fault
+
 # Longer than each step of that clock, which are 10 ms at most.
 REST = 100_000_000
 
@@ -24,10 +26,6 @@ PIECE = 1 << 20
 
 # The head of a log, which is another one as soon as the log has been copied into the database.
 HEAD = 32
-
-
-class Fault(Exception):
-    """What keeps a copy from being taken, with the name of the file."""
 
 
 class Standing(NamedTuple):
@@ -74,7 +72,7 @@ class Patience:
         self.seconds = seconds
         self.end = time.monotonic() + seconds
 
-    def spend(self, file: Path, seconds: float):
+    def spend(self, file: Path, seconds: float) -> None:
         """Waits so long. Fault at the end of the patience."""
         if time.monotonic() + seconds > self.end:
             raise Fault(f"{file}: it was never left as it is for long enough, in {self.seconds:g} s")
@@ -93,7 +91,7 @@ def at_rest(file: Path, patience: Patience) -> Standing | None:
         patience.spend(file, (found.latest() + REST - began) / 1e9)
 
 
-def copy_file(source: Path, target: Path):
+def copy_file(source: Path, target: Path) -> None:
     """Copies what the file has, by sharing it where the file system can."""
     with open(os.open(source, os.O_RDONLY | os.O_NOFOLLOW), "rb") as old, open(target, "wb") as new:
         try:

@@ -10,7 +10,7 @@ import time
 from collections.abc import Iterator
 from pathlib import Path
 
-from desk_copy.copying import Fault
+from command_lines.ending import Fault
 
 UNFINISHED = ".desk-copy-"
 
@@ -19,7 +19,7 @@ NAME = "%Y-%m-%dT%H-%M-%SZ"
 is_name = re.compile(r"\d{4}-\d\d-\d\dT\d\d-\d\d-\d\dZ").fullmatch
 
 
-def settle(file: Path):
+def settle(file: Path) -> None:
     """Has the disk keep what a file holds, or the names that a folder has."""
     opened = os.open(file, os.O_RDONLY)
     try:
@@ -38,7 +38,7 @@ def unfinished(parent: Path) -> Iterator[Path]:
         shutil.rmtree(folder, ignore_errors=True)
 
 
-def put(copy: Path, folder: Path):
+def put(copy: Path, folder: Path) -> None:
     """Gives a whole copy its name, which nothing but an empty folder may have."""
     for file in [*copy.iterdir(), copy]:
         settle(file)
@@ -69,7 +69,7 @@ def named(folder: Path, moment: int) -> Path:
     return folder / time.strftime(NAME, time.gmtime(moment // 1_000_000_000))
 
 
-def keep_latest(folder: Path, count: int):
+def keep_latest(folder: Path, count: int) -> None:
     """Removes all but the latest copies."""
     kept = sorted(each for each in folder.iterdir() if is_name(each.name))
     for old in kept[:-count]:

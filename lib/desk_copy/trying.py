@@ -4,13 +4,16 @@ import sqlite3
 from contextlib import closing
 from pathlib import Path
 
+from command_lines.ending import FAILED, Fault
 from desk_copy.copying import log_of
 
 VERSION = "SELECT amount FROM meta WHERE item = 'version'"
 
 
-class Unsound(Exception):
+class Unsound(Fault):
     """What is wrong with a copy."""
+
+    status = FAILED
 
 
 def opened(database: Path) -> sqlite3.Connection:
@@ -20,27 +23,34 @@ def opened(database: Path) -> sqlite3.Connection:
     return connection
 
 
-def left_alone(database: Path, has_log: bool):
+def left_alone(database: Path, has_log: bool) -> None:
     """Takes away what SQLite made beside the files as it read them."""
     database.with_name(f"{database.name}-shm").unlink(missing_ok=True)
     if not has_log:
         log_of(database).unlink(missing_ok=True)
 
 
-def try_copy(database: Path):
-    """SQLite's test of the file with its log, and of its foreign keys. Unsound where it finds something, or where the
-    file is no desk's."""
-    has_log = log_of(database).exists()
+def wrong_with(connection: sqlite3.Connection) -> str | None:
+    """What SQLite finds wrong with a database and its foreign keys, or why it is no desk's; nothing where it is one."""
+    found: str = connection.execute("PRAGMA integrity_check").fetchone()[0]
+    if found != "ok":
+        return found
+    if broken := connection.execute("PRAGMA foreign_key_check").fetchone():
+        return f"a row of {broken[0]} has no parent"
+    if not connection.execute(VERSION).fetchone():
+        return "its tables have no version"
+    return None
+
+
+def try_copy(copy: Path, source: Path) -> None:
+    """Unsound where SQLite finds the copy of that file, with its log, not to be a sound database of a desk."""
+    has_log = log_of(copy).exists()
     try:
-        with closing(opened(database)) as connection:
-            found = connection.execute("PRAGMA integrity_check").fetchone()[0]
-            if found != "ok":
-                raise Unsound(found)
-            if broken := connection.execute("PRAGMA foreign_key_check").fetchone():
-                raise Unsound(f"a row of {broken[0]} has no parent")
-            if not connection.execute(VERSION).fetchone():
-                raise Unsound("its tables have no version")
+        with closing(opened(copy)) as connection:
+            wrong = wrong_with(connection)
     except sqlite3.Error as error:
-        raise Unsound(str(error)) from error
+        wrong = str(error)
     finally:
-        left_alone(database, has_log)
+        left_alone(copy, has_log)
+    if wrong:
+        raise Unsound(f"{source}: a copy of it is not sound: {wrong}")

@@ -2,21 +2,22 @@
 
 import argparse
 import os
-import signal
 import sqlite3
-import sys
-import time
+from functools import partial
 from pathlib import Path
+from typing import TYPE_CHECKING
 
-from desk_copy.command_line import count
-from desk_copy.copying import Fault, copy_desk
+from command_lines.ending import DONE, FAILED, Fault, end_orderly, status_of, teller
+from command_lines.parsing import parser_of
+from desk_copy.command_line import add_source, as_of
+from desk_copy.copying import copy_desk
 from desk_copy.places import unfinished
-from desk_follow.rules import BadRules, Rule, read_rules
+from desk_follow.rules import Rule, read_rules
+
+if TYPE_CHECKING:
+    from desk_follow.following import Brought
 
 PROGRAM = "desk-follow"
-
-DONE, DIFFERENT, BAD_CALL, FAULT = 0, 1, 2, 3
-INTERRUPTED = 130
 
 DESCRIPTION = """\
 Brings the tables of the schema desk in a database of PostgreSQL after those of a desk whose program goes on
@@ -29,15 +30,11 @@ Status 0; 1 where --compare finds rows that differ; 2 for a bad command line or 
 cannot be read, or the database does not take it. Then the schema is as it was. It needs Debian's python3-psycopg2.
 docs/SCALE.md has the rest."""
 
+tell = teller(PROGRAM)
+
 
 def command_line() -> argparse.ArgumentParser:
-    parser = argparse.ArgumentParser(
-        PROGRAM,
-        description=DESCRIPTION,
-        epilog=STATUSES,
-        formatter_class=argparse.RawDescriptionHelpFormatter,
-        allow_abbrev=False,
-    )
+    parser = parser_of(PROGRAM, DESCRIPTION, STATUSES)
     add = parser.add_argument
     add(
         "--database",
@@ -60,22 +57,14 @@ def command_line() -> argparse.ArgumentParser:
         default=Path("/var/tmp"),
         help="where a copy of the desk's files has room for a while; /var/tmp without it",
     )
-    add(
-        "--seconds",
-        metavar="N",
-        type=count,
-        default=600,
-        help="how long a moment is waited for in which the desk writes nothing; 600 without it",
-    )
     add("--compare", action="store_true", help="then compare all rows with those of the copy")
-    add("file", metavar="FILE", type=Path, help="the database that the desk has open")
+    add_source(parser)
     return parser
 
 
-def told(moment: int, brought) -> str:
-    of = time.strftime("%Y-%m-%d %H:%M:%S UTC", time.gmtime(moment // 1_000_000_000))
+def told(moment: int, brought: "Brought") -> str:
     what = "everything" if brought.is_anew else "what changed"
-    return f"as of {of}: {what}: {brought.messages} messages, {brought.records} records"
+    return f"{as_of(moment)}: {what}: {brought.messages} messages, {brought.records} records"
 
 
 def follow(options: argparse.Namespace, rules: list[Rule]) -> int:
@@ -96,37 +85,22 @@ def follow(options: argparse.Namespace, rules: list[Rule]) -> int:
             print(told(copied.moment, brought))
             wrong = [each for each in compare(cursor, source) if not each.is_same] if options.compare else []
     for each in wrong:
-        print(
-            f"{PROGRAM}: {each.table}: {each.rows} rows, which are not those in the database", file=sys.stderr
-        )
-    return DIFFERENT if wrong else DONE
+        tell(f"{each.table}: {each.rows} rows, which are not those in the database")
+    return FAILED if wrong else DONE
 
 
-def end(number: int, _frame):
-    """So that the copy is removed."""
-    sys.exit(128 + number)
+def run(options: argparse.Namespace) -> int:
+    """Follows. What SQLite says is of the desk's file, and what is not there to be imported is psycopg2."""
+    try:
+        return follow(options, read_rules(options.rules))
+    except sqlite3.Error as error:
+        raise Fault(f"{options.file}: {error}") from error
+    except ModuleNotFoundError as error:
+        raise Fault(f"no {error.name}; apt-get install python3-psycopg2") from error
 
 
 def main() -> int:
     options = command_line().parse_args()
     os.umask(0o077)
-    signal.signal(signal.SIGTERM, end)
-    try:
-        return follow(options, read_rules(options.rules))
-    except BadRules as bad:
-        print(f"{PROGRAM}: {bad}", file=sys.stderr)
-        return BAD_CALL
-    except Fault as fault:
-        print(f"{PROGRAM}: {fault}", file=sys.stderr)
-        return FAULT
-    except sqlite3.Error as error:
-        print(f"{PROGRAM}: {options.file}: {error}", file=sys.stderr)
-        return FAULT
-    except OSError as error:
-        print(f"{PROGRAM}: {error.filename or options.room}: {error.strerror}", file=sys.stderr)
-        return FAULT
-    except ModuleNotFoundError as error:
-        print(f"{PROGRAM}: no {error.name}; apt-get install python3-psycopg2", file=sys.stderr)
-        return FAULT
-    except KeyboardInterrupt:
-        return INTERRUPTED
+    end_orderly()
+    return status_of(partial(run, options), tell, options.room)

@@ -3,17 +3,19 @@
 import hashlib
 from typing import NamedTuple
 
+from psycopg2.extensions import cursor as Cursor
+
 from desk_follow.source import TABLES, Source
 
 
 class Rows:
     """A file that COPY writes lines to: how many there were, and a digest of them."""
 
-    def __init__(self):
+    def __init__(self) -> None:
         self.count = 0
         self.digest = hashlib.sha256()
 
-    def write(self, data: bytes):
+    def write(self, data: bytes) -> None:
         self.count += data.count(b"\n")
         self.digest.update(data)
 
@@ -27,7 +29,7 @@ class Compared(NamedTuple):
     is_same: bool
 
 
-def compare(cursor, source: Source) -> list[Compared]:
+def compare(cursor: Cursor, source: Source) -> list[Compared]:
     """Compares each table, in the order of its key."""
     found = []
     for table in TABLES:

@@ -4,9 +4,9 @@ from collections.abc import Iterator
 from contextlib import contextmanager
 
 import psycopg2
-from psycopg2.extensions import quote_ident
+from psycopg2.extensions import connection, quote_ident
 
-from desk_copy.copying import Fault
+from command_lines.ending import Fault
 
 # Held by the one follower of a database that is at work. Its number is "desk" in ASCII.
 LOCK = 0x6465736B
@@ -19,12 +19,12 @@ class DatabaseFault(Fault):
     """What the database says."""
 
 
-def quoted(connection, name: str) -> str:
+def quoted(connection: connection, name: str) -> str:
     return quote_ident(name, connection)
 
 
 @contextmanager
-def connected(words: str) -> Iterator:
+def connected(words: str) -> Iterator[connection]:
     """The connection, with no other follower at work in that database meanwhile."""
     try:
         connection = psycopg2.connect(words, application_name="desk-follow")

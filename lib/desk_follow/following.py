@@ -1,8 +1,10 @@
 """How the tables in PostgreSQL are brought after a copy of the desk's file, in one transaction."""
 
 import hashlib
-from collections.abc import Iterator
+from collections.abc import Iterator, Sequence
 from typing import NamedTuple
+
+from psycopg2.extensions import cursor as Cursor
 
 from desk_follow import layout
 from desk_follow.layout import Found
@@ -28,7 +30,7 @@ class Brought(NamedTuple):
 class Lines:
     """Lines as the file from which COPY reads them."""
 
-    def __init__(self, lines: Iterator[bytes]):
+    def __init__(self, lines: Iterator[bytes]) -> None:
         self.lines = lines
         self.read_on = bytearray()
         self.count = 0
@@ -42,14 +44,14 @@ class Lines:
         return piece
 
 
-def put(cursor, table: str, lines: Iterator[bytes]) -> int:
+def put(cursor: Cursor, table: str, lines: Iterator[bytes]) -> int:
     """Puts the rows of these lines, and gives their number."""
     file = Lines(lines)
     cursor.copy_expert(f"COPY desk.{table} FROM STDIN", file, PIECE)
     return file.count
 
 
-def delete(cursor, table: str, columns: tuple[str, str], keys: list[tuple]):
+def delete(cursor: Cursor, table: str, columns: tuple[str, str], keys: Sequence[tuple[str, str | int]]) -> None:
     """Deletes the rows that have one of these pairs in the columns."""
     one, other = columns
     kind = "bigint[]" if other == "number" else "text[]"
@@ -60,7 +62,7 @@ def delete(cursor, table: str, columns: tuple[str, str], keys: list[tuple]):
     )
 
 
-def renew(cursor, table: str, rows: list[tuple]):
+def renew(cursor: Cursor, table: str, rows: Sequence[tuple[object, ...]]) -> None:
     """Has a table of few rows hold these, and touches it only where it does not."""
     cursor.execute(f"SELECT * FROM desk.{table}")
     if sorted(map(repr, cursor.fetchall())) == sorted(map(repr, rows)):
@@ -71,20 +73,20 @@ def renew(cursor, table: str, rows: list[tuple]):
         cursor.execute(f"INSERT INTO desk.{table} VALUES ({places})", row)
 
 
-def put_fronts(cursor, source: Source, fronts: dict[str, Touched]):
+def put_fronts(cursor: Cursor, source: Source, fronts: dict[str, Touched]) -> None:
     renew(cursor, "meta", [*source.ask("SELECT * FROM meta")])
     renew(cursor, "series", [*source.ask("SELECT * FROM series")])
     renew(cursor, "front", [(name, front.digest) for name, front in fronts.items()])
 
 
-def put_all(cursor, source: Source) -> Brought:
+def put_all(cursor: Cursor, source: Source) -> Brought:
     """Puts all rows of the copy into empty tables."""
     counts = {table: put(cursor, table, source.lines(table)) for table in BY_LINES}
     put_fronts(cursor, source, source.touched({}) or {})
     return Brought(True, counts["applied"], counts["record"])
 
 
-def empty(cursor):
+def empty(cursor: Cursor) -> None:
     """Empties the tables so that who reads meanwhile sees what was there."""
     for table in [*TABLES, *OF_FOLLOWER]:
         cursor.execute(f"DELETE FROM desk.{table}")
@@ -93,7 +95,7 @@ def empty(cursor):
 HELD = "SELECT series, number, encode(sha256(convert_to(contents, 'UTF8')), 'hex') FROM desk.held"
 
 
-def put_held(cursor, source: Source):
+def put_held(cursor: Cursor, source: Source) -> None:
     """Brings the messages that wait after those of the copy."""
     cursor.execute(HELD)
     before = {(series, number): digest for series, number, digest in cursor.fetchall()}
@@ -107,7 +109,7 @@ def put_held(cursor, source: Source):
         put(cursor, "held", source.lines_at("held", "series, number", new))
 
 
-def put_changes(cursor, source: Source, fronts: dict[str, Touched]) -> Brought:
+def put_changes(cursor: Cursor, source: Source, fronts: dict[str, Touched]) -> Brought:
     """Brings the tables after the messages that were applied since, by the records that they speak of."""
     records = [(name, reference) for name, front in fronts.items() for reference in sorted(front.references)]
     if records:
@@ -128,7 +130,7 @@ AGREEMENTS = (
 )
 
 
-def changes(cursor, source: Source) -> dict[str, Touched] | None:
+def changes(cursor: Cursor, source: Source) -> dict[str, Touched] | None:
     """What the copy has beyond the tables; nothing where they are not of an earlier moment of the same desk."""
     cursor.execute(AGREEMENTS.format("desk."))
     if not set(cursor.fetchall()) <= {*source.ask(AGREEMENTS.format(""))}:
@@ -137,7 +139,7 @@ def changes(cursor, source: Source) -> dict[str, Touched] | None:
     return source.touched({name: (after, digest) for name, after, digest in cursor.fetchall()})
 
 
-def bring(cursor, source: Source, rules: list[Rule], moment: int) -> Brought:
+def bring(cursor: Cursor, source: Source, rules: list[Rule], moment: int) -> Brought:
     """Brings the schema after the copy, which is of that moment, in nanoseconds since 1970."""
     found = layout.found(cursor)
     if found == Found.OTHER_LAYOUT:

@@ -4,7 +4,9 @@ import hashlib
 from enum import Enum
 from pathlib import Path
 
-from desk_copy.copying import Fault
+from psycopg2.extensions import cursor as Cursor
+
+from command_lines.ending import Fault
 
 FOLDER = Path(__file__).resolve().parent
 TABLES, KEYS, FUNCTIONS = (
@@ -36,7 +38,7 @@ class Found(Enum):
     OTHER_LAYOUT = 2
 
 
-def found(cursor) -> Found:
+def found(cursor: Cursor) -> Found:
     """Fault where there is a schema `desk` that is somebody else's."""
     cursor.execute(COMMENT)
     rows = cursor.fetchall()
@@ -48,7 +50,7 @@ def found(cursor) -> Found:
     return Found.THIS_LAYOUT if comment == MARK else Found.OTHER_LAYOUT
 
 
-def drop(cursor):
+def drop(cursor: Cursor) -> None:
     """Drops the schema. It fails where anything else depends on it, or stands in it."""
     for query in DROPS:
         cursor.execute(query)
@@ -57,21 +59,21 @@ def drop(cursor):
     cursor.execute("DROP SCHEMA desk")
 
 
-def make_tables(cursor):
+def make_tables(cursor: Cursor) -> None:
     cursor.execute("CREATE SCHEMA desk")
     cursor.execute(TABLES)
 
 
-def make_keys(cursor):
+def make_keys(cursor: Cursor) -> None:
     """The rest, once the tables have their rows."""
     cursor.execute(KEYS)
     cursor.execute(FUNCTIONS)
     cursor.execute("COMMENT ON SCHEMA desk IS %s", [MARK])
 
 
-def let_read(cursor, role: str, quoted: str):
+def let_read(cursor: Cursor, role: str, quoted: str) -> None:
     """Lets a role read the schema, where it may not yet. `quoted` is its name as SQL has it."""
     cursor.execute("SELECT has_schema_privilege(%s, 'desk', 'USAGE')", [role])
-    if not cursor.fetchone()[0]:
+    if cursor.fetchone() != (True,):
         cursor.execute(f"GRANT USAGE ON SCHEMA desk TO {quoted}")
         cursor.execute(f"GRANT SELECT ON ALL TABLES IN SCHEMA desk TO {quoted}")

@@ -5,6 +5,8 @@ import tomllib
 from pathlib import Path
 from typing import NamedTuple
 
+from command_lines.ending import BAD_CALL, Fault
+
 MOST_BYTES = 4_194_304
 MOST_RULES = 1_000
 
@@ -15,8 +17,10 @@ is_amount = re.compile(r"([0-9]{1,9})(?:\.([0-9]{1,3}))?").fullmatch
 KEYS = {"series", "codes"}
 
 
-class BadRules(Exception):
+class BadRules(Fault):
     """What the desk says of such a file."""
+
+    status = BAD_CALL
 
 
 class Rule(NamedTuple):
@@ -58,8 +62,8 @@ def rules_of(data: bytes) -> list[Rule]:
         table = tomllib.loads(text) if len(data) <= MOST_BYTES else None
     except (UnicodeDecodeError, tomllib.TOMLDecodeError, RecursionError):
         table = None
-    items = table.get("rule", []) if table is not None else None
-    if not isinstance(items, list) or not table.keys() <= {"rule"}:
+    items = table.get("rule", []) if table is not None and table.keys() <= {"rule"} else None
+    if not isinstance(items, list):
         raise BadRules("rules: not TOML")
     rules = []
     for number, item in enumerate(items, 1):

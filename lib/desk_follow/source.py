@@ -7,7 +7,7 @@ from contextlib import closing, contextmanager
 from pathlib import Path
 from typing import NamedTuple
 
-from desk_copy.copying import Fault
+from command_lines.ending import Fault
 
 # The version of the tables that the follower knows, and the tables: those that a record has rows in come last.
 VERSION = 2
@@ -58,7 +58,7 @@ class Source:
     def __init__(self, connection: sqlite3.Connection):
         self.connection = connection
 
-    def ask(self, query: str, *values) -> Iterator[tuple]:
+    def ask(self, query: str, *values: object) -> sqlite3.Cursor:
         return self.connection.execute(query, values)
 
     def version(self) -> int | None:
@@ -83,7 +83,7 @@ class Source:
         for (line,) in self.ask(f"SELECT CAST({self.line(table)} AS BLOB) FROM {table} {behind}"):
             yield line
 
-    def lines_at(self, table: str, columns: str, keys: Iterable[tuple]) -> Iterator[bytes]:
+    def lines_at(self, table: str, columns: str, keys: Iterable[tuple[object, ...]]) -> Iterator[bytes]:
         """The lines of those rows that have one of these values in the columns."""
         places = " AND ".join(f"{column} = ?" for column in columns.split(", "))
         query = f"SELECT CAST({self.line(table)} AS BLOB) FROM {table} WHERE {places}"

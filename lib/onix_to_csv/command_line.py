@@ -7,6 +7,7 @@ from pathlib import Path
 from typing import TextIO
 from xml.parsers import expat
 
+from command_lines.parsing import parser_of
 from onix_to_csv.converting import Conversion
 from onix_to_csv.faults import FileFault, Refusal, shown
 from onix_to_csv.headers import Choices
@@ -83,13 +84,7 @@ def sender(word: str) -> tuple[str, str]:
 
 
 def command_line() -> argparse.ArgumentParser:
-    parser = argparse.ArgumentParser(
-        PROGRAM,
-        description=DESCRIPTION,
-        epilog=STATUSES,
-        formatter_class=argparse.RawDescriptionHelpFormatter,
-        allow_abbrev=False,
-    )
+    parser = parser_of(PROGRAM, DESCRIPTION, STATUSES)
     add = parser.add_argument
     add("--parts", metavar="P", type=parts, default=1,
         help="make P messages of each, numbered on from one message to the next; 1 without it, at most"

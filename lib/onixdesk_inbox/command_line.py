@@ -4,18 +4,17 @@ import argparse
 import os
 import re
 import sys
+from functools import partial
 from pathlib import Path
 
+from command_lines.ending import DONE, FAILED, Fault, status_of
+from command_lines.parsing import parser_of
 from onixdesk_inbox.incoming import Incoming
 from onixdesk_inbox.running import Run
-from onixdesk_inbox.settings import BadSettings, read_settings
+from onixdesk_inbox.settings import read_settings
 from onixdesk_inbox.state import State
 from onixdesk_inbox.taking import Taker
 from onixdesk_inbox.telling import ERROR, PROGRAM, Voice
-from onixdesk_inbox.verdicts import Fault
-
-DONE, FAILED, BAD_CALL, FAULT = 0, 1, 2, 3
-INTERRUPTED = 130
 
 SETTINGS = "/etc/onixdesk/inbox/{}.conf"
 INCOMING = "/var/lib/onixdesk-incoming/{}"
@@ -39,13 +38,7 @@ def series(word: str) -> str:
 
 
 def command_line() -> argparse.ArgumentParser:
-    parser = argparse.ArgumentParser(
-        PROGRAM,
-        description=DESCRIPTION,
-        epilog=STATUSES,
-        formatter_class=argparse.RawDescriptionHelpFormatter,
-        allow_abbrev=False,
-    )
+    parser = parser_of(PROGRAM, DESCRIPTION, STATUSES)
     add = parser.add_argument
     add("--settings", metavar="FILE", type=Path, help=f"{SETTINGS.format('SERIES')} without it")
     add("--incoming", metavar="FOLDER", type=Path, help=f"{INCOMING.format('SERIES')} without it")
@@ -62,30 +55,23 @@ def apart(incoming: Path, state: Path) -> None:
         raise Fault(f"{state} and {incoming} are not apart")
 
 
+def run(options: argparse.Namespace, folder: Path, beside: Path, voice: Voice) -> int:
+    """Makes one run, whose state is kept in the folder."""
+    name = options.series
+    incoming = (options.incoming or Path(INCOMING.format(name))).resolve()
+    converter = (options.converter or beside / "onix-to-csv").resolve()
+    settings = read_settings(options.settings or Path(SETTINGS.format(name)))
+    apart(incoming, folder)
+    state = State(folder)
+    taker = Taker(name, settings, converter, state)
+    is_failed = Run(Incoming(incoming, settings.unchanged_seconds), state, taker, voice).take_all()
+    return FAILED if is_failed else DONE
+
+
 def main(beside: Path) -> int:
     """Makes one run, and gives the status. `beside` is the folder of the programs."""
     options = command_line().parse_args()
-    name = options.series
     voice = Voice(sys.stderr)
-    incoming = (options.incoming or Path(INCOMING.format(name))).resolve()
-    folder = (options.state or Path(STATE.format(name))).resolve()
-    converter = (options.converter or beside / "onix-to-csv").resolve()
+    folder = (options.state or Path(STATE.format(options.series))).resolve()
     os.umask(0o077)
-    try:
-        settings = read_settings(options.settings or Path(SETTINGS.format(name)))
-        apart(incoming, folder)
-        state = State(folder)
-        taker = Taker(name, settings, converter, state)
-        run = Run(Incoming(incoming, settings.unchanged_seconds), state, taker, voice)
-        return FAILED if run.take_all() else DONE
-    except BadSettings as bad:
-        voice.say(ERROR, str(bad))
-        return BAD_CALL
-    except Fault as fault:
-        voice.say(ERROR, str(fault))
-        return FAULT
-    except OSError as error:
-        voice.say(ERROR, f"{error.filename or folder}: {error.strerror}")
-        return FAULT
-    except KeyboardInterrupt:
-        return INTERRUPTED
+    return status_of(partial(run, options, folder, beside, voice), partial(voice.say, ERROR), folder)

@@ -8,8 +8,9 @@ from dataclasses import dataclass
 from pathlib import Path
 from typing import BinaryIO
 
+from command_lines.ending import Fault
 from onixdesk_inbox.names import shown
-from onixdesk_inbox.verdicts import Fault, Refusal
+from onixdesk_inbox.verdicts import Refusal
 
 CONVERTED, REFUSED = 0, 1
 

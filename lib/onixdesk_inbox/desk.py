@@ -6,9 +6,10 @@ from dataclasses import dataclass
 from http.client import HTTPConnection, HTTPException
 from typing import Any
 
+from command_lines.ending import Fault
 from onixdesk_inbox.names import shown
 from onixdesk_inbox.settings import Address
-from onixdesk_inbox.verdicts import Fault, Refusal
+from onixdesk_inbox.verdicts import Refusal
 
 # What the desk takes of a message.
 LONGEST_MESSAGE = 4_194_304

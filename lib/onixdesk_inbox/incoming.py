@@ -9,8 +9,9 @@ import time
 from dataclasses import dataclass
 from pathlib import Path
 
+from command_lines.ending import Fault
 from onixdesk_inbox.names import ending
-from onixdesk_inbox.verdicts import Fault, Gone, Left, Lies
+from onixdesk_inbox.verdicts import Gone, Left, Lies
 
 PIECE = 1 << 20
 

@@ -1,11 +1,12 @@
 """One run over the folder."""
 
+from command_lines.ending import Fault
 from onixdesk_inbox.incoming import Candidate, Incoming
 from onixdesk_inbox.numbers import digest_of
 from onixdesk_inbox.state import State
 from onixdesk_inbox.taking import Copied, Taker
 from onixdesk_inbox.telling import Told, Voice
-from onixdesk_inbox.verdicts import Fault, Gone, Left, Lies, Taken
+from onixdesk_inbox.verdicts import Gone, Left, Lies, Taken
 
 
 class Run:

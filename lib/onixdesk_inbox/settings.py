@@ -9,6 +9,8 @@ from pathlib import Path
 from typing import Any, NamedTuple
 from urllib.parse import urlsplit
 
+from command_lines.ending import BAD_CALL, Fault
+
 # The series' next number, asked of the desk, in place of the number that a feed has.
 NEXT = "next"
 OWN = "own"
@@ -50,8 +52,10 @@ class Settings:
             return 1
 
 
-class BadSettings(Exception):
+class BadSettings(Fault):
     """A file of settings that cannot be read, or a line of it."""
+
+    status = BAD_CALL
 
 
 def address(value: str) -> Address:

@@ -9,9 +9,9 @@ import stat
 from dataclasses import dataclass
 from pathlib import Path
 
+from command_lines.ending import Fault
 from onixdesk_inbox.names import ending, kept_name
 from onixdesk_inbox.numbers import Numbers, sync_folder
-from onixdesk_inbox.verdicts import Fault
 
 PACKED = (".gz", ".zip")
 

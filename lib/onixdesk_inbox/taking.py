@@ -4,13 +4,14 @@ import csv
 from dataclasses import dataclass
 from pathlib import Path
 
+from command_lines.ending import Fault
 from onixdesk_inbox.conversion import Converter
 from onixdesk_inbox.desk import LONGEST_MESSAGE, REASONS, Accepted, Desk, accepted
 from onixdesk_inbox.names import RECORDS
 from onixdesk_inbox.numbers import Numbers
 from onixdesk_inbox.settings import NEXT, Settings
 from onixdesk_inbox.state import State
-from onixdesk_inbox.verdicts import Fault, Refusal, Taken
+from onixdesk_inbox.verdicts import Refusal, Taken
 
 
 @dataclass(frozen=True)

@@ -37,7 +37,3 @@ class Gone(Exception):
 
 class Refusal(Exception):
     """A file that nobody takes, and why."""
-
-
-class Fault(Exception):
-    """What no file can be taken over: no desk, a full disk, wrong words for the converter."""

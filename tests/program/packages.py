@@ -11,10 +11,11 @@ from tools.root import ROOT
 
 # What each package may import beside the standard library and itself.
 MAY_IMPORT = {
-    "lib/desk_copy": set(),
-    "lib/desk_follow": {"desk_copy", "psycopg2"},
-    "lib/onix_to_csv": set(),
-    "lib/onixdesk_inbox": set(),
+    "lib/command_lines": set(),
+    "lib/desk_copy": {"command_lines"},
+    "lib/desk_follow": {"command_lines", "desk_copy", "psycopg2"},
+    "lib/onix_to_csv": {"command_lines"},
+    "lib/onixdesk_inbox": {"command_lines"},
     "tools": set(),
     "bench": {"desk_copy", "desk_follow", "psycopg2", "tools"},
     # The tests of the page drive a browser.

@@ -1,0 +1,1 @@
+"""What the command lines of the programs beside the desk have alike."""

@@ -1,0 +1,49 @@
+"""How a program ends: its status, and why, where it could not do its work."""
+
+import signal
+import sys
+from collections.abc import Callable
+from pathlib import Path
+from types import FrameType
+
+DONE, FAILED, BAD_CALL, FAULT = 0, 1, 2, 3
+INTERRUPTED = 130
+
+
+class Fault(Exception):
+    """What keeps a program from its work, and the status by which it ends then."""
+
+    status = FAULT
+
+
+def status_of(work: Callable[[], int], tell: Callable[[str], None], place: Path) -> int:
+    """The status of a program's work; where a fault ends it, that is told. `place` stands for the file of a fault of the
+    system that names none."""
+    try:
+        return work()
+    except Fault as fault:
+        tell(str(fault))
+        return fault.status
+    except OSError as error:
+        tell(f"{error.filename or place}: {error.strerror}")
+        return FAULT
+    except KeyboardInterrupt:
+        return INTERRUPTED
+
+
+def teller(program: str) -> Callable[[str], None]:
+    """Writes lines to standard error, each under the name of the program."""
+
+    def tell(text: str) -> None:
+        print(f"{program}: {text}", file=sys.stderr)
+
+    return tell
+
+
+def end(number: int, _frame: FrameType | None) -> None:
+    sys.exit(128 + number)
+
+
+def end_orderly() -> None:
+    """From now on SIGTERM ends the program by an exception, so that what is unfinished is removed."""
+    signal.signal(signal.SIGTERM, end)

@@ -27,7 +27,7 @@ class Outcome(NamedTuple):
 class Cases(unittest.TestCase):
     """A group of cases, each of which may build on those before it: it has a name, and the module where it stands."""
 
-    def __init__(self, name: str, module: str):
+    def __init__(self, name: str, module: str) -> None:
         super().__init__("try_all")
         self.name = name
         self.module = module.rpartition(".")[2]
@@ -57,7 +57,7 @@ class Counted(unittest.TestResult):
     """What came of groups: how many cases were tried, of those whose name has a text, and a line for each that
     failed."""
 
-    def __init__(self, case: str = ""):
+    def __init__(self, case: str = "") -> None:
         super().__init__()
         self.case = case
         self.count = 0
@@ -114,12 +114,16 @@ def count_all(groups: Iterable[Cases], case: str = "") -> Counted:
     return counted
 
 
+def called(lane: Callable[[], Counted]) -> Counted:
+    return lane()
+
+
 def run_side_by_side(label: str, lanes: list[Callable[[], Counted]], most: int | None = None) -> int:
     """Runs lanes side by side, prints what failed and the last line `LABEL: N cases, M failed`, and gives the status:
     0; 1 where a case failed; 2 where none was tried."""
     count = failed = 0
     with ThreadPoolExecutor(most or os.cpu_count()) as pool:
-        for counted in pool.map(lambda lane: lane(), lanes):
+        for counted in pool.map(called, lanes):
             count += counted.count
             failed += len(counted.lines)
             for line in counted.lines:

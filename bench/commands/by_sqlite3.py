@@ -9,7 +9,7 @@ The desk gets 80,000 records in 80 messages. Without a PROGRAM it is the proved 
 import sqlite3
 import sys
 import tempfile
-from collections.abc import Iterator
+from collections.abc import Callable, Iterator
 from contextlib import closing
 from pathlib import Path
 
@@ -17,12 +17,13 @@ from bench.figures import in_files
 from bench.figures.desk import Desk
 from bench.figures.tables import written_schema
 from tools.root import ROOT
+from tools.words import Row
 
 MESSAGES = 80
 RECORDS = MESSAGES * in_files.FILLING
 
 
-def comparisons(ask) -> Iterator[tuple]:
+def comparisons(ask: Callable[[str], list[Row]]) -> Iterator[tuple[str, list[Row], list[Row]]]:
     """What each thing is called, what SQLite answers, and what is wanted."""
     schema = ask("SELECT sql FROM sqlite_schema WHERE sql IS NOT NULL ORDER BY rowid")
     yield "the schema", schema, [(text,) for text in written_schema()]

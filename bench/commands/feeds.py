@@ -10,6 +10,7 @@ for each MB of XML, which is more than they need.
 
 import sys
 import tempfile
+from collections.abc import Iterator
 from pathlib import Path
 
 from bench.figures.conversion import converted
@@ -25,7 +26,7 @@ FEEDS = {
 AT_ONCE = 200
 
 
-def pieces(name, element, reference, size):
+def pieces(name: str, element: bytes, reference: bytes, size: int) -> Iterator[bytes]:
     """A feed of about so many bytes: the sample's products again and again."""
     text = (ROOT / "tests/feeds" / name).read_bytes()
     first, last = text.index(b"<%s" % element), text.rindex(b"</%s>" % element)
@@ -37,18 +38,19 @@ def pieces(name, element, reference, size):
     yield text[end:]
 
 
-def counted(feed, sizes):
+def counted(feed: Iterator[bytes], sizes: list[int]) -> Iterator[bytes]:
+    """The same pieces, while their sizes are noted."""
     for piece in feed:
         sizes.append(len(piece))
         yield piece
 
 
-def main(words):
+def main(words: list[str]) -> None:
     megabytes = words[0] if words else "2000"
     size = int(megabytes) * 1_000_000
     for name, feed in FEEDS.items():
         with tempfile.TemporaryDirectory() as folder:
-            sizes = []
+            sizes: list[int] = []
             came = converted(Path(folder), counted(pieces(*feed, size), sizes), "--parts", megabytes, "-o", ".")
         if came.status:
             sys.exit(f"bench/feeds: {came.errors.decode()}")

@@ -55,16 +55,16 @@ def proved_program() -> Path:
     return ROOT / "crates/onixdesk/out/onixdesk"
 
 
-def kinds(answers: list[bytes]) -> Counter:
+def kinds(answers: list[bytes]) -> Counter[str]:
     """How often each answer and each refusal came."""
-    found: Counter = Counter()
+    found: Counter[str] = Counter()
     for answer in answers:
         head, *rest = answer.decode().splitlines()[0].split(",")
         found[f"{head},{rest[0]}" if head == "refused" else head] += 1
     return found
 
 
-def lacking(found: Counter) -> list[str]:
+def lacking(found: Counter[str]) -> list[str]:
     wanted = [head for head in ANSWERS if head != "refused"] + [f"refused,{reason}" for reason in REFUSALS]
     return [name for name in wanted if not found[name]]
 
@@ -78,7 +78,7 @@ def run(given: argparse.Namespace, folder: Path) -> str:
     whole.run([])
     requests = Maker(given.seed).requests(given.requests)
     moments = Random(given.seed)
-    found: Counter = Counter()
+    found: Counter[str] = Counter()
     kills = []
     for start in range(0, len(requests), given.every):
         try:

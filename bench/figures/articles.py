@@ -7,6 +7,7 @@ and bring new articles: message 1 the first ones, each later one those after the
 from collections.abc import Iterator
 
 from bench.figures import texts
+from tools.words import Row
 
 SERIES = "north"
 
@@ -28,12 +29,12 @@ def contents(number: int, count: int) -> str:
     return "".join(texts.products_of(number - 1, count, [KEPT_POUNDS]))
 
 
-def series(applied: int) -> tuple:
+def series(applied: int) -> Row:
     """The row of the series after so many messages."""
     return (SERIES, "06", "4012345000009", "06", "5012345678900", 1, applied + 1)
 
 
-def rows(number: int, count: int) -> dict[str, list[tuple]]:
+def rows(number: int, count: int) -> dict[str, list[Row]]:
     """The rows that a message brings, by table."""
     articles = range((number - 1) * count + 1, number * count + 1)
     return {
@@ -45,12 +46,12 @@ def rows(number: int, count: int) -> dict[str, list[tuple]]:
     }
 
 
-def offer(article: int) -> tuple:
+def offer(article: int) -> Row:
     supplier = ("04", "06", "4012345000009", "North Books", "21", "")
     return (SERIES, f"R{article}", 1, 1, "GB", 0, "", *supplier)
 
 
-def price(article: int) -> tuple:
+def price(article: int) -> Row:
     amount = ("02", 12_990, "GBP", "", 1, "")
     return (SERIES, f"R{article}", 1, 1, *amount, FIRST_DAY, LAST_DAY)
 

@@ -11,6 +11,9 @@ from collections.abc import Iterator
 from pathlib import Path
 
 import psycopg2
+from psycopg2.extensions import connection as Connection
+
+from tools.words import Word
 
 USER = "desk"
 
@@ -19,11 +22,11 @@ REPLICA = 5433
 
 
 class Cluster:
-    def __init__(self, programs: Path, folder: Path):
+    def __init__(self, programs: Path, folder: Path) -> None:
         self.programs = programs
         self.folder = folder
 
-    def run(self, name: str, *words):
+    def run(self, name: str, *words: Word) -> None:
         """Runs one of its programs, which none runs as root."""
         to_user = ["runuser", "-u", "postgres", "--"] if os.geteuid() == 0 else []
         done = subprocess.run(
@@ -36,7 +39,7 @@ class Cluster:
         if done.returncode:
             raise RuntimeError(f"{name}: {done.stdout.decode()}")
 
-    def start(self):
+    def start(self) -> None:
         self.run(
             "initdb",
             "--pgdata",
@@ -53,14 +56,14 @@ class Cluster:
         options = f"-c listen_addresses= -c unix_socket_directories={self.folder} -c fsync=off"
         self.run("pg_ctl", "--pgdata", "data", "--log", "server.log", "--wait", "--options", options, "start")
 
-    def stop(self):
+    def stop(self) -> None:
         self.run("pg_ctl", "--pgdata", "data", "--mode", "immediate", "stop")
 
     def words(self, database: str) -> str:
         """The words by which libpq finds a database of it."""
         return f"host={self.folder} user={USER} dbname={database}"
 
-    def connect(self, database: str = "postgres"):
+    def connect(self, database: str = "postgres") -> Connection:
         connection = psycopg2.connect(self.words(database))
         connection.autocommit = True
         return connection

@@ -63,6 +63,7 @@ def converted(folder: Path, pieces: Iterator[bytes], *words: str, python: str = 
     )
     feeder = threading.Thread(target=feed_in, args=(pieces, process.stdin))
     feeder.start()
+    assert process.stdout
     output = process.stdout.read()
     _, status, usage = os.wait4(process.pid, 0)
     process.returncode = os.waitstatus_to_exitcode(status)

@@ -4,6 +4,7 @@ from collections.abc import Iterable
 from pathlib import Path
 
 from bench.figures.runs import NOTHING, Run, beyond, usage_of
+from tools.words import Word
 
 # Of a batch that has a refusal among its answers.
 REFUSED = 1
@@ -12,7 +13,7 @@ REFUSED = 1
 class Desk:
     """The program, and a folder for the files that it and the other programs read and write."""
 
-    def __init__(self, program: Path, folder: Path):
+    def __init__(self, program: Path, folder: Path) -> None:
         self.program = program
         self.folder = folder
         self.file = folder / "desk.db"
@@ -24,25 +25,29 @@ class Desk:
             file.writelines(pieces)
         return path
 
-    def batch(self, given: Path, is_in_file=False, statuses=(0,)) -> Run:
+    def batch(self, given: Path, is_in_file: bool = False, statuses: tuple[int, ...] = (0,)) -> Run:
         """The run that answers a batch over the file, or over a desk in memory."""
-        words = [self.program, *(["--db", self.file] if is_in_file else []), "batch"]
+        words: list[Word] = [self.program, *self.place(is_in_file), "batch"]
         return Run(words, given, statuses)
 
-    def empty(self, is_in_file=False) -> Run:
+    def place(self, is_in_file: bool) -> list[Word]:
+        """The words that say where the desk is."""
+        return ["--db", self.file] if is_in_file else []
+
+    def empty(self, is_in_file: bool = False) -> Run:
         """The run of no request: its start and end, with the opening and closing of the file."""
         return self.batch(NOTHING, is_in_file)
 
-    def time(self, pieces: Iterable[str], is_in_file=False) -> int:
+    def time(self, pieces: Iterable[str], is_in_file: bool = False) -> int:
         """The time of a batch in microseconds, without that of an empty one over the same file."""
         given = self.text("batch", pieces)
         return beyond(self.batch(given, is_in_file), self.empty(is_in_file))
 
-    def answer(self, pieces: Iterable[str]):
+    def answer(self, pieces: Iterable[str]) -> None:
         """Answers a batch over the file."""
         usage_of(self.batch(self.text("batch", pieces), True))
 
-    def new_file(self):
+    def new_file(self) -> None:
         """Removes the file, so that it is made anew."""
         for path in (self.file, self.log()):
             path.unlink(missing_ok=True)

@@ -1,7 +1,7 @@
 """What bin/desk-follow takes over a large desk, and how many questions a second PostgreSQL and the desk answer."""
 
+import argparse
 import os
-import re
 import subprocess
 import sys
 import threading
@@ -9,9 +9,11 @@ import time
 from collections.abc import Iterator
 from pathlib import Path
 
-from bench.figures import articles
+from bench.figures import articles, texts
+from bench.figures.cluster import Cluster
 from bench.figures.served import Served, free_port
 from bench.figures.twin import Twin
+from tools.words import sought
 
 PROGRAMS = Path("/usr/lib/postgresql/15/bin")
 
@@ -56,7 +58,7 @@ def made(folder: Path, count: int) -> Path:
     return file
 
 
-def change(file: Path, count: int):
+def change(file: Path, count: int) -> None:
     """Puts the rows of one more message, which gives articles that are there a new price: each the one after the one
     before it by many."""
     twin = Twin(file, MESSAGE)
@@ -65,7 +67,7 @@ def change(file: Path, count: int):
     (records,) = connection.execute("SELECT count(*) FROM record").fetchone()
     chosen = sorted({(place * 7919 + number) % records + 1 for place in range(count)})
     price = articles.KEPT_POUNDS.replace("12.990", f"{number}.000")
-    contents = "".join("".join(articles.texts.offered(at, [price])) for at in chosen)
+    contents = "".join("".join(texts.offered(at, [price])) for at in chosen)
     connection.execute("BEGIN")
     for at in chosen:
         connection.execute(
@@ -133,8 +135,8 @@ def pgbench(
     )
     if done.returncode or "number of failed transactions: 0 " not in done.stdout:
         sys.exit(done.stdout + done.stderr)
-    rate = float(re.search(r"tps = ([0-9.]+)", done.stdout)[1])
-    return rate, float(re.search(r"latency average = ([0-9.]+)", done.stdout)[1])
+    rate = float(sought(r"tps = ([0-9.]+)", done.stdout))
+    return rate, float(sought(r"latency average = ([0-9.]+)", done.stdout))
 
 
 def over_http(port: int, records: int, readers: int, seconds: int) -> float:
@@ -149,7 +151,7 @@ def over_http(port: int, records: int, readers: int, seconds: int) -> float:
     return sum(int(process.communicate()[0]) for process in running) / seconds
 
 
-def of_backends(cluster) -> float:
+def of_backends(cluster: Cluster) -> float:
     """The seconds of the processor that the cluster's processes have taken which have ended. Those of readers end a
     little after them."""
     time.sleep(1)
@@ -158,12 +160,13 @@ def of_backends(cluster) -> float:
     return sum(map(int, fields[13:15])) / os.sysconf("SC_CLK_TCK")
 
 
-def drained(served: Served):
+def drained(served: Served) -> None:
     """Reads the lines of the desk, or it would wait."""
+    assert served.process.stdout
     threading.Thread(target=served.process.stdout.read, daemon=True).start()
 
 
-def readers_of(program: Path, file: Path, cluster, database: str, given) -> Iterator[str]:
+def readers_of(program: Path, file: Path, cluster: Cluster, database: str, given: argparse.Namespace) -> Iterator[str]:
     records = given.articles
     for name in FUNCTIONS:
         before, seconds = of_backends(cluster), max(given.seconds // 2, 2)
@@ -203,7 +206,7 @@ def readers_of(program: Path, file: Path, cluster, database: str, given) -> Iter
         served.kill()
 
 
-def figures(program: Path, given) -> Iterator[str]:
+def figures(program: Path, given: argparse.Namespace) -> Iterator[str]:
     from bench.figures.cluster import started
 
     file = made(given.folder, given.articles)

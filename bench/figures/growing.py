@@ -7,7 +7,7 @@ machine meets both alike. What was measured stands there too: a run that was sto
 import json
 import os
 import sys
-from collections.abc import Callable, Iterator
+from collections.abc import Callable, Iterable, Iterator
 from statistics import mean, median
 from typing import NamedTuple
 
@@ -19,6 +19,7 @@ from bench.figures.served import Served, free_port
 from bench.figures.taken import Taken
 from bench.figures.tools import SOURCES
 from bench.figures.twin import Twin, tests_of
+from tools.words import Word
 
 GAPS = f"/series/{articles.SERIES}/gaps"
 CATALOGUE = f"/series/{articles.SERIES}/catalogue"
@@ -59,7 +60,7 @@ def planned(each: int, start: int, step: float, end: int, questions: int) -> Pla
 class Growing:
     """A desk and its twin in a folder, as they grow by a plan."""
 
-    def __init__(self, desk: Desk, plan: Plan):
+    def __init__(self, desk: Desk, plan: Plan) -> None:
         self.desk = desk
         self.plan = plan
         self.twin_file = desk.folder / "sqlite.db"
@@ -69,7 +70,7 @@ class Growing:
 
     def measured(self) -> Iterator[Size]:
         """Each size of the plan, as it was kept or is measured now."""
-        known = {size.articles: size for size in self.sizes.all()}
+        known = {size.articles: size for size in self.sizes.items()}
         if not self.desk.file.exists():
             self.desk.answer([texts.AGREEMENT])
         before = 0
@@ -92,7 +93,7 @@ class Growing:
         tables.compare(self.desk.file, self.twin_file)
         self.open_desk = self.serve()
         tests = tests_of(self.twin_file)
-        return Size(
+        numbers = [
             count * self.plan.articles,
             round(os.getloadavg()[0] * 100),
             *self.article_times(before, count),
@@ -106,13 +107,14 @@ class Growing:
             *asked.reopening,
             *tests,
             *asked.catalogue,
-        )
+        ]
+        return Size(*numbers)
 
     def serve(self, connections: int | None = None) -> Served:
         """Opens the desk for so many connections, or until it is killed."""
         port = free_port()
         ending = [] if connections is None else ["--requests", str(connections)]
-        words = [self.desk.program, "--db", self.desk.file, "--existing", "serve", "--port", str(port), *ending]
+        words: list[Word] = [self.desk.program, "--db", self.desk.file, "--existing", "serve", "--port", str(port), *ending]
         return Served(words, port)
 
     def grow(self, count: int) -> tuple[int, int]:
@@ -127,7 +129,7 @@ class Growing:
             served.kill()
             twin.close()
 
-    def deliver(self, served: Served, twin: Twin, count: int):
+    def deliver(self, served: Served, twin: Twin, count: int) -> None:
         """A message that the one has got and not the other, after a stop, is not measured."""
         body, _ = served.ask(GAPS)
         has = json.loads(body)["next"] - 1, twin.applied()
@@ -141,12 +143,12 @@ class Growing:
         body, taken = served.post("/messages", articles.message(number, self.plan.articles))
         answer = json.loads(body)
         if (answer["answer"], answer["number"], answer["replaced"]) != ("applied", number, self.plan.articles):
-            raise BenchmarkFault(f"message {number} was answered {body}")
+            raise BenchmarkFault(f"message {number} was answered {body!r}")
         return taken
 
     def article_times(self, before: int, count: int) -> list[int]:
         """What an article took of the messages behind `before`: of the desk and of SQLite, and by the clock."""
-        rows = [row for row in self.messages.all() if before < row.number <= count]
+        rows = [row for row in self.messages.items() if before < row.number <= count]
         if not rows:
             raise BenchmarkFault(f"no message up to {count} was measured since {before}")
         pairs = [row.pair() for row in rows]
@@ -178,7 +180,10 @@ def catalogue_of(served: Served) -> list[int]:
     return [taken.processor, len(body), served.greatest_memory()]
 
 
-def of_both(pairs: list[tuple[Taken, Taken]], of_processor: Callable, of_clock: Callable) -> list[int]:
+Average = Callable[[Iterable[int]], float]
+
+
+def of_both(pairs: list[tuple[Taken, Taken]], of_processor: Average, of_clock: Average) -> list[int]:
     """One number for the times of the desk and of SQLite: of the processor, and then by the clock."""
     both = list(zip(*pairs))
     processor = [round(of_processor(it.processor for it in times)) for times in both]
@@ -189,5 +194,5 @@ def price_times(served: Served, sqlite: Served, target: str) -> tuple[Taken, Tak
     """What a question took of both. BenchmarkFault where their answers differ or have no price."""
     (one, desk), (other, twin) = served.ask(target), sqlite.ask(target)
     if one != other or b'"amount":"12.990"' not in one:
-        raise BenchmarkFault(f"{target} was answered {one}, and by SQLite {other}")
+        raise BenchmarkFault(f"{target} was answered {one!r}, and by SQLite {other!r}")
     return desk, twin

@@ -93,11 +93,11 @@ def scale_of(values: list[float], length: int) -> Scale:
     return Scale(low, max(high, low + 1), length)
 
 
-def text(x: float, y: float, words: str, anchor="middle", more="") -> str:
+def text(x: float, y: float, words: str, anchor: str = "middle", more: str = "") -> str:
     return f'<text x="{x:.1f}" y="{y:.1f}" text-anchor="{anchor}"{more}>{escape(words)}</text>'
 
 
-def stroke(x1: float, y1: float, x2: float, y2: float, colour: str, more="") -> str:
+def stroke(x1: float, y1: float, x2: float, y2: float, colour: str, more: str = "") -> str:
     return f'<line x1="{x1:.1f}" y1="{y1:.1f}" x2="{x2:.1f}" y2="{y2:.1f}" stroke="{colour}"{more}/>'
 
 

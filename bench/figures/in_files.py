@@ -14,6 +14,7 @@ from bench.figures import texts, tools
 from bench.figures.desk import Desk
 from bench.figures.figure import Figure
 from bench.figures.runs import BenchmarkFault, Run, beyond, least, least_of_each, usage_of
+from tools.words import Row, Word
 
 TABLES = ("series", "record", "article", "offer", "price", "price_minimum", "applied")
 
@@ -36,7 +37,7 @@ QUESTIONS = 90_000
 FILLING, BATCH = 1_000, 20
 
 
-def offers(messages=OFFERS.messages, is_reversed=False) -> list[str]:
+def offers(messages: int = OFFERS.messages, is_reversed: bool = False) -> list[str]:
     """An agreement and so many messages of new products."""
     numbers = range(1, messages + 1)
     return [texts.AGREEMENT, *texts.offers(numbers, OFFERS.records, is_reversed=is_reversed)]
@@ -62,7 +63,7 @@ def bare_runs(desk: Desk, brought: Brought) -> tuple[Run, Run]:
     """The run by which SQLite alone puts the rows that those messages brought to the desk's file, and the
     same run without these rows. BenchmarkFault where it does not end with the same rows."""
     program, bare = tools.bare_rows(desk.folder), desk.folder / "bare.db"
-    words = [program, desk.file, bare, str(brought.records)]
+    words: list[Word] = [program, desk.file, bare, str(brought.records)]
     run = Run([*words, str(brought.messages)])
     usage_of(run)
     if rows(bare) != rows(desk.file):
@@ -70,7 +71,7 @@ def bare_runs(desk: Desk, brought: Brought) -> tuple[Run, Run]:
     return run, Run([*words, "0"])
 
 
-def rows(file: Path) -> list[list[tuple]]:
+def rows(file: Path) -> list[list[Row]]:
     """The rows of each table, in order of their values."""
     with closing(sqlite3.connect(file)) as connection:
         return [sorted(connection.execute(f"SELECT * FROM {table}"), key=repr) for table in TABLES]
@@ -127,8 +128,8 @@ def growth(desk: Desk) -> Iterator[Figure]:
         yield Figure(f"250 messages {order} over a new file, to 125", half, few)
         yield Figure(f"500 messages {order} over a new file, to 250", whole, half)
         wholes.append(whole)
-    in_order, is_reversed = wholes
-    yield Figure("500 messages reversed over a new file, to in order", is_reversed, in_order)
+    in_order, backwards = wholes
+    yield Figure("500 messages reversed over a new file, to in order", backwards, in_order)
 
 
 def catalogue_time(desk: Desk, messages: int) -> int:
@@ -144,7 +145,7 @@ def catalogues(desk: Desk) -> Iterator[Figure]:
     yield Figure("a catalogue of 20,000 prices from a file, to 10,000", whole, half)
 
 
-def fill(desk: Desk, first: int, last: int):
+def fill(desk: Desk, first: int, last: int) -> None:
     """Brings the messages of these numbers to the file, with 1,000 records each."""
     for number in range(first, last + 1, BATCH):
         numbers = range(number, min(number + BATCH, last + 1))

@@ -3,7 +3,7 @@ continued."""
 
 import csv
 from pathlib import Path
-from typing import NamedTuple
+from typing import Generic, NamedTuple, TypeVar
 
 from bench.figures.taken import Taken
 
@@ -60,24 +60,27 @@ class Size(NamedTuple):
     catalogue_greatest_bytes: int
 
 
-class Kept:
+Item = TypeVar("Item", Message, Size)
+
+
+class Kept(Generic[Item]):
     """A CSV file with a row of whole numbers for each item of one kind."""
 
-    def __init__(self, path: Path, kind: type):
+    def __init__(self, path: Path, kind: type[Item]) -> None:
         self.path = path
-        self.kind = kind
+        self.kind: type[Item] = kind
 
-    def all(self) -> list:
+    def items(self) -> list[Item]:
         """The items; a last line that a stop cut off is none."""
         if not self.path.exists():
             return []
         lines = self.path.read_text(encoding="ascii").splitlines(keepends=True)
-        rows = csv.reader(line for line in lines[1:] if line.endswith("\n"))
+        rows: list[list[str]] = [*csv.reader(line for line in lines[1:] if line.endswith("\n"))]
         return [self.kind(*map(int, row)) for row in rows]
 
-    def add(self, item):
+    def add(self, item: Item) -> None:
         """Adds an item behind the whole ones."""
-        items = [*self.all(), item]
+        items = [*self.items(), item]
         with open(self.path, "w", encoding="ascii", newline="") as file:
             writer = csv.writer(file, lineterminator="\n")
             writer.writerow(self.kind._fields)

@@ -1,7 +1,8 @@
 """Where the time of a crate's proof goes: what the files say that a check keeps, by when each was written."""
 
 import re
-from collections import Counter
+from collections import defaultdict
+from operator import itemgetter
 from pathlib import Path
 
 # A part of a proof, by the name of its file: of which file of proofs/ or specs/, or of which function.
@@ -30,10 +31,17 @@ def function_of(name: str) -> tuple[str, str]:
     return f"lemmas of {found[1]}/", ""
 
 
+def dearest(sums: dict[str, float]) -> list[tuple[str, float]]:
+    """What takes most comes first."""
+    return sorted(sums.items(), key=itemgetter(1), reverse=True)
+
+
 def profile(folder: Path, most: int) -> str:
     """The seconds of the whole and of each kind of part, and then those of the dearest functions, so many, each
     with the seconds of its certificate. An empty text where nothing is kept."""
-    kinds, functions, certificates = Counter(), Counter(), Counter()
+    kinds: dict[str, float] = defaultdict(float)
+    functions: dict[str, float] = defaultdict(float)
+    certificates: dict[str, float] = defaultdict(float)
     for seconds, name in parts(folder):
         kind, function = function_of(name)
         kinds[kind] += seconds
@@ -43,7 +51,7 @@ def profile(folder: Path, most: int) -> str:
     if not kinds:
         return ""
     lines = [f"whole: {sum(kinds.values()):.0f} s, of which certificates {kinds[CERTIFICATE]:.0f} s"]
-    lines += [f"  {seconds:7.1f} s  {kind}" for kind, seconds in kinds.most_common()]
+    lines += [f"  {seconds:7.1f} s  {kind}" for kind, seconds in dearest(kinds)]
     lines += ["functions, each with its certificate:"]
-    lines += [f"  {seconds:7.1f} s {certificates[name]:7.1f} s  {name}" for name, seconds in functions.most_common(most)]
+    lines += [f"  {seconds:7.1f} s {certificates[name]:7.1f} s  {name}" for name, seconds in dearest(functions)[:most]]
     return "\n".join(lines) + "\n"

@@ -1,19 +1,20 @@
 """Runs of programs, and what a run took of the processor and of memory."""
 
 import os
-import re
 import resource
 import subprocess
-from collections.abc import Callable
+from collections.abc import Callable, Sequence
 from pathlib import Path
 from typing import NamedTuple
+
+from tools.words import Word, sought
 
 # How often a time is taken: the least of these turns counts, since other work only makes a run longer.
 TURNS = 3
 
 NOTHING = Path(os.devnull)
 
-COLLECTED = re.compile(r"Collected : (\d+)")
+COLLECTED = r"Collected : (\d+)"
 
 
 class BenchmarkFault(Exception):
@@ -23,9 +24,9 @@ class BenchmarkFault(Exception):
 class Run(NamedTuple):
     """The words of a program, its input, and the statuses with which it may end."""
 
-    words: list
+    words: Sequence[Word]
     given: Path = NOTHING
-    statuses: tuple = (0,)
+    statuses: tuple[int, ...] = (0,)
 
 
 def usage_of(run: Run) -> resource.struct_rusage:
@@ -35,13 +36,14 @@ def usage_of(run: Run) -> resource.struct_rusage:
         (os.POSIX_SPAWN_OPEN, 0, run.given, os.O_RDONLY, 0),
         (os.POSIX_SPAWN_OPEN, 1, os.devnull, os.O_WRONLY, 0),
     ]
-    child = os.posix_spawn(run.words[0], run.words, os.environ, file_actions=actions)
-    _, status, usage = os.wait4(child, 0)
-    check(run, os.waitstatus_to_exitcode(status))
+    child = os.posix_spawn(run.words[0], [*run.words], os.environ, file_actions=actions)
+    ended = os.wait4(child, 0)
+    check(run, os.waitstatus_to_exitcode(ended[1]))
+    usage: resource.struct_rusage = ended[2]
     return usage
 
 
-def check(run: Run, status: int):
+def check(run: Run, status: int) -> None:
     if status not in run.statuses:
         words = " ".join(map(str, run.words))
         raise BenchmarkFault(f"status {status} of {words} < {run.given}")
@@ -59,7 +61,7 @@ def instructions_of(run: Run) -> int:
     with open(run.given, "rb") as given:
         done = subprocess.run(words, stdin=given, capture_output=True)
     check(run, done.returncode)
-    return int(COLLECTED.search(done.stderr.decode())[1])
+    return int(sought(COLLECTED, done.stderr.decode()))
 
 
 def kilobytes_of(run: Run) -> int:

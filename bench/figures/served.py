@@ -1,14 +1,15 @@
 """A program that answers over HTTP on a port of this machine, one connection after the other: a desk that
 `serve` keeps open, or SQLite's own program. It writes a line once it listens, and one for each connection."""
 
-import re
 import socket
 import subprocess
 import time
+from collections.abc import Sequence
 from pathlib import Path
 
 from bench.figures.runs import BenchmarkFault
 from bench.figures.taken import Taken
+from tools.words import Word, sought
 
 HOST = "127.0.0.1"
 
@@ -16,13 +17,14 @@ HOST = "127.0.0.1"
 def free_port() -> int:
     with socket.socket() as listener:
         listener.bind((HOST, 0))
-        return listener.getsockname()[1]
+        port: int = listener.getsockname()[1]
+    return port
 
 
 class Served:
     """The program, from its start to its end; `opening` is what it took until it listened."""
 
-    def __init__(self, words: list, port: int):
+    def __init__(self, words: Sequence[Word], port: int) -> None:
         self.port = port
         began = time.perf_counter_ns()
         self.process = subprocess.Popen(words, stdin=subprocess.DEVNULL, stdout=subprocess.PIPE)
@@ -33,6 +35,7 @@ class Served:
         self.opening = Taken(self.processor(), clock)
 
     def line(self) -> str:
+        assert self.process.stdout
         return self.process.stdout.readline().decode().strip()
 
     def processor(self) -> int:
@@ -48,7 +51,7 @@ class Served:
         return self.status("VmHWM")
 
     def status(self, name: str) -> int:
-        return int(re.search(rf"^{name}:\s+(\d+) kB", self.told("status"), re.MULTILINE)[1]) * 1_024
+        return int(sought(rf"^{name}:\s+(\d+) kB", self.told("status"))) * 1_024
 
     def told(self, name: str) -> str:
         return Path(f"/proc/{self.process.pid}/{name}").read_text()
@@ -63,7 +66,7 @@ class Served:
             reply = b"".join(iter(lambda: peer.recv(65_536), b""))
         clock = time.perf_counter_ns() - began
         if self.line() != "200":
-            raise BenchmarkFault(f"{request[:60]} was replied {reply[-200:]}")
+            raise BenchmarkFault(f"{request[:60]!r} was replied {reply[-200:]!r}")
         return reply.partition(b"\r\n\r\n")[2], Taken(self.processor() - processor, clock)
 
     def ask(self, target: str) -> tuple[bytes, Taken]:
@@ -73,13 +76,14 @@ class Served:
         head = f"POST {target} HTTP/1.1\r\nContent-Length: {len(body)}\r\n\r\n"
         return self.exchange(head.encode("ascii") + body)
 
-    def kill(self):
+    def kill(self) -> None:
         """Ends the program at once, as `kill -9` does; one that has ended stays so."""
         self.process.kill()
         self.process.wait()
+        assert self.process.stdout
         self.process.stdout.close()
 
-    def end(self):
+    def end(self) -> None:
         """Waits for a program that has had all its connections."""
         if self.process.wait():
-            raise BenchmarkFault(f"status {self.process.returncode} of {self.process.args}")
+            raise BenchmarkFault(f"status {self.process.returncode} of {self.process.args!r}")

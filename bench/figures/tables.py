@@ -8,6 +8,7 @@ from itertools import zip_longest
 from pathlib import Path
 
 from bench.figures.runs import BenchmarkFault
+from tools.words import Row
 
 CREATION = Path(__file__).resolve().parent.parent.parent / "crates/desk_tables/src/creation.rt"
 
@@ -19,11 +20,11 @@ def written_schema() -> list[str]:
     return re.findall(r'"(CREATE [^"]*)"', CREATION.read_text(encoding="utf-8"))
 
 
-def rows_of(connection: sqlite3.Connection, table: str) -> Iterator[tuple]:
+def rows_of(connection: sqlite3.Connection, table: str) -> Iterator[Row]:
     return connection.execute(f"SELECT * FROM {table} ORDER BY rowid")
 
 
-def compare(one: Path, other: Path):
+def compare(one: Path, other: Path) -> None:
     """BenchmarkFault where two files that nobody has open have not the same rows, put in the same order."""
     with closing(opened(one)) as left, closing(opened(other)) as right:
         for table in TABLES:
@@ -32,7 +33,7 @@ def compare(one: Path, other: Path):
                     raise BenchmarkFault(f"{table}: {shown(a)} in {one}, and {shown(b)} in {other}")
 
 
-def shown(row: tuple | None) -> str:
+def shown(row: Row | None) -> str:
     """The beginning of a row: one of a message has its whole text."""
     return str(row)[:200]
 

@@ -3,7 +3,7 @@
 Each message is of the series `north`, and numbers are counted from 1.
 """
 
-from collections.abc import Iterator
+from collections.abc import Iterable, Iterator
 
 AGREEMENT = "Agree,north,06,4012345000009,06,5012345678900,1\n"
 CATALOGUE_QUESTION = "AskCatalogue,north\n"
@@ -14,7 +14,7 @@ POUNDS = "Price,02,12.99,GBP,,WORLD,,20250101,20251231\n"
 EUROS = "Price,01,15.50,EUR,IE FR DE,,,20250101,\n"
 
 
-def message(number: int, records: list[str], form=1) -> str:
+def message(number: int, records: list[str], form: int = 1) -> str:
     """A message whose records between its first and its last are given."""
     opening = f"Message,{form},06,4012345000009,06,5012345678900,{number},1,20250301,,\n"
     return f"{opening}{''.join(records)}EndMessage,{len(records) + 1}\n"
@@ -26,14 +26,14 @@ def offered(product: int, prices: list[str]) -> list[str]:
     return [f"Product,R{product},03,15,{isbn}\n", "ProductSupply,GB,,\n", SUPPLY, *prices]
 
 
-def small_messages(count: int, is_reversed=False) -> Iterator[str]:
+def small_messages(count: int, is_reversed: bool = False) -> Iterator[str]:
     """An agreement and so many messages of one product each."""
     yield AGREEMENT
     for number in ordered(range(1, count + 1), is_reversed):
         yield message(number, [f"Product,R{number},03,15,9781234567897\n"])
 
 
-def ordered(numbers: range, is_reversed: bool):
+def ordered(numbers: range, is_reversed: bool) -> Iterable[int]:
     return reversed(numbers) if is_reversed else numbers
 
 
@@ -43,7 +43,7 @@ def products_of(place: int, count: int, prices: list[str]) -> list[str]:
     return [record for number in numbers for record in offered(number, prices)]
 
 
-def offers(numbers: range, products: int, origin=1, is_reversed=False) -> Iterator[str]:
+def offers(numbers: range, products: int, origin: int = 1, is_reversed: bool = False) -> Iterator[str]:
     """Messages of these numbers, each of so many products with one price. The number `origin` has the
     products from 1 on, each later one those after them."""
     for number in ordered(numbers, is_reversed):

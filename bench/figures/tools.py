@@ -2,9 +2,11 @@
 
 import shutil
 import subprocess
+from collections.abc import Sequence
 from pathlib import Path
 
 from bench.figures.runs import BenchmarkFault
+from tools.words import Word
 
 SOURCES = Path(__file__).resolve().parent.parent / "tools"
 
@@ -12,13 +14,13 @@ SOURCES = Path(__file__).resolve().parent.parent / "tools"
 CRATES = "/usr/share/cargo/registry"
 
 
-def need(command: str, package: str):
+def need(command: str, package: str) -> None:
     """BenchmarkFault where there is no such command, with the package of Debian that has it."""
     if not shutil.which(command):
         raise BenchmarkFault(f"there is no {command}, which Debian's package {package} has")
 
 
-def build(words: list, folder: Path, package: str):
+def build(words: Sequence[Word], folder: Path, package: str) -> None:
     done = subprocess.run(words, cwd=folder, stdout=subprocess.DEVNULL, stderr=subprocess.PIPE)
     if done.returncode:
         text = done.stderr.decode(errors="replace")

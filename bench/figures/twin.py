@@ -9,6 +9,7 @@ from pathlib import Path
 from bench.figures import articles, tables
 from bench.figures.runs import BenchmarkFault
 from bench.figures.taken import Taken
+from tools.words import Row
 
 # As a desk keeps its own: a log that is synced at each commit, 2,000 pages in memory, foreign keys.
 SETTINGS = """
@@ -22,7 +23,7 @@ PRAGMA foreign_keys = ON;
 class Twin:
     """The connection to the file, which is made where it is missing, for messages of so many articles."""
 
-    def __init__(self, file: Path, count: int):
+    def __init__(self, file: Path, count: int) -> None:
         is_new = not file.exists()
         self.file = file
         self.count = count
@@ -31,19 +32,20 @@ class Twin:
         if is_new:
             self.make()
 
-    def make(self):
+    def make(self) -> None:
         self.connection.executescript(";".join(["BEGIN", *tables.written_schema()]))
         self.put("meta", [articles.META])
         self.put("series", [articles.series(0)])
         self.connection.execute("COMMIT")
 
-    def put(self, table: str, rows: list[tuple]):
+    def put(self, table: str, rows: list[Row]) -> None:
         places = ", ".join("?" * len(rows[0]))
         self.connection.executemany(f"INSERT INTO {table} VALUES ({places})", rows)
 
     def applied(self) -> int:
         """How many messages it has."""
-        return self.connection.execute("SELECT count(*) FROM applied").fetchone()[0]
+        (count,) = self.connection.execute("SELECT count(*) FROM applied").fetchone()
+        return int(count)
 
     def apply(self, number: int) -> Taken:
         """Puts the rows of a message in a transaction. They are made before the time is taken."""
@@ -57,7 +59,7 @@ class Twin:
         self.connection.execute("COMMIT")
         return now().since(began)
 
-    def close(self):
+    def close(self) -> None:
         """Copies the log into the file."""
         self.connection.execute("PRAGMA wal_checkpoint(TRUNCATE)")
         self.connection.close()

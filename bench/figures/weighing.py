@@ -3,9 +3,10 @@
 import os
 import subprocess
 import time
-from collections import Counter
+from collections import defaultdict
 from pathlib import Path
 
+from bench.figures.profile import dearest
 from tools.root import ROOT
 
 TICK = os.sysconf("SC_CLK_TCK")
@@ -81,9 +82,9 @@ class Sampler:
             self.parts[key] = part
         self.ticks[key] = max(ticks, self.ticks.get(key, 0))
 
-    def minutes(self) -> Counter:
+    def minutes(self) -> dict[str, float]:
         """The processor minutes of each part."""
-        sums: Counter = Counter()
+        sums: dict[str, float] = defaultdict(float)
         for key, ticks in self.ticks.items():
             sums[self.parts[key]] += ticks / TICK / 60
         return sums
@@ -101,10 +102,10 @@ def crates_below(lines: list[str], name: str) -> set[str]:
     return below
 
 
-def report(sums: Counter, crates: set[str], seconds: float) -> str:
+def report(sums: dict[str, float], crates: set[str], seconds: float) -> str:
     """The table of parts, dearest first, and the sums that are looked at: the proofs of these crates, and all."""
     base = sum(sums[name] for name in BASE)
-    rows = [(minutes, name) for name, minutes in sums.most_common()]
+    rows = [(minutes, name) for name, minutes in dearest(sums)]
     rows += [
         (sum(sums[f"proof of {crate}"] for crate in crates), "proofs of the program and all below it"),
         (sum(sums.values()), "all"),

@@ -7,7 +7,9 @@ import subprocess
 import time
 from contextlib import closing
 from pathlib import Path
-from typing import NamedTuple
+from typing import BinaryIO, NamedTuple
+
+from tools.words import Word
 
 # The first fields of records that go on with an answer.
 PARTS = {b"missing", b"record", b"ProductSupply", b"SupplyDetail", b"Price", b"offer", b"span"}
@@ -43,15 +45,15 @@ def answers(output: bytes) -> list[bytes]:
 class Desk:
     """A desk in the file of that name, with a precedence table."""
 
-    def __init__(self, program: Path, file: Path, rules: Path):
+    def __init__(self, program: Path, file: Path, rules: Path) -> None:
         self.program = program
         self.file = file
         self.rules = rules
 
-    def start(self, requests: list[str], output) -> subprocess.Popen:
+    def start(self, requests: list[str], output: BinaryIO) -> subprocess.Popen[bytes]:
         given = self.file.with_suffix(".batch")
         given.write_text("".join(requests))
-        words = [self.program, "--db", self.file, "--rules", self.rules, "batch"]
+        words: list[Word] = [self.program, "--db", self.file, "--rules", self.rules, "batch"]
         with given.open("rb") as opened:
             return subprocess.Popen(words, stdin=opened, stdout=output, stderr=subprocess.DEVNULL)
 

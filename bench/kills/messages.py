@@ -72,7 +72,7 @@ def text(records: list[str]) -> str:
 class Series:
     """A series, and what was sent of it."""
 
-    def __init__(self, random: Random, place: int):
+    def __init__(self, random: Random, place: int) -> None:
         self.random = random
         self.name = ["north", "south", "east", "west", "middle", "far"][place]
         self.parties = f"06,40000000000{place:02},06,5012345678900"
@@ -95,7 +95,7 @@ class Series:
             self.left_out.append(self.coming.pop())
         return self.coming.pop()
 
-    def message(self, number, parties=None) -> str:
+    def message(self, number: int | str, parties: str | None = None) -> str:
         """A message of that number, with products of its own."""
         form = self.random.choice([1, 1, 2])
         records = [f"Message,{form},{parties or self.parties},{number},1,20250301,02,GBP"]

@@ -15,7 +15,7 @@ class Killed(NamedTuple):
     is_kept: bool
 
 
-def expect(holds: bool, what: str):
+def expect(holds: bool, what: str) -> None:
     if not holds:
         raise KillFault(what)
 

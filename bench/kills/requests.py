@@ -1,5 +1,6 @@
 """Requests of all kinds, the same for the same seed."""
 
+from collections.abc import Callable
 from random import Random
 
 from bench.kills.messages import ARTICLES, Series, article, day
@@ -22,10 +23,10 @@ def query(random: Random) -> str:
 
 
 class Maker:
-    def __init__(self, seed: int):
+    def __init__(self, seed: int) -> None:
         self.random = Random(seed)
         self.all_series = [Series(self.random, place) for place in range(6)]
-        self.kinds = {
+        self.kinds: dict[Callable[[], str], int] = {
             lambda: self.series().new(): 34,
             lambda: self.series().late(): 4,
             lambda: self.series().again(): 8,
@@ -76,5 +77,5 @@ class Maker:
     def requests(self, count: int) -> list[str]:
         """The agreements of all series, and requests of all kinds behind them."""
         made = [series.agreement() for series in self.all_series]
-        kinds = self.random.choices(list(self.kinds), self.kinds.values(), k=count - len(made))
+        kinds = self.random.choices(list(self.kinds), list(self.kinds.values()), k=count - len(made))
         return made + [kind() for kind in kinds]

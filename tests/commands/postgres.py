@@ -15,10 +15,11 @@ import argparse
 import importlib.util
 import os
 import sys
+from collections.abc import Callable
 from functools import partial
 from pathlib import Path
 
-from tests.running import add_choice, choice, count_all, run_side_by_side
+from tests.running import Counted, add_choice, choice, count_all, run_side_by_side
 from tools.root import ROOT
 
 PROGRAMS = Path(os.environ.get("POSTGRES_BIN", "/usr/lib/postgresql/15/bin"))
@@ -65,7 +66,7 @@ def main() -> int:
         return 0
     OverCluster.program = program
     with started(PROGRAMS) as OverCluster.cluster:
-        lanes = [partial(count_all, [group], chosen.case) for group in found]
+        lanes: list[Callable[[], Counted]] = [partial(count_all, [group], chosen.case) for group in found]
         return run_side_by_side("postgres", lanes, most=AT_ONCE)
 
 

@@ -22,7 +22,7 @@ SWEEPS = [
 ]
 
 
-def main(words):
+def main(words: list[str]) -> int:
     program = Path(words[0] if words else PROGRAM).resolve()
     if not os.access(program, os.X_OK):
         print(f"tests/refused-memory: no program {program}; make test builds it", file=sys.stderr)

@@ -8,9 +8,12 @@ import os
 import resource
 import subprocess
 import tempfile
+from collections.abc import Collection
 from concurrent.futures import ThreadPoolExecutor
 from pathlib import Path
-from typing import NamedTuple
+from typing import IO, NamedTuple
+
+from tools.words import Word
 
 SOURCE = Path(__file__).resolve().parent / "refuse.c"
 
@@ -81,7 +84,7 @@ class Swept(NamedTuple):
 class Tests:
     """The program of tests, and the library that refuses memory, built in that folder."""
 
-    def __init__(self, program: Path, folder: Path):
+    def __init__(self, program: Path, folder: Path) -> None:
         self.program = program
         self.folder = folder
         self.library = folder / "refuse.so"
@@ -89,7 +92,7 @@ class Tests:
         # A test that fails would leave a core file.
         resource.setrlimit(resource.RLIMIT_CORE, (0, 0))
 
-    def process(self, sweep: Sweep, environment: dict, said, **how) -> bytes:
+    def process(self, sweep: Sweep, environment: dict[str, str], said: IO[bytes], passed: Collection[int] = ()) -> bytes:
         """What the test writes on standard error, the file `said`, in this environment, where it passes."""
         chosen = {"CASES": sweep.cases} if sweep.cases else {}
         status = subprocess.run(
@@ -99,15 +102,15 @@ class Tests:
             stdout=subprocess.DEVNULL,
             stderr=said,
             timeout=SECONDS,
-            **how,
+            pass_fds=passed,
         ).returncode
         text = contents(said)
         if status:
-            said = text.decode(errors="replace")
-            raise MemoryFault(f"{sweep.name()}: status {status} where no memory was refused, {said}")
+            words = text.decode(errors="replace")
+            raise MemoryFault(f"{sweep.name()}: status {status} where no memory was refused, {words}")
         return text
 
-    def file(self):
+    def file(self) -> IO[bytes]:
         return tempfile.TemporaryFile(dir=self.folder)
 
     def run(self, sweep: Sweep) -> list[Run]:
@@ -120,7 +123,7 @@ class Tests:
                 "STEP": str(sweep.step),
                 "TOLD": str(told.fileno()),
             }
-            texts = self.process(sweep, environment, said, pass_fds=[told.fileno()])
+            texts = self.process(sweep, environment, said, [told.fileno()])
             return [run_of(line, texts) for line in contents(told).splitlines()]
 
     def swept(self, sweep: Sweep) -> Swept:
@@ -135,10 +138,10 @@ class Tests:
         return Swept(sweep, sorted(runs))
 
 
-def build(library: Path):
+def build(library: Path) -> None:
     """Compiles the library that refuses memory."""
     for compiler in COMPILERS:
-        words = [compiler, "-O2", "-shared", "-fPIC", "-o", library, SOURCE, "-ldl"]
+        words: list[Word] = [compiler, "-O2", "-shared", "-fPIC", "-o", library, SOURCE, "-ldl"]
         try:
             subprocess.run(words, check=True)
             return
@@ -147,7 +150,7 @@ def build(library: Path):
     raise MemoryFault("there is no compiler of C, which Debian's package gcc has")
 
 
-def contents(file) -> bytes:
+def contents(file: IO[bytes]) -> bytes:
     file.seek(0)
     return file.read()
 

@@ -1,9 +1,12 @@
 """The view of an article, with the questions and answers of examples/shop/README.md."""
 
+from collections.abc import Iterator
 from datetime import date
 
+from tests.page.browser import Browser
+from tests.page.site import Site
 from tests.page.week import ISBN, OTHER_ISBN, article
-from tests.program.room import Outcome
+from tests.running import Outcome
 
 NORTH = ["North Books (north)", "N-100", "21 – in stock"]
 SOUTH = ["South Books (south)", "S1", "21 – in stock"]
@@ -25,21 +28,21 @@ TEN_COPIES = [
 WAITING = "…"
 
 
-def answered(browser) -> list[list[str]]:
+def answered(browser: Browser) -> list[list[str]]:
     """The rows of the offers, once the other quantities are answered too."""
 
-    def rows():
+    def rows() -> list[list[str]]:
         found = browser.rows("#offers")
-        return found if found and not any(WAITING in row for row in found) else None
+        return [] if any(WAITING in row for row in found) else found
 
-    return browser.wait(rows)
+    return browser.wait(rows) or []
 
 
-def said(browser, words: str) -> bool:
+def said(browser: Browser, words: str) -> bool:
     return words in browser.wait_for_text("#article-status", words)
 
 
-def one_copy(site, browser):
+def one_copy(site: Site, browser: Browser) -> Iterator[Outcome]:
     browser.open(article())
     yield Outcome("one copy: the offers", answered(browser), ONE_COPY)
     chosen = "The shop’s choice is North Books, retail price £11.50."
@@ -54,20 +57,20 @@ def one_copy(site, browser):
     yield Outcome("one copy: what was asked", browser.text("#asked"), question)
 
 
-def ten_copies(site, browser):
+def ten_copies(site: Site, browser: Browser) -> Iterator[Outcome]:
     browser.open(article(quantity="10"))
     yield Outcome("ten copies: the offers", answered(browser), TEN_COPIES)
     chosen = "The shop’s choice is South Books, retail price £9.95."
     yield Outcome("ten copies: the choice", said(browser, chosen), True)
 
 
-def another_country(site, browser):
+def another_country(site: Site, browser: Browser) -> Iterator[Outcome]:
     browser.open(article(country="IE", quantity="10"))
     prices = [row[3] for row in answered(browser)]
     yield Outcome("Ireland: South does not sell there", prices, ["£11.50", NONE, "£8.00"])
 
 
-def no_rule(site, browser):
+def no_rule(site: Site, browser: Browser) -> Iterator[Outcome]:
     browser.open(article(OTHER_ISBN))
     rows = [["North Books (north)", "N-200", "40 – not available", "£25.00", SAME, ""]]
     yield Outcome("no rule: the offer", answered(browser), rows)
@@ -75,7 +78,7 @@ def no_rule(site, browser):
     yield Outcome("no rule: it is said", said(browser, words), True)
 
 
-def no_offer(site, browser):
+def no_offer(site: Site, browser: Browser) -> Iterator[Outcome]:
     """A book without offers leaves nothing of the one before."""
     browser.open(article())
     answered(browser)
@@ -85,7 +88,7 @@ def no_offer(site, browser):
     yield Outcome("no offer: no calendar", browser.one("#calendar").is_displayed(), False)
 
 
-def typed_question(site, browser):
+def typed_question(site: Site, browser: Browser) -> Iterator[Outcome]:
     """What is typed goes to the address, and the address alone brings the view back."""
     browser.open("")
     browser.wait(lambda: browser.one("#day").get_attribute("value"))
@@ -115,7 +118,7 @@ def typed_question(site, browser):
     yield Outcome("the window's title", browser.driver.title, f"ISBN {ISBN} – onixdesk")
 
 
-def own_type(site, browser):
+def own_type(site: Site, browser: Browser) -> Iterator[Outcome]:
     """A type that has no words here can be asked for by the address."""
     browser.open(article(type="77"))
     prices = [row[3] for row in answered(browser)]
@@ -124,7 +127,7 @@ def own_type(site, browser):
     yield Outcome("a type without words: its field", shown, "77 – no words for this code")
 
 
-def one_moment(site, browser):
+def one_moment(site: Site, browser: Browser) -> Iterator[Outcome]:
     """A message that comes between the two questions leaves no answer that contradicts itself."""
     browser.open("")
     browser.run(

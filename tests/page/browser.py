@@ -3,12 +3,15 @@
 import contextlib
 import json
 import time
+from collections.abc import Callable, Iterator
+from typing import Any, TypeVar
 
 from selenium import webdriver
 from selenium.common.exceptions import StaleElementReferenceException
 from selenium.webdriver.chrome.options import Options
 from selenium.webdriver.chrome.service import Service
 from selenium.webdriver.common.by import By
+from selenium.webdriver.remote.webelement import WebElement
 
 from tests.page.site import NAME, PASSWORD, USER, Site
 from tests.program.room import SECONDS
@@ -20,6 +23,8 @@ DRIVER = "/usr/bin/chromedriver"
 STRANGER = "stranger.example.net"
 
 WIDE = (1100, 900)
+
+Found = TypeVar("Found")
 
 
 def options() -> Options:
@@ -42,7 +47,7 @@ def options() -> Options:
 
 
 class Browser:
-    def __init__(self, site: Site):
+    def __init__(self, site: Site) -> None:
         self.site = site
         self.driver = webdriver.Chrome(options=options(), service=Service(DRIVER))
         self.size(*WIDE)
@@ -50,43 +55,44 @@ class Browser:
         self.driver.get(site.address(user=f"{USER}:{PASSWORD}@"))
         self.driver.get("about:blank")
 
-    def size(self, width: int, height: int):
+    def size(self, width: int, height: int) -> None:
         """The size of what the page sees of the window."""
         metrics = {"width": width, "height": height, "deviceScaleFactor": 1, "mobile": False}
         self.driver.execute_cdp_cmd("Emulation.setDeviceMetricsOverride", metrics)
 
-    def open(self, address: str):
+    def open(self, address: str) -> None:
         """Opens a view anew."""
         self.driver.get("about:blank")
         self.driver.get(self.site.address(f"/{address}"))
 
-    def one(self, selector: str):
+    def one(self, selector: str) -> WebElement:
         return self.driver.find_element(By.CSS_SELECTOR, selector)
 
-    def all(self, selector: str) -> list:
+    def all(self, selector: str) -> list[WebElement]:
         return self.driver.find_elements(By.CSS_SELECTOR, selector)
 
     def text(self, selector: str) -> str:
-        return self.one(selector).text
+        return str(self.one(selector).text)
 
     def texts(self, selector: str) -> list[str]:
         return [found.text for found in self.all(selector)]
 
-    def run(self, script: str, *given):
+    def run(self, script: str, *given: object) -> Any:
+        """What the script returns, in Python's types."""
         return self.driver.execute_script(script, *given)
 
-    def wait(self, holds, seconds=SECONDS):
+    def wait(self, holds: Callable[[], Found], seconds: float = SECONDS) -> Found | None:
         """Waits until it holds, and gives what it gave; after so many seconds, what it gave last."""
         end = time.monotonic() + seconds
         while True:
-            came = None
+            came: Found | None = None
             with contextlib.suppress(StaleElementReferenceException):
                 came = holds()
             if came or time.monotonic() > end:
                 return came
             time.sleep(0.05)
 
-    def wait_for_text(self, selector: str, words: str, seconds=SECONDS) -> str:
+    def wait_for_text(self, selector: str, words: str, seconds: float = SECONDS) -> str:
         """Waits until a text has these words; gives the text."""
         self.wait(lambda: words in self.text(selector), seconds)
         return self.text(selector)
@@ -95,7 +101,8 @@ class Browser:
         """The cells of a table's rows."""
         script = """return [...document.querySelectorAll(arguments[0] + ' tbody tr')]
             .map((row) => [...row.children].map((cell) => cell.textContent))"""
-        return self.run(script, selector)
+        rows: list[list[str]] = self.run(script, selector)
+        return rows
 
     def requested(self) -> list[str]:
         """The addresses that pages asked for since the last look, in the browser's own record."""
@@ -110,12 +117,12 @@ class Browser:
         """What the browser wrote to its console since the last look."""
         return [entry["message"] for entry in self.driver.get_log("browser")]
 
-    def picture(self, path: str):
+    def picture(self, path: str) -> None:
         self.driver.save_screenshot(path)
 
 
 @contextlib.contextmanager
-def browsing(site: Site):
+def browsing(site: Site) -> Iterator[Browser]:
     browser = Browser(site)
     try:
         yield browser

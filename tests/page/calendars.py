@@ -1,9 +1,13 @@
 """The calendar: the picture measured against the desk's answer and that of examples/shop/README.md."""
 
+from collections.abc import Iterator, Sequence
 from datetime import date
+from typing import Any
 
+from tests.page.browser import Browser
+from tests.page.site import Site
 from tests.page.week import HOSTILE_ISBN, ISBN, article
-from tests.program.room import Outcome
+from tests.running import Outcome
 
 SPANS = [
     ["north", "20250325", "20250331", "12.990"],
@@ -29,6 +33,12 @@ return [...document.querySelectorAll('#picture svg.lane')].map((lane) =>
   [...lane.querySelectorAll('.span')].map(({ dataset }) => [dataset.first, dataset.last, dataset.amount]));
 """
 
+# A span of an offer, as the desk answers it.
+Span = dict[str, str]
+
+# In each lane the part of the picture, from 0 to 1, that each bar takes.
+Lanes = Sequence[Sequence[Sequence[float]]]
+
 # A bar's line has a width, and a screen has pixels.
 NEAR = 0.004
 
@@ -37,7 +47,7 @@ def day(text: str) -> date:
     return date(int(text[:4]), int(text[4:6]), int(text[6:]))
 
 
-def parts(spans, first: date, last: date) -> list[tuple[float, float]]:
+def parts(spans: list[Span], first: date, last: date) -> list[tuple[float, float]]:
     """Which part of a range from its first day to its last each span takes."""
     count = (last - first).days + 1
     return [
@@ -46,7 +56,7 @@ def parts(spans, first: date, last: date) -> list[tuple[float, float]]:
     ]
 
 
-def are_near(came, wanted) -> bool:
+def are_near(came: Lanes, wanted: Lanes) -> bool:
     """Whether all lie at their places; what is not so is easier seen than a truth value."""
     flat = [[edge for part in lane for edge in part] for lane in came]
     other = [[edge for part in lane for edge in part] for lane in wanted]
@@ -55,18 +65,19 @@ def are_near(came, wanted) -> bool:
     return all(abs(a - b) < NEAR for one, two in zip(flat, other) for a, b in zip(one, two))
 
 
-def open_calendar(browser, isbn: str, first: date, last: date, **given):
+def open_calendar(browser: Browser, isbn: str, first: date, last: date, **given: str) -> None:
     browser.open(article(isbn, **{"from": first.isoformat(), "until": last.isoformat()}, **given))
     browser.wait(lambda: browser.all("#picture svg.lane") and browser.all("#spans tr"))
 
 
-def asked(site, isbn: str, first: date, last: date) -> list[dict]:
+def asked(site: Site, isbn: str, first: date, last: date) -> list[dict[str, Any]]:
     days = f"from={first:%Y%m%d}&to={last:%Y%m%d}"
     target = f"/articles/{isbn}/calendar?{days}&country=GB&currency=GBP&type=02"
-    return site.ask_desk(target)["offers"]
+    offers: list[dict[str, Any]] = site.ask_desk(target)["offers"]
+    return offers
 
 
-def measured(site, browser, name: str, isbn: str, first: date, last: date, **given):
+def measured(site: Site, browser: Browser, name: str, isbn: str, first: date, last: date, **given: str) -> Iterator[Outcome]:
     """Each bar and each gap lies where the desk's answer has its days."""
     open_calendar(browser, isbn, first, last, **given)
     offers = asked(site, isbn, first, last)
@@ -80,7 +91,7 @@ def measured(site, browser, name: str, isbn: str, first: date, last: date, **giv
         yield Outcome(f"{name}: {kind} to scale ({came}, {wanted})", are_near(came, wanted), True)
 
 
-def week(site, browser):
+def week(site: Site, browser: Browser) -> Iterator[Outcome]:
     first, last = date(2025, 3, 25), date(2025, 4, 25)
     yield from measured(site, browser, "the week's calendar", ISBN, first, last)
     names = ["north", "south", "west"]
@@ -94,7 +105,7 @@ def week(site, browser):
     yield Outcome("the week's calendar: the amounts", texts, wanted)
 
 
-def line(site, browser):
+def line(site: Site, browser: Browser) -> Iterator[Outcome]:
     """The line of the day lies in the middle of that day, in each lane; outside the range there is none."""
     first, last = date(2025, 3, 25), date(2025, 4, 25)
     open_calendar(browser, ISBN, first, last)
@@ -118,13 +129,13 @@ def line(site, browser):
     yield Outcome("a day outside is said", said, True)
 
 
-def gaps(site, browser):
+def gaps(site: Site, browser: Browser) -> Iterator[Outcome]:
     first, last = date(2025, 3, 30), date(2025, 4, 4)
     yield from measured(site, browser, "gaps", HOSTILE_ISBN, first, last)
     yield Outcome("gaps: where there is no price, there is a gap", len(browser.all("#picture .gap")), 2)
 
 
-def year(site, browser):
+def year(site: Site, browser: Browser) -> Iterator[Outcome]:
     """A year at once, as the view begins and by its button."""
     browser.open(article())
     browser.wait(lambda: browser.all("#picture svg.lane"))
@@ -136,14 +147,14 @@ def year(site, browser):
     yield from measured(site, browser, "one day", ISBN, date(2025, 4, 10), date(2025, 4, 10))
 
 
-def values_after(browser, id: str) -> list[str]:
+def values_after(browser: Browser, id: str) -> list[str]:
     before = browser.run("return location.hash")
     browser.one(f"#{id}").click()
     browser.wait(lambda: browser.run("return location.hash") != before)
     return [browser.one(field).get_attribute("value") for field in ("#from", "#until")]
 
 
-def buttons(site, browser):
+def buttons(site: Site, browser: Browser) -> Iterator[Outcome]:
     open_calendar(browser, ISBN, date(2025, 1, 31), date(2025, 2, 9))
     for id, wanted in [
         ("later", ["2025-02-10", "2025-02-19"]),
@@ -163,7 +174,7 @@ def in_words(text: str) -> str:
     return f"{found.day} {found:%B} {found.year}"
 
 
-def same_table(site, browser):
+def same_table(site: Site, browser: Browser) -> Iterator[Outcome]:
     first, last = date(2025, 3, 25), date(2025, 4, 25)
     open_calendar(browser, ISBN, first, last)
     names = {
@@ -183,7 +194,7 @@ def same_table(site, browser):
     yield Outcome("the table of the calendar: a gap, and a third decimal", prices, wanted)
 
 
-def resized(site, browser):
+def resized(site: Site, browser: Browser) -> Iterator[Outcome]:
     """The picture is drawn anew for a window of another width."""
     open_calendar(browser, ISBN, date(2025, 3, 25), date(2025, 4, 25))
     for width in (500, 1100):

@@ -1,10 +1,13 @@
 """The day follows today until a buyer sets it."""
 
+from collections.abc import Callable, Iterator
 from datetime import date, timedelta
 
 from tests.page.articles import answered
+from tests.page.browser import Browser
+from tests.page.site import Site
 from tests.page.week import ISBN, article
-from tests.program.room import Outcome
+from tests.running import Outcome
 
 # The page's clock, moved on by as many days as the tests say.
 CLOCK = """
@@ -26,22 +29,22 @@ def in_words(day: date) -> str:
     return f"{day.day} {day:%B} {day.year}"
 
 
-def value(browser) -> str:
-    return browser.one("#day").get_attribute("value")
+def value(browser: Browser) -> str:
+    return str(browser.one("#day").get_attribute("value"))
 
 
-def heading(browser, words: str) -> str:
+def heading(browser: Browser, words: str) -> str:
     return browser.wait_for_text("#answer-heading", words)
 
 
-def with_clock(browser, ahead: int = 0):
+def with_clock(browser: Browser, ahead: int = 0) -> Callable[[], object]:
     """Puts the clock into each page from now on; gives what takes it out again."""
     script = {"source": CLOCK.replace("AHEAD", str(ahead))}
     put = browser.driver.execute_cdp_cmd("Page.addScriptToEvaluateOnNewDocument", script)
     return lambda: browser.driver.execute_cdp_cmd("Page.removeScriptToEvaluateOnNewDocument", put)
 
 
-def over_night(site, browser):
+def over_night(site: Site, browser: Browser) -> Iterator[Outcome]:
     stop = with_clock(browser)
     today = date.today()
     tomorrow = today + timedelta(days=1)
@@ -67,7 +70,7 @@ def over_night(site, browser):
     stop()
 
 
-def set_day(site, browser):
+def set_day(site: Site, browser: Browser) -> Iterator[Outcome]:
     stop = with_clock(browser)
     today = date.today()
     browser.open(article())
@@ -91,7 +94,7 @@ def set_day(site, browser):
     stop()
 
 
-def typed_day(site, browser):
+def typed_day(site: Site, browser: Browser) -> Iterator[Outcome]:
     """A day that is typed and not yet asked for stays too, and stands out at once."""
     stop = with_clock(browser)
     browser.open("")

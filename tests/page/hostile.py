@@ -1,10 +1,14 @@
 """Texts of messages are shown as they are, whatever they would mean in HTML."""
 
+from collections.abc import Iterator
+
+from tests.page.browser import Browser
+from tests.page.site import Site
 from tests.page.week import HOSTILE, HOSTILE_ISBN, LONG, TURNING, TURNING_ISBN, article
-from tests.program.room import Outcome
+from tests.running import Outcome
 
 
-def references(site, browser):
+def references(site: Site, browser: Browser) -> Iterator[Outcome]:
     browser.open("")
     browser.complaints()
     browser.open(article(HOSTILE_ISBN))
@@ -32,7 +36,7 @@ def references(site, browser):
     yield Outcome("a long reference breaks", wide, True)
 
 
-def addresses(site, browser):
+def addresses(site: Site, browser: Browser) -> Iterator[Outcome]:
     """What an address brings is text too."""
     browser.open(article(HOSTILE, country=HOSTILE, type=HOSTILE))
     browser.wait_for_text("#isbn-wrong", "“<” is no digit.")
@@ -49,7 +53,7 @@ def addresses(site, browser):
 STRANGE = "&utm_source=mail&__proto__=x&constructor=y&offers=1"
 
 
-def unknown_names(site, browser):
+def unknown_names(site: Site, browser: Browser) -> Iterator[Outcome]:
     """What a mail or another program adds to an address does no harm, to the calendar's buttons either."""
     browser.open(article() + STRANGE)
     browser.wait(lambda: browser.all("#picture svg.lane"))
@@ -80,7 +84,7 @@ return [...rows].filter((row) => row.textContent.includes(reference)).map((row) 
 """
 
 
-def turning(site, browser):
+def turning(site: Site, browser: Browser) -> Iterator[Outcome]:
     """A reference in a script from right to left leaves what stands beside it in its place."""
     browser.size(1400, 900)
     browser.open(article(TURNING_ISBN, **{"from": "2025-04-10", "until": "2025-04-11"}))

@@ -1,10 +1,13 @@
 """The field of the ISBN: what is typed, scanned or pasted there, and where the focus is."""
 
+from collections.abc import Iterator
 from selenium.webdriver.common.action_chains import ActionChains
 
 from tests.page.articles import answered
+from tests.page.browser import Browser
+from tests.page.site import Site
 from tests.page.week import ISBN, OTHER_ISBN, article
-from tests.program.room import Outcome
+from tests.running import Outcome
 
 FOCUS = "return [document.activeElement.id, String(getSelection())]"
 
@@ -17,18 +20,18 @@ ITS_THIRTEEN = "9780804429573"
 REMARK = "Is a digit mistyped? The last sign should be {}. It is asked for all the same."
 
 
-def scan(browser, text: str):
+def scan(browser: Browser, text: str) -> None:
     """Types where the focus is, as a scanner does."""
     ActionChains(browser.driver).send_keys(f"{text}\n").perform()
 
 
-def asked(browser, isbn: str) -> bool:
+def asked(browser: Browser, isbn: str) -> bool:
     """Whether the page shows the answer for an ISBN."""
     shown = browser.wait(lambda: browser.text("#asked").startswith(isbn), 10)
     return bool(shown and answered(browser) is not None)
 
 
-def scanned(site, browser):
+def scanned(site: Site, browser: Browser) -> Iterator[Outcome]:
     """A scanner needs no mouse between two books."""
     browser.open("")
     browser.wait(lambda: browser.run(FOCUS)[0] == "isbn")
@@ -52,7 +55,7 @@ def scanned(site, browser):
     yield Outcome("the focus when the view is opened again", focus, True)
 
 
-def next_one_is_not_lost(site, browser):
+def next_one_is_not_lost(site: Site, browser: Browser) -> Iterator[Outcome]:
     """What is typed while the desk is asked is not selected away by its answer."""
     browser.open("")
     browser.wait(lambda: browser.run(FOCUS)[0] == "isbn")
@@ -64,7 +67,7 @@ def next_one_is_not_lost(site, browser):
     yield Outcome("typed on while the answer came", value, OTHER_ISBN)
 
 
-def ten_digits(site, browser):
+def ten_digits(site: Site, browser: Browser) -> Iterator[Outcome]:
     for typed, isbn in [(TEN, THIRTEEN), *[(typed, ITS_THIRTEEN) for typed in ENDING_IN_X]]:
         browser.open("")
         browser.wait(lambda: browser.run(FOCUS)[0] == "isbn")
@@ -86,7 +89,7 @@ HYPHENS = [
 ]
 
 
-def hyphens(site, browser):
+def hyphens(site: Site, browser: Browser) -> Iterator[Outcome]:
     for typed in HYPHENS:
         browser.open("")
         browser.wait(lambda: browser.run(FOCUS)[0] == "isbn")
@@ -95,7 +98,7 @@ def hyphens(site, browser):
         yield Outcome(f"hyphens: {typed!a}", asked(browser, ISBN), True)
 
 
-def check_digits(site, browser):
+def check_digits(site: Site, browser: Browser) -> Iterator[Outcome]:
     """A wrong last digit is told beside the field, and the desk is asked all the same."""
     for typed, isbn, right in [
         ("978-1-234567-89-4", "9781234567894", "7"),
@@ -119,7 +122,7 @@ def check_digits(site, browser):
     yield Outcome("a right ISBN has no remark", browser.text("#isbn-remark"), "")
 
 
-def asked_any(browser, isbn: str) -> bool:
+def asked_any(browser: Browser, isbn: str) -> bool:
     """Whether the page asked for an ISBN, whether it is offered or not."""
     return bool(browser.wait(lambda: browser.text("#asked").startswith(isbn), 10))
 

@@ -1,15 +1,22 @@
 """The page by the keyboard alone."""
 
+from collections.abc import Callable, Iterator
+from typing import Any
 from selenium.webdriver.common.action_chains import ActionChains
 from selenium.webdriver.common.keys import Keys
 
 from tests.page.articles import TEN_COPIES, answered
+from tests.page.browser import Browser
 from tests.page.reports import allow_clipboard
+from tests.page.site import Site
 from tests.page.week import ISBN
-from tests.program.room import Outcome
+from tests.running import Outcome
 
 # A page has fewer places for the focus.
 MOST = 60
+
+# What FOCUS gives.
+Focus = dict[str, Any]
 
 FOCUS = """
 const found = document.activeElement;
@@ -19,11 +26,11 @@ return { id: found.id, text: found.textContent.trim(), outline, width };
 """
 
 
-def press(browser, *keys):
+def press(browser: Browser, *keys: str) -> None:
     ActionChains(browser.driver).send_keys(*keys).perform()
 
 
-def tab_to(browser, holds, is_back=False) -> list[dict]:
+def tab_to(browser: Browser, holds: Callable[[Focus], bool], is_back: bool = False) -> list[Focus]:
     """Presses the tabulator until the focus is at a place that holds; gives all places on the way."""
     found = []
     for _ in range(MOST):
@@ -38,11 +45,11 @@ def tab_to(browser, holds, is_back=False) -> list[dict]:
     raise AssertionError(f"the tabulator does not come there: {found}")
 
 
-def has_id(id: str):
-    return lambda focus: focus["id"] == id
+def has_id(id: str) -> Callable[[Focus], bool]:
+    return lambda focus: bool(focus["id"] == id)
 
 
-def day_keys(browser, year: str, month: str, date: str) -> str:
+def day_keys(browser: Browser, year: str, month: str, date: str) -> str:
     """The keys for a day in the order in which this browser's field has its parts."""
     order = browser.run(
         """return new Intl.DateTimeFormat(navigator.language).formatToParts(new Date())
@@ -52,7 +59,7 @@ def day_keys(browser, year: str, month: str, date: str) -> str:
     return "".join(parts[part] for part in order if part in parts)
 
 
-def article(site, browser):
+def article(site: Site, browser: Browser) -> Iterator[Outcome]:
     browser.open("")
     browser.wait(lambda: browser.one("#day").get_attribute("value"))
     yield Outcome("the focus begins at the ISBN", browser.run(FOCUS)["id"], "isbn")
@@ -80,7 +87,7 @@ def article(site, browser):
     yield Outcome("each place of the focus is seen", unseen, [])
 
 
-def missing(site, browser):
+def missing(site: Site, browser: Browser) -> Iterator[Outcome]:
     allow_clipboard(site, browser, "granted")
     browser.open("")
     browser.wait(lambda: browser.one("#day").get_attribute("value"))
@@ -93,7 +100,7 @@ def missing(site, browser):
     yield Outcome("copied by the keyboard", bool(told), True)
 
 
-def skipped(site, browser):
+def skipped(site: Site, browser: Browser) -> Iterator[Outcome]:
     browser.open("#missing")
     browser.wait_for_text("#as-of", "As of")
     tab_to(browser, has_id("skip"))
@@ -105,7 +112,7 @@ def skipped(site, browser):
     yield Outcome("the link past the head keeps the view", address, "#missing")
 
 
-def wrong_field(site, browser):
+def wrong_field(site: Site, browser: Browser) -> Iterator[Outcome]:
     """The focus goes to the first field that is wrong."""
     browser.open("")
     browser.wait(lambda: browser.one("#day").get_attribute("value"))

@@ -7,28 +7,33 @@ import socket
 import ssl
 import threading
 import time
+from collections.abc import Iterator
+from typing import Any
 from urllib.parse import urlsplit
 
 from tests.page.articles import answered
-from tests.page.browser import STRANGER
-from tests.page.site import NAME
+from tests.page.browser import STRANGER, Browser
+from tests.page.site import NAME, Site
 from tests.page.week import ISBN, article, empty_message
-from tests.program.room import Outcome
 from tests.program.serving import HOST
+from tests.running import Outcome
 
 PRICE = f"/desk/articles/{ISBN}/price?day=20250410&country=GB&currency=GBP&type=02"
 GAPS = "/desk/series/north/gaps"
+
+# A field of a head, by its name and value.
+Field = tuple[str, str]
 
 DOCUMENT = [("Sec-Fetch-Mode", "navigate"), ("Sec-Fetch-Dest", "document")]
 FRAME = [("Sec-Fetch-Mode", "navigate"), ("Sec-Fetch-Dest", "iframe")]
 SCRIPT = [("Sec-Fetch-Mode", "no-cors"), ("Sec-Fetch-Dest", "script")]
 
 
-def from_site(site: str, *fields) -> list[tuple[str, str]]:
+def from_site(site: str, *fields: Field) -> list[Field]:
     return [("Sec-Fetch-Site", site), *fields]
 
 
-def policies(site) -> list[tuple[str, str, list, int]]:
+def policies(site: Site) -> list[tuple[str, str, list[Field], int]]:
     """Requests with their fields, and the status that each is to have."""
     own = site.address("")
     return [
@@ -76,7 +81,7 @@ def policies(site) -> list[tuple[str, str, list, int]]:
 THROUGH = ["200"] * 5 + ["404"]
 
 
-def server_rules(site, browser):
+def server_rules(site: Site, browser: Browser) -> Iterator[Outcome]:
     before = site.mark()
     for method, path, fields, wanted in policies(site):
         status, _, _ = site.fetch(path, method, fields=fields)
@@ -84,7 +89,7 @@ def server_rules(site, browser):
     yield Outcome("what came to the desk", site.lines_since(before), THROUGH)
 
 
-def hosts(site, browser):
+def hosts(site: Site, browser: Browser) -> Iterator[Outcome]:
     before = site.mark()
     for host, wanted in [(STRANGER, 421), (HOST, 421), ("localhost", 421), (NAME, 200)]:
         status, _, _ = site.fetch(GAPS, host=host)
@@ -118,7 +123,7 @@ POLICY = {
 }
 
 
-def reply_fields(site, browser):
+def reply_fields(site: Site, browser: Browser) -> Iterator[Outcome]:
     for path, cache in [
         ("/", "no-cache"),
         ("/main.js", "no-cache"),
@@ -133,7 +138,7 @@ def reply_fields(site, browser):
         yield Outcome(f"how long {path} is kept", fields["Cache-Control"], cache)
 
 
-def slow_client(site, browser):
+def slow_client(site: Site, browser: Browser) -> Iterator[Outcome]:
     """A buyer who sends a head byte by byte, or takes no reply, does not hold the desk."""
     context = ssl._create_unverified_context()
     before = site.mark()
@@ -184,22 +189,22 @@ Promise.all([
 class Stranger(http.server.BaseHTTPRequestHandler):
     """A site that is not the shop's."""
 
-    def __init__(self, text, *given):
+    def __init__(self, text: str, *given: Any) -> None:
         self.text = text
         super().__init__(*given)
 
-    def do_GET(self):
+    def do_GET(self) -> None:
         self.send_response(200)
         self.send_header("Content-Type", "text/html")
         self.end_headers()
         self.wfile.write(self.text.encode())
 
-    def log_message(self, *_):
+    def log_message(self, *_: object) -> None:
         pass
 
 
 @contextlib.contextmanager
-def strangers_site(text: str):
+def strangers_site(text: str) -> Iterator[str]:
     server = http.server.ThreadingHTTPServer((HOST, 0), functools.partial(Stranger, text))
     thread = threading.Thread(target=server.serve_forever)
     thread.start()
@@ -211,7 +216,7 @@ def strangers_site(text: str):
         server.server_close()
 
 
-def another_site(site, browser):
+def another_site(site: Site, browser: Browser) -> Iterator[Outcome]:
     """A page of another origin posts a message and asks for prices; nothing arrives."""
     text = STRANGERS_PAGE.format(
         site=site.address(""), message=empty_message(3), price=PRICE, view=article()
@@ -241,7 +246,7 @@ def another_site(site, browser):
     yield Outcome("the desk is as before", site.ask_desk("/series/north/gaps"), gaps)
 
 
-def own_host_alone(site, browser):
+def own_host_alone(site: Site, browser: Browser) -> Iterator[Outcome]:
     """The page asks no other host, by the browser's own record and by nginx's log."""
     browser.open("")
     browser.requested()
@@ -259,8 +264,8 @@ def own_host_alone(site, browser):
     kinds = {(status, method, host) for status, method, host, _ in lines}
     yield Outcome("what nginx was asked for", kinds, {("200", "GET", NAME)})
     desk = [target.partition("?")[0] for _, _, _, target in lines if target.startswith("/desk/")]
-    asked = ("price", "choice", "calendar", "price", "price")
-    wanted = [f"/desk/articles/{ISBN}/{what}" for what in asked]
+    questions = ("price", "choice", "calendar", "price", "price")
+    wanted = [f"/desk/articles/{ISBN}/{what}" for what in questions]
     wanted += [f"/desk/series/{name}/gaps" for name in ("north", "south", "west")]
     yield Outcome("what the desk was asked for", desk, wanted)
     seen = {urlsplit(address).path for address in addresses}
@@ -276,7 +281,7 @@ fetch('http://{host}:{port}/messages', {{
 """
 
 
-def bare_port(site, browser):
+def bare_port(site: Site, browser: Browser) -> Iterator[Outcome]:
     """What the web server is there for: the desk's own port takes what a stranger's page posts."""
     before = site.mark()
     text = POSTING_PAGE.format(host=HOST, port=site.desk_port, message=empty_message(10))

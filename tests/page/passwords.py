@@ -7,15 +7,17 @@ import re
 import shutil
 import stat
 import subprocess
+from collections.abc import Iterator
 
+from tests.page.browser import Browser
 from tests.page.origins import GAPS
-from tests.page.site import NAME, NO_LIMIT, PASSWORD, RATE, basic
-from tests.program.room import Outcome
+from tests.page.site import NAME, NO_LIMIT, PASSWORD, RATE, Site, basic
 from tests.program.serving import HOST
+from tests.running import Outcome
 from tools.root import ROOT
 
 
-def without(site, browser):
+def without(site: Site, browser: Browser) -> Iterator[Outcome]:
     before = site.mark()
     for password in ("", "another", PASSWORD + "x"):
         for path in ("/", "/main.js", "/desk.json", GAPS):
@@ -24,7 +26,7 @@ def without(site, browser):
     yield Outcome("without its password nothing comes to the desk", site.lines_since(before), [])
 
 
-def plain(site, browser):
+def plain(site: Site, browser: Browser) -> Iterator[Outcome]:
     """Without TLS no password is asked for: there is only the way to it."""
     for host in (NAME, "stranger.example.net"):
         for path in ("/", "/desk/series/north/gaps?x=1"):
@@ -41,7 +43,7 @@ FLOOD = 500
 AFTER = 50
 
 
-def flood(site) -> list[bytes]:
+def flood(site: Site) -> list[bytes]:
     """The statuses of many requests without a password and some with the right one, sent at once."""
     head = f"GET /desk.json HTTP/1.1\r\nHost: {site.own_host()}\r\n"
     known = f"{head}Authorization: {basic(PASSWORD)}\r\n"
@@ -54,7 +56,7 @@ def flood(site) -> list[bytes]:
     return re.findall(rb"^HTTP/1\.1 (\d+)", found, re.M)
 
 
-def guesses(site, browser):
+def guesses(site: Site, browser: Browser) -> Iterator[Outcome]:
     """Whoever asks too often is stopped for a time, and the right password is then no better than none."""
     site.stop_nginx()
     site.configure(RATE)
@@ -82,21 +84,21 @@ def lines_for_file() -> list[str]:
     return [line.strip() for line in re.findall(r"^    .*", text, re.M) if FILE in line]
 
 
-def password_file(site, browser):
+def password_file(site: Site, browser: Browser) -> Iterator[Outcome]:
     """As the README makes it: the server alone may read it from the first moment, and buyers are added."""
     folder = site.room.path("etc")
     folder.mkdir()
     path = folder / "passwords"
     begin, add = lines_for_file()
 
-    def run(line: str, buyer: str = "buyer"):
+    def run(line: str, buyer: str = "buyer") -> None:
         here = line.replace(FILE, str(path)).replace("buyer:", f"{buyer}:")
         here = here.replace("openssl passwd -6", "openssl passwd -6 words")
         if os.geteuid() != 0:
             here = here.replace("-o root -g www-data", "")
         subprocess.run(["sh", "-ec", f"umask 022; {here}"], check=True)
 
-    def readers():
+    def readers() -> tuple[int, bool]:
         found = path.stat()
         return stat.S_IMODE(found.st_mode), found.st_size > 0
 

@@ -1,12 +1,15 @@
 """The pictures of the documents, taken anew."""
 
 import base64
+from collections.abc import Iterator
 from datetime import date
 
 from tests.page.articles import answered
+from tests.page.browser import Browser
 from tests.page.days import with_clock
+from tests.page.site import Site
 from tests.page.week import ISBN
-from tests.program.room import Outcome
+from tests.running import Outcome
 from tools.root import ROOT
 
 # The shop's week is asked for on this day, as if it were today.
@@ -21,7 +24,7 @@ MARGIN = 24
 MOST_BYTES = 150_000
 
 
-def taken(site, browser):
+def taken(site: Site, browser: Browser) -> Iterator[Outcome]:
     browser.driver.execute_cdp_cmd("Emulation.setScrollbarsHidden", {"hidden": True})
     stop = with_clock(browser, (DAY - date.today()).days)
     for name, (address, last) in PICTURES.items():

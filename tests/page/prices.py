@@ -2,16 +2,19 @@
 
 import contextlib
 import json
+from collections.abc import Iterator
 
 from tests.page.articles import SAME, answered, said
+from tests.page.browser import Browser
+from tests.page.site import Site
 from tests.page.week import NET_ISBN, article
-from tests.program.room import Outcome
+from tests.running import Outcome
 
 NET = {"type": "05", "currency": "GBP", "country": "GB"}
 
 
 @contextlib.contextmanager
-def settings(site, **changes):
+def settings(site: Site, **changes: object) -> Iterator[None]:
     """Puts other settings into the shop's desk.json for a time."""
     path = site.own / "desk.json"
     before = path.read_text(encoding="utf-8")
@@ -22,7 +25,7 @@ def settings(site, **changes):
         path.write_text(before, encoding="utf-8")
 
 
-def kinds(site, browser):
+def kinds(site: Site, browser: Browser) -> Iterator[Outcome]:
     """To buy at a price is said of a net price alone."""
     browser.open(article(NET_ISBN, **NET))
     rows = answered(browser)
@@ -37,7 +40,7 @@ def kinds(site, browser):
     yield Outcome("a retail price: its column", browser.texts("#offers thead th")[3], "Retail price")
 
 
-def other_types(site, browser):
+def other_types(site: Site, browser: Browser) -> Iterator[Outcome]:
     """Where no offer has a price of the type, that is said, with the types that they have."""
     browser.open(article(NET_ISBN, **NET | {"type": "02"}))
     answered(browser)
@@ -57,7 +60,7 @@ def other_types(site, browser):
     yield Outcome("no price of any type: no links", browser.all("#article-status a"), [])
 
 
-def quantities(site, browser):
+def quantities(site: Site, browser: Browser) -> Iterator[Outcome]:
     browser.open(article(NET_ISBN, **NET))
     copies = [row[4] for row in answered(browser)]
     yield Outcome("where prices change", copies, ["1 copy: £8.4925 copies: £7.99", SAME, ""])
@@ -73,7 +76,7 @@ def quantities(site, browser):
     yield Outcome("they are what the desk is asked", asked, ["24", "25"])
 
 
-def order(site, browser):
+def order(site: Site, browser: Browser) -> Iterator[Outcome]:
     browser.open(article(NET_ISBN, **NET))
     answered(browser)
     browser.wait(lambda: browser.all("#picture svg.lane"))
@@ -92,7 +95,7 @@ def order(site, browser):
     yield Outcome("and back", [row[1] for row in browser.rows("#offers")], ["N-100", "S1", "W-7"])
 
 
-def choose(browser, by: str):
+def choose(browser: Browser, by: str) -> None:
     browser.run(
         """const field = document.getElementById('order');
         field.value = arguments[0];
@@ -104,7 +107,7 @@ def choose(browser, by: str):
 EURO = {"type": "05", "currency": "EUR", "country": "DE"}
 
 
-def german(site, browser):
+def german(site: Site, browser: Browser) -> Iterator[Outcome]:
     """A shop that speaks German has German words, days and amounts."""
     with settings(site, language="de"):
         yield from in_german(browser)
@@ -115,7 +118,7 @@ def german(site, browser):
         yield Outcome("Austrian amounts", "zu € 24,00 je Exemplar" in words, True)
 
 
-def in_german(browser):
+def in_german(browser: Browser) -> Iterator[Outcome]:
     browser.open(article(NET_ISBN, **EURO))
     rows = answered(browser)
     amounts = [row[3].replace("\u00a0", " ") for row in rows]
@@ -132,7 +135,7 @@ def in_german(browser):
     yield Outcome("German countries", browser.text("#country-words"), "Deutschland")
 
 
-def own_words(site, browser):
+def own_words(site: Site, browser: Browser) -> Iterator[Outcome]:
     """A shop's own words stand over those of the page, and what is wrong with them is told."""
     path = site.own / "words.json"
     own = {

@@ -1,9 +1,12 @@
 """What is wrong is told in words, at the field that it comes from."""
 
+from collections.abc import Iterator
+
 from tests.page.articles import answered
-from tests.page.site import PAGE
+from tests.page.browser import Browser
+from tests.page.site import PAGE, Site
 from tests.page.week import ISBN, article
-from tests.program.room import Outcome
+from tests.running import Outcome
 
 DAY = "Please give a whole day: day, month and year."
 COUNTRY = "A country is two letters, such as GB or IE."
@@ -37,14 +40,14 @@ RANGE_WORDS = "The last day is not before the first, and they are at most 3,660 
 ALL = ["isbn", "day", "quantity", "country", "currency", "type", "from", "until"]
 
 
-def told(browser) -> dict[str, str]:
+def told(browser: Browser) -> dict[str, str]:
     """What each field has beside it that is wrong."""
     script = "return arguments[0].map((name) => document.getElementById(`${name}-wrong`).textContent)"
     texts = dict(zip(ALL, browser.run(script, ALL)))
     return {name: text for name, text in texts.items() if text}
 
 
-def fields(site, browser):
+def fields(site: Site, browser: Browser) -> Iterator[Outcome]:
     browser.open("")
     before = site.mark()
     for given, name, words in FIELDS:
@@ -59,7 +62,7 @@ def fields(site, browser):
     yield Outcome("the desk is asked nothing wrong", site.lines_since(before), [])
 
 
-def mended(site, browser):
+def mended(site: Site, browser: Browser) -> Iterator[Outcome]:
     browser.open(article("12"))
     browser.wait(lambda: told(browser))
     browser.one("#isbn").clear()
@@ -68,7 +71,7 @@ def mended(site, browser):
     yield Outcome("a mended field", told(browser), {})
 
 
-def ranges(site, browser):
+def ranges(site: Site, browser: Browser) -> Iterator[Outcome]:
     """The desk itself refuses a bad range; the offers stay."""
     for given, name in RANGES:
         browser.open("")
@@ -114,7 +117,7 @@ REPLIES = [
 ]
 
 
-def replies(site, browser):
+def replies(site: Site, browser: Browser) -> Iterator[Outcome]:
     for body, status, words in REPLIES:
         browser.open("")
         browser.run(
@@ -192,7 +195,7 @@ SETTINGS = [
 ]
 
 
-def settings(site, browser):
+def settings(site: Site, browser: Browser) -> Iterator[Outcome]:
     path = site.own / "desk.json"
     sample = (PAGE / "desk.json").read_text(encoding="utf-8")
     for text, words in SETTINGS:
@@ -214,7 +217,7 @@ def settings(site, browser):
     yield Outcome("the sample desk.json", browser.one("#settings-wrong").is_displayed(), False)
 
 
-def without_rules(site, browser):
+def without_rules(site: Site, browser: Browser) -> Iterator[Outcome]:
     """Words for rules are there only if wanted."""
     path = site.own / "desk.json"
     sample = path.read_text(encoding="utf-8")
@@ -226,8 +229,8 @@ def without_rules(site, browser):
     names = [row[0] for row in browser.rows("#offers")]
     yield Outcome("series without words", names, ["North (north)", "south", "west"])
     heads = browser.texts("#offers thead th")
-    wanted = ["Wholesaler", "Reference", "Availability", "Retail price", "Choice"]
-    yield Outcome("without quantities", heads, wanted)
+    wanted_heads = ["Wholesaler", "Reference", "Availability", "Retail price", "Choice"]
+    yield Outcome("without quantities", heads, wanted_heads)
     path.write_text(sample, encoding="utf-8")
 
 

@@ -1,11 +1,13 @@
 """The view of missing messages."""
 
 import re
+from collections.abc import Iterator
 from datetime import date, timedelta
 
-from tests.page.site import PAGE
+from tests.page.browser import Browser
+from tests.page.site import PAGE, Site
 from tests.page.week import MISSING, empty_message
-from tests.program.room import Outcome
+from tests.running import Outcome
 
 NORTH, SOUTH, WEST = "#report-north", "#report-south", "#report-west"
 
@@ -39,12 +41,12 @@ return [...strip.querySelectorAll('rect')].map((piece) => {
 SEEN = "This browser has seen it like this since today."
 
 
-def open_missing(browser):
+def open_missing(browser: Browser) -> None:
     browser.open("#missing")
     browser.wait_for_text("#as-of", "As of")
 
 
-def reported(site, browser):
+def reported(site: Site, browser: Browser) -> Iterator[Outcome]:
     open_missing(browser)
     said = "5 messages missing in 1 series: North Books."
     yield Outcome("missing: in all", browser.text("#missing-status"), said)
@@ -60,7 +62,7 @@ def reported(site, browser):
     yield Outcome("missing: west", browser.texts(f"{WEST} p"), [west, SEEN, "Nothing is missing."])
 
 
-def strip(site, browser):
+def strip(site: Site, browser: Browser) -> Iterator[Outcome]:
     """The strip's pieces lie where the desk's answer has the missing numbers."""
     open_missing(browser)
     report = site.ask_desk("/series/north/gaps")
@@ -75,7 +77,7 @@ def strip(site, browser):
     yield Outcome("strip: its name", label, wanted)
 
 
-def red(site, browser):
+def red(site: Site, browser: Browser) -> Iterator[Outcome]:
     open_missing(browser)
     wanted = ["lacks", "missing", "missing", "missing", "ranges li", "ranges li"]
     yield Outcome("red where messages are missing", sorted(browser.run(RED)), wanted)
@@ -94,13 +96,13 @@ REQUEST = (
 )
 
 
-def allow_clipboard(site, browser, setting: str):
+def allow_clipboard(site: Site, browser: Browser, setting: str) -> None:
     for name in ("clipboard-read", "clipboard-write"):
         grant = {"origin": site.address("").rstrip("/"), "setting": setting, "permission": {"name": name}}
         browser.driver.execute_cdp_cmd("Browser.setPermission", grant)
 
 
-def copied(site, browser):
+def copied(site: Site, browser: Browser) -> Iterator[Outcome]:
     allow_clipboard(site, browser, "granted")
     open_missing(browser)
     browser.one(f"{NORTH} button").click()
@@ -118,7 +120,7 @@ def copied(site, browser):
     yield Outcome("the request is shown and chosen", text, REQUEST)
 
 
-def kept_in_hand(site, browser):
+def kept_in_hand(site: Site, browser: Browser) -> Iterator[Outcome]:
     """A card is not drawn anew where nothing of it changed: what was copied stays said."""
     allow_clipboard(site, browser, "granted")
     open_missing(browser)
@@ -153,7 +155,7 @@ REMEMBER = "localStorage.setItem('onixdesk-seen', JSON.stringify(arguments[0]))"
 REMEMBERED = "return JSON.parse(localStorage.getItem('onixdesk-seen'))"
 
 
-def silent(site, browser):
+def silent(site: Site, browser: Browser) -> Iterator[Outcome]:
     """A series that has been as it is for longer than desk.json allows is told, by what the browser kept."""
     open_missing(browser)
     browser.run("localStorage.clear()")
@@ -185,7 +187,7 @@ def silent(site, browser):
     yield Outcome("what is kept is no JSON", browser.text(f"{NORTH} .since"), SEEN)
 
 
-def nothing_kept(site, browser):
+def nothing_kept(site: Site, browser: Browser) -> Iterator[Outcome]:
     """A browser that keeps nothing shows all else."""
     source = "Object.defineProperty(window, 'localStorage', { get() { throw new Error('kept') } })"
     put = browser.driver.execute_cdp_cmd("Page.addScriptToEvaluateOnNewDocument", {"source": source})
@@ -194,7 +196,7 @@ def nothing_kept(site, browser):
     browser.driver.execute_cdp_cmd("Page.removeScriptToEvaluateOnNewDocument", put)
 
 
-def unknown_series(site, browser):
+def unknown_series(site: Site, browser: Browser) -> Iterator[Outcome]:
     """A series of desk.json that nobody agreed is told at that series; the others are shown."""
     path = site.own / "desk.json"
     text = (PAGE / "desk.json").read_text(encoding="utf-8")
@@ -209,7 +211,7 @@ def unknown_series(site, browser):
     path.write_text(text, encoding="utf-8")
 
 
-def each_minute(site, browser):
+def each_minute(site: Site, browser: Browser) -> Iterator[Outcome]:
     """Messages that come while the view is open show within a minute, and what is the same stays."""
     open_missing(browser)
     browser.run("document.querySelector(arguments[0]).firstChild.isKept = true", SOUTH)
@@ -242,7 +244,7 @@ EndMessage,1
 """
 
 
-def late_start(site, browser):
+def late_start(site: Site, browser: Browser) -> Iterator[Outcome]:
     """A series that begins with a great number, of which nothing is applied yet."""
     site.stop_desk()
     site.room.run("--db", "shop.db", "batch", given=LATE.encode())

@@ -1,7 +1,11 @@
 """Narrow screens, paper, and what a screen reader and weak eyes have of the page."""
 
+from collections.abc import Iterator
+
+from tests.page.browser import Browser
+from tests.page.site import Site
 from tests.page.week import HOSTILE_ISBN, article
-from tests.program.room import Outcome
+from tests.running import Outcome
 
 CALENDAR = {"from": "2025-03-25", "until": "2025-04-25"}
 
@@ -69,7 +73,7 @@ return found;
 LEAST_CONTRAST = 4.5
 
 
-def shown(browser, address: str):
+def shown(browser: Browser, address: str) -> None:
     browser.open(address)
     # Until what the view asked for is there, or what is wrong with it is told.
     browser.wait(
@@ -81,7 +85,7 @@ def shown(browser, address: str):
     )
 
 
-def narrow(site, browser):
+def narrow(site: Site, browser: Browser) -> Iterator[Outcome]:
     browser.size(320, 800)
     for name, address in VIEWS.items():
         shown(browser, address)
@@ -89,7 +93,7 @@ def narrow(site, browser):
     browser.size(1100, 900)
 
 
-def paper(site, browser):
+def paper(site: Site, browser: Browser) -> Iterator[Outcome]:
     """On paper there are the answers, and no fields and buttons."""
     browser.driver.execute_cdp_cmd("Emulation.setEmulatedMedia", {"media": "print"})
     browser.size(700, 1000)
@@ -108,7 +112,7 @@ def paper(site, browser):
     browser.size(1100, 900)
 
 
-def contrast(site, browser):
+def contrast(site: Site, browser: Browser) -> Iterator[Outcome]:
     browser.open("")
     for name, address in VIEWS.items():
         shown(browser, address)
@@ -133,18 +137,19 @@ NAMED = {
 }
 
 
-def nodes(browser) -> list[tuple[str, str, str]]:
+def part(node: dict[str, dict[str, str]], name: str) -> str:
+    return node.get(name, {}).get("value", "")
+
+
+def nodes(browser: Browser) -> list[tuple[str, str, str]]:
     """The role, name and description of each node that the browser tells a screen reader of."""
     browser.driver.execute_cdp_cmd("Accessibility.enable", {})
     tree = browser.driver.execute_cdp_cmd("Accessibility.getFullAXTree", {})
-    return [
-        tuple(node.get(part, {}).get("value", "") for part in ("role", "name", "description"))
-        for node in tree["nodes"]
-        if not node["ignored"]
-    ]
+    told = [node for node in tree["nodes"] if not node["ignored"]]
+    return [(part(node, "role"), part(node, "name"), part(node, "description")) for node in told]
 
 
-def accessible(site, browser):
+def accessible(site: Site, browser: Browser) -> Iterator[Outcome]:
     for name, address in VIEWS.items():
         shown(browser, address)
         found = nodes(browser)
@@ -161,7 +166,7 @@ def accessible(site, browser):
         yield Outcome(f"accessible: {name}: each id once", sorted(set(ids)), sorted(ids))
 
 
-def fields(site, browser):
+def fields(site: Site, browser: Browser) -> Iterator[Outcome]:
     shown(browser, VIEWS["a wrong article"])
     found = nodes(browser)
     labels = [(role, name) for role, name, _ in found if role in ("textbox", "combobox", "Date")]
@@ -178,7 +183,7 @@ def fields(site, browser):
     yield Outcome("accessible: what is wrong is told with its field", told, words)
 
 
-def live(site, browser):
+def live(site: Site, browser: Browser) -> Iterator[Outcome]:
     """Answers stand in live regions, which are there before them."""
     browser.open("")
     shown(browser, VIEWS["article"])

@@ -2,6 +2,7 @@
 
 import os
 import tempfile
+from collections import abc
 from collections.abc import Callable, Iterator
 from functools import partial
 from pathlib import Path
@@ -36,7 +37,7 @@ class Sequence(NamedTuple):
     """Cases at one site, by their functions."""
 
     name: str
-    cases: list[Check]
+    cases: abc.Sequence[Check]
 
 
 SEQUENCES = [
@@ -52,7 +53,7 @@ PICTURES = Sequence("pictures", pictures.CASES)
 class Group(Cases):
     """Cases at the site of their sequence, which is put up before."""
 
-    def __init__(self, check: Check):
+    def __init__(self, check: Check) -> None:
         super().__init__(check.__name__, check.__module__)
         self.check = check
         self.place: tuple[Site, Browser] | None = None

@@ -12,10 +12,13 @@ import socket
 import ssl
 import subprocess
 import time
+from collections.abc import Callable, Iterable, Iterator
+from typing import Any
 
 from tests.program.room import SECONDS, Room
 from tests.program.serving import HOST, TRIES, connected, free_port, receive
 from tools.root import ROOT
+from tools.words import Word
 
 PAGE = ROOT / "page"
 
@@ -59,19 +62,22 @@ def listens(port: int) -> bool:
     return False
 
 
+Server = subprocess.Popen[bytes]
+
+
 class NotStarted(Exception):
     """A server ended at once, as where another program has its port, or does not listen in time."""
 
 
-def wait_until(holds, server: subprocess.Popen):
+def wait_until(holds: Callable[[], bool], server: Server | None) -> None:
     end = time.monotonic() + SECONDS
     while not holds():
-        if server.poll() is not None or time.monotonic() > end:
-            raise NotStarted(server.args)
+        if not server or server.poll() is not None or time.monotonic() > end:
+            raise NotStarted(server and server.args)
         time.sleep(0.02)
 
 
-def openssl(*words) -> bytes:
+def openssl(*words: str) -> bytes:
     return subprocess.run(["openssl", *words], check=True, capture_output=True).stdout
 
 
@@ -83,13 +89,13 @@ def basic(password: str) -> str:
 class Site:
     """nginx with the page, and the desk, each of which can be stopped and started."""
 
-    def __init__(self, room: Room):
+    def __init__(self, room: Room) -> None:
         self.room = room
         self.port = free_port()
         self.plain_port = free_port()
         self.desk_port = free_port()
-        self.desk = None
-        self.nginx = None
+        self.desk: Server | None = None
+        self.nginx: Server | None = None
         self.page = room.path("page")
         shutil.copytree(PAGE, self.page, dirs_exist_ok=True)
         # The shop's own files lie apart from the page.
@@ -99,7 +105,7 @@ class Site:
             (self.page / name).rename(self.own / name)
         self._prepare()
 
-    def _prepare(self):
+    def _prepare(self) -> None:
         folder = self.room.folder
         subject = ["-subj", f"/CN={NAME}", "-addext", f"subjectAltName=DNS:{NAME}"]
         key = ["-newkey", "ec", "-pkeyopt", "ec_paramgen_curve:prime256v1", "-nodes"]
@@ -111,7 +117,7 @@ class Site:
         user = "user root;" if os.geteuid() == 0 else ""
         self.room.write("nginx.conf", MAIN.format(user=user, folder=folder).encode())
 
-    def configure(self, rate: str):
+    def configure(self, rate: str) -> None:
         """Writes the example, with the places and ports of the test in it, and with another rate of requests."""
         folder = self.room.folder
         text = (ROOT / "examples/page/nginx.conf").read_text(encoding="utf-8")
@@ -131,19 +137,20 @@ class Site:
             text = text.replace(written, here)
         self.room.write("site.conf", text.encode())
 
-    def start_nginx(self):
-        words = ["-e", self.room.path("error.log"), "-c", self.room.path("nginx.conf")]
+    def start_nginx(self) -> None:
+        words: list[Word] = ["-e", self.room.path("error.log"), "-c", self.room.path("nginx.conf")]
         self.nginx = subprocess.Popen(["nginx", *words], stdin=subprocess.DEVNULL)
         wait_until(lambda: listens(self.port), self.nginx)
 
-    def stop_nginx(self):
+    def stop_nginx(self) -> None:
         """By its own signal, so that its workers end too."""
-        self.nginx.terminate()
-        self.nginx.wait()
+        if self.nginx:
+            self.nginx.terminate()
+            self.nginx.wait()
 
-    def start_desk(self):
+    def start_desk(self) -> None:
         """Starts `serve`, whose lines go to the end of a file."""
-        words = ["--db", DATABASE, "--rules", ROOT / "examples/shop/rules.toml"]
+        words: list[Word] = ["--db", DATABASE, "--rules", ROOT / "examples/shop/rules.toml"]
         words += ["serve", "--port", str(self.desk_port), "--requests", str(CONNECTIONS)]
         starts = self.desk_lines().count(self._listening()) + 1
         with open(self.room.path("lines"), "ab") as lines:
@@ -155,16 +162,21 @@ class Site:
     def _listening(self) -> str:
         return f"listening {self.desk_port}"
 
-    def stop_desk(self):
-        self.desk.kill()
-        self.desk.wait()
+    def stop_desk(self) -> None:
+        if self.desk:
+            self.desk.kill()
+            self.desk.wait()
 
-    def freeze_desk(self):
+    def freeze_desk(self) -> None:
         """The desk takes connections, as far as the system does so for it, and does nothing."""
-        self.desk.send_signal(signal.SIGSTOP)
+        self.signal_desk(signal.SIGSTOP)
 
-    def thaw_desk(self):
-        self.desk.send_signal(signal.SIGCONT)
+    def signal_desk(self, number: int) -> None:
+        assert self.desk
+        self.desk.send_signal(number)
+
+    def thaw_desk(self) -> None:
+        self.signal_desk(signal.SIGCONT)
 
     def desk_lines(self) -> list[str]:
         """What `serve` has written: one line for each connection."""
@@ -190,14 +202,15 @@ class Site:
         """What nginx was asked: each line has the status, the method, the host and the target."""
         return self.room.path("access.log").read_text().splitlines()
 
-    def ask_desk(self, target: str) -> dict:
+    def ask_desk(self, target: str) -> dict[str, Any]:
         """The body of the desk's own reply, past nginx."""
         with connected(self.desk_port) as peer:
             peer.sendall(f"GET {target} HTTP/1.1\r\n\r\n".encode())
             reply = receive(peer)
-        return json.loads(reply.partition(b"\r\n\r\n")[2])
+        body: dict[str, Any] = json.loads(reply.partition(b"\r\n\r\n")[2])
+        return body
 
-    def tell_desk(self, message: str):
+    def tell_desk(self, message: str) -> bytes:
         """Posts a message to the desk's own port, past nginx."""
         connection = http.client.HTTPConnection(HOST, self.desk_port)
         connection.request("POST", "/messages", message.encode())
@@ -217,7 +230,14 @@ class Site:
         connection.sock = context.wrap_socket(raw, server_hostname=NAME)
         return connection
 
-    def fetch(self, path: str, method="GET", host=None, fields=(), password=PASSWORD):
+    def fetch(
+        self,
+        path: str,
+        method: str = "GET",
+        host: str | None = None,
+        fields: Iterable[tuple[str, str]] = (),
+        password: str | None = PASSWORD,
+    ) -> tuple[int, dict[str, str], bytes]:
         """The status, the fields and the body of nginx's reply to a program that is no browser."""
         with contextlib.closing(self.connected()) as connection:
             connection.putrequest(method, path, skip_host=True, skip_accept_encoding=True)
@@ -230,16 +250,15 @@ class Site:
             reply = connection.getresponse()
             return reply.status, dict(reply.getheaders()), reply.read()
 
-    def stop(self):
-        if self.nginx is not None:
-            self.stop_nginx()
-        if self.desk is not None:
-            self.stop_desk()
+    def stop(self) -> None:
+        self.stop_nginx()
+        self.stop_desk()
 
 
 def started(room: Room) -> Site:
     """A site with both servers, at ports that no other program has."""
-    for tries in range(1, TRIES + 1):
+    tries = 0
+    while True:
         site = Site(room)
         try:
             site.start_desk()
@@ -247,12 +266,13 @@ def started(room: Room) -> Site:
             return site
         except NotStarted:
             site.stop()
+            tries += 1
             if tries == TRIES:
                 raise
 
 
 @contextlib.contextmanager
-def running(room: Room):
+def running(room: Room) -> Iterator[Site]:
     """A site with both servers, over the database that the folder has."""
     site = started(room)
     try:

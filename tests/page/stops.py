@@ -2,26 +2,28 @@
 
 import contextlib
 import sqlite3
+from collections.abc import Iterator
 
 from tests.page.articles import ONE_COPY, answered
-from tests.page.site import DATABASE
+from tests.page.browser import Browser
+from tests.page.site import DATABASE, Site
 from tests.page.week import ISBN, article
-from tests.program.room import Outcome
+from tests.running import Outcome
 
 AGAIN = " The page asks again by itself every 5 seconds."
 
 
-def down(browser, words: str) -> bool:
+def down(browser: Browser, words: str) -> bool:
     return browser.wait_for_text("#down", words) == words
 
 
-def back(browser, name: str):
+def back(browser: Browser, name: str) -> Iterator[Outcome]:
     yield Outcome(f"{name}: answered by itself", answered(browser), ONE_COPY)
     yield Outcome(f"{name}: the note is gone", browser.one("#down").is_displayed(), False)
     yield Outcome(f"{name}: the whole answer", bool(browser.wait(lambda: browser.all("#picture svg"))), True)
 
 
-def stopped(site, browser):
+def stopped(site: Site, browser: Browser) -> Iterator[Outcome]:
     browser.open("")
     site.stop_desk()
     browser.one("#isbn").send_keys(f"{ISBN}\n")
@@ -34,7 +36,7 @@ def stopped(site, browser):
     yield from back(browser, "a stopped desk")
 
 
-def silent(site, browser):
+def silent(site: Site, browser: Browser) -> Iterator[Outcome]:
     browser.open(article(quantity="10"))
     browser.wait(lambda: browser.all("#picture svg"))
     site.freeze_desk()
@@ -51,7 +53,7 @@ def silent(site, browser):
 
 
 @contextlib.contextmanager
-def damaged(site):
+def damaged(site: Site) -> Iterator[None]:
     """An offer whose availability is no code."""
     path = site.room.path(DATABASE)
     for wrong in ("xx", "31"):
@@ -64,7 +66,7 @@ def damaged(site):
             yield
 
 
-def faulty(site, browser):
+def faulty(site: Site, browser: Browser) -> Iterator[Outcome]:
     with damaged(site):
         browser.open(article())
         words = (
@@ -76,7 +78,7 @@ def faulty(site, browser):
     yield from back(browser, "a fault of storage")
 
 
-def unreached(site, browser):
+def unreached(site: Site, browser: Browser) -> Iterator[Outcome]:
     browser.open("")
     site.stop_nginx()
     browser.run("location.hash = arguments[0]", article())
@@ -86,7 +88,7 @@ def unreached(site, browser):
     yield from back(browser, "a stopped web server")
 
 
-def missing_view(site, browser):
+def missing_view(site: Site, browser: Browser) -> Iterator[Outcome]:
     """The reports stay while the desk is down; the note goes with the view."""
     browser.open("#missing")
     browser.wait_for_text("#as-of", "As of")

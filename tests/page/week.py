@@ -79,7 +79,7 @@ EndMessage,7
 """
 
 
-def fill(room: Room):
+def fill(room: Room) -> None:
     """Makes the database of the week with the gaps, the hostile texts and the net prices."""
     week = (ROOT / "examples/shop/week.csv").read_text(encoding="utf-8")
     batch = (week + GAPS + HOSTILE_MESSAGE + TURNING_MESSAGE + NET_MESSAGE).encode()
@@ -88,10 +88,10 @@ def fill(room: Room):
     # Some of the week's answers are refusals; of the messages behind it none is.
     behind = [b"applied,odd,1,", b"applied,odd,2,", b"applied,net,1,"]
     if filled.status != 1 or any(answer not in filled.output for answer in behind):
-        raise RuntimeError(f"the database of the test: {filled.output} {filled.errors}")
+        raise RuntimeError(f"the database of the test: {filled.output!r} {filled.errors!r}")
 
 
-def article(isbn: str = ISBN, **given) -> str:
+def article(isbn: str = ISBN, **given: str) -> str:
     """The address of the article view: the shop's questions of the week, unless other ones are given."""
     asked = {"isbn": isbn, "day": "2025-04-10", "country": "GB", "currency": "GBP", "type": "02"}
     asked |= given

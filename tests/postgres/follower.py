@@ -2,24 +2,29 @@
 
 import sqlite3
 import subprocess
+from collections.abc import Callable
 from contextlib import closing
 from pathlib import Path
 
 import psycopg2
 
 from tests.program.databases import DATABASE
-from tests.program.room import SECONDS, Ran
+from tests.program.room import SECONDS, Ran, Room
+from tools.words import Row, Word
 
 PROGRAM = Path(__file__).resolve().parent.parent.parent / "bin/desk-follow"
+
+# The rows of each table.
+Tables = dict[str, list[Row]]
 
 TABLES = ["meta", "series", "held", "applied", "record", "article", "offer", "price", "price_minimum"]
 
 
-def words_of(room, database: str, *words) -> list:
+def words_of(room: Room, database: str, *words: Word) -> list[Word]:
     return [PROGRAM, "--room", room.folder, "--database", database, *words, DATABASE]
 
 
-def follow(room, database: str, *words) -> Ran:
+def follow(room: Room, database: str, *words: Word) -> Ran:
     done = subprocess.run(
         words_of(room, database, *words), cwd=room.folder, capture_output=True, timeout=SECONDS
     )
@@ -33,26 +38,35 @@ def kind(ran: Ran) -> str:
     return ran.output.decode().partition(" UTC: ")[2].rstrip("\n")
 
 
-def ask(database: str, query: str, *values) -> list[tuple]:
+def ask(database: str, query: str, *values: object) -> list[Row]:
     with closing(psycopg2.connect(database)) as connection, connection.cursor() as cursor:
         cursor.execute(query, values)
         return cursor.fetchall()
 
 
-def execute(database: str, statements: str):
+def execute(database: str, statements: str) -> None:
     with closing(psycopg2.connect(database)) as connection, connection.cursor() as cursor:
         cursor.execute(statements)
         connection.commit()
 
 
-def in_postgres(database: str) -> dict[str, list[tuple]]:
+def state_of(call: Callable[[], object]) -> str | None:
+    """The SQLSTATE of what the database refuses; nothing where it does it."""
+    try:
+        call()
+    except psycopg2.Error as error:
+        return error.pgcode
+    return None
+
+
+def in_postgres(database: str) -> Tables:
     """The rows of each table; nothing where there is no schema."""
     if not ask(database, "SELECT FROM pg_namespace WHERE nspname = 'desk'"):
         return {}
     return {table: sorted(ask(database, f"SELECT * FROM desk.{table}"), key=repr) for table in TABLES}
 
 
-def in_file(room) -> dict[str, list[tuple]]:
+def in_file(room: Room) -> Tables:
     """The rows of the desk's file, which no program has open."""
     with closing(sqlite3.connect(f"{room.path(DATABASE).as_uri()}?mode=ro", uri=True)) as connection:
         return {table: sorted(connection.execute(f"SELECT * FROM {table}"), key=repr) for table in TABLES}

@@ -16,7 +16,7 @@ class OverCluster(Group):
 
     cluster: Cluster
 
-    def __init__(self, module: str, name: str, check: Callable[[Cluster, Room], Iterator[Outcome]]):
+    def __init__(self, module: str, name: str, check: Callable[[Cluster, Room], Iterator[Outcome]]) -> None:
         super().__init__(name, partial(self.over, check))
         self.module = module.rpartition(".")[2]
 

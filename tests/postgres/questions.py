@@ -2,15 +2,20 @@
 
 import csv
 import re
+from collections.abc import Iterable, Iterator
 from contextlib import closing
 from functools import partial
 
 import psycopg2
+from psycopg2.extensions import cursor as Cursor
 
+from bench.figures.cluster import Cluster
 from tests.postgres.follower import follow, kind
 from tests.postgres.seeds import RULES, Maker, agreements
 from tests.program.databases import DATABASE
-from tests.program.room import Outcome
+from tests.program.room import Room
+from tests.running import Outcome
+from tools.words import Row
 
 DESKS = 10
 QUESTIONS = 2_000
@@ -41,7 +46,7 @@ HEADS = {"price", "choice", "calendar", "gaps", "refused"}
 MALFORMED = {"22007", "22008", "22P02", "23514", "23502", "22003"}
 
 
-def desk_answers(room, questions: list[str]) -> list[list[list[str]]]:
+def desk_answers(room: Room, questions: list[str]) -> list[list[list[str]]]:
     """The records of each answer of the desk."""
     words = ["--db", DATABASE, "--existing", "--rules", "rules.toml", "batch"]
     ran = room.run(*words, given="".join(f"{question}\n" for question in questions).encode())
@@ -53,7 +58,7 @@ def desk_answers(room, questions: list[str]) -> list[list[list[str]]]:
     return answers
 
 
-def texts(row) -> list[str]:
+def texts(row: Iterable[object]) -> list[str]:
     return ["" if value is None else str(value) for value in row]
 
 
@@ -62,7 +67,7 @@ def day_of(text: str) -> str:
     return f"{text[:4]}-{text[4:6]}-{text[6:]}" if re.fullmatch("[0-9]{8}", text) else f"no day {text}"
 
 
-def written(name: str, fields: list[str], rows: list[tuple]) -> list[list[str]]:
+def written(name: str, fields: list[str], rows: list[Row]) -> list[list[str]]:
     """The records of the desk's answer that the rows of a function are."""
     article = fields[0]
     if name == "AskPrice":
@@ -92,7 +97,7 @@ def written(name: str, fields: list[str], rows: list[tuple]) -> list[list[str]]:
     return [["gaps", article, *counts], *(["missing", *texts(each)] for each in missing)]
 
 
-def postgres_answer(cursor, question: str) -> list[list[str]]:
+def postgres_answer(cursor: Cursor, question: str) -> list[list[str]]:
     name, *fields = question.split(",")
     days = DAYS[name]
     values = [*fields[:1], *map(day_of, fields[1 : 1 + days]), *fields[1 + days :]]
@@ -107,9 +112,9 @@ def postgres_answer(cursor, question: str) -> list[list[str]]:
     return written(name, fields, cursor.fetchall())
 
 
-def differences(room, database: str, questions: list[str]) -> list[tuple]:
+def differences(room: Room, database: str, questions: list[str]) -> list[Row]:
     wanted = desk_answers(room, questions)
-    found = [] if len(wanted) == len(questions) else [(len(wanted), "answers")]
+    found: list[Row] = [] if len(wanted) == len(questions) else [(len(wanted), "answers")]
     with closing(psycopg2.connect(database)) as connection, connection.cursor() as cursor:
         connection.autocommit = True
         for question, answer in zip(questions, wanted):
@@ -119,12 +124,12 @@ def differences(room, database: str, questions: list[str]) -> list[tuple]:
     return found
 
 
-def kinds(questions: list[str], room) -> list[str]:
+def kinds(questions: list[str], room: Room) -> list[str]:
     """What kinds of answers the questions have."""
     return ["/".join(record[0] for record in answer[:2]) for answer in desk_answers(room, questions)]
 
 
-def of_a_seed(seed: int, cluster, room):
+def of_a_seed(seed: int, cluster: Cluster, room: Room) -> Iterator[Outcome]:
     """A desk, questions to it, more messages, and questions again."""
     maker, asked = Maker(seed), []
     room.write("rules.toml", RULES.encode())

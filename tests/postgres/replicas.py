@@ -1,14 +1,16 @@
 """A streaming replica: it follows the tables, and answers as the desk does."""
 
 import time
+from collections.abc import Iterator
+from functools import partial
 
-import psycopg2
-
-from tests.postgres.follower import ask, execute, follow, in_file, in_postgres, kind
+from bench.figures.cluster import Cluster
+from tests.postgres.follower import ask, execute, follow, in_file, in_postgres, kind, state_of
 from tests.postgres.questions import differences
 from tests.postgres.seeds import RULES, Maker, agreements
 from tests.program.databases import DATABASE
-from tests.program.room import SECONDS, Outcome
+from tests.program.room import SECONDS, Room
+from tests.running import Outcome
 
 QUESTIONS = 300
 
@@ -25,7 +27,7 @@ def caught_up(database: str, replica: str) -> bool:
     return False
 
 
-def of_a_desk(cluster, room):
+def of_a_desk(cluster: Cluster, room: Room) -> Iterator[Outcome]:
     maker = Maker(4711)
     room.write("rules.toml", RULES.encode())
     database = cluster.make_database("replicated")
@@ -40,12 +42,8 @@ def of_a_desk(cluster, room):
         yield Outcome("replica: the rows", in_postgres(replica) == in_file(room), True)
         questions = [maker.question() for _ in range(QUESTIONS)]
         yield Outcome("replica: answers", differences(room, replica, questions)[:2], [])
-        try:
-            execute(replica, "DELETE FROM desk.price")
-            came = "deleted"
-        except psycopg2.Error as error:
-            came = error.pgcode
-        yield Outcome("replica: nobody writes there", came, "25006")
+        state = state_of(partial(execute, replica, "DELETE FROM desk.price"))
+        yield Outcome("replica: nobody writes there", state, "25006")
 
 
 GROUPS = [("a replica", of_a_desk)]

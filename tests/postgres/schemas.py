@@ -1,14 +1,16 @@
 """Whose schema is replaced and whose is not, what stays untouched, who may read, and faults."""
 
-import re
 import time
+from collections.abc import Iterator
+from functools import partial
 
-import psycopg2
-
-from tests.postgres.follower import ask, execute, follow, in_postgres, kind
+from bench.figures.cluster import Cluster
+from tests.postgres.follower import ask, execute, follow, in_postgres, kind, state_of
 from tests.postgres.steps import AGREEMENT, ASKED, deliver
 from tests.program.databases import DATABASE, execute as execute_in_file
-from tests.program.room import Outcome, Ran
+from tests.program.room import Ran, Room
+from tests.running import Outcome
+from tools.words import sought
 
 # All that is not in the schema, with who may use it.
 ELSEWHERE = """\
@@ -22,7 +24,7 @@ OTHER = b"desk-follow: the database has a schema desk that is not desk-follow's,
 OLD_LAYOUT = "COMMENT ON SCHEMA desk IS 'Kept by desk-follow of onixdesk, layout of before'"
 
 
-def of_others(cluster, room):
+def of_others(cluster: Cluster, room: Room) -> Iterator[Outcome]:
     deliver(room, 1, agreement=AGREEMENT)
     for name, statements in [
         (
@@ -40,7 +42,7 @@ def of_others(cluster, room):
         yield Outcome(f"it stays, {name}", ask(database, "SELECT * FROM desk.own"), [("kept",)])
 
 
-def elsewhere(cluster, room):
+def elsewhere(cluster: Cluster, room: Room) -> Iterator[Outcome]:
     database = cluster.make_database("elsewhere")
     deliver(room, 1, agreement=AGREEMENT)
     execute(
@@ -57,7 +59,7 @@ def elsewhere(cluster, room):
     yield Outcome("rows of public stay", ask(database, "SELECT * FROM public.price"), [("ours",)])
 
 
-def depended_on(cluster, room):
+def depended_on(cluster: Cluster, room: Room) -> Iterator[Outcome]:
     """What others have made of the tables is not dropped with them."""
     database = cluster.make_database("depended")
     deliver(room, 1, agreement=AGREEMENT)
@@ -75,7 +77,7 @@ def depended_on(cluster, room):
     yield Outcome("without them", kind(follow(room, database)), "everything: 1 messages, 30 records")
 
 
-def role_of_readers(cluster, room):
+def role_of_readers(cluster: Cluster, room: Room) -> Iterator[Outcome]:
     database = cluster.make_database("reading")
     deliver(room, 1, agreement=AGREEMENT)
     execute(database, 'CREATE ROLE "buyers of books" LOGIN')
@@ -86,20 +88,14 @@ def role_of_readers(cluster, room):
             yield Outcome(
                 "readers are let read", follow(room, database, "--readers", "buyers of books").status, 0
             )
-        try:
-            came = ask(words, ASKED)
-        except psycopg2.Error as error:
-            came = error.pgcode
-        yield Outcome(f"a reader who is let: {is_let}", bool(came) and came != "42501", is_let)
-    try:
-        execute(words, "DELETE FROM desk.price")
-        came = "deleted"
-    except psycopg2.Error as error:
-        came = error.pgcode
-    yield Outcome("a reader who writes", came, "42501")
+        wanted = None if is_let else "42501"
+        yield Outcome(f"a reader who is let: {is_let}", state_of(partial(ask, words, ASKED)), wanted)
+    yield Outcome("a reader, let", len(ask(words, ASKED)), 1)
+    state = state_of(partial(execute, words, "DELETE FROM desk.price"))
+    yield Outcome("a reader who writes", state, "42501")
 
 
-def faults(cluster, room):
+def faults(cluster: Cluster, room: Room) -> Iterator[Outcome]:
     database = cluster.make_database("faults")
     deliver(room, 1, agreement=AGREEMENT)
     follow(room, database)
@@ -134,7 +130,7 @@ def faults(cluster, room):
     yield Outcome("no copy is left", left, [])
 
 
-def moment(cluster, room):
+def moment(cluster: Cluster, room: Room) -> Iterator[Outcome]:
     """The moment is that of the copy, and rules that change are followed."""
     database = cluster.make_database("moments")
     deliver(room, 1, agreement=AGREEMENT)
@@ -142,7 +138,7 @@ def moment(cluster, room):
     ran = follow(room, database)
     ((taken,),) = ask(database, "SELECT extract(epoch FROM taken)::float8 FROM desk.moment")
     yield Outcome("the moment", began <= taken <= time.time(), True)
-    told = re.match(rb"as of (\d{4}-\d\d-\d\d \d\d:\d\d:\d\d) UTC: ", ran.output)[1].decode()
+    told = sought(rb"^as of (\d{4}-\d\d-\d\d \d\d:\d\d:\d\d) UTC: ", ran.output).decode()
     query = "SELECT to_char(taken AT TIME ZONE 'UTC', 'YYYY-MM-DD HH24:MI:SS') FROM desk.moment"
     yield Outcome("it is told", ask(database, query), [(told,)])
     choice = ASKED.replace("desk.prices", "desk.choice")
@@ -155,7 +151,7 @@ def moment(cluster, room):
     ]:
         room.write("rules.toml", text)
         follow(room, database, "--rules", "rules.toml")
-        yield Outcome(f"chosen by {text}", [series for series, _ in ask(database, choice)], wanted)
+        yield Outcome(f"chosen by {text!r}", [series for series, _ in ask(database, choice)], wanted)
 
 
 GROUPS = [

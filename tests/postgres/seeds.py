@@ -57,7 +57,7 @@ def field(text: str) -> str:
 
 
 class Maker:
-    def __init__(self, seed: int):
+    def __init__(self, seed: int) -> None:
         self.random = Random(seed)
         self.next = dict(FIRST)
 

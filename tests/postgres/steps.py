@@ -5,14 +5,18 @@ import signal
 import subprocess
 import sys
 import threading
+from collections.abc import Iterator
 from contextlib import closing
 from pathlib import Path
 
 import psycopg2
 
-from tests.postgres.follower import execute, follow, in_file, in_postgres, kind, words_of
+from bench.figures.cluster import Cluster
+from tests.postgres.follower import Tables, execute, follow, in_file, in_postgres, kind, words_of
 from tests.program.databases import DATABASE
-from tests.program.room import SECONDS, Outcome
+from tests.program.room import SECONDS, Room
+from tests.running import Outcome
+from tools.words import Row
 
 HERE = Path(__file__).resolve().parent
 
@@ -31,12 +35,12 @@ def message(number: int) -> str:
     return f"{opening}{''.join(products)}EndMessage,{4 * PRODUCTS + 1}\n"
 
 
-def deliver(room, *numbers: int, agreement: str = ""):
+def deliver(room: Room, *numbers: int, agreement: str = "") -> None:
     text = agreement + "".join(map(message, numbers))
     assert room.run("--db", DATABASE, "batch", given=text.encode()).status == 0
 
 
-def killed_at(room, database: str, at: int) -> bool:
+def killed_at(room: Room, database: str, at: int) -> bool:
     """Whether a run is killed at that step; one that has fewer ends by itself."""
     words = [str(word) for word in words_of(room, database)]
     done = subprocess.run(
@@ -46,11 +50,11 @@ def killed_at(room, database: str, at: int) -> bool:
         timeout=SECONDS,
     )
     if done.returncode not in (0, -signal.SIGKILL):
-        raise RuntimeError(f"the follower ended with {done.returncode}: {done.stderr}")
+        raise RuntimeError(f"the follower ended with {done.returncode}: {done.stderr!r}")
     return done.returncode < 0
 
 
-def killed_at_each_step(room, name: str, database: str, before: dict, least: int):
+def killed_at_each_step(room: Room, name: str, database: str, before: Tables, least: int) -> Iterator[Outcome]:
     """Runs that are killed at step 1, 2 and so on, until one ends."""
     after = in_file(room)
     wrong, at = [], 1
@@ -65,7 +69,7 @@ def killed_at_each_step(room, name: str, database: str, before: dict, least: int
     yield Outcome(f"killed, {name}: it had steps", at >= least, True)
 
 
-def killed_all_along(cluster, room):
+def killed_all_along(cluster: Cluster, room: Room) -> Iterator[Outcome]:
     database = cluster.make_database("killed")
     deliver(room, 1, 2, agreement=AGREEMENT)
     yield from killed_at_each_step(room, "a new schema", database, {}, 30)
@@ -83,7 +87,7 @@ def killed_all_along(cluster, room):
     yield from killed_at_each_step(room, "another layout", database, before, 30)
 
 
-def two_at_once(cluster, room):
+def two_at_once(cluster: Cluster, room: Room) -> Iterator[Outcome]:
     database = cluster.make_database("two")
     deliver(room, 1, agreement=AGREEMENT)
     for number in range(2, 8):
@@ -108,19 +112,19 @@ ASKED = "SELECT series, amount FROM desk.prices('9780000000000', '2025-03-01', '
 class Reader:
     """Asks again and again, each time in a transaction of one snapshot, and keeps what was no moment of the desk."""
 
-    def __init__(self, database: str):
+    def __init__(self, database: str) -> None:
         self.database = database
-        self.wrong: list = []
+        self.wrong: list[Row] = []
         self.moments: set[int] = set()
         self.is_to_end = threading.Event()
         self.thread = threading.Thread(target=self.read)
 
-    def read(self):
+    def read(self) -> None:
         with closing(psycopg2.connect(self.database)) as connection, connection.cursor() as cursor:
             connection.set_session(isolation_level="REPEATABLE READ", readonly=True)
             while not self.is_to_end.is_set():
                 cursor.execute(SEEN)
-                number, *seen = cursor.fetchone()
+                ((number, *seen),) = cursor.fetchall()
                 cursor.execute(ASKED)
                 asked = [(series, int(amount)) for series, amount in cursor.fetchall()]
                 connection.rollback()
@@ -129,7 +133,7 @@ class Reader:
                     self.wrong.append((number, seen, asked))
 
 
-def readers(cluster, room):
+def readers(cluster: Cluster, room: Room) -> Iterator[Outcome]:
     database = cluster.make_database("readers")
     deliver(room, 1, agreement=AGREEMENT)
     follow(room, database)
@@ -149,7 +153,7 @@ def readers(cluster, room):
     yield Outcome("readers: they see most moments", len(reader.moments) > 5, True)
 
 
-def snapshot_of_before(cluster, room):
+def snapshot_of_before(cluster: Cluster, room: Room) -> Iterator[Outcome]:
     """A transaction whose snapshot is older than the tables is refused, and not told that there is nothing."""
     database = cluster.make_database("snapshots")
     deliver(room, 1, agreement=AGREEMENT)
@@ -159,18 +163,17 @@ def snapshot_of_before(cluster, room):
         follow(room, database)
         for question in [ASKED, "SELECT * FROM desk.gaps('north')"]:
             cursor.execute("SAVEPOINT before")
+            refusal: str | None = None
             try:
                 cursor.execute(question)
-                came = cursor.fetchall()
             except psycopg2.Error as error:
-                came = error.diag.message_primary
+                refusal = error.diag.message_primary
             cursor.execute("ROLLBACK TO before")
-            yield Outcome(
-                "a snapshot of before", came, "the tables of schema desk are newer than this transaction"
-            )
+            wanted = "the tables of schema desk are newer than this transaction"
+            yield Outcome("a snapshot of before", refusal, wanted)
 
 
-def several_series(cluster, room):
+def several_series(cluster: Cluster, room: Room) -> Iterator[Outcome]:
     """Held messages come and go, waivers, new series, deleted records: the rows are the file's each time."""
     database = cluster.make_database("series")
     for name, text in [

@@ -1,6 +1,7 @@
 """The number of parts is a part of the agreement on a series: what another one does, and how docs/ONIX.md
 says that it is changed."""
 
+from collections.abc import Iterator
 from functools import partial
 from pathlib import Path
 from typing import NamedTuple
@@ -8,7 +9,8 @@ from typing import NamedTuple
 from tests.program.conversions import FRAMES
 from tests.program.converter import convert
 from tests.program.converter_runs import PRODUCT
-from tests.program.room import Group, Outcome, Ran
+from tests.program.room import Group, Ran, Room
+from tests.running import Outcome
 
 ONIX = Path(__file__).resolve().parent.parent.parent / "docs/ONIX.md"
 
@@ -36,7 +38,7 @@ class Change(NamedTuple):
         return range(first, (self.message + self.offset()) * self.after + 1)
 
 
-def message(number: int, room, *words) -> bytes:
+def message(number: int, room: Room, *words) -> bytes:
     feed = FRAME.before.replace("<MessageNumber>1<", f"<MessageNumber>{number}<")
     room.write("feed.xml", (feed + PRODUCT.format(f"R{number}") + FRAME.behind).encode())
     return convert(room, *words, "feed.xml").output
@@ -54,13 +56,13 @@ def answers_before(change: Change) -> str:
     return "agreed,north,1\n" + "".join(applied(first, change.before) for first in firsts)
 
 
-def requests_before(change: Change, room) -> bytes:
+def requests_before(change: Change, room: Room) -> bytes:
     words = ["--parts", str(change.before)]
     messages = [message(number, room, *words) for number in range(1, change.message + 1)]
     return AGREEMENT.encode() + b"".join(messages)
 
 
-def changed(change: Change, room):
+def changed(change: Change, room: Room) -> Iterator[Outcome]:
     """As the document says."""
     words = ["--parts", str(change.after)]
     if change.offset():
@@ -77,7 +79,7 @@ def changed(change: Change, room):
     yield Outcome(f"{change}", room.run("batch", given=given), Ran(0, wanted.encode()))
 
 
-def blocked(room):
+def blocked(room: Room) -> Iterator[Outcome]:
     """A greater number of parts without waivers."""
     change = Change(2, 3, 2)
     given = requests_before(change, room) + message(3, room, "--parts", "3") + b"AskGaps,north\n"
@@ -87,7 +89,7 @@ def blocked(room):
     yield Outcome("more parts and no waivers", room.run("batch", given=given), Ran(0, wanted.encode()))
 
 
-def documented(room):
+def documented(room: Room) -> Iterator[Outcome]:
     """The numbers of the examples in the document."""
     more, fewer = Change(51, 60, 300), Change(60, 25, 7)
     first, last = more.waived()[0], more.waived()[-1]

@@ -4,9 +4,10 @@ import re
 from collections.abc import Iterator
 from functools import cache
 
+from tests.running import Outcome
 from tools.drawing import picture
 from tools.drawing.crates import LAYERS, direct, families, read_crates, read_lines, upward
-from tests.program.room import Group, Outcome
+from tests.program.room import Group, Room
 from tools.root import ROOT
 
 PAGE = ROOT / "docs/ARCHITECTURE.md"
@@ -23,7 +24,7 @@ high: middle other low
 """
 
 
-def current(room):
+def current(room: Room) -> Iterator[Outcome]:
     (crates, arrows), (wanted_crates, wanted_arrows) = picture.shown(picture.PICTURE), picture.wanted()
     yield Outcome("docs/crates.svg: the crates, their layers and what they take", crates, wanted_crates)
     yield Outcome("docs/crates.svg: the arrows", sorted(arrows), sorted(wanted_arrows))
@@ -31,14 +32,14 @@ def current(room):
     yield Outcome("docs/ARCHITECTURE.md has the picture", named, True)
 
 
-def layers(room):
+def layers(room: Room) -> Iterator[Outcome]:
     crates = read_crates()
     told = [name for _, names in LAYERS.values() for name in names]
     yield Outcome("each crate is in a layer", sorted(told), sorted(crate.name for crate in crates))
     yield Outcome("no crate stands on one of a higher layer", upward(crates), [])
 
 
-def lines(room):
+def lines(room: Room) -> Iterator[Outcome]:
     stands_on = read_lines(LINES)
     yield Outcome("crates.txt: its crates", list(stands_on), ["low", "other", "middle", "high"])
     yield Outcome("crates.txt: what is reached through another crate", direct(stands_on, "high"), ["middle", "other"])
@@ -86,14 +87,14 @@ def judged(text: str) -> Iterator[tuple[str, tuple[bool, bool]]]:
         yield (f"{above[0]} calls {name}" if above else name), (name in bodies(file), called)
 
 
-def walks(room):
+def walks(room: Room) -> Iterator[Outcome]:
     found = list(judged(PAGE.read_text(encoding="utf-8")))
     for call, is_so in found:
         yield Outcome(f"docs/ARCHITECTURE.md: {call}", is_so, (True, True))
     yield Outcome("docs/ARCHITECTURE.md tells of calls", len(found) > 0, True)
 
 
-def without_a_file(room):
+def without_a_file(room: Room) -> Iterator[Outcome]:
     """A page whose calls name no file, or one that is not there, has wrong calls."""
     for text in ("    answer\n", "    answer    series_rules/src/nowhere.rt\n"):
         yield Outcome(f"calls: {text.strip()}", list(judged(text)), [("answer", (False, True))])

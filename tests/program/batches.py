@@ -6,12 +6,14 @@ text of a rules file, and then a line `-- batch`. Batches with bytes that a text
 `HIDDEN`.
 """
 
+from collections.abc import Iterator
 from functools import partial
 from pathlib import Path
 from typing import NamedTuple
 
 from tests.program.databases import DATABASE, complaints
-from tests.program.room import Group, Outcome, Ran
+from tests.program.room import Group, Ran, Room
+from tests.running import Outcome
 
 FOLDER = Path(__file__).resolve().parent.parent / "batches"
 
@@ -146,7 +148,7 @@ def read_cases(path: Path) -> list[Case]:
     return [read_case(text) for text in whole]
 
 
-def check(case: Case, room):
+def check(case: Case, room: Room) -> Iterator[Outcome]:
     words = []
     if case.rules is not None:
         room.write("rules.toml", case.rules)

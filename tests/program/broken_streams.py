@@ -4,13 +4,15 @@ the answers, and disks that are full."""
 import os
 import socket
 import subprocess
+from collections.abc import Iterator
 from pathlib import Path
 
 from tests.program.clients import RESET
 from tests.program.databases import DATABASE, batch, complaints
 from tests.program.exchange_cases import AGREEMENTS, APPLIED, DELIVERY, NO_NUMBERS
-from tests.program.room import SECONDS, Group, Outcome, Ran, Room
+from tests.program.room import SECONDS, Group, Ran, Room
 from tests.program.serving import Exchange, connected, posted, serving
+from tests.running import Outcome
 
 # A batch in parts, and what a batch is answered that ends within this part or at its end. A record whose first
 # field begins no request belongs to the request before it.
@@ -56,7 +58,7 @@ def bytes_of_parts():
             yield given, answers
 
 
-def cut_batches(room):
+def cut_batches(room: Room) -> Iterator[Outcome]:
     """Cut off behind each byte."""
     for given, answers in bytes_of_parts():
         came = room.run("batch", given=BATCH[:given])
@@ -74,14 +76,14 @@ def failing_behind(text: bytes) -> socket.socket:
     return reader
 
 
-def run_with(room, words, **streams) -> Ran:
+def run_with(room: Room, words, **streams) -> Ran:
     """Runs a command in a room with an input or an output of another kind."""
     ways = {"stdout": subprocess.PIPE, "stderr": subprocess.PIPE} | streams
     done = subprocess.run(words, cwd=room.folder, timeout=SECONDS, **ways)
     return Ran(done.returncode, done.stdout or b"", done.stderr)
 
 
-def unread_batches(room):
+def unread_batches(room: Room) -> Iterator[Outcome]:
     """With a failed read behind each byte. Nothing is asked of the desk in a file, not the agreement either,
     which would stand in it from then on."""
     for given in range(len(BATCH) + 1):
@@ -95,7 +97,7 @@ def unread_batches(room):
 class Limited(Room):
     """The same room, where no file may grow beyond so many blocks: a write behind them fails."""
 
-    def __init__(self, room: Room, blocks: int):
+    def __init__(self, room: Room, blocks: int) -> None:
         super().__init__(Path("/bin/sh"), room.folder)
         script = f"trap '' XFSZ; ulimit -f {blocks}; exec \"$0\" \"$@\""
         self.before = ["-c", script, str(room.program)]
@@ -107,7 +109,7 @@ class Limited(Room):
         return super().start(*self.before, *words, **how)
 
 
-def taken_answers(room, count: int) -> tuple[Ran, bytes]:
+def taken_answers(room: Room, count: int) -> tuple[Ran, bytes]:
     """How a batch ends whose output takes so many bytes, and these: the output is a file that can grow by
     them alone."""
     limited = Limited(room, BLOCKS)
@@ -120,7 +122,7 @@ def taken_answers(room, count: int) -> tuple[Ran, bytes]:
         return came, answers.read()
 
 
-def written_in_parts(room):
+def written_in_parts(room: Room) -> Iterator[Outcome]:
     """With outputs that take each part of the answers: they are written, and the requests up to the answer
     that they end in are asked, and no other."""
     room.write("batch", BATCH)
@@ -134,7 +136,7 @@ def written_in_parts(room):
         yield Outcome(f"the desk after {count} bytes of answers", batch(room, ASK_GAPS), report)
 
 
-def unread_deliveries(room):
+def unread_deliveries(room: Room) -> Iterator[Outcome]:
     """Connections that are reset behind each byte of a delivery. Nothing is delivered, and then the whole
     delivery has its reply."""
     answers = b"agreed,north,1\nagreed,south,5\nwaived,south,7\n"
@@ -157,7 +159,7 @@ PRODUCTS = "".join(f"Product,R{number},03,15,9781234567897\n" for number in rang
 LARGE = f"Message,1,06,4012345000009,06,5012345678900,1,,,,\n{PRODUCTS}EndMessage,{RECORDS + 1}\n"
 
 
-def full_disks(room):
+def full_disks(room: Room) -> Iterator[Outcome]:
     """A request for which the disk has no room is answered by a fault, and nothing of it is kept; it may be
     sent again once there is room."""
     full = Limited(room, FULL)

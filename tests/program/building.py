@@ -6,8 +6,9 @@ import select
 import shutil
 import subprocess
 import time
+from collections.abc import Iterator
 
-from tests.program.room import SECONDS, Group, Outcome, Ran
+from tests.program.room import SECONDS, Group, Ran, Room
 from tests.program.stand_in import (
     FAILS,
     PAUSES,
@@ -21,6 +22,7 @@ from tests.program.stand_in import (
     command,
     make_repository,
 )
+from tests.running import Outcome
 
 UNBUILT = Ran(1, b"", b"onixdesk: no program is built of these sources; 'make build' builds it\n")
 IS_BUILT = Ran(0, b"", b"onixdesk: crates/onixdesk/out/onixdesk is built of these sources\n")
@@ -47,7 +49,7 @@ COPIED = """\
 PROGRESS = re.compile(r"onixdesk: (\d) of (\d) crates are proved, 0 min so far")
 
 
-def build(room, *words: str, **how) -> Ran:
+def build(room: Room, *words: str, **how) -> Ran:
     return command(room, "tools/build", *words, **how)
 
 
@@ -61,7 +63,7 @@ def without_progress(errors: bytes) -> str:
     )
 
 
-def wait_for(room, name: str):
+def wait_for(room: Room, name: str) -> None:
     until = time.monotonic() + SECONDS
     while not room.path(name).exists():
         if time.monotonic() > until:
@@ -69,7 +71,7 @@ def wait_for(room, name: str):
         time.sleep(0.05)
 
 
-def a_build(room):
+def a_build(room: Room) -> Iterator[Outcome]:
     make_repository(room)
     came = build(room)
     yield Outcome("tools/build: it builds", (came.status, came.output, without_progress(came.errors)), (0, b"", SAID))
@@ -86,7 +88,7 @@ def a_build(room):
     yield Outcome("tools/build: it proves again", calls(room, "ci"), ["rt ci"] * 2)
 
 
-def a_build_anew(room):
+def a_build_anew(room: Room) -> Iterator[Outcome]:
     """It proves all, also where the program is built."""
     make_repository(room)
     build(room)
@@ -94,7 +96,7 @@ def a_build_anew(room):
     yield Outcome("tools/build anew: what it proves", calls(room, "ci"), ["rt ci", "rt ci --anew"])
 
 
-def how_far_it_is(room):
+def how_far_it_is(room: Room) -> Iterator[Outcome]:
     make_repository(room, ci=PAUSES)
     came = build(room, ONIXDESK_TOLD_EVERY="1")
     lines = [(int(it[1]), int(it[2])) for it in map(PROGRESS.fullmatch, came.errors.decode().splitlines()) if it]
@@ -103,18 +105,18 @@ def how_far_it_is(room):
     yield Outcome("tools/build: it goes on to say so", lines.count((0, 3)) > 1, True)
 
 
-def a_toolchain_that_keeps_nothing(room):
+def a_toolchain_that_keeps_nothing(room: Room) -> Iterator[Outcome]:
     make_repository(room, help="rt ci\n")
     yield Outcome("tools/build: nothing is kept", KEEPS_NOTHING in build(room).errors.decode().splitlines(), True)
 
 
-def a_note_of_the_toolchain(room):
+def a_note_of_the_toolchain(room: Room) -> Iterator[Outcome]:
     note = "rt: note: the disk fell below 5,000 MB"
     make_repository(room, ci=PROVES + f'echo "{note}"\n')
     yield Outcome("tools/build: a note", note in build(room).errors.decode().splitlines(), True)
 
 
-def a_build_that_fails(room):
+def a_build_that_fails(room: Room) -> Iterator[Outcome]:
     make_repository(room, ci=FAILS)
     came = build(room)
     log = room.path("crates/onixdesk/out/onixdesk.log")
@@ -132,7 +134,7 @@ def line_of(process: subprocess.Popen) -> bytes:
     return process.stderr.readline() if ready else b""
 
 
-def two_builds(room):
+def two_builds(room: Room) -> Iterator[Outcome]:
     """The second waits for the first, and then finds the program."""
     make_repository(room, ci=WAITS)
     first = begun(room, "tools/build")
@@ -148,7 +150,7 @@ def two_builds(room):
     yield Outcome("tools/build: both prove once", calls(room, "ci"), ["rt ci"])
 
 
-def a_source_that_changes_meanwhile(room):
+def a_source_that_changes_meanwhile(room: Room) -> Iterator[Outcome]:
     make_repository(room, ci=WAITS)
     first = begun(room, "tools/build")
     wait_for(room, "copied")
@@ -158,7 +160,7 @@ def a_source_that_changes_meanwhile(room):
     yield Outcome("tools/build: a source changed meanwhile", build(room, "sources"), UNBUILT)
 
 
-def a_build_that_is_ended(room):
+def a_build_that_is_ended(room: Room) -> Iterator[Outcome]:
     """Its toolchain ends with it, and the copy of the sources goes."""
     make_repository(room, ci='echo $$ >"$ROOM/process"\n' + WAITS)
     first = begun(room, "tools/build")
@@ -170,14 +172,14 @@ def a_build_that_is_ended(room):
     yield Outcome("tools/build: ended", (first.returncode, left), (143, (False, [])))
 
 
-def digest(room) -> bytes:
+def digest(room: Room) -> bytes:
     """The digest of the sources, by other means."""
     names = "crates.txt crates/beside/src/lib.rt crates/high/specs/High.antt crates/low/src/lib.rt " + SOURCE
     words = f"sha256sum {names} | sha256sum | cut -d ' ' -f 1"
     return subprocess.run(["sh", "-c", words], cwd=room.folder, capture_output=True, timeout=SECONDS).stdout
 
 
-def the_digest_of_the_sources(room):
+def the_digest_of_the_sources(room: Room) -> Iterator[Outcome]:
     """It is written where the program is built of them."""
     make_repository(room)
     yield Outcome("tools/build sources: no program", build(room, "sources"), UNBUILT)
@@ -188,7 +190,7 @@ def the_digest_of_the_sources(room):
     yield Outcome("tools/build sources: it builds none", calls(room, "ci"), ["rt ci"])
 
 
-def the_program_of_the_gate(room):
+def the_program_of_the_gate(room: Room) -> Iterator[Outcome]:
     """It is taken where no source is newer."""
     make_repository(room)
     room.path("crates/onixdesk/out").mkdir()
@@ -207,7 +209,7 @@ def the_program_of_the_gate(room):
     yield Outcome("launcher: the program of the gate", came, Ran(0, b"the program of the gate\n"))
 
 
-def other_words(room):
+def other_words(room: Room) -> Iterator[Outcome]:
     make_repository(room)
     for words in (["--sources"], ["sources", "adopt"], ["onixdesk"]):
         came = build(room, *words)
@@ -217,7 +219,7 @@ def other_words(room):
     yield Outcome("tools/build: it builds nothing then", calls(room, "ci"), [])
 
 
-def tests_of_an_old_program(room):
+def tests_of_an_old_program(room: Room) -> Iterator[Outcome]:
     """The tests refuse a program whose sources have changed."""
     make_repository(room)
     for name in ("tests", "bench", "lib"):

@@ -6,13 +6,15 @@ import re
 import signal
 import socket
 import struct
+from collections.abc import Iterator
 from pathlib import Path
 from typing import NamedTuple
 
 from tests.program.commands import AGREEMENT, APPLIED, FIRST
 from tests.program.databases import DATABASE, batch
-from tests.program.room import UNREADABLE, Group, Outcome, Ran
+from tests.program.room import UNREADABLE, Group, Ran, Room
 from tests.program.serving import HOST, TRIES, Exchange, connected, free_port, receive, serving
+from tests.running import Outcome
 
 
 class Client(NamedTuple):
@@ -53,7 +55,7 @@ AGREED = b"agreed,north,1\n"
 UNENDED = 40
 
 
-def clients_of_a_port(room):
+def clients_of_a_port(room: Room) -> Iterator[Outcome]:
     """None of them stops the desk. All are connected before the first that is waited for is let go."""
     yield Outcome("the agreement", batch(room, AGREEMENT), Ran(0, AGREED))
     with (
@@ -80,7 +82,7 @@ GAPS_AFTER_TWO = GAPS._replace(
 RESET = struct.pack("ii", 1, 0)
 
 
-def clients_that_are_gone(room):
+def clients_that_are_gone(room: Room) -> Iterator[Outcome]:
     """What they sent counts, though they closed their connections before their turn came."""
     yield Outcome("the agreement", batch(room, AGREEMENT), Ran(0, AGREED))
     with serving(room, ["--db", DATABASE], 5) as desk:
@@ -101,7 +103,7 @@ def clients_that_are_gone(room):
         yield Outcome("the lines of clients that were gone", desk.ended(), wanted)
 
 
-def served_until_it_is_stopped(room):
+def served_until_it_is_stopped(room: Room) -> Iterator[Outcome]:
     """Without a number of connections no client ends the desk."""
     yield Outcome("the agreement and a message", batch(room, AGREEMENT + FIRST), Ran(0, AGREED + APPLIED))
     with serving(room, ["--db", DATABASE], None) as desk:
@@ -124,7 +126,7 @@ def most_memory(desk) -> int:
     return 1024 * int(re.search(r"VmHWM:\s*([0-9]+) kB", status)[1])
 
 
-def bodies_that_do_not_come(room):
+def bodies_that_do_not_come(room: Room) -> Iterator[Outcome]:
     """A client takes memory for the bytes that it sends, and none for those that it only says."""
     head = b"POST /messages HTTP/1.1\r\nContent-Length: %d\r\n\r\n" % LARGEST
     with serving(room, [], 4) as desk:
@@ -141,7 +143,7 @@ def bodies_that_do_not_come(room):
         yield Outcome("the lines of short bodies", desk.ended(), wanted)
 
 
-def a_port_that_is_taken(room):
+def a_port_that_is_taken(room: Room) -> Iterator[Outcome]:
     with socket.socket() as listener:
         listener.bind((HOST, 0))
         listener.listen()
@@ -151,7 +153,7 @@ def a_port_that_is_taken(room):
         yield Outcome("a port that is taken", came, wanted)
 
 
-def unwritten_lines(room):
+def unwritten_lines(room: Room) -> Iterator[Outcome]:
     """The desk ends before it serves a client, where it cannot say that it listens."""
     wanted = Ran(3, b"", b"onixdesk: output\n")
     for _ in range(TRIES):

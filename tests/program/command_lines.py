@@ -1,6 +1,9 @@
 """Command lines, each by what stands behind the program's name."""
 
-from tests.program.room import Group, Outcome, Ran
+from collections.abc import Iterator
+
+from tests.program.room import Group, Ran, Room
+from tests.running import Outcome
 
 # Name, words, status. With status 0 the program prints to standard output, else to standard error, and
 # in clap's words, not as a fault of its own.
@@ -54,7 +57,7 @@ def seen(ran: Ran):
     }
 
 
-def lines(room):
+def lines(room: Room) -> Iterator[Outcome]:
     for name, words, status in LINES:
         is_help = status == 0
         wanted = {
@@ -68,7 +71,7 @@ def lines(room):
     yield Outcome("command line: the folder then", list(room.folder.iterdir()), [])
 
 
-def version(room):
+def version(room: Room) -> Iterator[Outcome]:
     """The program's name stands before its version."""
     came = room.run("--version")
     name, _, number = came.output.partition(b" ")
@@ -76,7 +79,7 @@ def version(room):
     yield Outcome("the version's text", (name, number.strip() != b"", came), wanted)
 
 
-def bad_words(room):
+def bad_words(room: Room) -> Iterator[Outcome]:
     came = room.run(b"\xff")
     wanted = Ran(2, b"", b"error: a word is not UTF-8\n")
     yield Outcome("command line: a word that is not UTF-8", came, wanted)

@@ -1,10 +1,12 @@
 """The commands `deliver` and `gaps`."""
 
+from collections.abc import Iterator
 from functools import partial
 from typing import NamedTuple
 
 from tests.program.databases import DATABASE, batch, gaps
-from tests.program.room import UNREADABLE, Group, Outcome, Ran
+from tests.program.room import UNREADABLE, Group, Ran, Room
+from tests.running import Outcome
 
 AGREEMENT = b"Agree,north,06,4012345000009,06,5012345678900,1\n"
 
@@ -115,7 +117,7 @@ DELIVERIES = [
 ]
 
 
-def deliver(case: Delivery, room):
+def deliver(case: Delivery, room: Room) -> Iterator[Outcome]:
     room.write(FILE, case.text)
     agreed = batch(room, AGREEMENT)
     came = room.run("--db", DATABASE, "deliver", *case.files, given=case.given)
@@ -140,7 +142,7 @@ PARTS = [
 LAST = b"5"
 
 
-def cut_off_behind_each_byte(room):
+def cut_off_behind_each_byte(room: Room) -> Iterator[Outcome]:
     """A message that is cut off is not applied, unless it lacks its last line end alone."""
     yield Outcome("cut off: the agreement", batch(room, AGREEMENT), Ran(0, b"agreed,north,1\n"))
     texts, answers = [b""], [b"refused,malformed,1\n"]
@@ -158,7 +160,7 @@ def cut_off_behind_each_byte(room):
     yield Outcome("cut off behind each byte", came, Ran(1, b"".join(answers)))
 
 
-def without_agreements(room):
+def without_agreements(room: Room) -> Iterator[Outcome]:
     """Without a database the desk has no agreements."""
     room.write("north.csv", FIRST)
     for words in ["deliver", "north.csv"], ["gaps", "north"], ["gaps", "North"], ["gaps", ""]:
@@ -170,7 +172,7 @@ def without_agreements(room):
         yield Outcome(f"without agreements, unwritten: {words}", came, wanted)
 
 
-def gaps_of_an_agreed_series(room):
+def gaps_of_an_agreed_series(room: Room) -> Iterator[Outcome]:
     agreed = batch(room, AGREEMENT)
     report = b"gaps,north,first=1,next=1,greatest=,held=0,missing=0\n"
     wanted = Ran(0, b"agreed,north,1\n"), Ran(0, report)

@@ -21,12 +21,14 @@ short tags in their namespace, in which columns are others.
 """
 
 import re
+from collections.abc import Iterator
 from functools import partial
 from pathlib import Path
 from typing import NamedTuple
 
 from tests.program.converter import convert
-from tests.program.room import Group, Outcome
+from tests.program.room import Group, Room
+from tests.running import Outcome
 
 FOLDER = Path(__file__).resolve().parent.parent / "conversions"
 
@@ -230,7 +232,7 @@ def read_cases(path: Path) -> list[Case]:
     return [read_case(text) for text in texts]
 
 
-def check(words: list[str], feeds: list[Feed], room):
+def check(words: list[str], feeds: list[Feed], room: Room) -> Iterator[Outcome]:
     """Converts the feeds in one run, each into a file of its own."""
     room.path("out").mkdir()
     for number, feed in enumerate(feeds):

@@ -6,13 +6,15 @@ import os
 import signal
 import subprocess
 import time
+from collections.abc import Iterator
 from functools import partial
 
 from bench.figures.conversion import within
 from tests.program.conversions import FRAMES, said
 from tests.program.converter import CONVERTER, convert
 from tests.program.converter_runs import BAD, ONE, TWO, feed_of, message_of
-from tests.program.room import SECONDS, Group, Outcome, Ran
+from tests.program.room import SECONDS, Group, Ran, Room
+from tests.running import Outcome
 
 # The longest name of a file.
 LONGEST = 255
@@ -28,7 +30,7 @@ def names(folder) -> list[str]:
 
 
 @contextlib.contextmanager
-def small_disk(room):
+def small_disk(room: Room):
     """A folder on a file system of 100 kB, or None where none may be mounted."""
     folder = room.path("disk")
     folder.mkdir()
@@ -42,7 +44,7 @@ def small_disk(room):
         subprocess.run(["umount", folder], check=True)
 
 
-def full_disk(room):
+def full_disk(room: Room) -> Iterator[Outcome]:
     """A disk that is full in the midst of a message: one line, and nothing is left on it."""
     room.write("a.xml", LARGE)
     with small_disk(room) as folder:
@@ -56,7 +58,7 @@ def full_disk(room):
         yield Outcome("a full disk, standard error closed", (status, names(folder)), (3, []))
 
 
-def largest_file(room):
+def largest_file(room: Room) -> Iterator[Outcome]:
     """A bound on the size of files stands for a full disk where none may be mounted."""
     room.write("a.xml", LARGE)
     room.path("out").mkdir()
@@ -66,7 +68,7 @@ def largest_file(room):
     yield Outcome("a file that grows too large", found, (3, said(["out: File too large"]), []))
 
 
-def run_without_error(room, *words) -> int:
+def run_without_error(room: Room, *words) -> int:
     """The status of a run whose standard error is closed."""
     script = 'exec "$@" 2>&-'
     done = subprocess.run(
@@ -79,7 +81,7 @@ def run_without_error(room, *words) -> int:
     return done.returncode
 
 
-def closed_error(room):
+def closed_error(room: Room) -> Iterator[Outcome]:
     """The statuses are the same where standard error is closed, or takes nothing."""
     room.write("a.xml", ONE)
     room.write("b.xml", BAD)
@@ -99,7 +101,7 @@ def closed_error(room):
         yield Outcome(f"standard error full: {words}", done.returncode, status)
 
 
-def stopped(number: signal.Signals, room):
+def stopped(number: signal.Signals, room: Room) -> Iterator[Outcome]:
     """A signal in the midst of a message ends it by that signal, without a word and with nothing left."""
     room.path("out").mkdir()
     process = subprocess.Popen(
@@ -122,7 +124,7 @@ def stopped(number: signal.Signals, room):
     yield Outcome(f"{number.name}: what is left", found, (-number, b"", []))
 
 
-def long_names(room):
+def long_names(room: Room) -> Iterator[Outcome]:
     """The file beside has the longest name, of a dot, the name of the message, and the process."""
     room.path("out").mkdir()
     room.write("x" * 200 + ".xml", ONE)
@@ -137,7 +139,7 @@ def long_names(room):
     yield Outcome("a name that is too long: what is left", names(room.path("out")), ["x" * 200 + ".csv"])
 
 
-def links(room):
+def links(room: Room) -> Iterator[Outcome]:
     """A link with the name of the file beside is neither followed nor written over."""
     room.write("precious", b"precious")
     room.path("out").mkdir()
@@ -153,7 +155,7 @@ def links(room):
     yield Outcome("a link beside stays", found, ([beside.name, "message.csv"], True, message_of("R1")))
 
 
-def came_meanwhile(room):
+def came_meanwhile(room: Room) -> Iterator[Outcome]:
     """A file that comes after the look at the names is not written over, and no part is placed."""
     room.path("out").mkdir()
     room.write("a.xml", TWO)
@@ -181,7 +183,7 @@ def came_meanwhile(room):
     yield Outcome("a file that came meanwhile stays alone", found, (["a.part-02.csv"], b"other"))
 
 
-def without_second_names(room):
+def without_second_names(room: Room) -> Iterator[Outcome]:
     """Where no file may have two names a message is renamed, over no file that is there."""
     room.path("out").mkdir()
     room.write("a.xml", ONE)

@@ -1,9 +1,12 @@
 """Messages up to the desk's limits of 20,000 records and 4,194,304 bytes, beyond them, and in parts."""
 
+from collections.abc import Iterator
+
 from tests.program.conversions import FRAMES, said
 from tests.program.converter import FEED, convert
 from tests.program.converter_runs import PRODUCT, feed_of, message_of
-from tests.program.room import Group, Outcome, Ran
+from tests.program.room import Group, Ran, Room
+from tests.running import Outcome
 
 RECORDS = 20_000
 BYTES = 4_194_304
@@ -36,7 +39,7 @@ def references(count: int) -> list[str]:
     return [f"R{number:05}" for number in range(count)]
 
 
-def records(room):
+def records(room: Room) -> Iterator[Outcome]:
     names = references(MOST + 1)
     room.write(FEED, feed_of(*names[:MOST]))
     came = convert(room, FEED)
@@ -74,7 +77,7 @@ def long_references(size: int) -> list[str]:
     return names
 
 
-def size(room):
+def size(room: Room) -> Iterator[Outcome]:
     names = long_references(BYTES)
     room.write(FEED, feed_of(*names))
     came = convert(room, FEED)
@@ -101,7 +104,7 @@ def product_of(details: int, prices: int) -> str:
     )
 
 
-def one_product(room):
+def one_product(room: Room) -> Iterator[Outcome]:
     why = "a Product too large for a message of 20000 records and 4194304 bytes"
     detail, price = "SupplyDetail,04,,,North,21,\n", "Price,,1,,GB,,,20250101,20251231,2\n"
     for name, details, prices in [
@@ -127,7 +130,7 @@ def one_product(room):
         yield Outcome(f"a product of 19,999 records, with {name}, left out", came, wanted)
 
 
-def a_whole_product_in_the_next_part(room):
+def a_whole_product_in_the_next_part(room: Room) -> Iterator[Outcome]:
     """A product that does not fit into what is left of a part begins the next."""
     names = references(MOST - 1)
     feed = feed_of(*names).replace(

@@ -1,11 +1,13 @@
 """How many notes `onix-to-csv` writes and counts, and fields too long for the files of tests/conversions."""
 
+from collections.abc import Iterator
 from itertools import product
 from string import ascii_uppercase
 
 from tests.program.conversions import FRAMES, MENDED, SUPPLIER, said
 from tests.program.converter import FEED, convert
-from tests.program.room import Group, Outcome, Ran
+from tests.program.room import Group, Ran, Room
+from tests.running import Outcome
 
 # The most lines of notes on a file, and the most bytes of a field.
 LINES = 1_000
@@ -39,7 +41,7 @@ def notes_on(file: str, count: int, qualifier: str) -> list[str]:
     ]
 
 
-def bounded(room):
+def bounded(room: Room) -> Iterator[Outcome]:
     """Each file has its lines, and the summary counts the notes of all."""
     room.write("a.xml", prices(LINES, "05"))
     room.write("b.xml", prices(LINES + 1, "05"))
@@ -55,7 +57,7 @@ def bounded(room):
     yield Outcome("files of many notes", found, (0, said(lines + summary).decode().splitlines()))
 
 
-def refused(room):
+def refused(room: Room) -> Iterator[Outcome]:
     """Of a file that is refused there is one line, and nothing is counted."""
     bad = prices(3, "05").replace(b"</ONIXMessage>", b"</Product>")
     room.write("a.xml", bad)
@@ -68,7 +70,7 @@ def refused(room):
     yield Outcome("a refused file of notes, and another", found, wanted)
 
 
-def regions(room):
+def regions(room: Room) -> Iterator[Outcome]:
     """Regions are read whole, however long their field is, and each of them is counted."""
     many = "GB-NIR " * 2_500
     territory = f"<Territory><RegionsIncluded>{many}WORLD</RegionsIncluded></Territory>"
@@ -102,7 +104,7 @@ def markets_of(*territories: list[str]) -> bytes:
     return feed_of("supply", f"{markets}<SupplyDetail>{SUPPLIER}</SupplyDetail>")
 
 
-def unions(room):
+def unions(room: Room) -> Iterator[Outcome]:
     """A union has room for as many countries as a field has bytes for, and no more."""
     most = (FIELD_BYTES + 1) // 3
     room.write(FEED, markets_of(COUNTRIES[:200], COUNTRIES[100:most]))
@@ -118,7 +120,7 @@ def unions(room):
     yield Outcome(f"Markets of {most + 1} countries", came, wanted)
 
 
-def long_prices(room):
+def long_prices(room: Room) -> Iterator[Outcome]:
     """A Price with a field that is too long is left out."""
     long = " ".join(COUNTRIES[:400])
     territory = f"<Territory><CountriesIncluded>{long}</CountriesIncluded></Territory>"

@@ -8,12 +8,14 @@ import pty
 import subprocess
 import time
 import zipfile
+from collections.abc import Iterator
 from functools import partial
 from typing import NamedTuple
 
 from tests.program.conversions import FRAMES, said
 from tests.program.converter import CONVERTER, FEED, convert
-from tests.program.room import SECONDS, Group, Outcome, Ran
+from tests.program.room import SECONDS, Group, Ran, Room
+from tests.running import Outcome
 
 FRAME = FRAMES["products"]
 
@@ -249,14 +251,14 @@ LATIN = [
 ]
 
 
-def encodings(room):
+def encodings(room: Room) -> Iterator[Outcome]:
     for sender, feeds in [(SENDER, ENCODINGS), ("é", LATIN)]:
         wanted = Ran(0, message_of("R1").replace(b",S,", f",{sender},".encode()))
         for feed in feeds:
             yield Outcome(f"encoding: {feed[:50]}", convert(room, given=feed), wanted)
 
 
-def check(case: Case, room):
+def check(case: Case, room: Room) -> Iterator[Outcome]:
     for name, data in case.files.items():
         room.write(name, data)
     came = convert(room, *case.words, given=case.given)
@@ -286,7 +288,7 @@ BAD_WORDS = [
 ]
 
 
-def bad_words(room):
+def bad_words(room: Room) -> Iterator[Outcome]:
     room.write("a.xml", ONE)
     room.write("b.xml", ONE)
     for words in BAD_WORDS:
@@ -300,7 +302,7 @@ def bad_words(room):
     yield Outcome("onix-to-csv --help", found, (0, b"", True))
 
 
-def full_output(room):
+def full_output(room: Room) -> Iterator[Outcome]:
     room.write(FEED, ONE)
     with open("/dev/full", "wb") as full:
         done = subprocess.run(
@@ -310,7 +312,7 @@ def full_output(room):
     yield Outcome("an output that takes nothing", (done.returncode, done.stderr), wanted)
 
 
-def terminal(room):
+def terminal(room: Room) -> Iterator[Outcome]:
     """On a terminal a line shows how far it is, and is taken away at the end."""
     ours, theirs = pty.openpty()
     process = subprocess.Popen(

@@ -1,8 +1,11 @@
 """What `onix-to-csv` takes for the words of a sender, of numbers and of parts."""
 
+from collections.abc import Iterator
+
 from tests.program.conversions import FRAMES
 from tests.program.converter import FEED, convert
-from tests.program.room import Group, Outcome, Ran
+from tests.program.room import Group, Ran, Room
+from tests.running import Outcome
 
 HEADER = "<Header>{}<MessageNumber>1</MessageNumber></Header>"
 SENDER = (
@@ -46,7 +49,7 @@ BAD = [
 ]
 
 
-def bad(room):
+def bad(room: Room) -> Iterator[Outcome]:
     room.write(FEED, feed_of(HEADER.format(SENDER)))
     for words in BAD:
         came = convert(room, *words, FEED)
@@ -66,7 +69,7 @@ GOOD = [
 ]
 
 
-def good(room):
+def good(room: Room) -> Iterator[Outcome]:
     room.write(FEED, feed_of(HEADER.format("<Sender><SenderName>North</SenderName></Sender>")))
     for words, sender, number in GOOD:
         came = convert(room, *words, FEED)

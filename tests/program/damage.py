@@ -2,11 +2,13 @@
 by a fault and nothing of it is kept, and once the value is put right the desk goes on."""
 
 import sqlite3
+from collections.abc import Iterator
 from contextlib import closing
 from functools import partial
 
 from tests.program.databases import DATABASE, batch, execute
-from tests.program.room import Group, Outcome, Ran
+from tests.program.room import Group, Ran, Room
+from tests.running import Outcome
 
 # What the desk is asked before, and what it answers.
 BEFORE = (
@@ -183,13 +185,13 @@ REQUESTS = [
 ]
 
 
-def dump(room) -> list[str]:
+def dump(room: Room) -> list[str]:
     """All that is in the file, as statements."""
     with closing(sqlite3.connect(room.path(DATABASE))) as connection:
         return list(connection.iterdump())
 
 
-def check(damage: str, repair: str, asked: bytes, answers: bytes, room):
+def check(damage: str, repair: str, asked: bytes, answers: bytes, room: Room) -> Iterator[Outcome]:
     first, first_answers = BEFORE
     came = batch(room, first)
     yield Outcome(f"before: {damage}", came, Ran(0, first_answers))
@@ -208,7 +210,7 @@ def returns(came: Ran) -> bool:
     return (came.status, came.errors) in [(0, b""), (1, b""), (FAULT.status, FAULT.errors)]
 
 
-def an_applied_text_that_is_none(room):
+def an_applied_text_that_is_none(room: Room) -> Iterator[Outcome]:
     """A delivery of that number, whose contents are others, is refused or meets the fault, and so does
     each other request return."""
     first, first_answers = BEFORE

@@ -2,42 +2,44 @@
 databases that are refused or migrated."""
 
 import sqlite3
+from collections.abc import Iterator
 from contextlib import closing
 from functools import partial
 from typing import NamedTuple
 
-from tests.program.room import UNREADABLE, Group, Outcome, Ran
+from tests.program.room import UNREADABLE, Group, Ran, Room
+from tests.running import Outcome
 
 # The database of each room.
 DATABASE = "cases.db"
 
 
-def execute(room, statements: str, file=DATABASE):
+def execute(room: Room, statements: str, file: str = DATABASE) -> None:
     """Executes statements in the database, which is made where it is missing."""
     with closing(sqlite3.connect(room.path(file))) as connection:
         connection.executescript(statements)
 
 
-def rows(room, query: str, file=DATABASE) -> list[tuple]:
+def rows(room: Room, query: str, file: str = DATABASE) -> list[tuple]:
     with closing(sqlite3.connect(room.path(file))) as connection:
         return connection.execute(query).fetchall()
 
 
-def numbers(room, query: str) -> list[int]:
+def numbers(room: Room, query: str) -> list[int]:
     return [number for (number,) in rows(room, query)]
 
 
-def table_names(room, file=DATABASE) -> list[str]:
+def table_names(room: Room, file: str = DATABASE) -> list[str]:
     query = "SELECT name FROM sqlite_schema WHERE type = 'table' ORDER BY name"
     return [name for (name,) in rows(room, query, file)]
 
 
-def all_rows(room) -> dict:
+def all_rows(room: Room) -> dict:
     """The rows of each table, in order of their columns."""
     return {table: sorted(rows(room, f"SELECT * FROM {table}")) for table in table_names(room)}
 
 
-def complaints(room) -> list[tuple]:
+def complaints(room: Room) -> list[tuple]:
     """What SQLite finds wrong with the file and its foreign keys."""
     found = rows(room, "PRAGMA integrity_check") + rows(room, "PRAGMA foreign_key_check")
     return [row for row in found if row != ("ok",)]
@@ -258,15 +260,15 @@ waived,north,2
 ]
 
 
-def batch(room, text: bytes) -> Ran:
+def batch(room: Room, text: bytes) -> Ran:
     return room.run("--db", DATABASE, "batch", given=text)
 
 
-def gaps(room) -> Ran:
+def gaps(room: Room) -> Ran:
     return room.run("--db", DATABASE, "gaps", "north")
 
 
-def tables(room) -> dict:
+def tables(room: Room) -> dict:
     """What the file holds of the one series."""
     return {
         "applied": rows(room, APPLIED),
@@ -277,7 +279,7 @@ def tables(room) -> dict:
     }
 
 
-def tables_after_a_batch(case: Kept, room):
+def tables_after_a_batch(case: Kept, room: Room) -> Iterator[Outcome]:
     """They stay so where the file is opened again and asked for its gaps."""
     wanted = {
         "applied": case.applied,
@@ -297,7 +299,7 @@ def message(number: int) -> bytes:
     return b"Message,1,06,4012345000009,06,5012345678900,%d,,,,\nEndMessage,1\n" % number
 
 
-def forty_messages_backwards(room):
+def forty_messages_backwards(room: Room) -> Iterator[Outcome]:
     """Two days of a shop, each batch a run of the program."""
     came = batch(room, b"Agree,north,06,4012345000009,06,5012345678900,1\n")
     yield Outcome("forty messages: the agreement", came, Ran(0, b"agreed,north,1\n"))
@@ -416,7 +418,7 @@ AFTER_SECOND = {
 }
 
 
-def rows_of_every_table(room):
+def rows_of_every_table(room: Room) -> Iterator[Outcome]:
     for name, (asked, answers), wanted in [
         ("a record with all that it may have", FIRST, AFTER_FIRST),
         ("a record that is deleted", SECOND, AFTER_SECOND),
@@ -425,7 +427,7 @@ def rows_of_every_table(room):
         yield Outcome(f"rows of every table: {name}", came, (Ran(0, answers), wanted, []))
 
 
-def an_empty_file(room):
+def an_empty_file(room: Room) -> Iterator[Outcome]:
     """It counts as an empty database."""
     room.write(DATABASE, b"")
     asked = b"""\
@@ -450,7 +452,7 @@ SupplyDetail,04,06,4012345000009,North Books,21,
     yield Outcome("an empty file: the gaps then", gaps(room), Ran(0, report))
 
 
-def beside_another_table(room):
+def beside_another_table(room: Room) -> Iterator[Outcome]:
     """A database without a desk's tables counts as empty, and what else it holds stays."""
     execute(room, "CREATE TABLE book (title TEXT); INSERT INTO book VALUES ('north');")
     came = batch(room, b"Agree,north,06,4012345000009,06,5012345678900,1\n")
@@ -481,14 +483,14 @@ REFUSED = [
 ]
 
 
-def is_refused(statements: str, line: bytes, room):
+def is_refused(statements: str, line: bytes, room: Room) -> Iterator[Outcome]:
     """The database is opened before anything is read."""
     execute(room, statements)
     came = room.run("--db", DATABASE, "batch", given=UNREADABLE)
     yield Outcome(f"refused: {statements}", came, Ran(3, b"", line))
 
 
-def is_opened_first(room):
+def is_opened_first(room: Room) -> Iterator[Outcome]:
     """A database that is refused is found before what the command itself would meet."""
     statements, line = REFUSED[0]
     execute(room, statements)
@@ -497,7 +499,7 @@ def is_opened_first(room):
         yield Outcome(f"the database before the command: {words}", came, Ran(3, b"", line))
 
 
-def rules_come_first(room):
+def rules_come_first(room: Room) -> Iterator[Outcome]:
     execute(room, REFUSED[-1][0])
     for command in "batch", "migrate":
         came = room.run("--db", DATABASE, "--rules", "absent.toml", command, given=UNREADABLE)
@@ -505,7 +507,7 @@ def rules_come_first(room):
         yield Outcome(f"rules before the database: {command}", came, wanted)
 
 
-def migration_of_an_empty_file(room):
+def migration_of_an_empty_file(room: Room) -> Iterator[Outcome]:
     """It becomes a desk without agreements, and one of version 2 stays as it is."""
     room.write(DATABASE, b"")
     migrate = "--db", DATABASE, "migrate"
@@ -519,7 +521,7 @@ def migration_of_an_empty_file(room):
     yield Outcome("migrate: the gaps then", came, Ran(1, b"refused,unknown-series\n"))
 
 
-def refused_migrations(room):
+def refused_migrations(room: Room) -> Iterator[Outcome]:
     """That there is no database file to migrate is found before a bad rules file."""
     came = room.run("--rules", "absent.toml", "migrate", given=UNREADABLE)
     wanted = Ran(2, b"", b"onixdesk: migrate needs --db\n")

@@ -1,6 +1,9 @@
 """The page of definitions, which `make docs` makes of the comments of specs/."""
 
-from tests.program.room import Group, Outcome
+from collections.abc import Iterator
+
+from tests.program.room import Group, Room
+from tests.running import Outcome
 from tools.specs import page
 from tools.specs.contracts import Clauses, public_modules
 from tools.specs.definitions import Name, imported, names_in, read_file
@@ -71,7 +74,7 @@ impl Model for Book {
 """
 
 
-def commented(room):
+def commented(room: Room) -> Iterator[Outcome]:
     """Each definition that a public contract reaches has a comment, or a name that says all."""
     files, listed = page.read_all(page.ROOT)
     remarks = {Name(file.crate, file.name, word): said for file in files for word, said in file.comments.items()}
@@ -83,7 +86,7 @@ def commented(room):
     yield Outcome("definitions of public contracts are found", len(listed) > 0, True)
 
 
-def comments(room):
+def comments(room: Room) -> Iterator[Outcome]:
     file = read_file("high", "Sale", SPECS)
     yield Outcome("specs: the first line", file.about, "What a shop sells.")
     wanted = {"AreBooks": "one book or several", "sold": "", "Shelf": "a shelf"}
@@ -97,7 +100,7 @@ def comments(room):
     yield Outcome("specs: names of other files", came, wanted)
 
 
-def remarks(room):
+def remarks(room: Room) -> Iterator[Outcome]:
     for comment, wanted in [
         ("how it ends. Written: these bytes. Stands: that list", "how it ends."),
         ("A fault, or none. It is told. Left: what is left", "a fault, or none. It is told."),
@@ -108,7 +111,7 @@ def remarks(room):
         yield Outcome(f"the remark of {comment!r}", page.remark(comment), wanted)
 
 
-def contracts(room):
+def contracts(room: Room) -> Iterator[Outcome]:
     texts = {
         "lib": "mod a;\npub mod b;\npub mod c;\n",
         "a": "pub mod d;\n",

@@ -8,14 +8,16 @@ import sqlite3
 import subprocess
 import threading
 import time
+from collections.abc import Iterator
 from concurrent.futures import ThreadPoolExecutor
 from contextlib import closing, contextmanager
 from pathlib import Path
 
 from desk_copy import copying
 from tests.program.databases import DATABASE, batch, execute
-from tests.program.room import SECONDS, Group, Outcome, Ran
+from tests.program.room import SECONDS, Group, Ran, Room
 from tests.program.serving import HOST, posted, serving
+from tests.running import Outcome
 from tools.root import ROOT
 
 PROGRAM = ROOT / "bin/desk-copy"
@@ -33,7 +35,7 @@ PRODUCTS = 40
 PAUSES = [0, 0, 0, 0.002, 0.15, 0.4, 0.8]
 
 
-def copy(room, *words) -> Ran:
+def copy(room: Room, *words) -> Ran:
     done = subprocess.run([PROGRAM, *words], cwd=room.folder, capture_output=True, timeout=SECONDS)
     return Ran(done.returncode, done.stdout, done.stderr)
 
@@ -51,14 +53,14 @@ def message(number: int) -> str:
 class Sender:
     """Sends messages to a desk, one after the other, and counts those that it has answered."""
 
-    def __init__(self, desk):
+    def __init__(self, desk) -> None:
         self.desk = desk
         self.sent = self.answered = 0
         self.unexpected = []
         self.is_to_end = threading.Event()
         self.thread = threading.Thread(target=self.send)
 
-    def send(self):
+    def send(self) -> None:
         seeded = random.Random(20250301)
         while not self.is_to_end.is_set():
             self.sent += 1
@@ -71,7 +73,7 @@ class Sender:
 
 
 @contextmanager
-def sending(room):
+def sending(room: Room):
     """A desk that takes messages all the while."""
     batch(room, AGREEMENT)
     with serving(room, ["--db", DATABASE], None) as desk:
@@ -98,14 +100,14 @@ def counted(database: Path) -> tuple:
         return connection.execute(COUNTED).fetchone()
 
 
-def first_next(room, database: Path) -> int:
+def first_next(room: Room, database: Path) -> int:
     """The next number of the series, as the desk says that opens the copy."""
     ran = room.run("--db", database, "--existing", "gaps", "north")
     found = re.fullmatch(rb"gaps,north,first=1,next=(\d+),greatest=\d*,held=0,missing=0\n", ran.output)
     return int(found[1]) if found else -1
 
 
-def taken(room, sender: Sender, place: int) -> str:
+def taken(room: Room, sender: Sender, place: int) -> str:
     """What is wrong with a copy that is taken now."""
     before = sender.answered
     ran = copy(room, DATABASE, f"copy-{place}")
@@ -123,7 +125,7 @@ def taken(room, sender: Sender, place: int) -> str:
     return "" if opened == as_of else f"the desk finds {opened} in place of {as_of}"
 
 
-def under_messages(room):
+def under_messages(room: Room) -> Iterator[Outcome]:
     with sending(room) as sender:
         with ThreadPoolExecutor(AT_ONCE) as pool:
             wrong = [*filter(None, pool.map(lambda place: taken(room, sender, place), range(COPIES)))]
@@ -135,7 +137,7 @@ def files(folder: Path) -> dict[str, bytes]:
     return {str(each.relative_to(folder)): each.read_bytes() for each in folder.rglob("*") if each.is_file()}
 
 
-def left(room) -> list[str]:
+def left(room: Room) -> list[str]:
     """What stands beside the desk."""
     return sorted(each.name for each in room.folder.iterdir() if not each.name.startswith(DATABASE))
 
@@ -143,7 +145,7 @@ def left(room) -> list[str]:
 SAID = rb"%s: as of \d{4}-\d\d-\d\d \d\d:\d\d:\d\d UTC, %d bytes, and %d of its log\n"
 
 
-def of_a_desk_at_rest(room):
+def of_a_desk_at_rest(room: Room) -> Iterator[Outcome]:
     batch(room, AGREEMENT)
     log = f"{DATABASE}-wal"
     wanted = {name: room.path(name).read_bytes() for name in (DATABASE, log)}
@@ -163,7 +165,7 @@ def of_a_desk_at_rest(room):
     yield Outcome("nothing else is left", left(room), ["copy", "without"])
 
 
-def kept(room):
+def kept(room: Room) -> Iterator[Outcome]:
     batch(room, AGREEMENT)
     room.path("copies").mkdir()
     yield Outcome("--keep needs its folder", copy(room, "--keep", "2", DATABASE, "none").status, 3)
@@ -181,7 +183,7 @@ def kept(room):
     yield Outcome("the new one", sorted(each.name for each in new.iterdir()), [DATABASE, f"{DATABASE}-wal"])
 
 
-def refused(room):
+def refused(room: Room) -> Iterator[Outcome]:
     batch(room, AGREEMENT)
     for name, words, line in [
         ("a missing file", ["missing.db", "copy"], "missing.db: there is no such file"),
@@ -199,7 +201,7 @@ def refused(room):
     yield Outcome("none is left", left(room), ["link.db"])
 
 
-def unsound(room):
+def unsound(room: Room) -> Iterator[Outcome]:
     room.write("text.db", b"no database" * 1000)
     execute(room, "CREATE TABLE other (item TEXT)", "other.db")
     execute(room, "CREATE TABLE meta (item TEXT, amount INTEGER)", "empty.db")
@@ -219,7 +221,7 @@ def unsound(room):
     yield Outcome("no copy is left", room.path("copy").exists(), False)
 
 
-def changed_all_the_while(room):
+def changed_all_the_while(room: Room) -> Iterator[Outcome]:
     batch(room, AGREEMENT)
     ended = threading.Event()
     log = room.path(f"{DATABASE}-wal")
@@ -244,7 +246,7 @@ def before_each_copy(act):
     """Calls what is given with the file that is copied and how many were copied before, once it was copied."""
     copied, copy_file = [], copying.copy_file
 
-    def with_it(source: Path, target: Path):
+    def with_it(source: Path, target: Path) -> None:
         copy_file(source, target)
         copied.append(source.name)
         act(source, len(copied))
@@ -256,7 +258,7 @@ def before_each_copy(act):
         copying.copy_file = copy_file
 
 
-def written_meanwhile(room):
+def written_meanwhile(room: Room) -> Iterator[Outcome]:
     """A file that is written between its copy and the end is copied again, and with the database the log."""
     head = b"a head of thirty-two bytes, ends."
     room.write("d", b"1")
@@ -266,7 +268,7 @@ def written_meanwhile(room):
     def write(name: str, data: bytes, at: int):
         return lambda _, count: room.write(name, data) if count == at else None
 
-    def replace(_, count: int):
+    def replace(_, count: int) -> None:
         if count == 2:
             room.write("new", b"5")
             room.path("new").rename(room.path("d"))
@@ -301,7 +303,7 @@ def written_meanwhile(room):
         yield Outcome(f"written meanwhile: {name}", (" ".join(order), came), (copied, ends))
 
 
-def of_another_port(room):
+def of_another_port(room: Room) -> Iterator[Outcome]:
     """A desk that is asked while its files are copied answers as before."""
     batch(room, AGREEMENT)
     with serving(room, ["--db", DATABASE], 1) as desk:

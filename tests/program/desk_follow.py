@@ -5,14 +5,16 @@ import re
 import sqlite3
 import subprocess
 import sys
+from collections.abc import Iterator
 from contextlib import closing
 
 from desk_copy.copying import Fault
 from desk_follow.rules import BadRules, Rule, rules_of
 from desk_follow.source import TABLES, opened, references_of
 from tests.program.databases import DATABASE, batch
-from tests.program.room import SECONDS, Group, Outcome, Ran
+from tests.program.room import SECONDS, Group, Ran, Room
 from tests.program.rules_files import TEXTS
+from tests.running import Outcome
 from tools.root import ROOT
 
 PROGRAM = ROOT / "bin/desk-follow"
@@ -78,7 +80,7 @@ def said_of_rules(text: bytes) -> bytes:
         return f"onixdesk: {bad}\n".encode()
 
 
-def precedence_tables(room):
+def precedence_tables(room: Room) -> Iterator[Outcome]:
     for name, text, line in TEXTS:
         yield Outcome(f"desk-follow: rules: {name}", said_of_rules(text), line)
     for text in MORE:
@@ -93,7 +95,7 @@ def precedence_tables(room):
     yield Outcome("desk-follow: rules that are read", rules_of(text), wanted)
 
 
-def lines(room) -> dict[str, list[list]]:
+def lines(room: Room) -> dict[str, list[list]]:
     """The rows of each table as PostgreSQL's COPY reads the lines."""
     unescaped = {"\\\\": "\\", "\\t": "\t", "\\n": "\n", "\\r": "\r"}
 
@@ -110,7 +112,7 @@ def lines(room) -> dict[str, list[list]]:
         }
 
 
-def rows_as_lines(room):
+def rows_as_lines(room: Room) -> Iterator[Outcome]:
     text = (
         AGREEMENTS
         + message(1, REFERENCES)
@@ -135,7 +137,7 @@ def rows_as_lines(room):
     yield Outcome("desk-follow: rows in each table", [table for table in TABLES if not wanted[table]], [])
 
 
-def what_is_touched(room):
+def what_is_touched(room: Room) -> Iterator[Outcome]:
     """The references that applied messages speak of, beyond what is known of each series."""
     batch(room, (AGREEMENTS + message(1, REFERENCES)).encode())
     with opened(room.path(DATABASE)) as source:
@@ -173,18 +175,18 @@ def what_is_touched(room):
             yield Outcome(f"desk-follow: {name}", source.touched(other), None)
 
 
-def references(room):
+def references(room: Room) -> Iterator[Outcome]:
     text = 'Product,R1,03,15,9\nProductSupply,,WORLD,\nProduct,"a ""b"", c",03,15,9\nProduct,"""",05,15,9\n'
     yield Outcome("desk-follow: references", [*references_of(text)], ["R1", 'a "b", c', '"'])
     yield Outcome("desk-follow: a waived number", [*references_of("waived")], [])
 
 
-def follow(room, *words) -> Ran:
+def follow(room: Room, *words) -> Ran:
     done = subprocess.run([PROGRAM, *words], cwd=room.folder, capture_output=True, timeout=SECONDS)
     return Ran(done.returncode, done.stdout, done.stderr)
 
 
-def refused(room):
+def refused(room: Room) -> Iterator[Outcome]:
     batch(room, AGREEMENTS.encode())
     yield Outcome("desk-follow: no words", follow(room).status, 2)
     yield Outcome("desk-follow: another word", follow(room, "--schema", "other", DATABASE).status, 2)

@@ -1,8 +1,11 @@
 """Desks that go on: what a desk in a file answers once it was closed and opened again, and what it and the
 desk in memory answer to many messages."""
 
+from collections.abc import Iterator
+
 from tests.program.databases import DATABASE, batch
-from tests.program.room import Group, Outcome, Ran
+from tests.program.room import Group, Ran, Room
+from tests.running import Outcome
 
 # What a desk is asked first, and what it answers.
 FIRST = (
@@ -62,14 +65,14 @@ offer,north,R1,1,21,12.990
 )
 
 
-def over_a_file(room):
+def over_a_file(room: Room) -> Iterator[Outcome]:
     asked, answers = FIRST
     yield Outcome("a desk in a file, first", batch(room, asked), Ran(0, answers))
     asked, answers = SECOND
     yield Outcome("a desk in a file, opened again", batch(room, asked), Ran(1, answers))
 
 
-def over_memory(room):
+def over_memory(room: Room) -> Iterator[Outcome]:
     asked, answers = (first + second for first, second in zip(FIRST, SECOND))
     came = room.run("batch", given=asked)
     yield Outcome("a desk in memory, both", came, Ran(1, answers))
@@ -89,7 +92,7 @@ AskGaps,north
 """
 
 
-def two_hundred_numbers_backwards(room):
+def two_hundred_numbers_backwards(room: Room) -> Iterator[Outcome]:
     """The desk in a file and the desk in memory answer alike."""
     agreement = "Agree,north,06,4012345000009,06,5012345678900,1\n"
     text = (agreement + "".join(map(numbered, range(200, 0, -1)))).encode()

@@ -3,9 +3,11 @@
 import os
 import shlex
 import subprocess
+from collections.abc import Iterator
 
-from tests.program.room import SECONDS, Group, Outcome, Ran
+from tests.program.room import SECONDS, Group, Ran, Room
 from tests.program.serving import free_port, posted, serving
+from tests.running import Outcome
 from tools.root import ROOT
 
 MARGIN = "    "
@@ -35,7 +37,7 @@ def example(name: str) -> bytes:
     return (ROOT / name).read_bytes()
 
 
-def first_batch(room):
+def first_batch(room: Room) -> Iterator[Outcome]:
     came = room.run("batch", given=example("examples/first.csv"))
     wanted = Ran(0, written(block("README.md", "agreed,north,1")))
     yield Outcome("README.md: the first batch", came, wanted)
@@ -43,7 +45,7 @@ def first_batch(room):
     yield Outcome("README.md: what the first batch says", shown, example("examples/first.csv"))
 
 
-def week(room):
+def week(room: Room) -> Iterator[Outcome]:
     """Each block behind the command is part of the answers."""
     answers = [line for lines in blocks("examples/shop/README.md")[1:] for line in lines]
     rules = ROOT / "examples/shop/rules.toml"
@@ -62,7 +64,7 @@ def commands(lines: list[str]) -> list[tuple[list[str], list[str]]]:
     return found
 
 
-def desk_in_a_file(room):
+def desk_in_a_file(room: Room) -> Iterator[Outcome]:
     """A desk on two days, and then over HTTP."""
     monday = block("docs/TOUR.md", "bin/onixdesk --db shop.db batch < examples/shop/monday.csv")
     tuesday = block("docs/TOUR.md", "bin/onixdesk --db shop.db gaps north")
@@ -103,7 +105,7 @@ def bare(number: int) -> str:
     return f"Message,1,06,4012345000009,06,5012345678900,{number},,,,\nEndMessage,1\n"
 
 
-def replies(room, words: list[str], inputs: list[bytes], wanted: list[str]):
+def replies(room: Room, words: list[str], inputs: list[bytes], wanted: list[str]) -> Iterator[Outcome]:
     """Each input is sent to one desk, and its reply compared with the body that the page shows."""
     with serving(room, words, len(inputs)) as desk:
         for input, body in zip(inputs, wanted, strict=True):
@@ -117,7 +119,7 @@ def asked(line: str) -> bytes:
     return f"GET {target} HTTP/1.1\r\n\r\n".encode()
 
 
-def page_of_http(room):
+def page_of_http(room: Room) -> Iterator[Outcome]:
     """Each request that the page of HTTP shows, to desks in the states that it tells of."""
     _, *deliveries = block("docs/HTTP.md", "curl -H 'Expect:' --data-binary @message.csv")
     questions = [lines for lines in blocks("docs/HTTP.md") if lines[0].startswith(("curl 'http", "curl http"))]
@@ -137,7 +139,7 @@ def page_of_http(room):
     yield Outcome("docs/HTTP.md: its questions", (len(of_articles), len(of_series)), (3, 2))
 
 
-def script(room, name: str, *words) -> Ran:
+def script(room: Room, name: str, *words) -> Ran:
     """How a script of the examples ends that runs the program of the room."""
     done = subprocess.run(
         [ROOT / "examples" / name, *words],
@@ -149,16 +151,16 @@ def script(room, name: str, *words) -> Ran:
     return Ran(done.returncode, done.stdout, done.stderr)
 
 
-def gaps_script(room, *words) -> Ran:
+def gaps_script(room: Room, *words) -> Ran:
     return script(room, "gaps.sh", *words)
 
 
-def script_of_http(room):
+def script_of_http(room: Room) -> Iterator[Outcome]:
     """The script compares each reply with the one that is written in it."""
     yield Outcome("http.sh: its replies", script(room, "http.sh", str(free_port())), Ran(0))
 
 
-def gaps_by_night(room):
+def gaps_by_night(room: Room) -> Iterator[Outcome]:
     """The script over a database file, and at the socket of a desk that is open: numbers that lack, then
     none, then series and files that are not there."""
     agreement = b"Agree,north,06,4012345000009,06,5012345678900,1\n"

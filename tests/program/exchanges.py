@@ -1,6 +1,7 @@
 """Exchanges over real sockets with one run of `serve` for each group, over a database that a batch has
 prepared. What is sent and replied stands in `exchange_cases`."""
 
+from collections.abc import Iterator
 from functools import partial
 
 from tests.program.databases import DATABASE, batch, execute
@@ -26,13 +27,14 @@ from tests.program.exchange_cases import (
     WITHOUT_AGREEMENTS,
     refusal,
 )
-from tests.program.room import Group, Outcome, Ran
+from tests.program.room import Group, Ran, Room
 from tests.program.serving import Exchange, got, in_pieces, serving
+from tests.running import Outcome
 
 WORDS = ["--db", DATABASE, "--rules", "rules.toml"]
 
 
-def agreed(room) -> Outcome:
+def agreed(room: Room) -> Outcome:
     """Prepares the desk."""
     room.write("rules.toml", RULES)
     answers = b"agreed,north,1\nagreed,south,5\nwaived,south,7\n"
@@ -47,7 +49,7 @@ def byte_by_byte(exchange: Exchange) -> list[bytes]:
     return in_pieces(exchange.input, 1)
 
 
-def all_replied(exchanges: list[Exchange], ways, room):
+def all_replied(exchanges: list[Exchange], ways, room: Room) -> Iterator[Outcome]:
     """Each exchange is as it is to be, whichever way its input comes, and so once more."""
     yield agreed(room)
     with serving(room, WORDS, len(exchanges) * len(ways)) as desk:
@@ -112,7 +114,7 @@ def cut_inputs() -> list[Exchange]:
     return [*cut, NO_NUMBERS]
 
 
-def most_input(room):
+def most_input(room: Room) -> Iterator[Outcome]:
     """A head and a body at their limits, in many pieces."""
     exchange = long_input(MOST_INPUT)
     yield agreed(room)
@@ -122,7 +124,7 @@ def most_input(room):
         yield Outcome("the line of most input", desk.ended(), desk.wanted([exchange.status()]))
 
 
-def whole_replies(room):
+def whole_replies(room: Room) -> Iterator[Outcome]:
     """These texts are whole, so that the parts of the other replies are known to be right."""
     yield agreed(room)
     with serving(room, WORDS, 2) as desk:
@@ -132,7 +134,7 @@ def whole_replies(room):
         yield Outcome("the lines of whole replies", desk.ended(), desk.wanted(["200", "405"]))
 
 
-def in_turn(desk, exchanges: list[Exchange]):
+def in_turn(desk, exchanges: list[Exchange]) -> Iterator[Outcome]:
     """Each exchange once, one after the other."""
     for exchange in exchanges:
         yield Outcome(exchange.name, desk.reply([exchange.input]), exchange.reply())
@@ -140,7 +142,7 @@ def in_turn(desk, exchanges: list[Exchange]):
     yield Outcome("the lines of exchanges in turn", desk.ended(), wanted)
 
 
-def a_waived_number(room):
+def a_waived_number(room: Room) -> Iterator[Outcome]:
     """It is waived by a batch, since no request over HTTP waives one."""
     yield agreed(room)
     with serving(room, WORDS, len(BEFORE_A_WAIVER)) as desk:
@@ -151,13 +153,13 @@ def a_waived_number(room):
         yield from in_turn(desk, AFTER_A_WAIVER)
 
 
-def a_desk_in_memory(room):
+def a_desk_in_memory(room: Room) -> Iterator[Outcome]:
     """Without a database the desk has no agreements."""
     with serving(room, [], len(WITHOUT_AGREEMENTS)) as desk:
         yield from in_turn(desk, WITHOUT_AGREEMENTS)
 
 
-def open_inputs(room):
+def open_inputs(room: Room) -> Iterator[Outcome]:
     """Clients that keep their end open."""
     yield agreed(room)
     with serving(room, WORDS, len(OPEN_INPUTS) + 1) as desk:
@@ -168,7 +170,7 @@ def open_inputs(room):
         yield Outcome("the lines of open inputs", desk.ended(), wanted)
 
 
-def faults_of_storage(room):
+def faults_of_storage(room: Room) -> Iterator[Outcome]:
     """A value that no desk has is a fault of each request that meets it, and serving goes on."""
     yield agreed(room)
     execute(room, "UPDATE series SET next_number = -1")

@@ -1,11 +1,13 @@
 """The option `--existing`: a database file that is missing is a fault, and none is made."""
 
+from collections.abc import Iterator
 from functools import partial
 
 from tests.program.commands import AGREEMENT, APPLIED, FIRST
 from tests.program.databases import DATABASE, complaints
-from tests.program.room import UNREADABLE, Group, Outcome, Ran
+from tests.program.room import UNREADABLE, Group, Ran, Room
 from tests.program.serving import got, serving
+from tests.running import Outcome
 
 UNUSABLE = Ran(3, b"", b"onixdesk: storage: unusable\n")
 
@@ -24,14 +26,14 @@ EXISTING = ["--db", DATABASE, "--existing"]
 GAPS = b"gaps,north,first=1,next=2,greatest=1,held=0,missing=0\n"
 
 
-def is_missing(command: str, room):
+def is_missing(command: str, room: Room) -> Iterator[Outcome]:
     for words in EXISTING, ["--existing", "--db", DATABASE], ["--db", f"absent/{DATABASE}", "--existing"]:
         came = room.run(*words, *command.split(), given=UNREADABLE)
         yield Outcome(f"missing: {words} {command}", came, UNUSABLE)
     yield Outcome(f"missing: the folder after {command}", list(room.folder.iterdir()), [])
 
 
-def is_a_link_to_nothing(room):
+def is_a_link_to_nothing(room: Room) -> Iterator[Outcome]:
     """What the link names is missing, and is not made either."""
     room.path(DATABASE).symlink_to("other.db")
     for command in "batch", "migrate":
@@ -41,13 +43,13 @@ def is_a_link_to_nothing(room):
     yield Outcome("a link to nothing: the folder then", names, [DATABASE])
 
 
-def rules_come_first(room):
+def rules_come_first(room: Room) -> Iterator[Outcome]:
     came = room.run(*EXISTING, "--rules", "absent.toml", "batch", given=UNREADABLE)
     wanted = Ran(2, b"", b"onixdesk: file: absent.toml\n")
     yield Outcome("rules before a missing database", came, wanted)
 
 
-def is_there(room):
+def is_there(room: Room) -> Iterator[Outcome]:
     """Each command does what it does without the option. An empty file is there too."""
     room.write(DATABASE, b"")
     room.write("message.csv", FIRST)
@@ -67,7 +69,7 @@ def is_there(room):
     yield Outcome("a database that is there: the file then", complaints(room), [])
 
 
-def an_empty_file_is_migrated(room):
+def an_empty_file_is_migrated(room: Room) -> Iterator[Outcome]:
     room.write(DATABASE, b"")
     came = room.run(*EXISTING, "migrate", given=UNREADABLE)
     yield Outcome("an empty file that is there: migrate", came, Ran(0, b"migrated\n"))

@@ -1,15 +1,17 @@
 """The week in XML of examples/shop/onix: its commands, and what its README says that they write."""
 
 import subprocess
+from collections.abc import Iterator
 
 from tests.program.examples import blocks, written
-from tests.program.room import SECONDS, Group, Outcome, Room
+from tests.program.room import SECONDS, Group, Room
+from tests.running import Outcome
 from tools.root import ROOT
 
 README = "examples/shop/onix/README.md"
 
 
-def like_the_repository(room: Room):
+def like_the_repository(room: Room) -> None:
     """The folder of the room with what the commands name, of which bin/onixdesk is the tested program."""
     room.path("bin").mkdir()
     room.path("bin/onixdesk").symlink_to(room.program)
@@ -17,7 +19,7 @@ def like_the_repository(room: Room):
     room.path("examples").symlink_to(ROOT / "examples")
 
 
-def week(room):
+def week(room: Room) -> Iterator[Outcome]:
     like_the_repository(room)
     for command, *lines in blocks(README):
         done = subprocess.run(

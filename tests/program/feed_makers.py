@@ -53,7 +53,7 @@ WRONG_DETAILS = ["supplier", "role", "name", "identifier", "availability", "unpr
 
 
 class Maker:
-    def __init__(self, random: Random):
+    def __init__(self, random: Random) -> None:
         self.random = random
 
     def is_one_of(self, count: int) -> bool:
@@ -206,7 +206,7 @@ class Maker:
     def usual(self) -> str:
         return "00" if self.is_one_of(5) else ""
 
-    def make_odd(self, price: Price):
+    def make_odd(self, price: Price) -> None:
         """Makes it one that is left out, for one reason or, now and then, several."""
         for _ in range(2 if self.is_one_of(6) else 1):
             kind = self.random.choice(["text", "text", "date", "condition", "constraint", "coded", "default"])
@@ -240,7 +240,7 @@ class Maker:
             self.make_wrong(detail)
         return detail
 
-    def make_wrong(self, detail: Detail):
+    def make_wrong(self, detail: Detail) -> None:
         """Changes it so that the desk does not take it, but in a few cases."""
         kind = self.random.choice(WRONG_DETAILS)
         if kind == "supplier":
@@ -309,7 +309,7 @@ class Maker:
             self.make_odd_product(product)
         return product
 
-    def make_odd_product(self, product: Product):
+    def make_odd_product(self, product: Product) -> None:
         kind = self.random.choice(["reference", "type", "none", "identifier", "identifier"])
         if kind == "reference" and self.is_one_of(3):
             product.reference = self.bad_text()
@@ -338,7 +338,7 @@ class Maker:
             self.make_bad(message)
         return message
 
-    def make_bad(self, message: Message):
+    def make_bad(self, message: Message) -> None:
         """Changes its header so that it is refused, but in a few cases."""
         kind = self.random.choice(["number", "number", "repeat", "sent", "type", "currency", "place"])
         if kind == "number":

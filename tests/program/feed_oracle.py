@@ -29,7 +29,7 @@ ANY = ("",)
 class Refused(Exception):
     """The message is refused, for what stands in this composite, or in none, and names one of these."""
 
-    def __init__(self, about: object = None, names: tuple[str, ...] = ANY):
+    def __init__(self, about: object = None, names: tuple[str, ...] = ANY) -> None:
         self.about = about
         self.names = names
 
@@ -37,7 +37,7 @@ class Refused(Exception):
 class Wrong(Exception):
     """The product is wrong, for a reason that names one of these."""
 
-    def __init__(self, names: tuple[str, ...] = ANY):
+    def __init__(self, names: tuple[str, ...] = ANY) -> None:
         self.names = names
 
 
@@ -170,13 +170,13 @@ class Judge:
     notes: list[Note] = field(default_factory=list)
     passed_over: dict[str, int] = field(default_factory=dict)
 
-    def note(self, about: object, *reasons: str, names: tuple[str, ...] = ANY):
+    def note(self, about: object, *reasons: str, names: tuple[str, ...] = ANY) -> None:
         self.notes.append(Note(about, self.product.reference, reasons, names))
 
-    def pass_over(self, name: str):
+    def pass_over(self, name: str) -> None:
         self.passed_over[name] = self.passed_over.get(name, 0) + 1
 
-    def note_regions(self, territory: Territory | None):
+    def note_regions(self, territory: Territory | None) -> None:
         for region in regions_left_out(territory) if territory else []:
             self.note(territory, REGION, names=(region,))
 
@@ -295,7 +295,7 @@ def size_of(records: list[Record]) -> int:
 class Filling:
     """Messages that are filled with products one after the other."""
 
-    def __init__(self, number: int, before: Record, behind: Record):
+    def __init__(self, number: int, before: Record, behind: Record) -> None:
         self.number = number
         self.before = before
         self.behind = behind
@@ -305,7 +305,7 @@ class Filling:
         opening = [*self.before, str(self.number + place), *self.behind]
         return Part(self.number + place, [opening], size_of([opening]))
 
-    def add(self, product: Product, records: list[Record]):
+    def add(self, product: Product, records: list[Record]) -> None:
         if not self.parts[-1].has_room(records):
             following = self.begun(len(self.parts))
             if not following.has_room(records):
@@ -338,7 +338,7 @@ def judge(message: Message, words: Words) -> Verdict:
     return verdict
 
 
-def put(product: Product, message: Message, words: Words, filling: Filling, verdict: Verdict):
+def put(product: Product, message: Message, words: Words, filling: Filling, verdict: Verdict) -> None:
     """Adds a product to the messages, with its notes."""
     one = Judge(message, words, product)
     try:

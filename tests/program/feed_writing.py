@@ -68,7 +68,7 @@ class Written(NamedTuple):
 class Writer:
     """Writes one message. What it chooses is told by the seed."""
 
-    def __init__(self, random: Random):
+    def __init__(self, random: Random) -> None:
         self.random = random
         self.encoding = random.choice(ENCODINGS)
         self.is_short = random.random() < 0.5
@@ -83,7 +83,7 @@ class Writer:
     def is_one_of(self, count: int) -> bool:
         return self.random.randrange(count) == 0
 
-    def append(self, piece: str):
+    def append(self, piece: str) -> None:
         self.parts.append(piece)
         self.length += len(piece)
 
@@ -143,7 +143,7 @@ class Writer:
             ]
         )
 
-    def put(self, *pieces: str):
+    def put(self, *pieces: str) -> None:
         for piece in pieces:
             self.append(piece)
             if self.is_one_of(25):
@@ -151,7 +151,7 @@ class Writer:
             elif self.is_one_of(4):
                 self.append(self.random.choice([*SPACES, "<!-- x -->"]))
 
-    def element(self, name: str, text: str, attributes: str = ""):
+    def element(self, name: str, text: str, attributes: str = "") -> None:
         """An element with that text; one without a text may be there or not. One that is empty may stand
         before it, and another behind it does not count."""
         tag = self.name(name)
@@ -164,7 +164,7 @@ class Writer:
         elif self.is_one_of(8):
             self.put(self.random.choice([f"<{tag}/>", f"<{tag}> \n</{tag}>", f"<{tag}><!-- 5 --></{tag}>"]))
 
-    def composite(self, name: str, *writes, of: object = None):
+    def composite(self, name: str, *writes, of: object = None) -> None:
         """A composite with what is written within it, `of` the one of the tree that it is."""
         tag = self.name(name)
         self.starts[of] = self.length
@@ -175,7 +175,7 @@ class Writer:
         self.ends[of] = self.length
         self.put("")
 
-    def in_any_order(self, *writes):
+    def in_any_order(self, *writes) -> None:
         writes = list(writes)
         self.random.shuffle(writes)
         for write in writes:
@@ -183,7 +183,7 @@ class Writer:
 
     # Prices.
 
-    def territory(self, territory: Territory):
+    def territory(self, territory: Territory) -> None:
         self.composite(
             "Territory",
             lambda: self.in_any_order(
@@ -197,7 +197,7 @@ class Writer:
         if territory.included and self.is_one_of(20):
             self.composite("Territory", lambda: self.element("CountriesIncluded", "ZZ"))
 
-    def price_date(self, date: PriceDate):
+    def price_date(self, date: PriceDate) -> None:
         attributes = f" dateformat={quoteattr(date.attribute)}" if date.attribute else ""
         self.composite(
             "PriceDate",
@@ -208,19 +208,19 @@ class Writer:
             ),
         )
 
-    def price(self, price: Price):
-        def coded(name: str, type_name: str, codes: list[str]):
+    def price(self, price: Price) -> None:
+        def coded(name: str, type_name: str, codes: list[str]) -> None:
             for code in codes:
                 self.composite(name, lambda: self.element(type_name, code))
 
-        def passed_over():
+        def passed_over() -> None:
             for name in price.passed_over:
                 if name == "EpubLicense":
                     self.composite(name, lambda: self.element("EpubLicenseName", "x"))
                 else:
                     self.put(f"<{self.name(name)}>02</{self.name(name)}>")
 
-        def below():
+        def below() -> None:
             self.in_any_order(
                 lambda: self.element("PriceType", price.price_type),
                 lambda: self.element("PriceQualifier", price.qualifier),
@@ -242,7 +242,7 @@ class Writer:
 
     # Supplies and products.
 
-    def identifiers(self, name: str, identifiers: list[Identifier]):
+    def identifiers(self, name: str, identifiers: list[Identifier]) -> None:
         for identifier in identifiers:
             self.composite(
                 f"{name}Identifier",
@@ -253,8 +253,8 @@ class Writer:
                 of=identifier,
             )
 
-    def detail(self, detail: Detail):
-        def supplier():
+    def detail(self, detail: Detail) -> None:
+        def supplier() -> None:
             if detail.identifiers is None:
                 return
             self.composite(
@@ -278,8 +278,8 @@ class Writer:
             ),
         )
 
-    def market(self, market: Market):
-        def restriction():
+    def market(self, market: Market) -> None:
+        def restriction() -> None:
             if market.is_restricted:
                 self.composite("SalesRestriction", lambda: self.element("SalesRestrictionType", "01"))
 
@@ -290,7 +290,7 @@ class Writer:
             of=market,
         )
 
-    def supply(self, supply: Supply):
+    def supply(self, supply: Supply) -> None:
         self.composite(
             "ProductSupply",
             lambda: [self.market(market) for market in supply.markets],
@@ -298,7 +298,7 @@ class Writer:
             of=supply,
         )
 
-    def product(self, product: Product):
+    def product(self, product: Product) -> None:
         self.composite(
             "Product",
             lambda: self.in_any_order(
@@ -312,14 +312,14 @@ class Writer:
 
     # The message.
 
-    def header(self, message: Message):
-        def sender():
+    def header(self, message: Message) -> None:
+        def sender() -> None:
             if message.sender is not None:
                 self.composite("Sender", lambda: self.identifiers("Sender", message.sender))
             if message.sender and self.is_one_of(20):
                 self.composite("Sender", lambda: self.identifiers("Sender", [Identifier("06", "second")]))
 
-        def addressees():
+        def addressees() -> None:
             for identifiers in message.addressees:
                 self.composite("Addressee", lambda: self.identifiers("Addressee", identifiers))
 
@@ -336,7 +336,7 @@ class Writer:
             ),
         )
 
-    def declarations(self, root: str):
+    def declarations(self, root: str) -> None:
         encoding = f' encoding="{self.encoding}"' if self.encoding else ""
         standalone = self.random.choice(["", "", ' standalone="yes"', " standalone='no'"])
         self.append(f'<?xml version="1.0"{encoding}{standalone}?>\n')

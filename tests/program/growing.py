@@ -2,6 +2,7 @@
 where a run was stopped."""
 
 import subprocess
+from collections.abc import Iterator
 from pathlib import Path
 from xml.etree import ElementTree
 
@@ -9,7 +10,8 @@ from bench.figures import tables
 from bench.figures.growing import planned
 from bench.figures.runs import BenchmarkFault
 from bench.figures.twin import Twin
-from tests.program.room import SECONDS, Group, Outcome
+from tests.program.room import SECONDS, Group, Room
+from tests.running import Outcome
 from tools.root import ROOT
 
 # Messages of three articles; a size of 6 articles, and then one of 12.
@@ -18,7 +20,7 @@ WORDS = ["--message", "3", "--start", "6", "--step", "2", "--questions", "2", "-
 SVG = "{http://www.w3.org/2000/svg}"
 
 
-def measured(room, end: int) -> tuple[int, list[str], bytes]:
+def measured(room: Room, end: int) -> tuple[int, list[str], bytes]:
     """The status of a run up to so many articles, the lines that begin a size, and what it said."""
     words = [ROOT / "bench/scale", "--desk", room.program, *WORDS, "--end", str(end), "grown"]
     done = subprocess.run(words, cwd=room.folder, capture_output=True, timeout=SECONDS)
@@ -26,11 +28,11 @@ def measured(room, end: int) -> tuple[int, list[str], bytes]:
     return done.returncode, [line.split(",")[0] for line in lines if line[0] != " "], done.stderr
 
 
-def lines_of(room, name: str) -> list[str]:
+def lines_of(room: Room, name: str) -> list[str]:
     return room.path(f"grown/{name}").read_text().splitlines()
 
 
-def a_desk_that_grows(room):
+def a_desk_that_grows(room: Room) -> Iterator[Outcome]:
     came = measured(room, 6)
     yield Outcome("bench/scale: up to 6 articles", came, (0, ["6 articles"], b""))
     first = lines_of(room, "sizes.csv")
@@ -47,21 +49,21 @@ def a_desk_that_grows(room):
     yield Outcome("bench/scale: the desk", gaps, b"gaps,north,first=1,next=5,greatest=4,held=0,missing=0\n")
 
 
-def picture(room):
+def picture(room: Room) -> Iterator[Outcome]:
     measured(room, 12)
     drawn = ElementTree.fromstring(room.path("growth.svg").read_bytes())
     points = [len(line.get("points").split()) for line in drawn.iter(f"{SVG}polyline")]
     yield Outcome("bench/scale: the points of its lines", points, [2] * 11)
 
 
-def twin_file(room, name: str, articles: int) -> Path:
+def twin_file(room: Room, name: str, articles: int) -> Path:
     twin = Twin(room.path(name), articles)
     twin.apply(1)
     twin.close()
     return room.path(name)
 
 
-def other_rows(room):
+def other_rows(room: Room) -> Iterator[Outcome]:
     """Files that differ in a row are told."""
     one = twin_file(room, "one.db", 2)
     found = []
@@ -74,7 +76,7 @@ def other_rows(room):
     yield Outcome("bench/scale: files compared", found, ["same", "other"])
 
 
-def sizes(room):
+def sizes(room: Room) -> Iterator[Outcome]:
     """In whole messages: 10,000 articles are two messages of 4,900, 316,228 are 65."""
     plan = planned(4_900, 10_000, 10**0.5, 1_000_000, 1)
     yield Outcome("bench/scale: sizes", plan.messages, [2, 6, 20, 65, 204])

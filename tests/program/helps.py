@@ -2,9 +2,11 @@
 written by hand: clap's layout, and sentences that say what docs/FORMATS.md and docs/HTTP.md say."""
 
 import os
+from collections.abc import Iterator
 from pathlib import Path
 
-from tests.program.room import Group, Outcome, Ran
+from tests.program.room import Group, Ran, Room
+from tests.running import Outcome
 
 FILE = Path(__file__).resolve().parent.parent / "help/commands.txt"
 
@@ -21,7 +23,7 @@ def texts() -> list[tuple[list[str], bytes]]:
     return found
 
 
-def helps(room):
+def helps(room: Room) -> Iterator[Outcome]:
     """Each text, and the same where the word `help` asks for it. The program is called as its file is."""
     commands = []
     for words, text in texts():

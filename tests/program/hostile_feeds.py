@@ -13,7 +13,8 @@ from typing import NamedTuple
 from tests.program.conversions import FRAMES
 from tests.program.converter import measured
 from tests.program.converter_runs import PRODUCT, message_of
-from tests.program.room import SECONDS, Group, Outcome, Ran
+from tests.program.room import SECONDS, Group, Ran, Room
+from tests.running import Outcome
 
 MEMORY = 64 * 1_048_576
 
@@ -241,7 +242,7 @@ CUT = [
 ]
 
 
-def check(case: Case, seconds: float, room):
+def check(case: Case, seconds: float, room: Room) -> Iterator[Outcome]:
     for python in PYTHONS:
         name = f"hostile, by {python}: {case.name}"
         came = measured(room.folder, case.pieces(), *case.words, python=python)
@@ -265,7 +266,7 @@ def listening():
         yield listener.getsockname()[1], listener
 
 
-def nothing_else_is_opened(room):
+def nothing_else_is_opened(room: Room) -> Iterator[Outcome]:
     """Neither a file nor an address that a feed names: a pipe at the file would block whoever opens it,
     and the port tells of each connection."""
     os.mkfifo(room.path("pipe"))

@@ -21,7 +21,8 @@ from tests.program.hostile_feeds import (
     check,
     typed,
 )
-from tests.program.room import SECONDS, Group, Outcome, Ran
+from tests.program.room import SECONDS, Group, Ran, Room
+from tests.running import Outcome
 
 MEGABYTE = "x" * 1_000_000
 
@@ -148,7 +149,7 @@ GOOD = {
 }
 
 
-def read(name: str, room):
+def read(name: str, room: Room) -> Iterator[Outcome]:
     for python in PYTHONS:
         came = measured(room.folder, GOOD[name](), python=python)
         yield Outcome(f"good, by {python}: {name}", came.ran, Ran(0, message_of("R1")))

@@ -7,6 +7,7 @@ import os
 import threading
 import time
 import zipfile
+from collections.abc import Iterator
 from functools import partial
 from io import BytesIO
 
@@ -28,8 +29,9 @@ from tests.program.inboxes import (
     script,
     taken,
 )
-from tests.program.room import Group, Outcome, Ran
+from tests.program.room import Group, Ran, Room
 from tests.program.serving import free_port, serving
+from tests.running import Outcome
 
 UNREAD_XML = b"<ONIXMessage release='2.1'/>"
 
@@ -43,7 +45,7 @@ def zipped(data: bytes) -> bytes:
     return packed.getvalue()
 
 
-def each_kind_of_file(room):
+def each_kind_of_file(room: Room) -> Iterator[Outcome]:
     """Those that are applied and held, in the order in which they were written, and those that the desk
     refuses."""
     yield Outcome("inbox: the agreement", batch(room, AGREEMENT), Ran(0, b"agreed,north,1\n"))
@@ -81,7 +83,7 @@ def each_kind_of_file(room):
         yield Outcome("inbox: the lines of the desk", desk.ended(), lines)
 
 
-def what_the_converter_takes(room):
+def what_the_converter_takes(room: Room) -> Iterator[Outcome]:
     """It gets each feed under an ending that it knows, and none of its name; what it refuses is told by its
     last line."""
     feeds = {"a.xml": "feed.xml", "b.ONIX": "feed.onix", "c.onx": "feed.onx", "d.gz": "feed.xml.gz",
@@ -99,7 +101,7 @@ def what_the_converter_takes(room):
     yield Outcome("inbox: the names that the converter is given", kept, lines)
 
 
-def a_feed_that_is_refused(room):
+def a_feed_that_is_refused(room: Room) -> Iterator[Outcome]:
     inbox = Inbox(room, 1)
     inbox.put({"d.onix": UNREAD_XML, "e.zip": b"no zip"})
     came = inbox.run()
@@ -109,7 +111,7 @@ def a_feed_that_is_refused(room):
     yield Outcome("inbox: feeds that the converter refuses", found, wanted)
 
 
-def packed_feeds(room):
+def packed_feeds(room: Room) -> Iterator[Outcome]:
     batch(room, AGREEMENT)
     with serving(room, WORDS, 2) as desk:
         inbox = Inbox(room, desk.port)
@@ -118,7 +120,7 @@ def packed_feeds(room):
         yield Outcome("inbox: packed feeds", inbox.run(), wanted)
 
 
-def names_that_come_again(room):
+def names_that_come_again(room: Room) -> Iterator[Outcome]:
     """The same file again stands once; another of its name gets a number."""
     batch(room, AGREEMENT)
     one, two, other = feed_of("R1"), numbered(["R2"], 2), feed_of("R3")
@@ -137,7 +139,7 @@ def names_that_come_again(room):
     yield Outcome("inbox: names that come again", inbox.kept(), wanted)
 
 
-def words_of_the_converter(room):
+def words_of_the_converter(room: Room) -> Iterator[Outcome]:
     """Parts, of which one is refused, and what is left out, which is told in a summary."""
     batch(room, AGREEMENT + message_of("R9", number=2))
     one, two = feed_of("R1", ""), numbered(["R2", ""], 2)
@@ -162,7 +164,7 @@ def words_of_the_converter(room):
         yield Outcome("inbox: the notes", notes.startswith("onix-to-csv: feed.xml:3"), True)
 
 
-def what_waits(room):
+def what_waits(room: Room) -> Iterator[Outcome]:
     """A file waits where there is no desk, where one answers 503, and where the converter is called badly. It is
     told once, and taken later."""
     batch(room, AGREEMENT)
@@ -199,7 +201,7 @@ def what_waits(room):
         yield Outcome("inbox: what waited is kept", inbox.kept(), kept)
 
 
-def what_is_still_written(room):
+def what_is_still_written(room: Room) -> Iterator[Outcome]:
     """A file that has just changed waits, whatever time of writing it was given, and one that is renamed too."""
     batch(room, AGREEMENT)
     files = {"a.xml": feed_of("R1"), ".b.xml": feed_of("R1"), "c.xml.part": feed_of("R1")}
@@ -221,12 +223,12 @@ def what_is_still_written(room):
         yield Outcome("inbox: what is written", inbox.run(), said(*lines))
 
 
-def what_lies_long(room):
+def what_lies_long(room: Room) -> Iterator[Outcome]:
     """A file that lies there for an hour makes one run fail; a file that has its name later begins anew."""
     inbox = Inbox(room, 1)
     lines = "a.rar: not taken: its name has no known ending", "b.csv: " + NOBODY.format(1)
 
-    def an_hour_goes_by():
+    def an_hour_goes_by() -> None:
         told = json.loads(inbox.state.joinpath("told").read_text())
         for lying in told.values():
             lying["since"] -= 3600
@@ -248,7 +250,7 @@ def what_lies_long(room):
 CHANGING = {"replaced": "mv {}/next {}/a.xml", "grown": "cat {}/next >{}/a.xml"}
 
 
-def what_changes_meanwhile(change: str, room):
+def what_changes_meanwhile(change: str, room: Room) -> Iterator[Outcome]:
     """What was copied is taken, and what the file became is taken behind it."""
     batch(room, AGREEMENT)
     one, two = numbered(["R1"], 1), numbered(["R2"], 2)
@@ -269,7 +271,7 @@ def what_changes_meanwhile(change: str, room):
         yield Outcome(f"inbox: {change}, the desk", desk.ended(), desk.wanted(["200", "200"]))
 
 
-def conversions_that_do_not_end(room):
+def conversions_that_do_not_end(room: Room) -> Iterator[Outcome]:
     """One that takes too long, and one that is killed: their files are refused, so that they hold up no other."""
     batch(room, AGREEMENT)
     program = script(room, "converter", 'for word; do :; done; case $(cat "$word") in long) exec sleep 60 ;;'
@@ -295,14 +297,14 @@ class Stranger(http.server.BaseHTTPRequestHandler):
 
     status, body = 200, b"hello"
 
-    def do_POST(self):
+    def do_POST(self) -> None:
         self.rfile.read(int(self.headers["Content-Length"]))
         self.send_response(self.status)
         self.send_header("Content-Length", str(len(self.body)))
         self.end_headers()
         self.wfile.write(self.body)
 
-    def log_message(self, *_):
+    def log_message(self, *_) -> None:
         pass
 
 
@@ -317,7 +319,7 @@ STRANGE = [
 ]
 
 
-def other_servers(room):
+def other_servers(room: Room) -> Iterator[Outcome]:
     """What is no answer of a desk takes no file, and reaches no terminal as it is."""
     files = {"b.csv": message_of(number=2)}
     for status, body in STRANGE:
@@ -333,7 +335,7 @@ def other_servers(room):
             server.shutdown()
 
 
-def senders(room):
+def senders(room: Room) -> Iterator[Outcome]:
     """With SENDER only its messages are posted; without it one that is of another series is told."""
     batch(room, AGREEMENT + b"Agree,south,06,T,,,1\n")
     foreign = message_of("R1").replace(b",06,S,", b",06,T,")
@@ -354,7 +356,7 @@ def senders(room):
         yield Outcome("inbox: another series", inbox.run(), said(line, status=1))
 
 
-def too_large(room):
+def too_large(room: Room) -> Iterator[Outcome]:
     """Records that the desk would not take are not sent."""
     inbox = Inbox(room, 1)
     inbox.put({"a.csv": b" " * 4_194_305})
@@ -362,7 +364,7 @@ def too_large(room):
     yield Outcome("inbox: too large a message", inbox.run(), said(line, status=1))
 
 
-def two_at_once(room):
+def two_at_once(room: Room) -> Iterator[Outcome]:
     """Each message is posted once."""
     batch(room, AGREEMENT)
     count = 6
@@ -396,7 +398,7 @@ BAD_SETTINGS = {
 }
 
 
-def bad_settings(room):
+def bad_settings(room: Room) -> Iterator[Outcome]:
     inbox = Inbox(room, 1)
     for text, why in BAD_SETTINGS.items():
         room.write("settings.conf", text.encode())
@@ -407,7 +409,7 @@ def bad_settings(room):
     yield Outcome("inbox: no settings", inbox.run(), wanted)
 
 
-def bad_folders(room):
+def bad_folders(room: Room) -> Iterator[Outcome]:
     inbox = Inbox(room, 1)
     incoming = inbox.incoming
     inbox.state = incoming / "state"
@@ -426,7 +428,7 @@ def bad_folders(room):
     yield Outcome("inbox: no folder", inbox.run(), wanted)
 
 
-def bad_calls(room):
+def bad_calls(room: Room) -> Iterator[Outcome]:
     inbox = Inbox(room, 1)
     for series in ["", "North", "a/b", "x" * 33, "\x1b[2J"]:
         inbox.series = series

@@ -5,6 +5,7 @@ import os
 import socket
 import subprocess
 import sys
+from collections.abc import Iterator
 from functools import partial
 from pathlib import Path
 
@@ -12,13 +13,14 @@ from bench.figures.conversion import within
 from tests.program.converter_runs import feed_of, message_of
 from tests.program.databases import batch
 from tests.program.inboxes import AGREEMENT, WORDS, Inbox, ended, of_series, said, taken
-from tests.program.room import Group, Outcome, Room
+from tests.program.room import Group, Room
 from tests.program.serving import serving
+from tests.running import Outcome
 
 SECRET = b"of the shop alone"
 
 
-def files_that_programs_read(room):
+def files_that_programs_read(room: Room) -> Iterator[Outcome]:
     """What Python, curl and the shell read in a home is not read, where the folder is the home; no proxy of the
     environment is asked either."""
     batch(room, AGREEMENT)
@@ -48,7 +50,7 @@ def files_that_programs_read(room):
         yield Outcome("inbox: what they did", [trace.exists() for trace in traces], [False] * 4)
 
 
-def what_is_no_file(room):
+def what_is_no_file(room: Room) -> Iterator[Outcome]:
     """It lies on, is told, and opens nothing: a named pipe would be waited for, a link be followed."""
     room.write("secret.csv", message_of("R1"))
     room.path("folder").mkdir()
@@ -92,7 +94,7 @@ NAMES = {
 }
 
 
-def strange_names(room):
+def strange_names(room: Room) -> Iterator[Outcome]:
     """Names with dashes, spaces, line ends, escapes and bytes that are no letters: files that are taken, and one
     that lies on."""
     batch(room, AGREEMENT)
@@ -111,7 +113,7 @@ def strange_names(room):
         yield Outcome("inbox: strange names, the desk", desk.ended(), desk.wanted(["200"] * len(NAMES)))
 
 
-def long_names(room):
+def long_names(room: Room) -> Iterator[Outcome]:
     """They are cut in the middle, so that a number and an ending have room, and keep their ending."""
     batch(room, AGREEMENT)
     long, escaped = "a" * 251 + ".csv", "\x1b" * 120 + "b.csv"
@@ -156,7 +158,7 @@ runpy.run_path(sys.argv[0], run_name="__main__")
 """
 
 
-def swapped(what: str, room: Room):
+def swapped(what: str, room: Room) -> Iterator[Outcome]:
     """A file that becomes something else between the look at it and its opening is not taken."""
     statement, why = SWAPS[what]
     room.write("secret.csv", message_of("R1"))
@@ -173,7 +175,7 @@ def swapped(what: str, room: Room):
     yield Outcome(f"inbox: nothing is kept of {what}", inbox.kept(), {})
 
 
-def no_room(room):
+def no_room(room: Room) -> Iterator[Outcome]:
     """Where a copy has no room, the file waits, and what was begun of it is taken away."""
     inbox = Inbox(room, 1)
     files = {"a.csv": b" " * 100_000}
@@ -184,7 +186,7 @@ def no_room(room):
     yield Outcome("inbox: a copy without room", found, (wanted, files, {}, False))
 
 
-def rights(room):
+def rights(room: Room) -> Iterator[Outcome]:
     """What it keeps is for its own user alone, whatever the file was."""
     batch(room, AGREEMENT)
     with serving(room, WORDS, 1) as desk:
@@ -197,7 +199,7 @@ def rights(room):
         yield Outcome("inbox: the rights of what is kept", modes, {0o600, 0o700})
 
 
-def as_another_user(room):
+def as_another_user(room: Room) -> Iterator[Outcome]:
     """A file that cannot be read is told, by a user who is not root. Nothing is tried where the tests are run by
     another user, or their folders cannot be reached by one."""
     readable = all(path.stat().st_mode & 0o001 for path in Path(__file__).resolve().parents)

@@ -8,6 +8,7 @@ import re
 import shutil
 import signal
 import threading
+from collections.abc import Iterator
 from functools import partial
 
 from bench.figures.conversion import within
@@ -28,8 +29,9 @@ from tests.program.inboxes import (
     taken,
     unnumbered,
 )
-from tests.program.room import Group, Outcome, Room
+from tests.program.room import Group, Room
 from tests.program.serving import serving
+from tests.running import Outcome
 
 BEFORE = "; these bytes had that number before"
 
@@ -42,7 +44,7 @@ def numbers_kept(inbox: Inbox) -> list[str]:
     return inbox.state.joinpath("numbers").read_text().splitlines()
 
 
-def next_numbers(room):
+def next_numbers(room: Room) -> Iterator[Outcome]:
     """Feeds get numbers in the order in which they were written, and the same bytes the same one."""
     batch(room, AGREEMENT)
     records = message_of(number=3)
@@ -65,7 +67,7 @@ def next_numbers(room):
         yield Outcome("inbox: a feed that is refused has no number", found, wanted)
 
 
-def numbers_of_parts(room):
+def numbers_of_parts(room: Room) -> Iterator[Outcome]:
     """A feed of P parts gets P numbers, and begins with one that begins a feed."""
     batch(room, AGREEMENT + b"Agree,odd,06,T,,,2\n")
     with serving(room, WORDS, CONNECTIONS) as desk:
@@ -88,20 +90,20 @@ class Failing(http.server.BaseHTTPRequestHandler):
 
     status, body = 503, b'{"answer":"fault","reason":"disk"}'
 
-    def reply(self, status: int, body: bytes):
+    def reply(self, status: int, body: bytes) -> None:
         self.send_response(status)
         self.send_header("Content-Length", str(len(body)))
         self.end_headers()
         self.wfile.write(body)
 
-    def do_GET(self):
+    def do_GET(self) -> None:
         self.reply(200, b'{"answer":"gaps","next":1}')
 
-    def do_POST(self):
+    def do_POST(self) -> None:
         self.rfile.read(int(self.headers["Content-Length"]))
         self.reply(self.status, self.body)
 
-    def log_message(self, *_):
+    def log_message(self, *_) -> None:
         pass
 
 
@@ -115,7 +117,7 @@ def run_at_a_failing_desk(inbox: Inbox, status: int, body: bytes):
     return came
 
 
-def numbers_after_faults(room):
+def numbers_after_faults(room: Room) -> Iterator[Outcome]:
     """A file that was given a number and could not be posted goes before all others, also where it is no longer
     there; one that was refused gives its number back."""
     batch(room, AGREEMENT)
@@ -149,7 +151,7 @@ def numbers_after_faults(room):
         yield Outcome("inbox: numbers after faults", inbox.run(), said(*lines))
 
 
-def numbers_that_were_cut(room):
+def numbers_that_were_cut(room: Room) -> Iterator[Outcome]:
     """A line that a loss of power has cut is as none, and the next one takes its place."""
     batch(room, AGREEMENT)
     one, two = unnumbered("R1"), unnumbered("R2")
@@ -217,7 +219,7 @@ def steps(share: int):
     return range(share + 1, MOST, SHARES)
 
 
-def killed_with_own_numbers(share: int, room: Room):
+def killed_with_own_numbers(share: int, room: Room) -> Iterator[Outcome]:
     """Killed at any step, the next run brings all to the same end."""
     batch(room, AGREEMENT)
     converter = script(room, "converter", CONVERTER)
@@ -244,7 +246,7 @@ def killed_with_own_numbers(share: int, room: Room):
 GAPS = b'{"answer":"gaps","first":1,"greatest":3,"held":1,"missing":[[1,2]],"next":1,"series":"north"}'
 
 
-def killed_with_next_numbers(share: int, room: Room):
+def killed_with_next_numbers(share: int, room: Room) -> Iterator[Outcome]:
     """Killed at any step, each file is applied once: also where one that was written before it comes, or where it
     is taken away meanwhile."""
     batch(room, "".join(f"Agree,s{step},06,S{step},,,1\n" for step in range(1, MOST)).encode())

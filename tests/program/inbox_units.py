@@ -2,10 +2,12 @@
 
 import re
 import subprocess
+from collections.abc import Iterator
 
 from bench.figures.conversion import within
 from tests.program.inboxes import PROGRAM, script
-from tests.program.room import SECONDS, Group, Outcome, Room
+from tests.program.room import SECONDS, Group, Room
+from tests.running import Outcome
 from tools.root import ROOT
 
 FOLDER = ROOT / "examples/inbox"
@@ -53,7 +55,7 @@ def lines_of(name: str) -> list[str]:
     return FOLDER.joinpath(name).read_text(encoding="utf-8").splitlines()
 
 
-def what_is_forbidden(_room):
+def what_is_forbidden(_room) -> Iterator[Outcome]:
     for name, unit in UNITS.items():
         lines = unit.read_text(encoding="utf-8").splitlines()
         wanted = [*FORBIDDEN, f"RestrictAddressFamilies={FAMILIES[name]}"]
@@ -62,7 +64,7 @@ def what_is_forbidden(_room):
         yield Outcome(f"units: the limits of {name}", limits, [])
 
 
-def places(_room):
+def places(_room) -> Iterator[Outcome]:
     """The units name the folders that the program takes without options, and the unit's name has the series."""
     help = subprocess.run([PROGRAM, "--help"], capture_output=True, text=True, timeout=SECONDS).stdout
     incoming, state = (
@@ -88,7 +90,7 @@ def without_line(text: str, name: str) -> str:
     return re.sub(rf"^{name}=.*\n", "", text, flags=re.MULTILINE)
 
 
-def example_of_settings(room: Room):
+def example_of_settings(room: Room) -> Iterator[Outcome]:
     """It is read, and has what holds where a line is left out."""
     text = FOLDER.joinpath("example.conf").read_text(encoding="utf-8")
     names = re.findall("^([A-Z_]+)=", text, flags=re.MULTILINE)
@@ -107,7 +109,7 @@ def example_of_settings(room: Room):
     yield Outcome("docs/INBOX.md: the settings", re.findall(r"^\| `([A-Z_]+)` \|", page, flags=re.MULTILINE), names)
 
 
-def mails(room: Room):
+def mails(room: Room) -> Iterator[Outcome]:
     """The mail has the journal's lines, and goes to the address."""
     script(room, "sendmail", 'echo "words: $*"; cat')
     script(room, "journalctl", 'echo "journal of: $*"')
@@ -125,7 +127,7 @@ def mails(room: Room):
 VERSION = re.compile(r'^const VERSION: &str = "([0-9]+\.[0-9]+\.[0-9]+)";$', re.MULTILINE)
 
 
-def version(room: Room):
+def version(room: Room) -> Iterator[Outcome]:
     """It stands in the program's source alone, from which the package and the manual pages have it."""
     source = ROOT.joinpath("crates/onixdesk/src/commands.rt").read_text(encoding="utf-8")
     number = VERSION.search(source)[1]

@@ -59,7 +59,7 @@ def files_in(folder: Path) -> dict[str, bytes]:
 class Inbox:
     """The inbox of a series, in a room: what comes in, what it keeps, and its settings."""
 
-    def __init__(self, room: Room, port: int, series: str = "north", **settings: object):
+    def __init__(self, room: Room, port: int, series: str = "north", **settings: object) -> None:
         self.room = room
         self.port = port
         self.series = series
@@ -68,12 +68,12 @@ class Inbox:
         self.incoming.mkdir(exist_ok=True)
         self.set(**settings)
 
-    def set(self, **settings: object):
+    def set(self, **settings: object) -> None:
         """Writes the settings anew."""
         lines = {"DESK": f"http://127.0.0.1:{self.port}", "UNCHANGED_SECONDS": 0} | settings
         self.room.write("settings.conf", "".join(f"{name}={value}\n" for name, value in lines.items()).encode())
 
-    def put(self, files: dict[str, bytes]):
+    def put(self, files: dict[str, bytes]) -> None:
         """Puts files there, each later than the one before."""
         for name, data in files.items():
             path = self.incoming / name

@@ -1,9 +1,11 @@
 """Inputs that are long or bad, and streams that fail."""
 
 import subprocess
+from collections.abc import Iterator
 
 from tests.program.databases import DATABASE, batch, gaps
-from tests.program.room import SECONDS, UNREADABLE, Group, Outcome, Ran
+from tests.program.room import SECONDS, UNREADABLE, Group, Ran, Room
+from tests.running import Outcome
 
 AGREEMENT = b"Agree,north,06,4012345000009,06,5012345678900,1\n"
 
@@ -52,19 +54,19 @@ INPUTS = [
 ]
 
 
-def long_and_bad_inputs(room):
+def long_and_bad_inputs(room: Room) -> Iterator[Outcome]:
     for name, text, wanted in INPUTS:
         yield Outcome(name, room.run("batch", given=text), wanted)
 
 
-def broken_streams(room):
+def broken_streams(room: Room) -> Iterator[Outcome]:
     came = room.run("batch", given=UNREADABLE)
     yield Outcome("an input that cannot be read", came, Ran(3, b"", b"onixdesk: input: read\n"))
     came = room.run("batch", given=b"Foo,1\n", is_full=True)
     yield Outcome("an output that takes nothing", came, Ran(3, b"", b"onixdesk: output\n"))
 
 
-def unended_input(room):
+def unended_input(room: Room) -> Iterator[Outcome]:
     """A text above the limit is read to one byte past it, and its end is not waited for."""
     with room.start("batch", stdin=subprocess.PIPE) as process:
         try:
@@ -81,7 +83,7 @@ def report(text: bytes) -> Ran:
     return Ran(0, b"gaps,north,first=1,%s,held=0,missing=0\n" % text)
 
 
-def broken_streams_over_a_file(room):
+def broken_streams_over_a_file(room: Room) -> Iterator[Outcome]:
     """After a failed read the desk is as before, and after the failed write of an answer its request
     has had its effect, and no later one."""
     yield Outcome("broken streams: the agreement", batch(room, AGREEMENT), Ran(0, b"agreed,north,1\n"))

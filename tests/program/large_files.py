@@ -4,8 +4,10 @@ import errno
 import os
 import pty
 import subprocess
+from collections.abc import Iterator
 
-from tests.program.room import SECONDS, Group, Outcome
+from tests.program.room import SECONDS, Group, Room
+from tests.running import Outcome
 
 WORDS = ["--db", "large.db", "--existing", "gaps", "north"]
 
@@ -15,7 +17,7 @@ UNUSABLE = "onixdesk: storage: unusable"
 FILES = [(50_000_000, []), (50_000_001, ["onixdesk: checking large.db, 50 MB"])]
 
 
-def make_file(room, size: int):
+def make_file(room: Room, size: int) -> None:
     """A file of zeros, of which the disk keeps none."""
     room.write("large.db", b"")
     os.truncate(room.path("large.db"), size)
@@ -33,7 +35,7 @@ def read_to_end(terminal) -> bytes:
     return text
 
 
-def said_on_terminal(room) -> list[str]:
+def said_on_terminal(room: Room) -> list[str]:
     """The lines on standard error, where that is a terminal."""
     ours, theirs = pty.openpty()
     with os.fdopen(ours, "rb", buffering=0) as terminal:
@@ -43,13 +45,13 @@ def said_on_terminal(room) -> list[str]:
         return read_to_end(terminal).decode().splitlines()
 
 
-def on_a_terminal(room):
+def on_a_terminal(room: Room) -> Iterator[Outcome]:
     for size, told in FILES:
         make_file(room, size)
         yield Outcome(f"a file of {size} bytes on a terminal", said_on_terminal(room), [*told, UNUSABLE])
 
 
-def elsewhere(room):
+def elsewhere(room: Room) -> Iterator[Outcome]:
     make_file(room, 100_000_000)
     came = room.run(*WORDS).errors.decode().splitlines()
     yield Outcome("a large file where standard error is no terminal", came, [UNUSABLE])

@@ -4,9 +4,11 @@ import os
 import shutil
 import subprocess
 import time
+from collections.abc import Iterator
 
-from tests.program.room import SECONDS, UNREADABLE, Group, Outcome, Ran
+from tests.program.room import SECONDS, UNREADABLE, Group, Ran, Room
 from tests.program.stand_in import FAILS, WAITS, begun, calls, change_source, command, environment, make_repository, tries
+from tests.running import Outcome
 
 TO_BUILD = "'make build' proves and builds it, in about an hour the first time"
 TO_WAIT = "'make build' waits for it"
@@ -44,7 +46,7 @@ def wanting(why: str, remedy: str = TO_BUILD) -> Ran:
     return Ran(3, b"", line(f"{why}, and this wants it; {remedy}"))
 
 
-def launch(room, *words: str, **how) -> Ran:
+def launch(room: Room, *words: str, **how) -> Ran:
     return command(room, "bin/onixdesk", *words, **how)
 
 
@@ -54,7 +56,7 @@ def answered(words: str, given: bytes = BATCH, status: int = 0, why: str = UNBUI
     return Ran(status, f"in crates/onixdesk: {words}\n".encode() + given, said)
 
 
-def a_batch_without_a_program(room):
+def a_batch_without_a_program(room: Room) -> Iterator[Outcome]:
     """Standard output has the answers alone, and the status is that of the batch."""
     for status in (0, 1, 2, 3):
         make_repository(room, unproved=tries(status))
@@ -66,7 +68,7 @@ def a_batch_without_a_program(room):
     yield Outcome("launcher: it builds nothing", calls(room, "ci"), [])
 
 
-def a_slow_batch(room):
+def a_slow_batch(room: Room) -> Iterator[Outcome]:
     """An input that pauses is whole, since `rt try` is given it as a file."""
     make_repository(room, unproved=tries(0))
     words = "(echo first; sleep 2.5; echo second) | bin/onixdesk batch"
@@ -76,7 +78,7 @@ def a_slow_batch(room):
     yield Outcome("launcher: an input that pauses", came, answered("try -- batch", b"first\nsecond\n"))
 
 
-def a_batch_by_rules(room):
+def a_batch_by_rules(room: Room) -> Iterator[Outcome]:
     """The rules file is that of the caller's folder, and a copy of it is handed on."""
     make_repository(room, unproved='cat "${3#rules.toml=}"\n' + tries(1))
     room.path("elsewhere").mkdir()
@@ -91,7 +93,7 @@ def a_batch_by_rules(room):
     yield Outcome("launcher: a rules file that is missing", came, wanted)
 
 
-def streams_that_fail(room):
+def streams_that_fail(room: Room) -> Iterator[Outcome]:
     make_repository(room, unproved=tries(0))
     how = {"cwd": room.folder, "env": environment(room), "capture_output": True, "timeout": SECONDS}
     came = launch(room, "batch", given=UNREADABLE)
@@ -102,7 +104,7 @@ def streams_that_fail(room):
         yield Outcome(f"launcher: a batch {words}", came, Ran(3, b"", line(last)))
 
 
-def without_an_answer(room):
+def without_an_answer(room: Room) -> Iterator[Outcome]:
     """Where `rt try` gives no answer, what it says is shown."""
     ends = [
         (6, "checked: no-answer: the program wrote too much", "run=no-answer proved=no"),
@@ -120,14 +122,14 @@ def without_an_answer(room):
             shutil.rmtree(room.path(name))
 
 
-def anything_else_without_a_program(room):
+def anything_else_without_a_program(room: Room) -> Iterator[Outcome]:
     make_repository(room, unproved=tries(0))
     for words in WANTING:
         yield Outcome(f"launcher: unbuilt, {words}", launch(room, *words), wanting(UNBUILT))
     yield Outcome("launcher: it runs no toolchain", calls(room, ""), [])
 
 
-def no_toolchain(room):
+def no_toolchain(room: Room) -> Iterator[Outcome]:
     make_repository(room, unproved=tries(0))
     room.path("tools/rt").unlink()
     room.path("commands").mkdir()
@@ -140,7 +142,7 @@ def no_toolchain(room):
     yield Outcome("tools/build: no rt", command(room, "tools/build", **path), Ran(1, b"", missing))
 
 
-def a_built_program(room):
+def a_built_program(room: Room) -> Iterator[Outcome]:
     """It is run, from the caller's folder, on the words and the input that it is given."""
     make_repository(room, unproved=tries(0))
     command(room, "tools/build")
@@ -154,7 +156,7 @@ def a_built_program(room):
     yield Outcome("launcher: it runs no toolchain then", calls(room, ""), tried)
 
 
-def an_old_program(room):
+def an_old_program(room: Room) -> Iterator[Outcome]:
     """One whose sources have changed is not run; nor is one that is not the one that was built."""
     make_repository(room, unproved=tries(1))
     command(room, "tools/build")
@@ -169,7 +171,7 @@ def an_old_program(room):
     yield Outcome("launcher: another program", launch(room, "gaps", "north").status, 3)
 
 
-def a_program_that_is_being_built(room):
+def a_program_that_is_being_built(room: Room) -> Iterator[Outcome]:
     make_repository(room, ci=WAITS, unproved=tries(0))
     build = begun(room, "tools/build")
     until = time.monotonic() + SECONDS
@@ -186,7 +188,7 @@ def a_program_that_is_being_built(room):
     yield Outcome("launcher: then it is run", came, Ran(1, b"ran gaps north\n"))
 
 
-def after_a_build_that_fails(room):
+def after_a_build_that_fails(room: Room) -> Iterator[Outcome]:
     make_repository(room, ci=FAILS, unproved=tries(0))
     command(room, "tools/build")
     yield Outcome("launcher: after a build that fails", launch(room, "gaps", "north"), wanting(UNBUILT))

@@ -1,11 +1,13 @@
 """What `bench/run` measures: its batches are answered as they are meant, and its ratios are read right."""
 
+from collections.abc import Iterator
 from functools import partial
 from itertools import islice
 
 from bench.figures import in_files, in_memory, texts
 from bench.figures.figure import Figure
-from tests.program.room import Group, Outcome, Ran
+from tests.program.room import Group, Ran, Room
+from tests.running import Outcome
 
 AGREED = b"agreed,north,1\n"
 
@@ -55,23 +57,23 @@ TEXTS = [
 ]
 
 
-def answers(name: str, pieces, wanted: bytes, room):
+def answers(name: str, pieces, wanted: bytes, room: Room) -> Iterator[Outcome]:
     came = room.run("batch", given="".join(pieces).encode())
     yield Outcome(f"measured: {name}", came, Ran(0, wanted))
 
 
-def unknown_messages(room):
+def unknown_messages(room: Room) -> Iterator[Outcome]:
     """Messages that are read and then refused, since nobody agreed their series."""
     came = room.run("batch", given="".join(islice(texts.greatest_messages(), 2)).encode())
     yield Outcome("measured: unknown messages", came, Ran(1, b"refused,unknown-series\n" * 2))
 
 
-def minimums(room):
+def minimums(room: Room) -> Iterator[Outcome]:
     came = room.run("batch", given="".join([*texts.with_minimums(1), texts.CATALOGUE_QUESTION]).encode())
     yield Outcome("measured: prices with minimums", came.output.count(MINIMUM), 2_000)
 
 
-def questions(room):
+def questions(room: Room) -> Iterator[Outcome]:
     """Each product is asked for once, and its price holds on that day."""
     pieces = [texts.AGREEMENT, *texts.offers(range(1, 3), 2), *texts.scattered_questions(4, 4)]
     came = room.run("batch", given="".join(pieces).encode()).output.splitlines()[3:]
@@ -80,7 +82,7 @@ def questions(room):
     yield Outcome("measured: questions", sorted(came), sorted(wanted))
 
 
-def sizes(room):
+def sizes(room: Room) -> Iterator[Outcome]:
     """No batch is above the limit, nor are the questions of a file."""
     batches = {
         "greatest messages": [texts.AGREEMENT, *texts.greatest_messages()],
@@ -95,7 +97,7 @@ def sizes(room):
     yield Outcome("measured: batches above the limit", too_large, [])
 
 
-def ratio(room):
+def ratio(room: Room) -> Iterator[Outcome]:
     line = Figure("one, to another", 3_000, 2_000, "bytes").line()
     yield Outcome("measured: a ratio", line, "one, to another: 1.50 (3,000 to 2,000 bytes)")
 

@@ -1,6 +1,7 @@
 """Database files of version 1, made by SQLite from statements that are not the desk's: they are refused
 until they are migrated, and then the desk in them goes on."""
 
+from collections.abc import Iterator
 from functools import partial
 from typing import NamedTuple
 
@@ -13,7 +14,8 @@ from tests.program.databases import (
     rows,
     table_names,
 )
-from tests.program.room import Group, Outcome, Ran
+from tests.program.room import Group, Ran, Room
+from tests.running import Outcome
 
 # The tables of version 1, without a series.
 TABLES = """\
@@ -234,7 +236,7 @@ def made(case: Case) -> str:
     return f"{TABLES}{case.series};\n{messages}{case.rows};"
 
 
-def check(case: Case, room):
+def check(case: Case, room: Room) -> Iterator[Outcome]:
     execute(room, made(case))
     refused = Ran(3, b"", b"onixdesk: storage: other version 1\n")
     yield Outcome(f"not opened: {case.name}", batch(room, b""), refused)
@@ -250,7 +252,7 @@ def check(case: Case, room):
     yield Outcome(f"goes on: {case.name}", came, (Ran(case.status, case.answers), []))
 
 
-def keys(room, table: str, file: str) -> list[list[tuple]]:
+def keys(room: Room, table: str, file: str) -> list[list[tuple]]:
     """The columns of each primary or unique key of a table, with how they compare."""
     found = []
     for _, name, _, origin, _ in rows(room, f"PRAGMA index_list({table})", file):
@@ -260,7 +262,7 @@ def keys(room, table: str, file: str) -> list[list[tuple]]:
     return sorted(found)
 
 
-def shapes(room, file: str) -> dict:
+def shapes(room: Room, file: str) -> dict:
     """Of each table whether it is strict, its columns, its keys and its parents."""
     return {
         table: {
@@ -273,7 +275,7 @@ def shapes(room, file: str) -> dict:
     }
 
 
-def tables_of_version_2(room):
+def tables_of_version_2(room: Room) -> Iterator[Outcome]:
     """New files and migrated ones have the same tables."""
     execute(room, TABLES + MINIMUM, "wanted.db")
     wanted = shapes(room, "wanted.db")

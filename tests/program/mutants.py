@@ -1,10 +1,12 @@
 """The edits that the prover must refuse: the first line of each says which promise it breaks, by names of its crate."""
 
 import re
+from collections.abc import Iterator
 from functools import cache
 from pathlib import Path
 
-from tests.program.room import Group, Outcome
+from tests.program.room import Group, Room
+from tests.running import Outcome
 from tools.root import ROOT
 
 # As `# Breaks \`taken\` of \`read_input\`.`
@@ -29,14 +31,14 @@ def why_wrong(line: str, words: set[str]) -> list[str]:
     return [f"{name} is not in the crate" for name in NAME.findall(line) if name not in words]
 
 
-def promises(room):
+def promises(room: Room) -> Iterator[Outcome]:
     for crate in sorted((ROOT / "crates").iterdir()):
         for edit in sorted(path for folder in FOLDERS for path in crate.glob(f"{folder}/*")):
             line = edit.read_text(encoding="utf-8").partition("\n")[0]
             yield Outcome(f"the promise that {edit.relative_to(ROOT)} breaks", why_wrong(line, words_of(crate)), [])
 
 
-def planted(room):
+def planted(room: Room) -> Iterator[Outcome]:
     words = {"ok", "push"}
     for line, wanted in [
         ("# Breaks `ok` of `push`.", []),
@@ -46,7 +48,7 @@ def planted(room):
         yield Outcome(f"the promise of {line!r}", why_wrong(line, words), wanted)
 
 
-def places(room):
+def places(room: Room) -> Iterator[Outcome]:
     """A crate keeps its own edits, under names that no other folder has."""
     yield Outcome("wrong-bodies/ is no more", (ROOT / "wrong-bodies").exists(), False)
     mutants = (ROOT / "crates").glob("*/mutants/*")

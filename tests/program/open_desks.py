@@ -7,12 +7,14 @@ import socket
 import stat
 import subprocess
 import time
+from collections.abc import Iterator
 from typing import NamedTuple
 
 from tests.program.commands import AGREEMENT, APPLIED, FIRST
 from tests.program.databases import DATABASE, batch, gaps
-from tests.program.room import SECONDS, UNREADABLE, Group, Outcome, Ran
+from tests.program.room import SECONDS, UNREADABLE, Group, Ran, Room
 from tests.program.serving import Exchange, connected, free_port, receive, send, serving
+from tests.running import Outcome
 
 SOCKET = "desk.socket"
 
@@ -42,12 +44,12 @@ GAPS = Exchange(
 )
 
 
-def open_desk(room, connections: int | None, words=("--db", DATABASE)):
+def open_desk(room: Room, connections: int | None, words=("--db", DATABASE)):
     """A run of `serve` with a socket beside its port."""
     return serving(room, [*words], connections, ["--batches", SOCKET])
 
 
-def reached(room) -> socket.socket:
+def reached(room: Room) -> socket.socket:
     """A client of the socket."""
     peer = socket.socket(socket.AF_UNIX)
     peer.settimeout(SECONDS)
@@ -60,14 +62,14 @@ def reached(room) -> socket.socket:
     return peer
 
 
-def answered(room, text: bytes) -> bytes:
+def answered(room: Room, text: bytes) -> bytes:
     """What a batch is answered that a client of the socket sends."""
     with reached(room) as peer:
         send(peer, [text])
         return receive(peer)
 
 
-def sent(room, text: bytes | None, **more) -> Ran:
+def sent(room: Room, text: bytes | None, **more) -> Ran:
     """How `batch` ends that sends its input to the socket."""
     return room.run("--batches", SOCKET, "batch", given=text, **more)
 
@@ -105,7 +107,7 @@ BATCHES = [
 ]
 
 
-def batches_to_an_open_desk(room):
+def batches_to_an_open_desk(room: Room) -> Iterator[Outcome]:
     """Each is answered as by the command over the file, and the desk keeps what it did."""
     with open_desk(room, len(BATCHES) + 2) as desk:
         for case in BATCHES:
@@ -119,7 +121,7 @@ def batches_to_an_open_desk(room):
     yield Outcome("open desk: what is kept", gaps(room), Ran(0, NO_GAPS % (3, b"2")))
 
 
-def in_turn(room):
+def in_turn(room: Room) -> Iterator[Outcome]:
     """While clients wait at both, one of the port and one of the socket come next by turns."""
     yield Outcome("in turn: the desk", batch(room, AGREEMENT + MESSAGE % 1), Ran(0, AGREED + DONE % 1))
     with open_desk(room, 7) as desk, contextlib.ExitStack() as clients:
@@ -142,7 +144,7 @@ def in_turn(room):
         yield Outcome("in turn: the lines", desk.ended(), desk.wanted(lines))
 
 
-def a_client_that_stalls(room):
+def a_client_that_stalls(room: Room) -> Iterator[Outcome]:
     """It is waited for 10 seconds, nothing of its batch is asked, and the next is served."""
     yield Outcome("a stall: the desk", batch(room, AGREEMENT), Ran(0, AGREED))
     with open_desk(room, 2) as desk, reached(room) as silent:
@@ -156,7 +158,7 @@ def a_client_that_stalls(room):
         yield Outcome("a stall: the lines", desk.ended(), desk.wanted(["fault", "batch 0"]))
 
 
-def a_client_that_is_slow(room):
+def a_client_that_is_slow(room: Room) -> Iterator[Outcome]:
     """What the desk does between reads and writes is not counted: a client that takes its answers late, but
     waits for none, is served whole."""
     text = AGREEMENT + b"".join(MESSAGE % number for number in range(1, 201))
@@ -170,7 +172,7 @@ def a_client_that_is_slow(room):
         yield Outcome("a slow client: the line", desk.ended(), desk.wanted(["batch 0"]))
 
 
-def texts_that_are_none(room):
+def texts_that_are_none(room: Room) -> Iterator[Outcome]:
     """The limits are those of a batch. A client of its own is answered by nothing; the command sees them
     itself, and sends nothing."""
     largest = AGREEMENT + b"\n" * (LARGEST - len(AGREEMENT))
@@ -193,7 +195,7 @@ def texts_that_are_none(room):
         yield Outcome(f"no text: sent, {name}", sent(room, text), wanted)
 
 
-def whose_it_is(room):
+def whose_it_is(room: Room) -> Iterator[Outcome]:
     """The socket is of the program's user and group alone."""
     with open_desk(room, None):
         found = os.lstat(room.path(SOCKET))
@@ -201,12 +203,12 @@ def whose_it_is(room):
         yield Outcome("the socket: its mode", came, (True, "0o660", os.geteuid(), os.getegid()))
 
 
-def start_beside(room) -> Ran:
+def start_beside(room: Room) -> Ran:
     words = "--db", "other.db", "serve", "--port", str(free_port()), "--requests", "1", "--batches", SOCKET
     return room.run(*words, given=UNREADABLE)
 
 
-def sockets_that_are_there(room):
+def sockets_that_are_there(room: Room) -> Iterator[Outcome]:
     """One that is left over is replaced; one that answers, and any other file, ends the program."""
     with open_desk(room, None) as desk:
         yield Outcome("a socket that answers", start_beside(room), FAULT)
@@ -229,7 +231,7 @@ MANY = 3000
 COME = 300
 
 
-def killed_amid_a_batch(room):
+def killed_amid_a_batch(room: Room) -> Iterator[Outcome]:
     """Whatever a client had been answered is in the file, and of the rest at most what comes next in order."""
     yield Outcome("a kill: the desk", batch(room, AGREEMENT), Ran(0, AGREED))
     with open_desk(room, None) as desk:
@@ -254,7 +256,7 @@ def killed_amid_a_batch(room):
     yield Outcome("a kill: no answer is lost", len(lines) <= found < MANY, True)
 
 
-def outputs_that_are_full(room):
+def outputs_that_are_full(room: Room) -> Iterator[Outcome]:
     """The requests have taken effect, as those of `batch` have."""
     with open_desk(room, 2) as desk:
         came = sent(room, AGREEMENT, is_full=True)

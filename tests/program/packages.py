@@ -6,7 +6,8 @@ import sys
 from collections.abc import Iterator
 from pathlib import Path
 
-from tests.program.room import Group, Outcome
+from tests.program.room import Group, Room
+from tests.running import Outcome
 from tools.root import ROOT
 
 # What each package may import beside the standard library and itself.
@@ -44,7 +45,7 @@ def names_path(tree: ast.AST) -> bool:
     return any(ast.unparse(node) == "sys.path" for node in ast.walk(tree) if isinstance(node, ast.Attribute))
 
 
-def imports(room):
+def imports(room: Room) -> Iterator[Outcome]:
     for package, others in MAY_IMPORT.items():
         allowed = others | {Path(package).name} | sys.stdlib_module_names
         wrong = [(str(path), sorted(more)) for path, tree in trees(package) if (more := imported(tree) - allowed)]
@@ -52,7 +53,7 @@ def imports(room):
         yield Outcome(f"{package}: sys.path", [str(path) for path, tree in trees(package) if names_path(tree)], [])
 
 
-def planted(room):
+def planted(room: Room) -> Iterator[Outcome]:
     tree = ast.parse("import os.path\nfrom tools.root import ROOT\ndef f():\n    import bench.figures, sys\n    sys.path[0] = ''\n")
     yield Outcome("packages: imports that are found", imported(tree), {"os", "tools", "bench", "sys"})
     yield Outcome("packages: sys.path that is found", names_path(tree), True)

@@ -7,6 +7,7 @@ import os
 import struct
 import threading
 import zipfile
+from collections.abc import Iterator
 from functools import partial
 from pathlib import Path
 from typing import NamedTuple
@@ -16,7 +17,8 @@ from onix_to_csv.packed import Unpacked
 from tests.program.conversions import FRAMES, said
 from tests.program.converter import convert
 from tests.program.converter_runs import ONE, message_of, zipped
-from tests.program.room import Group, Outcome, Ran
+from tests.program.room import Group, Ran, Room
+from tests.running import Outcome
 
 DONE = Ran(0, message_of("R1"))
 
@@ -115,7 +117,7 @@ CASES = [
 ]
 
 
-def check(case: Case, room):
+def check(case: Case, room: Room) -> Iterator[Outcome]:
     room.write(case.file, case.data)
     came = convert(room, case.file)
     # Of what is no XML, where that is seen is expat's.
@@ -127,19 +129,19 @@ def check(case: Case, room):
     yield Outcome(f"packed: {case.name}, the place", is_named or place, True)
 
 
-def standard_input(room):
+def standard_input(room: Room) -> Iterator[Outcome]:
     came = convert(room, given=ZIP)
     found = came.status, came.output, b"no XML, but a zip" in came.errors
     yield Outcome("packed: a zip on standard input is not unpacked", found, (1, b"", True))
 
 
-def feed_in(data: bytes, path: Path):
+def feed_in(data: bytes, path: Path) -> None:
     """Writes to a pipe, as far as it takes it."""
     with contextlib.suppress(BrokenPipeError):
         path.write_bytes(data)
 
 
-def pipes(room):
+def pipes(room: Room) -> Iterator[Outcome]:
     """A pipe whose name has an ending: what is packed by gzip is read in order, a zip is not."""
     for ending, data, wanted in [
         ("gz", gzip.compress(ONE), DONE),
@@ -154,7 +156,7 @@ def pipes(room):
         yield Outcome(f"packed: a pipe that ends in .{ending}", came, wanted)
 
 
-def small_files_of_much(room):
+def small_files_of_much(room: Room) -> Iterator[Outcome]:
     """What is unpacked to more than a thousand times its size is refused beyond 64 MiB."""
     for megabytes, wanted in [(60, (0, "")), (70, (1, "it unpacks to more than 1000 times its size\n"))]:
         feed = b"".join(spaced(megabytes)) + FRAMES["products"].behind.encode()
@@ -174,7 +176,7 @@ class Repeating:
         return self.piece[:size]
 
 
-def bound_on_all(room):
+def bound_on_all(room: Room) -> Iterator[Outcome]:
     """What unpacks to more than 4 GiB is refused, here by the class alone, since a file would take long."""
     unpacked = Unpacked(None, ".gz", lambda: GIB)
     unpacked.stream = Repeating()

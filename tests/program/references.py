@@ -1,9 +1,11 @@
 """What the documents name of the crates, which is to be there, and that they say nothing twice."""
 
 import re
+from collections.abc import Iterator
 from pathlib import Path
 
-from tests.program.room import Group, Outcome
+from tests.program.room import Group, Room
+from tests.running import Outcome
 from tools.specs.page import PAGE, crates
 from tools.root import ROOT
 
@@ -75,7 +77,7 @@ def missing(reference: tuple[str, str, list[str], list[str]]) -> list[str]:
     ]
 
 
-def proofs(room):
+def proofs(room: Room) -> Iterator[Outcome]:
     text = (ROOT / "docs/PROOFS.md").read_text(encoding="utf-8")
     for reference in references(text):
         crate, module, names, _ = reference
@@ -104,7 +106,7 @@ def lost_sources(text: str, home: str | None) -> list[str]:
     ]
 
 
-def sources(room):
+def sources(room: Room) -> Iterator[Outcome]:
     pages = [ROOT / "README.md", ROOT / "CONTRIBUTING.md", *sorted((ROOT / "docs").glob("*.md"))]
     pages += [ROOT / "crates" / crate / "README.md" for crate in CRATES]
     yield Outcome("crates without a README", [str(page) for page in pages if not page.is_file()], [])
@@ -114,7 +116,7 @@ def sources(room):
         yield Outcome(f"{page.relative_to(ROOT)}: the sources that it names", lost, [])
 
 
-def pages(room):
+def pages(room: Room) -> Iterator[Outcome]:
     """README.md leads to each page of docs/ that git keeps, and to nothing that is not there."""
     text = (ROOT / "README.md").read_text(encoding="utf-8")
     linked = set(re.findall(r"\]\(([\w/.]+)\)", text))
@@ -131,7 +133,7 @@ def sentences(text: str) -> list[str]:
     return [line for line in said if len(line.split()) >= 8]
 
 
-def told_twice(room):
+def told_twice(room: Room) -> Iterator[Outcome]:
     made = {"out", "build", "dist"}
     pages = [page for page in ROOT.rglob("*.md") if page != PAGE and made.isdisjoint(page.relative_to(ROOT).parts)]
     where: dict[str, list[str]] = {}

@@ -28,17 +28,17 @@ class Ran(NamedTuple):
 
 
 class Room:
-    def __init__(self, program: Path, folder: Path):
+    def __init__(self, program: Path, folder: Path) -> None:
         self.program = program
         self.folder = folder
 
     def path(self, name: str) -> Path:
         return self.folder / name
 
-    def write(self, name: str, data: bytes):
+    def write(self, name: str, data: bytes) -> None:
         self.path(name).write_bytes(data)
 
-    def run(self, *words, given: bytes | None = b"", is_full=False) -> Ran:
+    def run(self, *words, given: bytes | None = b"", is_full: bool = False) -> Ran:
         """Runs the program on these words and this input; `is_full` gives it an output that takes
         nothing."""
         with contextlib.ExitStack() as opened:
@@ -72,7 +72,7 @@ class Group(Cases):
     # The program that is tested.
     program = ROOT / "crates/onixdesk/out/onixdesk"
 
-    def __init__(self, name: str, check: Callable[[Room], Iterator[Outcome]]):
+    def __init__(self, name: str, check: Callable[[Room], Iterator[Outcome]]) -> None:
         super().__init__(name, (check.func if isinstance(check, partial) else check).__module__)
         self.check = check
 

@@ -1,7 +1,10 @@
 """Rules files that are read or refused. With each the program answers no requests, and writes the
 line of a fault or nothing."""
 
-from tests.program.room import UNREADABLE, Group, Outcome, Ran
+from collections.abc import Iterator
+
+from tests.program.room import UNREADABLE, Group, Ran, Room
+from tests.running import Outcome
 
 RULE = b'[[rule]]\nseries="*"\ncodes=["20"]\n'
 
@@ -67,14 +70,14 @@ TEXTS = [
 ]
 
 
-def texts(room):
+def texts(room: Room) -> Iterator[Outcome]:
     for name, text, errors in TEXTS:
         room.write("rules.toml", text)
         came = room.run("--rules", "rules.toml", "batch")
         yield Outcome(f"a rules file: {name}", came, Ran(2 if errors else 0, b"", errors))
 
 
-def come_before_the_input(room):
+def come_before_the_input(room: Room) -> Iterator[Outcome]:
     """After a fault of the rules file nothing is read from the input and nothing is written."""
     room.write("bad.toml", b"rule = ")
     for file, line in [

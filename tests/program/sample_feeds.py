@@ -2,13 +2,15 @@
 
 import gzip
 import re
+from collections.abc import Iterator
 from functools import partial
 from pathlib import Path
 
 from tests.program.converter import convert
 from tests.program.feed_notes import Said, count_line, read_errors, read_summary
 from tests.program.feed_writing import Place
-from tests.program.room import Group, Outcome, Ran
+from tests.program.room import Group, Ran, Room
+from tests.running import Outcome
 
 FOLDER = Path(__file__).resolve().parent.parent / "feeds"
 
@@ -60,7 +62,7 @@ def noted(path: Path, said: list[Said]) -> list[tuple[str, str, str]]:
     return found
 
 
-def sample(path: Path, room):
+def sample(path: Path, room: Room) -> Iterator[Outcome]:
     records = path.with_suffix(".csv").read_bytes()
     noted_here = NOTED if path.stem == "left-out" else []
     came = convert(room, path)
@@ -82,7 +84,7 @@ def sample(path: Path, room):
     yield Outcome(f"{path.name}, packed", came.output, records)
 
 
-def delivered(room):
+def delivered(room: Room) -> Iterator[Outcome]:
     """What comes of each sample is answered by the desk as the records that stand beside it."""
     paths = sorted(FOLDER.glob("*.xml"))
     convert(room, "-o", ".", *paths)

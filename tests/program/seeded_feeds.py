@@ -9,6 +9,7 @@ import gzip
 import io
 import zipfile
 from collections import Counter
+from collections.abc import Iterator
 from functools import partial
 from random import Random
 from typing import NamedTuple
@@ -29,7 +30,8 @@ from tests.program.feed_territories import WORLD
 from tests.program.feed_oracle import Verdict, effect, judge, records_text
 from tests.program.feed_trees import Identifier, Words
 from tests.program.feed_writing import Writer, Written
-from tests.program.room import Group, Outcome, Ran
+from tests.program.room import Group, Ran, Room
+from tests.running import Outcome
 
 # So many messages a series has.
 MESSAGES = 250
@@ -126,7 +128,7 @@ def part_names(number: int, words: Words) -> list[str]:
     return [f"{number}.part-{part:0{digits}}.csv" for part in range(1, words.parts + 1)]
 
 
-def check(place: int, room):
+def check(place: int, room: Room) -> Iterator[Outcome]:
     """The messages of the series at that place of the list."""
     words = SERIES[place].words
     cases = [made(seed) for seed in range(place * MESSAGES, (place + 1) * MESSAGES)]
@@ -134,7 +136,7 @@ def check(place: int, room):
     yield from delivered(f"series {place}", cases, words, room)
 
 
-def converted(name: str, cases: list[Case], words: Words, room):
+def converted(name: str, cases: list[Case], words: Words, room: Room) -> Iterator[Outcome]:
     """What comes of the messages in one run."""
     for case in cases:
         room.write(case.file, packed(case.file, case.written.feed))
@@ -152,7 +154,7 @@ def converted(name: str, cases: list[Case], words: Words, room):
     yield from summaries(name, cases, errors)
 
 
-def files_of(case: Case, words: Words, room):
+def files_of(case: Case, words: Words, room: Room):
     """The files that a message became, and those that are wanted."""
     names = part_names(case.number, words)
     texts = [part.text() for part in case.verdict.parts]
@@ -187,7 +189,7 @@ def refusal_of(case: Case, said: list):
     return what.split(":")[0], "within" if first <= line <= last else f"{line} is not {first} to {last}"
 
 
-def summaries(name: str, cases: list[Case], errors: Errors):
+def summaries(name: str, cases: list[Case], errors: Errors) -> Iterator[Outcome]:
     """What the last lines count: all notes, those of each reason, and what is passed over."""
     notes = [note for case in cases for note in case.verdict.notes]
     summary = read_summary(errors.summary)
@@ -206,7 +208,7 @@ def sum_of(counts: dict[str, int], name: str) -> int:
     return sum(count for line, count in counts.items() if is_named(name, line))
 
 
-def delivered(name: str, cases: list[Case], words: Words, room):
+def delivered(name: str, cases: list[Case], words: Words, room: Room) -> Iterator[Outcome]:
     """The desk applies each message, with the counts of its tree. Numbers that have none are waived."""
     first = int(words.offset or "0") * words.parts + 1
     opening = next(case for case in cases if case.verdict.parts).verdict.parts[0].records[0]

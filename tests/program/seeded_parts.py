@@ -1,6 +1,7 @@
 """Messages in parts, made from seeds: large ones that fill several, and small ones under a number that the
 file does not give."""
 
+from collections.abc import Iterator
 from functools import partial
 from random import Random
 
@@ -9,8 +10,9 @@ from tests.program.feed_makers import Maker
 from tests.program.feed_oracle import effect, judge, records_text
 from tests.program.feed_trees import Detail, Identifier, Message, Product, Supply, Words
 from tests.program.feed_writing import Writer
-from tests.program.room import Group, Outcome, Ran
+from tests.program.room import Group, Ran, Room
 from tests.program.seeded_feeds import SHOP, Case, converted, part_names
+from tests.running import Outcome
 
 LARGE = 5
 
@@ -45,14 +47,14 @@ def large(seed: int, words: Words) -> Case:
     return Case(f"large message {seed}", seed + 1, f"{seed + 1}.xml", written, judge(message, words))
 
 
-def large_messages(room):
+def large_messages(room: Room) -> Iterator[Outcome]:
     words = Words(parts=3, leaves_out_wrong=True)
     cases = [large(seed, words) for seed in range(LARGE)]
     yield from converted("large messages", cases, words, room)
     yield from delivered_large(cases, words, room)
 
 
-def delivered_large(cases: list[Case], words: Words, room):
+def delivered_large(cases: list[Case], words: Words, room: Room) -> Iterator[Outcome]:
     """The desk applies what was written, each file as a message of its own."""
     agreement = ["Agree", "s", SENDER[0].id_type, SENDER[0].value, *SHOP, "1"]
     requests, answers, files = [agreement], [["agreed", "s", "1"]], []
@@ -74,7 +76,7 @@ def delivered_large(cases: list[Case], words: Words, room):
     yield Outcome("large messages, delivered", came, Ran(0, "".join(lines).encode()))
 
 
-def numbered(parts: int, room):
+def numbered(parts: int, room: Room) -> Iterator[Outcome]:
     """Messages under another number than their own, whatever that is, on standard output."""
     for seed in range(8):
         random = Random(seed)

@@ -55,7 +55,7 @@ def connected(port: int) -> socket.socket:
     return peer
 
 
-def send(peer: socket.socket, pieces: list[bytes], keeps_open=False):
+def send(peer: socket.socket, pieces: list[bytes], keeps_open: bool = False) -> None:
     """Sends the pieces, and then closes this way of the connection. The desk may reply and close before
     it has taken all of them."""
     with contextlib.suppress(OSError):
@@ -77,12 +77,12 @@ def receive(peer: socket.socket) -> bytes:
 class Serving:
     """A run of `serve`."""
 
-    def __init__(self, process: subprocess.Popen, port: int, first_line: bytes):
+    def __init__(self, process: subprocess.Popen, port: int, first_line: bytes) -> None:
         self.process = process
         self.port = port
         self.first_line = first_line
 
-    def reply(self, pieces: list[bytes], keeps_open=False) -> bytes:
+    def reply(self, pieces: list[bytes], keeps_open: bool = False) -> bytes:
         """What is replied to a client that sends these pieces."""
         with connected(self.port) as peer:
             send(peer, pieces, keeps_open)
@@ -98,7 +98,7 @@ class Serving:
         self.process.terminate()
         return self.ended()
 
-    def wanted(self, lines: list[str], status=0) -> Ran:
+    def wanted(self, lines: list[str], status: int = 0) -> Ran:
         """How it is to end after connections with these lines."""
         text = "".join(f"{line}\n" for line in [f"listening {self.port}", *lines])
         return Ran(status, text.encode())

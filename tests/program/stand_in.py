@@ -5,7 +5,7 @@ import os
 import shutil
 import subprocess
 
-from tests.program.room import SECONDS, UNREADABLE, Ran
+from tests.program.room import SECONDS, UNREADABLE, Ran, Room
 from tools.root import ROOT
 
 # The program stands on two of the three others.
@@ -71,7 +71,7 @@ def tries(status: int) -> str:
     return TRIES.replace("STATUS", str(status))
 
 
-def make_repository(room, ci: str = PROVES, unproved: str = "", help: str = KEEPS):
+def make_repository(room: Room, ci: str = PROVES, unproved: str = "", help: str = KEEPS) -> None:
     """Makes the repository in the room, with what the toolchain does for `rt ci` and for `rt try`."""
     for name in ("tools", "bin", "crates/low/src", "crates/low/out", "crates/low/must-fail", "crates/low/mutants"):
         room.path(name).mkdir(parents=True)
@@ -89,17 +89,17 @@ def make_repository(room, ci: str = PROVES, unproved: str = "", help: str = KEEP
     room.path("tools/rt").chmod(0o755)
 
 
-def change_source(room):
+def change_source(room: Room) -> None:
     room.path(SOURCE).write_text("fn main() { }\n")
 
 
-def environment(room, **others: str) -> dict[str, str]:
+def environment(room: Room, **others: str) -> dict[str, str]:
     """That of a command: the toolchain is on the PATH, and temporary files stand in the room."""
     path = f"{room.path('tools')}{os.pathsep}{os.environ['PATH']}"
     return {**os.environ, "ROOM": str(room.folder), "PATH": path, "TMPDIR": str(room.path("tmp")), **others}
 
 
-def command(room, *words: str, given: bytes | None = b"", folder: str = ".", **others: str) -> Ran:
+def command(room: Room, *words: str, given: bytes | None = b"", folder: str = ".", **others: str) -> Ran:
     """Runs a command of the repository from a folder of the room."""
     with contextlib.ExitStack() as opened:
         streams = {"input": given}
@@ -117,7 +117,7 @@ def command(room, *words: str, given: bytes | None = b"", folder: str = ".", **o
     return Ran(done.returncode, done.stdout, done.stderr)
 
 
-def begun(room, *words: str) -> subprocess.Popen:
+def begun(room: Room, *words: str) -> subprocess.Popen:
     """Starts a command of the repository."""
     return subprocess.Popen(
         [room.path(words[0]), *words[1:]],
@@ -128,7 +128,7 @@ def begun(room, *words: str) -> subprocess.Popen:
     )
 
 
-def calls(room, verb: str) -> list[str]:
+def calls(room: Room, verb: str) -> list[str]:
     """How `rt` was called with that verb."""
     path = room.path("calls")
     lines = path.read_text().splitlines() if path.exists() else []

@@ -4,17 +4,19 @@ import os
 import socket
 import subprocess
 import time
+from collections.abc import Iterator
 
 from tests.program.databases import DATABASE, batch
-from tests.program.room import SECONDS, Group, Outcome, Ran
+from tests.program.room import SECONDS, Group, Ran, Room
 from tests.program.serving import HOST, free_port
+from tests.running import Outcome
 from tools.root import ROOT
 
 SCRIPT = ROOT / "examples/wait-for-desk.sh"
 AGREEMENT = b"Agree,north,06,S,,,1\n"
 
 
-def wait(room, *words, process: int | None = None, user: int | None = None) -> Ran:
+def wait(room: Room, *words, process: int | None = None, user: int | None = None) -> Ran:
     named = {} if process is None else {"MAINPID": str(process)}
     done = subprocess.run(
         [SCRIPT, *map(str, words)],
@@ -27,7 +29,7 @@ def wait(room, *words, process: int | None = None, user: int | None = None) -> R
     return Ran(done.returncode, done.stdout, done.stderr)
 
 
-def for_a_desk(room):
+def for_a_desk(room: Room) -> Iterator[Outcome]:
     """A desk that starts a while later is waited for, and goes on."""
     batch(room, AGREEMENT)
     port = free_port()
@@ -47,7 +49,7 @@ def for_a_desk(room):
         desk.communicate()
 
 
-def in_vain(room):
+def in_vain(room: Room) -> Iterator[Outcome]:
     port = free_port()
     room.write("empty.db", b"")
     line = "wait-for-desk.sh: nobody answers at port {}, after {} s\n"
@@ -88,7 +90,7 @@ def in_vain(room):
         yield Outcome("wait-for-desk.sh: a port that another program has", ran, wanted)
 
 
-def unit(_room):
+def unit(_room) -> Iterator[Outcome]:
     lines = (ROOT / "examples/onixdesk.service").read_text(encoding="utf-8").splitlines()
     wanted = [
         "Before=nginx.service",

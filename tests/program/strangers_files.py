@@ -2,11 +2,13 @@
 were. So it does with a desk of which a page is damaged, which is to be restored and not begun anew."""
 
 import random
+from collections.abc import Iterator
 from functools import partial
 
 from tests.program.commands import AGREEMENT, FIRST
 from tests.program.databases import DATABASE
-from tests.program.room import Group, Outcome
+from tests.program.room import Group, Room
+from tests.running import Outcome
 
 # How many bytes a page of a desk's file has.
 PAGE = 4096
@@ -22,15 +24,15 @@ COMMANDS = [
 ]
 
 
-def random_bytes(room) -> bytes:
+def random_bytes(room: Room) -> bytes:
     return random.Random(52).randbytes(20_000)
 
 
-def letter(room) -> bytes:
+def letter(room: Room) -> bytes:
     return b"Dear bookseller,\n\nour prices for the spring are enclosed.\n\nNorth Books\n"
 
 
-def desk_without_page(number: int, room) -> bytes:
+def desk_without_page(number: int, room: Room) -> bytes:
     """A desk with an agreement and a message, and zeros for the page of that number, from 1 on."""
     room.run("--db", "whole.db", "batch", given=AGREEMENT + FIRST)
     whole = room.path("whole.db").read_bytes()
@@ -46,7 +48,7 @@ FILES = {
 }
 
 
-def is_refused(name: str, contents, room):
+def is_refused(name: str, contents, room: Room) -> Iterator[Outcome]:
     held = contents(room)
     room.write(DATABASE, held)
     room.write(MESSAGE, FIRST)

@@ -4,12 +4,14 @@ the functions of a crate by what their proofs took."""
 import os
 import subprocess
 from collections import Counter
+from collections.abc import Iterator
 from unittest import mock
 
 from bench.figures import weighing
 from bench.figures.profile import profile
 from bench.figures.weighing import ELSE, Sampler, crates_below, part_named, report
-from tests.program.room import SECONDS, Group, Outcome
+from tests.program.room import SECONDS, Group, Room
+from tests.running import Outcome
 from tools.root import ROOT
 
 # The words of a process, the folder that it works in, and its part.
@@ -33,7 +35,7 @@ TABLE = """    6.0 min   2.00 times  proof of desk_store
 """
 
 
-def parts(room):
+def parts(room: Room) -> Iterator[Outcome]:
     for words, folder, part in PARTS:
         yield Outcome(f"bench/weight: {part}", part_named(words, folder), part)
 
@@ -48,7 +50,7 @@ LOOKS = [
 ]
 
 
-def looks(room):
+def looks(room: Room) -> Iterator[Outcome]:
     for seen, part in LOOKS:
         with mock.patch.object(weighing, "part_of", side_effect=seen):
             sampler = Sampler(1)
@@ -58,7 +60,7 @@ def looks(room):
         yield Outcome(f"bench/weight: seen as {', '.join(map(repr, seen))}", minutes, {part: len(seen) - 1})
 
 
-def a_table(room):
+def a_table(room: Room) -> Iterator[Outcome]:
     lines = ["# the crates", "csv_records: csv", "desk_store: csv_records sqlite", "onix_terms: jiff"]
     below = crates_below(lines, "desk_store")
     yield Outcome("bench/weight: crates below one", below, {"csv_records", "desk_store"})
@@ -66,7 +68,7 @@ def a_table(room):
     yield Outcome("bench/weight: the table", report(sums, below, 120), TABLE)
 
 
-def a_run(room):
+def a_run(room: Room) -> Iterator[Outcome]:
     words = [ROOT / "bench/weight", "--file", room.path("weight.txt"), "sh", "-c", "exit 3"]
     done = subprocess.run(words, cwd=room.folder, capture_output=True, timeout=SECONDS)
     said = (done.returncode, done.stdout, done.stderr)
@@ -98,7 +100,7 @@ functions, each with its certificate:
 """
 
 
-def a_profile(room):
+def a_profile(room: Room) -> Iterator[Outcome]:
     folder = room.path("kept")
     folder.mkdir()
     yield Outcome("bench/proofs: nothing kept", profile(folder, 1), "")

@@ -5,6 +5,7 @@ A group is a test of `unittest`, and each of its cases a subtest.
 
 import argparse
 import os
+import traceback
 import unittest
 from collections.abc import Callable, Iterable, Iterator
 from concurrent.futures import ThreadPoolExecutor
@@ -74,7 +75,7 @@ class Counted(unittest.TestResult):
     def addError(self, test: unittest.TestCase, raised: Raised) -> None:
         """A group that ended by an exception is a case that failed."""
         self.count += 1
-        text = self._exc_info_to_string(raised, test).strip()  # type: ignore[attr-defined]
+        text = "".join(traceback.format_exception(raised[1])).strip()
         self.lines.append(f"{test.id()}: wanted its cases to run, came {text}")
 
 

@@ -64,8 +64,8 @@ class Growing:
         self.desk = desk
         self.plan = plan
         self.twin_file = desk.folder / "sqlite.db"
-        self.messages = Kept(desk.folder / "messages.csv", Message)
-        self.sizes = Kept(desk.folder / "sizes.csv", Size)
+        self.messages = Kept(desk.folder / "messages.csv", Message, Message._fields)
+        self.sizes = Kept(desk.folder / "sizes.csv", Size, Size._fields)
         self.open_desk: Served | None = None
 
     def measured(self) -> Iterator[Size]:
@@ -114,8 +114,8 @@ class Growing:
         """Opens the desk for so many connections, or until it is killed."""
         port = free_port()
         ending = [] if connections is None else ["--requests", str(connections)]
-        words: list[Word] = [self.desk.program, "--db", self.desk.file, "--existing", "serve", "--port", str(port), *ending]
-        return Served(words, port)
+        words: list[Word] = [self.desk.program, "--db", self.desk.file, "--existing"]
+        return Served([*words, "serve", "--port", str(port), *ending], port)
 
     def grow(self, count: int) -> tuple[int, int]:
         """Gives both the messages up to `count`, and kills the desk. The bytes of its log and its greatest

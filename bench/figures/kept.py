@@ -2,6 +2,7 @@
 continued."""
 
 import csv
+from collections.abc import Callable, Sequence
 from pathlib import Path
 from typing import Generic, NamedTuple, TypeVar
 
@@ -60,28 +61,29 @@ class Size(NamedTuple):
     catalogue_greatest_bytes: int
 
 
-Item = TypeVar("Item", Message, Size)
+Item = TypeVar("Item", bound=tuple[int, ...])
 
 
 class Kept(Generic[Item]):
     """A CSV file with a row of whole numbers for each item of one kind."""
 
-    def __init__(self, path: Path, kind: type[Item]) -> None:
+    def __init__(self, path: Path, make: Callable[..., Item], names: Sequence[str]) -> None:
         self.path = path
-        self.kind: type[Item] = kind
+        self.make = make
+        self.names = names
 
     def items(self) -> list[Item]:
         """The items; a last line that a stop cut off is none."""
         if not self.path.exists():
             return []
         lines = self.path.read_text(encoding="ascii").splitlines(keepends=True)
-        rows: list[list[str]] = [*csv.reader(line for line in lines[1:] if line.endswith("\n"))]
-        return [self.kind(*map(int, row)) for row in rows]
+        rows = csv.reader(line for line in lines[1:] if line.endswith("\n"))
+        return [self.make(*map(int, row)) for row in rows]
 
     def add(self, item: Item) -> None:
         """Adds an item behind the whole ones."""
-        items = [*self.items(), item]
+        items: list[Item] = [*self.items(), item]
         with open(self.path, "w", encoding="ascii", newline="") as file:
             writer = csv.writer(file, lineterminator="\n")
-            writer.writerow(self.kind._fields)
+            writer.writerow(self.names)
             writer.writerows(items)

@@ -17,8 +17,8 @@ class Fault(Exception):
 
 
 def status_of(work: Callable[[], int], tell: Callable[[str], None], place: Path) -> int:
-    """The status of a program's work; where a fault ends it, that is told. `place` stands for the file of a fault of the
-    system that names none."""
+    """The status of a program's work; a fault that ends it is told. `place` stands for the file where the system names
+    none."""
     try:
         return work()
     except Fault as fault:

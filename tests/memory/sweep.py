@@ -92,7 +92,9 @@ class Tests:
         # A test that fails would leave a core file.
         resource.setrlimit(resource.RLIMIT_CORE, (0, 0))
 
-    def process(self, sweep: Sweep, environment: dict[str, str], said: IO[bytes], passed: Collection[int] = ()) -> bytes:
+    def process(
+        self, sweep: Sweep, environment: dict[str, str], said: IO[bytes], passed: Collection[int] = ()
+    ) -> bytes:
         """What the test writes on standard error, the file `said`, in this environment, where it passes."""
         chosen = {"CASES": sweep.cases} if sweep.cases else {}
         status = subprocess.run(

@@ -77,7 +77,9 @@ def asked(site: Site, isbn: str, first: date, last: date) -> list[dict[str, Any]
     return offers
 
 
-def measured(site: Site, browser: Browser, name: str, isbn: str, first: date, last: date, **given: str) -> Iterator[Outcome]:
+def measured(
+    site: Site, browser: Browser, name: str, isbn: str, first: date, last: date, **given: str
+) -> Iterator[Outcome]:
     """Each bar and each gap lies where the desk's answer has its days."""
     open_calendar(browser, isbn, first, last, **given)
     offers = asked(site, isbn, first, last)

@@ -1,7 +1,6 @@
 """Runs of bin/desk-follow, and what the database and the desk's file hold then."""
 
 import sqlite3
-import subprocess
 from collections.abc import Callable
 from contextlib import closing
 from pathlib import Path
@@ -9,7 +8,7 @@ from pathlib import Path
 import psycopg2
 
 from tests.program.databases import DATABASE
-from tests.program.room import SECONDS, Ran, Room
+from tests.program.room import Ran, Room
 from tools.words import Row, Word
 
 PROGRAM = Path(__file__).resolve().parent.parent.parent / "bin/desk-follow"
@@ -25,10 +24,7 @@ def words_of(room: Room, database: str, *words: Word) -> list[Word]:
 
 
 def follow(room: Room, database: str, *words: Word) -> Ran:
-    done = subprocess.run(
-        words_of(room, database, *words), cwd=room.folder, capture_output=True, timeout=SECONDS
-    )
-    return Ran(done.returncode, done.stdout, done.stderr)
+    return room.call(words_of(room, database, *words))
 
 
 def kind(ran: Ran) -> str:

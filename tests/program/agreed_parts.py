@@ -38,7 +38,7 @@ class Change(NamedTuple):
         return range(first, (self.message + self.offset()) * self.after + 1)
 
 
-def message(number: int, room: Room, *words) -> bytes:
+def message(number: int, room: Room, *words: str) -> bytes:
     feed = FRAME.before.replace("<MessageNumber>1<", f"<MessageNumber>{number}<")
     room.write("feed.xml", (feed + PRODUCT.format(f"R{number}") + FRAME.behind).encode())
     return convert(room, *words, "feed.xml").output

@@ -10,9 +10,10 @@ from pathlib import Path
 from tests.program.clients import RESET
 from tests.program.databases import DATABASE, batch, complaints
 from tests.program.exchange_cases import AGREEMENTS, APPLIED, DELIVERY, NO_NUMBERS
-from tests.program.room import SECONDS, Group, Ran, Room
+from tests.program.room import Group, Ran, Room
 from tests.program.serving import Exchange, connected, posted, serving
 from tests.running import Outcome
+from tools.words import Word
 
 # A batch in parts, and what a batch is answered that ends within this part or at its end. A record whose first
 # field begins no request belongs to the request before it.
@@ -49,7 +50,7 @@ BLOCKS = 8192
 MOST_BYTES = BLOCKS * 512
 
 
-def bytes_of_parts():
+def bytes_of_parts() -> Iterator[tuple[int, bytes]]:
     """How many bytes of the batch are given, and what is answered then."""
     given = 0
     for part, answers in PARTS:
@@ -76,19 +77,12 @@ def failing_behind(text: bytes) -> socket.socket:
     return reader
 
 
-def run_with(room: Room, words, **streams) -> Ran:
-    """Runs a command in a room with an input or an output of another kind."""
-    ways = {"stdout": subprocess.PIPE, "stderr": subprocess.PIPE} | streams
-    done = subprocess.run(words, cwd=room.folder, timeout=SECONDS, **ways)
-    return Ran(done.returncode, done.stdout or b"", done.stderr)
-
-
 def unread_batches(room: Room) -> Iterator[Outcome]:
     """With a failed read behind each byte. Nothing is asked of the desk in a file, not the agreement either,
     which would stand in it from then on."""
     for given in range(len(BATCH) + 1):
         with failing_behind(BATCH[:given]) as reader:
-            came = run_with(room, [room.program, *OVER_A_FILE], stdin=reader)
+            came = room.call([room.program, *OVER_A_FILE], reader.fileno())
         wanted = Ran(3, b"", b"onixdesk: input: read\n")
         yield Outcome(f"a read that fails behind {given} bytes", came, wanted)
     yield Outcome("the desk after reads that fail", batch(room, ASK_GAPS), NOT_AGREED)
@@ -102,22 +96,22 @@ class Limited(Room):
         script = f"trap '' XFSZ; ulimit -f {blocks}; exec \"$0\" \"$@\""
         self.before = ["-c", script, str(room.program)]
 
-    def run(self, *words, **how) -> Ran:
-        return super().run(*self.before, *words, **how)
+    def run(self, *words: Word | bytes, given: bytes | None = b"", is_full: bool = False) -> Ran:
+        return super().run(*self.before, *words, given=given, is_full=is_full)
 
-    def start(self, *words, **how) -> subprocess.Popen:
-        return super().start(*self.before, *words, **how)
+    def start(self, *words: Word, stdin: int = subprocess.DEVNULL) -> subprocess.Popen[bytes]:
+        return super().start(*self.before, *words, stdin=stdin)
 
 
 def taken_answers(room: Room, count: int) -> tuple[Ran, bytes]:
     """How a batch ends whose output takes so many bytes, and these: the output is a file that can grow by
     them alone."""
     limited = Limited(room, BLOCKS)
-    words = [limited.program, *limited.before, *OVER_A_FILE]
+    words: list[Word] = [limited.program, *limited.before, *OVER_A_FILE]
     start = MOST_BYTES - count
     with open(room.path("answers"), "w+b") as answers, open(room.path("batch"), "rb") as given:
         answers.seek(start)
-        came = run_with(room, words, stdin=given, stdout=answers)
+        came = room.call(words, given.fileno(), answers.fileno())
         answers.seek(start)
         return came, answers.read()
 
@@ -176,8 +170,8 @@ def full_disks(room: Room) -> Iterator[Outcome]:
         yield Outcome("a question on a full disk", came, NO_NUMBERS.reply())
         yield Outcome("the lines on a full disk", desk.ended(), desk.wanted(["503", "200"]))
     applied = b"applied,north,1,replaced=%d,updated=0,deleted=0,unknown=0,ignored=0\n" % RECORDS
-    came = batch(room, LARGE.encode()), complaints(room)
-    yield Outcome("the batch once there is room", came, (Ran(0, applied), []))
+    found = batch(room, LARGE.encode()), complaints(room)
+    yield Outcome("the batch once there is room", found, (Ran(0, applied), []))
     yield Outcome("the desk then", batch(room, ASK_GAPS), ONE_APPLIED)
 
 

@@ -13,7 +13,6 @@ from tests.program.stand_in import (
     FAILS,
     PAUSES,
     PROVES,
-    ROOT,
     SOURCE,
     WAITS,
     begun,
@@ -23,6 +22,7 @@ from tests.program.stand_in import (
     make_repository,
 )
 from tests.running import Outcome
+from tools.root import ROOT
 
 UNBUILT = Ran(1, b"", b"onixdesk: no program is built of these sources; 'make build' builds it\n")
 IS_BUILT = Ran(0, b"", b"onixdesk: crates/onixdesk/out/onixdesk is built of these sources\n")
@@ -49,8 +49,8 @@ COPIED = """\
 PROGRESS = re.compile(r"onixdesk: (\d) of (\d) crates are proved, 0 min so far")
 
 
-def build(room: Room, *words: str, **how) -> Ran:
-    return command(room, "tools/build", *words, **how)
+def build(room: Room, *words: str, folder: str = ".", **others: str) -> Ran:
+    return command(room, "tools/build", *words, given=b"", folder=folder, **others)
 
 
 def without_progress(errors: bytes) -> str:
@@ -128,8 +128,9 @@ def a_build_that_fails(room: Room) -> Iterator[Outcome]:
     yield Outcome("tools/build: then nothing is built", build(room, "sources"), UNBUILT)
 
 
-def line_of(process: subprocess.Popen) -> bytes:
+def line_of(process: subprocess.Popen[bytes]) -> bytes:
     """The next line on standard error, or nothing where none comes in time."""
+    assert process.stderr
     ready, _, _ = select.select([process.stderr], [], [], SECONDS / 4)
     return process.stderr.readline() if ready else b""
 

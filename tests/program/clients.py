@@ -2,7 +2,6 @@
 and one whose lines cannot be written."""
 
 import contextlib
-import re
 import signal
 import socket
 import struct
@@ -13,8 +12,9 @@ from typing import NamedTuple
 from tests.program.commands import AGREEMENT, APPLIED, FIRST
 from tests.program.databases import DATABASE, batch
 from tests.program.room import UNREADABLE, Group, Ran, Room
-from tests.program.serving import HOST, TRIES, Exchange, connected, free_port, receive, serving
+from tests.program.serving import HOST, TRIES, Exchange, Serving, connected, free_port, receive, serving
 from tests.running import Outcome
+from tools.words import sought
 
 
 class Client(NamedTuple):
@@ -120,10 +120,10 @@ LARGEST = 4_194_304
 SHORT = Exchange("a short body", b"", "400 Bad Request", '{"answer":"refused","reason":"short-body"}')
 
 
-def most_memory(desk) -> int:
+def most_memory(desk: Serving) -> int:
     """The most bytes of memory that the desk has had at once."""
     status = Path(f"/proc/{desk.process.pid}/status").read_text()
-    return 1024 * int(re.search(r"VmHWM:\s*([0-9]+) kB", status)[1])
+    return 1024 * int(sought(r"^VmHWM:\s*([0-9]+) kB", status))
 
 
 def bodies_that_do_not_come(room: Room) -> Iterator[Outcome]:

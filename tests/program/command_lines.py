@@ -46,7 +46,7 @@ LINES = [
 ]
 
 
-def seen(ran: Ran):
+def seen(ran: Ran) -> dict[str, int | bool]:
     """What a command line is judged by: its status, where it printed, and whether that is a fault of
     the program's own."""
     return {

@@ -181,8 +181,8 @@ def said(lines: list[str]) -> bytes:
 
 
 def in_short_tags(text: str) -> str:
-    def short(found: re.Match) -> str:
-        return found[1] + SHORT_TAGS.get(found[2], found[2])
+    def short(found: re.Match[str]) -> str:
+        return f"{found[1]}{SHORT_TAGS.get(found[2], found[2])}"
 
     namespace = ' xmlns="http://ns.editeur.org/onix/3.0/short"'
     text = re.sub("(</?)([A-Za-z]+)", short, text)
@@ -192,9 +192,16 @@ def in_short_tags(text: str) -> str:
 def placed(said: str, text: str, written: str) -> str:
     """What is said of a place in the text, with the line, column and byte (`@`) that it has in the text as
     it is written in either kind of names."""
-    line, column, element, rest = PLACE.fullmatch(said).groups()
+    found = PLACE.fullmatch(said)
+    assert found
+    line, column, element, rest = found.groups()
     begin = sum(len(each) + 1 for each in text.split("\n")[: int(line) - 1])
-    at = re.compile(rf"{element}\b").search(text, begin).start() if element else begin + int(column) - 1
+    if element:
+        tag = re.compile(rf"{element}\b").search(text, begin)
+        assert tag
+        at = tag.start()
+    else:
+        at = begin + int(column) - 1
     before = text[:at] if written == text else in_short_tags(text[:at])
     rest = rest.replace("at byte @", f"at byte {len(before.encode()) + 1}")
     return f"{line}:{len(before) - before.rfind(chr(10))}{rest}"
@@ -211,8 +218,8 @@ def read_case(text: str) -> Case:
     parts = {}
     for part in rest:
         head, _, body = part.partition("\n")
-        key, _, words = head.partition(" ")
-        parts[key] = words or (body.rstrip("\n") + "\n" if body.strip() else "")
+        key, _, value = head.partition(" ")
+        parts[key] = value or (body.rstrip("\n") + "\n" if body.strip() else "")
     place = next(key for key in parts if key in FRAMES or key == WHOLE_FILE)
     words = parts.get("words", "").split()
     for key, behind in [("refused", ""), ("wrong", MENDED)]:
@@ -240,8 +247,8 @@ def check(words: list[str], feeds: list[Feed], room: Room) -> Iterator[Outcome]:
     came = convert(room, *words, "-o", "out", *(f"{number}.xml" for number in range(len(feeds))))
     said: dict[str, list[str]] = {}
     for line in came.errors.decode().splitlines():
-        number, _, what = line.removeprefix("onix-to-csv: ").partition(".xml:")
-        said.setdefault(number, []).append(what)
+        file, _, what = line.removeprefix("onix-to-csv: ").partition(".xml:")
+        said.setdefault(file, []).append(what)
     for number, feed in enumerate(feeds):
         path = room.path(f"out/{number}.csv")
         records = path.read_bytes() if path.exists() else None
@@ -263,7 +270,7 @@ def summed(feeds: list[Feed], summary: list[str]) -> Outcome:
     return Outcome(f"{feeds[0].name}, and others: the summary", found, (notes, last))
 
 
-def groups(cases: list[Case]):
+def groups(cases: list[Case]) -> Iterator[Group]:
     """Those with the same words are converted together, one run for each file of cases and word."""
     together: dict[tuple[str, ...], list[Feed]] = {}
     for case in cases:

@@ -8,13 +8,15 @@ import subprocess
 import time
 from collections.abc import Iterator
 from functools import partial
+from pathlib import Path
 
-from bench.figures.conversion import within
+from bench.figures.conversion import CONVERTER, within
 from tests.program.conversions import FRAMES, said
-from tests.program.converter import CONVERTER, convert
+from tests.program.converter import convert
 from tests.program.converter_runs import BAD, ONE, TWO, feed_of, message_of
 from tests.program.room import SECONDS, Group, Ran, Room
 from tests.running import Outcome
+from tools.words import Word
 
 # The longest name of a file.
 LONGEST = 255
@@ -25,16 +27,16 @@ LARGE = feed_of(*(f"R{number:05}" for number in range(15_000)))
 FULL = "No space left on device"
 
 
-def names(folder) -> list[str]:
+def names(folder: Path) -> list[str]:
     return sorted(path.name for path in folder.iterdir())
 
 
 @contextlib.contextmanager
-def small_disk(room: Room):
+def small_disk(room: Room) -> Iterator[Path | None]:
     """A folder on a file system of 100 kB, or None where none may be mounted."""
     folder = room.path("disk")
     folder.mkdir()
-    words = ["mount", "-t", "tmpfs", "-o", "size=100k", "none", folder]
+    words: list[Word] = ["mount", "-t", "tmpfs", "-o", "size=100k", "none", folder]
     if os.geteuid() != 0 or subprocess.run(words, stderr=subprocess.DEVNULL).returncode:
         yield None
         return
@@ -63,22 +65,15 @@ def largest_file(room: Room) -> Iterator[Outcome]:
     room.write("a.xml", LARGE)
     room.path("out").mkdir()
     script = f'ulimit -f 20; trap "" XFSZ; exec "{CONVERTER}" -o out a.xml'
-    done = subprocess.run(["sh", "-c", script], cwd=room.folder, capture_output=True, timeout=SECONDS)
-    found = done.returncode, done.stderr, names(room.path("out"))
+    came = room.call(["sh", "-c", script])
+    found = came.status, came.errors, names(room.path("out"))
     yield Outcome("a file that grows too large", found, (3, said(["out: File too large"]), []))
 
 
-def run_without_error(room: Room, *words) -> int:
+def run_without_error(room: Room, *words: str) -> int:
     """The status of a run whose standard error is closed."""
     script = 'exec "$@" 2>&-'
-    done = subprocess.run(
-        ["sh", "-c", script, "sh", CONVERTER, *words],
-        cwd=room.folder,
-        stdin=subprocess.DEVNULL,
-        stdout=subprocess.DEVNULL,
-        timeout=SECONDS,
-    )
-    return done.returncode
+    return room.call(["sh", "-c", script, "sh", CONVERTER, *words]).status
 
 
 def closed_error(room: Room) -> Iterator[Outcome]:
@@ -110,6 +105,7 @@ def stopped(number: signal.Signals, room: Room) -> Iterator[Outcome]:
         stdin=subprocess.PIPE,
         stderr=subprocess.PIPE,
     )
+    assert process.stdin
     process.stdin.write(FRAMES["products"].before.encode() + b"<Note/>" * 100_000)
     process.stdin.flush()
     for _ in range(SECONDS * 10):

@@ -12,8 +12,9 @@ from collections.abc import Iterator
 from functools import partial
 from typing import NamedTuple
 
+from bench.figures.conversion import CONVERTER
 from tests.program.conversions import FRAMES, said
-from tests.program.converter import CONVERTER, FEED, convert
+from tests.program.converter import FEED, convert
 from tests.program.room import SECONDS, Group, Ran, Room
 from tests.running import Outcome
 
@@ -255,7 +256,7 @@ def encodings(room: Room) -> Iterator[Outcome]:
     for sender, feeds in [(SENDER, ENCODINGS), ("é", LATIN)]:
         wanted = Ran(0, message_of("R1").replace(b",S,", f",{sender},".encode()))
         for feed in feeds:
-            yield Outcome(f"encoding: {feed[:50]}", convert(room, given=feed), wanted)
+            yield Outcome(f"encoding: {feed[:50]!r}", convert(room, given=feed), wanted)
 
 
 def check(case: Case, room: Room) -> Iterator[Outcome]:
@@ -319,6 +320,7 @@ def terminal(room: Room) -> Iterator[Outcome]:
         [CONVERTER], cwd=room.folder, stdin=subprocess.PIPE, stdout=subprocess.PIPE, stderr=theirs
     )
     os.close(theirs)
+    assert process.stdin
     process.stdin.write(FRAME.before.encode())
     for _ in range(4):
         process.stdin.write(b"<Note/>" * 30_000)

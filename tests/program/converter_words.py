@@ -20,7 +20,7 @@ def feed_of(inside: str) -> bytes:
     return f"{frame.before}{inside}{frame.behind}".encode()
 
 
-BAD = [
+BAD: list[list[str | bytes]] = [
     ["--parts", "10000"],
     ["--parts", "0000000001x"],
     ["--number-offset"],

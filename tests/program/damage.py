@@ -222,11 +222,11 @@ def an_applied_text_that_is_none(room: Room) -> Iterator[Outcome]:
     for asked in REPEAT[0], bare:
         came = batch(room, asked)
         is_refused = came in [other_contents, FAULT]
-        yield Outcome(f"an applied text that is none: {asked}", is_refused or came, True)
+        yield Outcome(f"an applied text that is none: {asked!r}", is_refused or came, True)
 
     for asked in REQUESTS:
         came = batch(room, asked)
-        yield Outcome(f"beside a text that is none: {asked}", returns(came) or came, True)
+        yield Outcome(f"beside a text that is none: {asked!r}", returns(came) or came, True)
 
 
 GROUPS = [

@@ -9,6 +9,7 @@ from typing import NamedTuple
 
 from tests.program.room import UNREADABLE, Group, Ran, Room
 from tests.running import Outcome
+from tools.words import Row
 
 # The database of each room.
 DATABASE = "cases.db"
@@ -20,7 +21,7 @@ def execute(room: Room, statements: str, file: str = DATABASE) -> None:
         connection.executescript(statements)
 
 
-def rows(room: Room, query: str, file: str = DATABASE) -> list[tuple]:
+def rows(room: Room, query: str, file: str = DATABASE) -> list[Row]:
     with closing(sqlite3.connect(room.path(file))) as connection:
         return connection.execute(query).fetchall()
 
@@ -34,12 +35,12 @@ def table_names(room: Room, file: str = DATABASE) -> list[str]:
     return [name for (name,) in rows(room, query, file)]
 
 
-def all_rows(room: Room) -> dict:
+def all_rows(room: Room) -> dict[str, list[Row]]:
     """The rows of each table, in order of their columns."""
     return {table: sorted(rows(room, f"SELECT * FROM {table}")) for table in table_names(room)}
 
 
-def complaints(room: Room) -> list[tuple]:
+def complaints(room: Room) -> list[Row]:
     """What SQLite finds wrong with the file and its foreign keys."""
     found = rows(room, "PRAGMA integrity_check") + rows(room, "PRAGMA foreign_key_check")
     return [row for row in found if row != ("ok",)]
@@ -63,8 +64,8 @@ class Kept(NamedTuple):
     batch: bytes
     status: int
     answers: bytes
-    applied: list[tuple]
-    held: list[tuple]
+    applied: list[Row]
+    held: list[Row]
     next: int
     gaps: bytes
 
@@ -79,12 +80,12 @@ Price,02,{amount},GBP,,WORLD,,,
 """
 
 
-def put(number: int, reference: str, amount: str) -> tuple:
+def put(number: int, reference: str, amount: str) -> Row:
     """The row of such a message that was applied."""
     return (number, contents(reference, amount), 1, 0, 0, 0, 0)
 
 
-def bare(number: int) -> tuple:
+def bare(number: int) -> Row:
     """The row of a message without products that was applied."""
     return (number, "", 0, 0, 0, 0, 0)
 
@@ -268,7 +269,7 @@ def gaps(room: Room) -> Ran:
     return room.run("--db", DATABASE, "gaps", "north")
 
 
-def tables(room: Room) -> dict:
+def tables(room: Room) -> dict[str, list[Row] | list[int]]:
     """What the file holds of the one series."""
     return {
         "applied": rows(room, APPLIED),
@@ -308,13 +309,13 @@ def forty_messages_backwards(room: Room) -> Iterator[Outcome]:
     ran = batch(room, b"".join(message(number) for number in backwards))
     came = ran, rows(room, APPLIED), rows(room, HELD), numbers(room, NEXT)
     answers = b"".join(b"held,north,%d,waiting-for=1\n" % number for number in backwards)
-    wanted = Ran(0, answers), [], [(number, "") for number in range(2, 42)], [1]
+    wanted: Row = Ran(0, answers), [], [(number, "") for number in range(2, 42)], [1]
     yield Outcome("forty messages: the first day", came, wanted)
 
     ran = batch(room, message(1))
     came = ran, rows(room, APPLIED), rows(room, HELD), numbers(room, NEXT)
     answer = b"applied,north,1,replaced=0,updated=0,deleted=0,unknown=0,ignored=0\n"
-    wanted = Ran(0, answer), [bare(number) for number in range(1, 42)], [], [42]
+    wanted: Row = Ran(0, answer), [bare(number) for number in range(1, 42)], [], [42]
     yield Outcome("forty messages: the second day", came, wanted)
 
     report = b"gaps,north,first=1,next=42,greatest=41,held=0,missing=0\n"
@@ -359,7 +360,7 @@ applied,south,7,replaced=0,updated=0,deleted=1,unknown=0,ignored=0
 
 # The rows of each table after the first batch, in order of its key. The 1st of April 2025 is the day
 # 20,179, counted from 1970.
-AFTER_FIRST = {
+AFTER_FIRST: dict[str, list[Row]] = {
     "meta": [("version", 2)],
     "series": [("south", "06", "5000000000005", "", "", 5, 7)],
     "held": [("south", 8, "")],
@@ -401,7 +402,7 @@ SupplyDetail,04,06,5000000000005,,40,
 }
 
 # And after the second, which deletes the record and lets the number that waits be applied.
-AFTER_SECOND = {
+AFTER_SECOND: dict[str, list[Row]] = {
     "meta": [("version", 2)],
     "series": [("south", "06", "5000000000005", "", "", 5, 9)],
     "held": [],

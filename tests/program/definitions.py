@@ -4,6 +4,7 @@ from collections.abc import Iterator
 
 from tests.program.room import Group, Room
 from tests.running import Outcome
+from tools.root import ROOT
 from tools.specs import page
 from tools.specs.contracts import Clauses, public_modules
 from tools.specs.definitions import Name, imported, names_in, read_file
@@ -76,7 +77,7 @@ impl Model for Book {
 
 def commented(room: Room) -> Iterator[Outcome]:
     """Each definition that a public contract reaches has a comment, or a name that says all."""
-    files, listed = page.read_all(page.ROOT)
+    files, listed = page.read_all(ROOT)
     remarks = {Name(file.crate, file.name, word): said for file in files for word, said in file.comments.items()}
     silent = sorted(name for name in listed if remarks.get(name) == "" and name.word not in NAMES_SAY_ALL)
     yield Outcome("definitions of public contracts without a comment", silent, [])
@@ -119,12 +120,13 @@ def contracts(room: Room) -> Iterator[Outcome]:
         "b::e": "pub mod g;\n",
     }
     yield Outcome("modules that others see", public_modules(texts), ["lib", "b", "c", "b::e", "b::e::g"])
-    for is_open, types, wanted in [
+    cases: list[tuple[bool, set[str], list[str]]] = [
         (True, {"Book"}, ["IsBook", "IsSold", "pays"]),
         (True, set(), ["IsSold", "pays"]),
         (False, {"Book"}, ["IsBook"]),
         (False, set(), []),
-    ]:
+    ]
+    for is_open, types, wanted in cases:
         names = names_in(Clauses(is_open, types).of(SOURCE), imported(SOURCE))
         name = f"contracts of a {'public' if is_open else 'private'} module with public types {types}"
         yield Outcome(name, sorted(found.word for found in names), wanted)

@@ -5,20 +5,20 @@ import os
 import random
 import re
 import sqlite3
-import subprocess
 import threading
 import time
-from collections.abc import Iterator
+from collections.abc import Callable, Iterator
 from concurrent.futures import ThreadPoolExecutor
 from contextlib import closing, contextmanager
 from pathlib import Path
 
 from desk_copy import copying
 from tests.program.databases import DATABASE, batch, execute
-from tests.program.room import SECONDS, Group, Ran, Room
-from tests.program.serving import HOST, posted, serving
+from tests.program.room import Group, Ran, Room
+from tests.program.serving import HOST, Serving, posted, serving
 from tests.running import Outcome
 from tools.root import ROOT
+from tools.words import Row, Word
 
 PROGRAM = ROOT / "bin/desk-copy"
 
@@ -35,9 +35,8 @@ PRODUCTS = 40
 PAUSES = [0, 0, 0, 0.002, 0.15, 0.4, 0.8]
 
 
-def copy(room: Room, *words) -> Ran:
-    done = subprocess.run([PROGRAM, *words], cwd=room.folder, capture_output=True, timeout=SECONDS)
-    return Ran(done.returncode, done.stdout, done.stderr)
+def copy(room: Room, *words: Word) -> Ran:
+    return room.call([PROGRAM, *words])
 
 
 def message(number: int) -> str:
@@ -53,10 +52,10 @@ def message(number: int) -> str:
 class Sender:
     """Sends messages to a desk, one after the other, and counts those that it has answered."""
 
-    def __init__(self, desk) -> None:
+    def __init__(self, desk: Serving) -> None:
         self.desk = desk
         self.sent = self.answered = 0
-        self.unexpected = []
+        self.unexpected: list[bytes] = []
         self.is_to_end = threading.Event()
         self.thread = threading.Thread(target=self.send)
 
@@ -73,11 +72,12 @@ class Sender:
 
 
 @contextmanager
-def sending(room: Room):
+def sending(room: Room) -> Iterator[Sender]:
     """A desk that takes messages all the while."""
     batch(room, AGREEMENT)
     with serving(room, ["--db", DATABASE], None) as desk:
         # The lines of `serve` are read, or it would wait.
+        assert desk.process.stdout
         threading.Thread(target=desk.process.stdout.read, daemon=True).start()
         sender = Sender(desk)
         sender.thread.start()
@@ -93,11 +93,12 @@ SELECT (SELECT next_number FROM series), (SELECT count(*) FROM applied), (SELECT
     (SELECT min(amount) FROM price), (SELECT max(amount) FROM price)"""
 
 
-def counted(database: Path) -> tuple:
+def counted(database: Path) -> Row:
     """The next number, how many messages and prices a copy has, and the least and the greatest amount, as SQLite
     reads it."""
     with closing(sqlite3.connect(f"{database.as_uri()}?mode=ro", uri=True)) as connection:
-        return connection.execute(COUNTED).fetchone()
+        (found,) = connection.execute(COUNTED).fetchall()
+    return tuple(found)
 
 
 def first_next(room: Room, database: Path) -> int:
@@ -221,11 +222,16 @@ def unsound(room: Room) -> Iterator[Outcome]:
     yield Outcome("no copy is left", room.path("copy").exists(), False)
 
 
+def touched_until(ended: threading.Event, file: Path) -> None:
+    while not ended.wait(0.02):
+        file.touch()
+
+
 def changed_all_the_while(room: Room) -> Iterator[Outcome]:
     batch(room, AGREEMENT)
     ended = threading.Event()
     log = room.path(f"{DATABASE}-wal")
-    toucher = threading.Thread(target=lambda: [log.touch() for _ in iter(lambda: ended.wait(0.02), True)])
+    toucher = threading.Thread(target=touched_until, args=(ended, log))
     toucher.start()
     try:
         came = copy(room, "--seconds", "1", DATABASE, "copy")
@@ -242,9 +248,10 @@ def changed_all_the_while(room: Room) -> Iterator[Outcome]:
 
 
 @contextmanager
-def before_each_copy(act):
+def before_each_copy(act: Callable[[Path, int], object]) -> Iterator[list[str]]:
     """Calls what is given with the file that is copied and how many were copied before, once it was copied."""
-    copied, copy_file = [], copying.copy_file
+    copied: list[str] = []
+    copy_file = copying.copy_file
 
     def with_it(source: Path, target: Path) -> None:
         copy_file(source, target)
@@ -265,10 +272,10 @@ def written_meanwhile(room: Room) -> Iterator[Outcome]:
     room.write("d-wal", head + b"one")
     room.path("to").mkdir()
 
-    def write(name: str, data: bytes, at: int):
+    def write(name: str, data: bytes, at: int) -> Callable[[Path, int], None]:
         return lambda _, count: room.write(name, data) if count == at else None
 
-    def replace(_, count: int) -> None:
+    def replace(_: Path, count: int) -> None:
         if count == 2:
             room.write("new", b"5")
             room.path("new").rename(room.path("d"))

@@ -3,19 +3,19 @@ PostgreSQL are tests/postgres."""
 
 import re
 import sqlite3
-import subprocess
 import sys
 from collections.abc import Iterator
 from contextlib import closing
 
-from desk_copy.copying import Fault
+from command_lines.ending import Fault
 from desk_follow.rules import BadRules, Rule, rules_of
 from desk_follow.source import TABLES, opened, references_of
 from tests.program.databases import DATABASE, batch
-from tests.program.room import SECONDS, Group, Ran, Room
+from tests.program.room import Group, Ran, Room
 from tests.program.rules_files import TEXTS
 from tests.running import Outcome
 from tools.root import ROOT
+from tools.words import Word
 
 PROGRAM = ROOT / "bin/desk-follow"
 
@@ -86,7 +86,7 @@ def precedence_tables(room: Room) -> Iterator[Outcome]:
     for text in MORE:
         room.write("rules.toml", text)
         yield Outcome(
-            f"desk-follow: rules: {text}",
+            f"desk-follow: rules: {text!r}",
             said_of_rules(text),
             room.run("--rules", "rules.toml", "batch").errors,
         )
@@ -95,11 +95,11 @@ def precedence_tables(room: Room) -> Iterator[Outcome]:
     yield Outcome("desk-follow: rules that are read", rules_of(text), wanted)
 
 
-def lines(room: Room) -> dict[str, list[list]]:
+def lines(room: Room) -> dict[str, list[list[str | None]]]:
     """The rows of each table as PostgreSQL's COPY reads the lines."""
     unescaped = {"\\\\": "\\", "\\t": "\t", "\\n": "\n", "\\r": "\r"}
 
-    def value(text: str):
+    def value(text: str) -> str | None:
         return None if text == "\\N" else re.sub(r"\\.", lambda found: unescaped[found[0]], text)
 
     with opened(room.path(DATABASE)) as source:
@@ -141,7 +141,7 @@ def what_is_touched(room: Room) -> Iterator[Outcome]:
     """The references that applied messages speak of, beyond what is known of each series."""
     batch(room, (AGREEMENTS + message(1, REFERENCES)).encode())
     with opened(room.path(DATABASE)) as source:
-        first = source.touched({})
+        first = source.touched({}) or {}
     yield Outcome(
         "desk-follow: all that is new",
         {name: each.references for name, each in first.items()},
@@ -153,7 +153,7 @@ def what_is_touched(room: Room) -> Iterator[Outcome]:
         ("Agree,west,06,U,,,1\nWaive,north,2\n" + message(3, ["x"]) + message(5, ["y", '"'], "T")).encode(),
     )
     with opened(room.path(DATABASE)) as source:
-        came = source.touched(known)
+        came = source.touched(known) or {}
         found = {name: (each.numbers, each.references) for name, each in came.items()}
         wanted = {
             "north": (range(2, 4), {"x"}),
@@ -164,7 +164,7 @@ def what_is_touched(room: Room) -> Iterator[Outcome]:
         again = {name: (each.next_number, each.digest) for name, each in came.items()}
         yield Outcome(
             "desk-follow: nothing is new",
-            {name: [*each.numbers] for name, each in source.touched(again).items()},
+            {name: [*each.numbers] for name, each in (source.touched(again) or {}).items()},
             {"north": [], "south": [], "west": []},
         )
         for name, other in [
@@ -181,9 +181,8 @@ def references(room: Room) -> Iterator[Outcome]:
     yield Outcome("desk-follow: a waived number", [*references_of("waived")], [])
 
 
-def follow(room: Room, *words) -> Ran:
-    done = subprocess.run([PROGRAM, *words], cwd=room.folder, capture_output=True, timeout=SECONDS)
-    return Ran(done.returncode, done.stdout, done.stderr)
+def follow(room: Room, *words: Word) -> Ran:
+    return room.call([PROGRAM, *words])
 
 
 def refused(room: Room) -> Iterator[Outcome]:
@@ -192,14 +191,9 @@ def refused(room: Room) -> Iterator[Outcome]:
     yield Outcome("desk-follow: another word", follow(room, "--schema", "other", DATABASE).status, 2)
     # No packages are looked for then.
     calling = "import sys; sys.path.insert(0, sys.argv.pop(1)); from desk_follow.command_line import main; sys.exit(main())"
-    done = subprocess.run(
-        [sys.executable, "-I", "-S", "-B", "-c", calling, ROOT / "lib", DATABASE],
-        cwd=room.folder,
-        capture_output=True,
-        timeout=SECONDS,
-    )
+    came = room.call([sys.executable, "-I", "-S", "-B", "-c", calling, ROOT / "lib", DATABASE])
     line = b"desk-follow: no psycopg2; apt-get install python3-psycopg2\n"
-    yield Outcome("desk-follow: no psycopg2", Ran(done.returncode, done.stdout, done.stderr), Ran(3, b"", line))
+    yield Outcome("desk-follow: no psycopg2", came, Ran(3, b"", line))
     room.write("rules.toml", b"rule = 1\n")
     ran = follow(room, "--rules", "rules.toml", DATABASE)
     yield Outcome("desk-follow: a bad table", ran, Ran(2, b"", b"desk-follow: rules: not TOML\n"))
@@ -208,12 +202,12 @@ def refused(room: Room) -> Iterator[Outcome]:
             connection.execute(f"UPDATE meta SET {version}")
         try:
             with opened(room.path(DATABASE)):
-                came = "opened"
+                told_then = "opened"
         except Fault as fault:
-            came = str(fault)
+            told_then = str(fault)
         yield Outcome(
             "desk-follow: another version",
-            came,
+            told_then,
             f"{DATABASE}: it is of version {told} of a desk's tables, in place of 2",
         )
 

@@ -2,10 +2,9 @@
 
 import os
 import shlex
-import subprocess
 from collections.abc import Iterator
 
-from tests.program.room import SECONDS, Group, Ran, Room
+from tests.program.room import Group, Ran, Room
 from tests.program.serving import free_port, posted, serving
 from tests.running import Outcome
 from tools.root import ROOT
@@ -55,7 +54,7 @@ def week(room: Room) -> Iterator[Outcome]:
 
 def commands(lines: list[str]) -> list[tuple[list[str], list[str]]]:
     """The words of each command of a block behind its program, and the lines that follow it."""
-    found = []
+    found: list[tuple[list[str], list[str]]] = []
     for line in lines:
         if line.startswith(("bin/onixdesk ", "curl ")):
             found.append((shlex.split(line)[1:], []))
@@ -81,8 +80,8 @@ def desk_in_a_file(room: Room) -> Iterator[Outcome]:
         for (url,), (body,) in questions:
             target = url.removeprefix("http://127.0.0.1:8080")
             reply = desk.reply([f"GET {target} HTTP/1.1\r\n\r\n".encode()])
-            came = reply.partition(b"\r\n\r\n")[2]
-            yield Outcome(f"docs/TOUR.md: {target}", came, body.encode())
+            answer = reply.partition(b"\r\n\r\n")[2]
+            yield Outcome(f"docs/TOUR.md: {target}", answer, body.encode())
         _, *statuses = block("docs/TOUR.md", "listening 8080")
         yield Outcome("docs/TOUR.md: the lines of serve", desk.ended(), desk.wanted(statuses))
 
@@ -139,19 +138,14 @@ def page_of_http(room: Room) -> Iterator[Outcome]:
     yield Outcome("docs/HTTP.md: its questions", (len(of_articles), len(of_series)), (3, 2))
 
 
-def script(room: Room, name: str, *words) -> Ran:
+def script(room: Room, name: str, *words: str) -> Ran:
     """How a script of the examples ends that runs the program of the room."""
-    done = subprocess.run(
-        [ROOT / "examples" / name, *words],
-        cwd=room.folder,
-        env={**os.environ, "ONIXDESK": str(room.program)},
-        capture_output=True,
-        timeout=SECONDS,
+    return room.call(
+        [ROOT / "examples" / name, *words], environment={**os.environ, "ONIXDESK": str(room.program)}
     )
-    return Ran(done.returncode, done.stdout, done.stderr)
 
 
-def gaps_script(room: Room, *words) -> Ran:
+def gaps_script(room: Room, *words: str) -> Ran:
     return script(room, "gaps.sh", *words)
 
 

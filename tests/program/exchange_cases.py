@@ -522,8 +522,10 @@ INPUTS = [
 ]
 
 # Heads and bodies at their limits and a byte to each side: how an input begins, how many letters follow,
-# how its head ends, and how many letters follow then.
-LONG_INPUTS = [
+# how its head ends, and how many letters follow then; the status and the body of the reply.
+LongInput = tuple[tuple[bytes, int, bytes, int], str, str]
+
+LONG_INPUTS: list[LongInput] = [
     ((b"GET /", 16_378, b"", 0), "400 Bad Request", refusal("bad-head")),
     ((b"GET /", 16_379, b"", 0), "414 URI Too Long", refusal("target-too-long")),
     ((b"GET / HTTP/1.1\r\nA: ", 16_364, b"", 0), "400 Bad Request", refusal("bad-head")),

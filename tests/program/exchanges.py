@@ -1,7 +1,7 @@
 """Exchanges over real sockets with one run of `serve` for each group, over a database that a batch has
 prepared. What is sent and replied stands in `exchange_cases`."""
 
-from collections.abc import Iterator
+from collections.abc import Callable, Iterator
 from functools import partial
 
 from tests.program.databases import DATABASE, batch, execute
@@ -15,6 +15,7 @@ from tests.program.exchange_cases import (
     DELIVERY,
     INPUTS,
     LONG_INPUTS,
+    LongInput,
     MOST_INPUT,
     NO_NUMBERS,
     NO_PATHS,
@@ -28,7 +29,7 @@ from tests.program.exchange_cases import (
     refusal,
 )
 from tests.program.room import Group, Ran, Room
-from tests.program.serving import Exchange, got, in_pieces, serving
+from tests.program.serving import Exchange, Serving, got, in_pieces, serving
 from tests.running import Outcome
 
 WORDS = ["--db", DATABASE, "--rules", "rules.toml"]
@@ -49,7 +50,11 @@ def byte_by_byte(exchange: Exchange) -> list[bytes]:
     return in_pieces(exchange.input, 1)
 
 
-def all_replied(exchanges: list[Exchange], ways, room: Room) -> Iterator[Outcome]:
+# How the input of an exchange is cut into pieces.
+Way = Callable[[Exchange], list[bytes]]
+
+
+def all_replied(exchanges: list[Exchange], ways: list[Way], room: Room) -> Iterator[Outcome]:
     """Each exchange is as it is to be, whichever way its input comes, and so once more."""
     yield agreed(room)
     with serving(room, WORDS, len(exchanges) * len(ways)) as desk:
@@ -73,13 +78,13 @@ def refused_targets() -> list[Exchange]:
 
 
 def whole_inputs() -> list[Exchange]:
-    return [Exchange(f"input: {text}", text, line, body) for text, line, body in INPUTS]
+    return [Exchange(f"input: {text!r}", text, line, body) for text, line, body in INPUTS]
 
 
-def long_input(case) -> Exchange:
+def long_input(case: LongInput) -> Exchange:
     (before, letters, end, more), line, body = case
     text = before + b"a" * letters + end + b"a" * more
-    return Exchange(f"a long input: {before}, {letters}, {end}, {more}", text, line, body)
+    return Exchange(f"a long input: {before!r}, {letters}, {end!r}, {more}", text, line, body)
 
 
 def many_fields(count: int, line: str, body: str) -> Exchange:
@@ -134,7 +139,7 @@ def whole_replies(room: Room) -> Iterator[Outcome]:
         yield Outcome("the lines of whole replies", desk.ended(), desk.wanted(["200", "405"]))
 
 
-def in_turn(desk, exchanges: list[Exchange]) -> Iterator[Outcome]:
+def in_turn(desk: Serving, exchanges: list[Exchange]) -> Iterator[Outcome]:
     """Each exchange once, one after the other."""
     for exchange in exchanges:
         yield Outcome(exchange.name, desk.reply([exchange.input]), exchange.reply())

@@ -64,8 +64,8 @@ def is_there(room: Room) -> Iterator[Outcome]:
     reply = '{"answer":"gaps","first":1,"greatest":1,"held":0,"missing":[],"next":2,"series":"north"}'
     question = got("/series/north/gaps", "200 OK", reply)
     with serving(room, EXISTING, 1) as desk:
-        came = desk.reply([question.input]), desk.ended()
-        yield Outcome("a database that is there: serve", came, (question.reply(), desk.wanted(["200"])))
+        found = desk.reply([question.input]), desk.ended()
+        yield Outcome("a database that is there: serve", found, (question.reply(), desk.wanted(["200"])))
     yield Outcome("a database that is there: the file then", complaints(room), [])
 
 

@@ -1,6 +1,8 @@
 """Trees of messages from a seed: right ones for the most part, and all that can be odd about them."""
 
+from collections.abc import Callable
 from random import Random
+from typing import TypeVar
 
 from tests.program.feed_trees import (
     Detail,
@@ -52,6 +54,9 @@ PASSED_OVER = ["PriceStatus", "EpubTechnicalProtection", "EpubLicense"]
 WRONG_DETAILS = ["supplier", "role", "name", "identifier", "availability", "unpriced", "price"]
 
 
+Made = TypeVar("Made")
+
+
 class Maker:
     def __init__(self, random: Random) -> None:
         self.random = random
@@ -59,7 +64,7 @@ class Maker:
     def is_one_of(self, count: int) -> bool:
         return self.random.randrange(count) == 0
 
-    def some(self, make, most: int, least: int = 0) -> list:
+    def some(self, make: Callable[[], Made], most: int, least: int = 0) -> list[Made]:
         return [make() for _ in range(self.random.randint(least, most))]
 
     def maybe(self, text: str) -> str:
@@ -250,7 +255,7 @@ class Maker:
         if kind == "name":
             detail.name = self.bad_text()
         if kind == "identifier":
-            detail.identifiers.insert(0, self.bad_identifier())
+            detail.identifiers = [self.bad_identifier(), *(detail.identifiers or [])]
         if kind == "availability":
             detail.availability = self.bad_code()
         if kind == "unpriced":
@@ -278,6 +283,7 @@ class Maker:
     def markets(self) -> list[Market]:
         narrow, wide, anything = self.narrow_territory, self.wide_territory, self.any_territory
         empty = self.empty_territory
+        kinds: list[list[Callable[[], Territory | None]]]
         kinds = [[narrow], [narrow, empty], [empty], [narrow, wide], [wide], [anything], [narrow, anything]]
         of = self.random.choice(kinds)
         return self.some(lambda: self.market(self.random.choice(of)()), 4, least=1)
@@ -323,7 +329,7 @@ class Maker:
             at = self.random.randint(0, len(product.identifiers))
             product.identifiers.insert(at, self.bad_identifier())
 
-    def message(self, sender: list[Identifier] | None, addressees: list, number: int) -> Message:
+    def message(self, sender: list[Identifier] | None, addressees: list[list[Identifier]], number: int) -> Message:
         message = Message(
             sender,
             addressees,

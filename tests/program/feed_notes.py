@@ -56,8 +56,8 @@ def tells(said: Said, note: Note) -> bool:
 class Compared(NamedTuple):
     """What is wanted and was not said, and what was said and is not wanted."""
 
-    missing: list
-    surplus: list
+    missing: list[tuple[Place, Note]]
+    surplus: list[Said]
 
 
 def compared(wanted: list[Note], starts: dict[object, Place], said: Iterable[Said]) -> Compared:
@@ -79,12 +79,12 @@ PASSED_OVER = "not looked at"
 
 
 class Summary(NamedTuple):
-    """How often each reason was given, how often an element was passed over, and the count of all notes,
-    which is the last line where there are some."""
+    """How often each reason was given, how often an element was passed over, and the last line, which counts
+    all notes, where there are some."""
 
     reasons: dict[str, int]
     passed_over: dict[str, int]
-    count: str
+    last: str
 
 
 def read_summary(lines: list[str]) -> Summary:

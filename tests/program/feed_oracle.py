@@ -109,7 +109,7 @@ def sender_of(message: Message, words: Words) -> list[str]:
     if words.sender and not any(each.id_type and each.value for each in identifiers):
         return list(words.sender)
     sender = chosen(identifiers, words)
-    if sender in (None, ["", ""]):
+    if not sender or sender == ["", ""]:
         raise Refused
     return sender
 
@@ -272,7 +272,9 @@ class Judge:
     def price(self, price: Price) -> list[Record]:
         reasons = reasons_of(price, self.message)
         if reasons:
-            names = tuple(regions_in_the_way(price.territory)) if reasons == [REGION] else ANY
+            names: tuple[str, ...] = ANY
+            if price.territory and reasons == [REGION]:
+                names = tuple(regions_in_the_way(price.territory))
             self.note(price, *reasons, names=names)
             return []
         self.note_regions(price.territory)

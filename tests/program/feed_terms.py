@@ -2,6 +2,7 @@
 
 import datetime
 import re
+from collections.abc import Callable
 
 
 def matches(pattern: str, text: str) -> bool:
@@ -59,5 +60,5 @@ def is_day(text: str) -> bool:
     return True
 
 
-def is_empty_or(is_term, text: str) -> bool:
+def is_empty_or(is_term: Callable[[str], bool], text: str) -> bool:
     return text == "" or is_term(text)

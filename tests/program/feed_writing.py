@@ -1,10 +1,11 @@
 """Trees of messages written as XML, in as many ways as XML has for the same."""
 
 from bisect import bisect_right
+from collections.abc import Callable, Iterable
 from html.entities import codepoint2name
 from random import Random
 from re import finditer
-from typing import NamedTuple
+from typing import NamedTuple, TypeVar
 from xml.sax.saxutils import escape, quoteattr
 
 from tests.program.conversions import SHORT_TAGS
@@ -48,6 +49,12 @@ NAMES_BY_ADDRESS = [
     '<!ENTITY % names SYSTEM "names.ent"> %names; <!ENTITY eacute "not this">',
     '%names; <!ENTITY eacute "not this">',
 ]
+
+
+# What writes a part of a feed.
+Write = Callable[[], object]
+
+Item = TypeVar("Item")
 
 
 class Place(NamedTuple):
@@ -164,7 +171,7 @@ class Writer:
         elif self.is_one_of(8):
             self.put(self.random.choice([f"<{tag}/>", f"<{tag}> \n</{tag}>", f"<{tag}><!-- 5 --></{tag}>"]))
 
-    def composite(self, name: str, *writes, of: object = None) -> None:
+    def composite(self, name: str, *writes: Write, of: object = None) -> None:
         """A composite with what is written within it, `of` the one of the tree that it is."""
         tag = self.name(name)
         self.starts[of] = self.length
@@ -175,11 +182,15 @@ class Writer:
         self.ends[of] = self.length
         self.put("")
 
-    def in_any_order(self, *writes) -> None:
-        writes = list(writes)
-        self.random.shuffle(writes)
-        for write in writes:
+    def in_any_order(self, *writes: Write) -> None:
+        order = [*writes]
+        self.random.shuffle(order)
+        for write in order:
             write()
+
+    def each(self, write: Callable[[Item], None], items: Iterable[Item]) -> None:
+        for item in items:
+            write(item)
 
     # Prices.
 
@@ -228,13 +239,13 @@ class Writer:
                 lambda: coded("PriceCondition", "PriceConditionType", price.conditions),
                 lambda: coded("PriceConstraint", "PriceConstraintType", price.constraints),
                 lambda: self.element("MinimumOrderQuantity", price.quantity),
-                lambda: price.is_coded and self.composite("PriceCoded"),
+                lambda: self.each(self.composite, ["PriceCoded"] * price.is_coded),
                 lambda: self.element("PriceAmount", price.amount),
                 lambda: self.element("UnpricedItemType", price.unpriced),
                 lambda: self.element("CurrencyCode", price.currency),
                 lambda: self.element("CurrencyZone", price.zone),
-                lambda: price.territory and self.territory(price.territory),
-                lambda: [self.price_date(date) for date in price.dates],
+                lambda: self.each(self.territory, [price.territory] if price.territory else []),
+                lambda: self.each(self.price_date, price.dates),
                 passed_over,
             )
 
@@ -261,7 +272,7 @@ class Writer:
                 "Supplier",
                 lambda: self.in_any_order(
                     lambda: self.element("SupplierRole", detail.role),
-                    lambda: self.identifiers("Supplier", detail.identifiers),
+                    lambda: self.identifiers("Supplier", detail.identifiers or []),
                     lambda: self.element("SupplierName", detail.name),
                 ),
             )
@@ -274,7 +285,7 @@ class Writer:
                 supplier,
                 lambda: self.element("ProductAvailability", detail.availability),
                 lambda: self.element("UnpricedItemType", detail.unpriced),
-                lambda: [self.price(price) for price in detail.prices],
+                lambda: self.each(self.price, detail.prices),
             ),
         )
 
@@ -285,7 +296,7 @@ class Writer:
 
         self.composite(
             "Market",
-            lambda: market.territory and self.territory(market.territory),
+            lambda: self.each(self.territory, [market.territory] if market.territory else []),
             restriction,
             of=market,
         )
@@ -293,8 +304,8 @@ class Writer:
     def supply(self, supply: Supply) -> None:
         self.composite(
             "ProductSupply",
-            lambda: [self.market(market) for market in supply.markets],
-            lambda: [self.detail(detail) for detail in supply.details],
+            lambda: self.each(self.market, supply.markets),
+            lambda: self.each(self.detail, supply.details),
             of=supply,
         )
 
@@ -305,7 +316,7 @@ class Writer:
                 lambda: self.element("RecordReference", product.reference),
                 lambda: self.element("NotificationType", product.notification),
                 lambda: self.identifiers("Product", product.identifiers),
-                lambda: [self.supply(supply) for supply in product.supplies],
+                lambda: self.each(self.supply, product.supplies),
             ),
             of=product,
         )
@@ -315,7 +326,7 @@ class Writer:
     def header(self, message: Message) -> None:
         def sender() -> None:
             if message.sender is not None:
-                self.composite("Sender", lambda: self.identifiers("Sender", message.sender))
+                self.composite("Sender", lambda: self.identifiers("Sender", message.sender or []))
             if message.sender and self.is_one_of(20):
                 self.composite("Sender", lambda: self.identifiers("Sender", [Identifier("06", "second")]))
 

@@ -1,7 +1,6 @@
 """`bench/scale`: a small desk grows beside the same rows put by SQLite, is measured at each size, and goes on
 where a run was stopped."""
 
-import subprocess
 from collections.abc import Iterator
 from pathlib import Path
 from xml.etree import ElementTree
@@ -10,7 +9,7 @@ from bench.figures import tables
 from bench.figures.growing import planned
 from bench.figures.runs import BenchmarkFault
 from bench.figures.twin import Twin
-from tests.program.room import SECONDS, Group, Room
+from tests.program.room import Group, Room
 from tests.running import Outcome
 from tools.root import ROOT
 
@@ -22,10 +21,9 @@ SVG = "{http://www.w3.org/2000/svg}"
 
 def measured(room: Room, end: int) -> tuple[int, list[str], bytes]:
     """The status of a run up to so many articles, the lines that begin a size, and what it said."""
-    words = [ROOT / "bench/scale", "--desk", room.program, *WORDS, "--end", str(end), "grown"]
-    done = subprocess.run(words, cwd=room.folder, capture_output=True, timeout=SECONDS)
-    lines = done.stdout.decode().splitlines()
-    return done.returncode, [line.split(",")[0] for line in lines if line[0] != " "], done.stderr
+    came = room.call([ROOT / "bench/scale", "--desk", room.program, *WORDS, "--end", str(end), "grown"])
+    lines = came.output.decode().splitlines()
+    return came.status, [line.split(",")[0] for line in lines if line[0] != " "], came.errors
 
 
 def lines_of(room: Room, name: str) -> list[str]:
@@ -52,7 +50,7 @@ def a_desk_that_grows(room: Room) -> Iterator[Outcome]:
 def picture(room: Room) -> Iterator[Outcome]:
     measured(room, 12)
     drawn = ElementTree.fromstring(room.path("growth.svg").read_bytes())
-    points = [len(line.get("points").split()) for line in drawn.iter(f"{SVG}polyline")]
+    points = [len(line.get("points", "").split()) for line in drawn.iter(f"{SVG}polyline")]
     yield Outcome("bench/scale: the points of its lines", points, [2] * 11)
 
 

@@ -42,6 +42,11 @@ def nested(first: str, reference: str = "&") -> str:
     return "".join(declarations)
 
 
+def encoded(name: str) -> Iterator[bytes]:
+    """The beginning of a feed that says it is of that encoding."""
+    yield f'<?xml version="1.0" encoding="{name}"?>{ROOT}'.encode()
+
+
 def typed(declarations: str, within: str) -> Iterator[bytes]:
     """A feed with a document type of these declarations and this beside its products."""
     document_type = f"<!DOCTYPE ONIXMessage [{declarations}]>"
@@ -231,7 +236,7 @@ CUT = [
     *(
         Case(
             f"the encoding {encoding}",
-            lambda encoding=encoding: iter([f'<?xml version="1.0" encoding="{encoding}"?>{ROOT}'.encode()]),
+            partial(encoded, encoding),
             f"encoding {encoding} is neither expat's nor of single bytes",
         )
         for encoding in [
@@ -257,7 +262,7 @@ BY_ADDRESS = b" refused: an entity that is declared by an address\n"
 
 
 @contextlib.contextmanager
-def listening():
+def listening() -> Iterator[tuple[int, socket.socket]]:
     """A port, and the connections that came to it."""
     with socket.socket() as listener:
         listener.bind(("127.0.0.1", 0))

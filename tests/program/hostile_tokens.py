@@ -2,7 +2,7 @@
 are good are read, whichever expat hands over their tokens, and however late."""
 
 import codecs
-from collections.abc import Iterator
+from collections.abc import Callable, Iterator
 from functools import partial
 
 from tests.program.converter import measured
@@ -135,7 +135,7 @@ LATE = [
 # Elements as dense as they can be, far more than entities may give.
 DENSE = "<x/>" * 500_000
 
-GOOD = {
+GOOD: dict[str, Callable[[], Iterator[bytes]]] = {
     "a long comment": lambda: feed(f"<!--{MEGABYTE * 2}-->", PRODUCT.format("R1"), DENSE),
     "a comment of nearly 4 MiB": lambda: feed(f"<!--{MEGABYTE * 4}-->", PRODUCT.format("R1"), DENSE),
     "a long comment near the end": lambda: feed(f"<!--{MEGABYTE}-->", PRODUCT.format("R1"), DENSE[:400_000]),

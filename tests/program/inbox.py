@@ -11,7 +11,7 @@ from collections.abc import Iterator
 from functools import partial
 from io import BytesIO
 
-from tests.program.converter import CONVERTER
+from bench.figures.conversion import CONVERTER
 from tests.program.converter_runs import feed_of, message_of
 from tests.program.databases import batch, execute
 from tests.program.inboxes import (
@@ -131,12 +131,12 @@ def names_that_come_again(room: Room) -> Iterator[Outcome]:
             inbox.put({"a.xml": data})
             wanted = said(f"a.xml: done: number {number} applied") if number else said(refusal, status=1)
             yield Outcome("inbox: a name that comes again", inbox.run(), wanted)
-    wanted = {
+    kept = {
         **taken("done", "a.xml", one, of_series(1, replaced=1)),
         **taken("done", "a.xml.2", two, of_series(2, replaced=1)),
         **taken("refused", "a.xml", other, OTHER.format(1)),
     }
-    yield Outcome("inbox: names that come again", inbox.kept(), wanted)
+    yield Outcome("inbox: names that come again", inbox.kept(), kept)
 
 
 def words_of_the_converter(room: Room) -> Iterator[Outcome]:
@@ -304,7 +304,7 @@ class Stranger(http.server.BaseHTTPRequestHandler):
         self.end_headers()
         self.wfile.write(self.body)
 
-    def log_message(self, *_) -> None:
+    def log_message(self, *_: object) -> None:
         pass
 
 
@@ -331,7 +331,7 @@ def other_servers(room: Room) -> Iterator[Outcome]:
             shown = body.decode(errors="backslashreplace").replace("\x1b", r"\x1b")
             wanted = said(f"b.csv: waiting: the desk answers {status} {shown}")
             found = inbox.run(), inbox.lying()
-            yield Outcome(f"inbox: a server that answers {status} {body}", found, (wanted, files))
+            yield Outcome(f"inbox: a server that answers {status} {body!r}", found, (wanted, files))
             server.shutdown()
 
 

@@ -106,7 +106,7 @@ def strange_names(room: Room) -> Iterator[Outcome]:
         lines = [f"{shown}: done: number {number} applied" for number, shown in enumerate(NAMES.values(), 1)]
         wanted = said(*lines, "a\\n\\x1b[31mb.rar: not taken: its name has no known ending")
         yield Outcome("inbox: strange names", inbox.run(), wanted)
-        kept = {}
+        kept: dict[str, bytes] = {}
         for number, (shown, data) in enumerate(zip(NAMES.values(), files.values(), strict=True), 1):
             kept |= taken("done", shown, data, of_series(number))
         yield Outcome("inbox: strange names, what is kept", inbox.kept(), kept)

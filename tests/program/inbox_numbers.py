@@ -4,12 +4,12 @@ import hashlib
 import http.server
 import json
 import os
-import re
 import shutil
 import signal
 import threading
 from collections.abc import Iterator
 from functools import partial
+from pathlib import Path
 
 from bench.figures.conversion import within
 from tests.program.converter_runs import message_of
@@ -29,9 +29,10 @@ from tests.program.inboxes import (
     taken,
     unnumbered,
 )
-from tests.program.room import Group, Room
+from tests.program.room import Group, Ran, Room
 from tests.program.serving import serving
 from tests.running import Outcome
+from tools.words import sought
 
 BEFORE = "; these bytes had that number before"
 
@@ -103,11 +104,11 @@ class Failing(http.server.BaseHTTPRequestHandler):
         self.rfile.read(int(self.headers["Content-Length"]))
         self.reply(self.status, self.body)
 
-    def log_message(self, *_) -> None:
+    def log_message(self, *_: object) -> None:
         pass
 
 
-def run_at_a_failing_desk(inbox: Inbox, status: int, body: bytes):
+def run_at_a_failing_desk(inbox: Inbox, status: int, body: bytes) -> Ran:
     handler = type("Handler", (Failing,), {"status": status, "body": body})
     with http.server.HTTPServer(("127.0.0.1", 0), handler) as server:
         threading.Thread(target=server.serve_forever, daemon=True).start()
@@ -169,6 +170,7 @@ def numbers_that_were_cut(room: Room) -> Iterator[Outcome]:
 # number it is killed.
 KILLING = """
 import os, runpy, signal, sys
+from pathlib import Path
 last = int(sys.argv[1])
 sys.argv = sys.argv[2:]
 EVENTS = {"os.rename", "os.remove", "os.mkdir", "os.rmdir", "os.truncate", "fcntl.flock", "socket.connect",
@@ -210,12 +212,12 @@ def unwritten(sender: str, reference: str) -> bytes:
     return f"Message,1,06,{sender},,,NUMBER,,,,\nProduct,{reference},03,15,9\nEndMessage,2\n".encode()
 
 
-def killed_run(inbox: Inbox, step: int, converter):
+def killed_run(inbox: Inbox, step: int, converter: Path) -> int:
     before = within(KILLING, str(step))
     return ended(inbox.start("--converter", converter, before=before)).status
 
 
-def steps(share: int):
+def steps(share: int) -> range:
     return range(share + 1, MOST, SHARES)
 
 
@@ -278,7 +280,7 @@ def killed_with_next_numbers(share: int, room: Room) -> Iterator[Outcome]:
 def numbers_in(inbox: Inbox) -> int:
     """How many numbers the answers of what is done have."""
     answers = [path.read_bytes() for path in inbox.state.joinpath("done").glob("*.answer")]
-    return len({re.search(rb'"number":([0-9]+)', data)[1] for data in answers})
+    return len({sought(rb'"number":([0-9]+)', data) for data in answers})
 
 
 GROUPS = [

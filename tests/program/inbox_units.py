@@ -9,6 +9,7 @@ from tests.program.inboxes import PROGRAM, script
 from tests.program.room import SECONDS, Group, Room
 from tests.running import Outcome
 from tools.root import ROOT
+from tools.words import sought
 
 FOLDER = ROOT / "examples/inbox"
 UNITS = {
@@ -55,7 +56,7 @@ def lines_of(name: str) -> list[str]:
     return FOLDER.joinpath(name).read_text(encoding="utf-8").splitlines()
 
 
-def what_is_forbidden(_room) -> Iterator[Outcome]:
+def what_is_forbidden(_room: Room) -> Iterator[Outcome]:
     for name, unit in UNITS.items():
         lines = unit.read_text(encoding="utf-8").splitlines()
         wanted = [*FORBIDDEN, f"RestrictAddressFamilies={FAMILIES[name]}"]
@@ -64,11 +65,11 @@ def what_is_forbidden(_room) -> Iterator[Outcome]:
         yield Outcome(f"units: the limits of {name}", limits, [])
 
 
-def places(_room) -> Iterator[Outcome]:
+def places(_room: Room) -> Iterator[Outcome]:
     """The units name the folders that the program takes without options, and the unit's name has the series."""
     help = subprocess.run([PROGRAM, "--help"], capture_output=True, text=True, timeout=SECONDS).stdout
     incoming, state = (
-        re.search(rf"(/var/lib/{folder}/)SERIES", help)[1] for folder in ("onixdesk-incoming", "onixdesk-inbox")
+        sought(rf"(/var/lib/{folder}/)SERIES", help) for folder in ("onixdesk-incoming", "onixdesk-inbox")
     )
     service = lines_of("onixdesk-inbox@.service")
     wanted = [
@@ -124,13 +125,13 @@ def mails(room: Room) -> Iterator[Outcome]:
     yield Outcome("mail.sh: its body", body, wanted)
 
 
-VERSION = re.compile(r'^const VERSION: &str = "([0-9]+\.[0-9]+\.[0-9]+)";$', re.MULTILINE)
+VERSION = r'^const VERSION: &str = "([0-9]+\.[0-9]+\.[0-9]+)";$'
 
 
 def version(room: Room) -> Iterator[Outcome]:
     """It stands in the program's source alone, from which the package and the manual pages have it."""
     source = ROOT.joinpath("crates/onixdesk/src/commands.rt").read_text(encoding="utf-8")
-    number = VERSION.search(source)[1]
+    number = sought(VERSION, source)
     yield Outcome("the version of the program", room.run("--version").output, f"onixdesk {number}\n".encode())
     package = [*ROOT.joinpath("packaging").glob("*.1"), *ROOT.glob("packaging/debian/*"), *ROOT.glob("bin/*")]
     named = [path.name for path in package if path.is_file() and f"{number} " in path.read_text(encoding="utf-8")]

@@ -2,6 +2,7 @@
 
 import os
 import subprocess
+from collections.abc import Sequence
 from pathlib import Path
 
 from tests.program.converter_runs import feed_of
@@ -9,6 +10,7 @@ from tests.program.databases import DATABASE
 from tests.program.room import SECONDS, Ran, Room
 from tests.program.serving import Serving
 from tools.root import ROOT
+from tools.words import Word
 
 PROGRAM = ROOT / "lib/onixdesk-inbox"
 
@@ -82,11 +84,11 @@ class Inbox:
             moment = max(path.stat().st_mtime_ns, last + 1)
             os.utime(path, ns=(moment, moment))
 
-    def words(self, *more) -> list[object]:
-        folders = ["--settings", "settings.conf", "--incoming", self.incoming, "--state", self.state]
+    def words(self, *more: Word) -> list[Word]:
+        folders: list[Word] = ["--settings", "settings.conf", "--incoming", self.incoming, "--state", self.state]
         return [PROGRAM, *folders, *more, "--", self.series]
 
-    def start(self, *more, before=(), **environment: str) -> subprocess.Popen:
+    def start(self, *more: Word, before: Sequence[Word] = (), **environment: str) -> subprocess.Popen[bytes]:
         return subprocess.Popen(
             [*before, *self.words(*more)],
             cwd=self.room.folder,
@@ -96,7 +98,7 @@ class Inbox:
             stderr=subprocess.PIPE,
         )
 
-    def run(self, *more, **environment: str) -> Ran:
+    def run(self, *more: Word, **environment: str) -> Ran:
         return ended(self.start(*more, **environment))
 
     def kept(self) -> dict[str, bytes]:
@@ -116,7 +118,7 @@ def gaps_of(desk: Serving, series: str) -> bytes:
     return reply.partition(b"\r\n\r\n")[2]
 
 
-def ended(process: subprocess.Popen) -> Ran:
+def ended(process: subprocess.Popen[bytes]) -> Ran:
     output, errors = process.communicate(timeout=SECONDS)
     return Ran(process.returncode, output, errors)
 

@@ -70,6 +70,7 @@ def unended_input(room: Room) -> Iterator[Outcome]:
     """A text above the limit is read to one byte past it, and its end is not waited for."""
     with room.start("batch", stdin=subprocess.PIPE) as process:
         try:
+            assert process.stdin and process.stdout and process.stderr
             process.stdin.write(b"\n" * 4_194_305)
             process.stdin.flush()
             status = process.wait(timeout=SECONDS)

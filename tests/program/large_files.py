@@ -5,16 +5,18 @@ import os
 import pty
 import subprocess
 from collections.abc import Iterator
+from io import FileIO
 
 from tests.program.room import SECONDS, Group, Room
 from tests.running import Outcome
+from tools.words import Word
 
 WORDS = ["--db", "large.db", "--existing", "gaps", "north"]
 
 UNUSABLE = "onixdesk: storage: unusable"
 
 # How many bytes a file has, and what is said on a terminal before the fault: the file is no database.
-FILES = [(50_000_000, []), (50_000_001, ["onixdesk: checking large.db, 50 MB"])]
+FILES: list[tuple[int, list[str]]] = [(50_000_000, []), (50_000_001, ["onixdesk: checking large.db, 50 MB"])]
 
 
 def make_file(room: Room, size: int) -> None:
@@ -23,7 +25,7 @@ def make_file(room: Room, size: int) -> None:
     os.truncate(room.path("large.db"), size)
 
 
-def read_to_end(terminal) -> bytes:
+def read_to_end(terminal: FileIO) -> bytes:
     """All that was written to a terminal whose other side is closed, which Linux tells by an error."""
     text = b""
     try:
@@ -39,7 +41,7 @@ def said_on_terminal(room: Room) -> list[str]:
     """The lines on standard error, where that is a terminal."""
     ours, theirs = pty.openpty()
     with os.fdopen(ours, "rb", buffering=0) as terminal:
-        words = [room.program, *WORDS]
+        words: list[Word] = [room.program, *WORDS]
         subprocess.run(words, cwd=room.folder, stdout=subprocess.DEVNULL, stderr=theirs, timeout=SECONDS)
         os.close(theirs)
         return read_to_end(terminal).decode().splitlines()

@@ -2,7 +2,6 @@
 
 import os
 import shutil
-import subprocess
 import time
 from collections.abc import Iterator
 
@@ -19,7 +18,7 @@ BEING_BUILT = "the program is being built"
 BATCH = b"AskGaps,north\nAskGaps,south\n"
 
 # What wants the built program.
-WANTING = [
+WANTING: list[list[str]] = [
     [],
     ["--help"],
     ["gaps", "north"],
@@ -46,8 +45,12 @@ def wanting(why: str, remedy: str = TO_BUILD) -> Ran:
     return Ran(3, b"", line(f"{why}, and this wants it; {remedy}"))
 
 
-def launch(room: Room, *words: str, **how) -> Ran:
-    return command(room, "bin/onixdesk", *words, **how)
+def launch(room: Room, *words: str, given: bytes | None = b"", folder: str = ".", **others: str) -> Ran:
+    return command(room, "bin/onixdesk", *words, given=given, folder=folder, **others)
+
+
+def by_shell(room: Room, text: str) -> Ran:
+    return room.call(["sh", "-c", text], environment=environment(room))
 
 
 def answered(words: str, given: bytes = BATCH, status: int = 0, why: str = UNBUILT, remedy: str = TO_BUILD) -> Ran:
@@ -72,10 +75,7 @@ def a_slow_batch(room: Room) -> Iterator[Outcome]:
     """An input that pauses is whole, since `rt try` is given it as a file."""
     make_repository(room, unproved=tries(0))
     words = "(echo first; sleep 2.5; echo second) | bin/onixdesk batch"
-    how = {"cwd": room.folder, "env": environment(room), "capture_output": True, "timeout": SECONDS}
-    done = subprocess.run(["sh", "-c", words], **how)
-    came = Ran(done.returncode, done.stdout, done.stderr)
-    yield Outcome("launcher: an input that pauses", came, answered("try -- batch", b"first\nsecond\n"))
+    yield Outcome("launcher: an input that pauses", by_shell(room, words), answered("try -- batch", b"first\nsecond\n"))
 
 
 def a_batch_by_rules(room: Room) -> Iterator[Outcome]:
@@ -95,13 +95,12 @@ def a_batch_by_rules(room: Room) -> Iterator[Outcome]:
 
 def streams_that_fail(room: Room) -> Iterator[Outcome]:
     make_repository(room, unproved=tries(0))
-    how = {"cwd": room.folder, "env": environment(room), "capture_output": True, "timeout": SECONDS}
     came = launch(room, "batch", given=UNREADABLE)
     yield Outcome("launcher: an input that fails", came, Ran(3, b"", line("input: read")))
     for words, last in (("<&-", "input: read"), ("</dev/null >/dev/full", "output")):
-        done = subprocess.run(["sh", "-c", f"bin/onixdesk batch {words}"], **how)
-        came = Ran(done.returncode, done.stdout, done.stderr.splitlines(keepends=True)[-1])
-        yield Outcome(f"launcher: a batch {words}", came, Ran(3, b"", line(last)))
+        came = by_shell(room, f"bin/onixdesk batch {words}")
+        found = came.status, came.output, came.errors.splitlines(keepends=True)[-1]
+        yield Outcome(f"launcher: a batch {words}", found, (3, b"", line(last)))
 
 
 def without_an_answer(room: Room) -> Iterator[Outcome]:
@@ -134,12 +133,12 @@ def no_toolchain(room: Room) -> Iterator[Outcome]:
     room.path("tools/rt").unlink()
     room.path("commands").mkdir()
     for name in ("bash", "python3", "dirname", "readlink", "env"):
-        room.path(f"commands/{name}").symlink_to(shutil.which(name))
+        room.path(f"commands/{name}").symlink_to(shutil.which(name) or name)
     missing = line("the Rattle toolchain's command 'rt' is not on the PATH")
-    path = {"PATH": str(room.path("commands"))}
-    yield Outcome("launcher: no rt, a batch", launch(room, "batch", given=BATCH, **path), Ran(3, b"", missing))
-    yield Outcome("launcher: no rt, a question", launch(room, "gaps", "north", **path), wanting(UNBUILT))
-    yield Outcome("tools/build: no rt", command(room, "tools/build", **path), Ran(1, b"", missing))
+    path = str(room.path("commands"))
+    yield Outcome("launcher: no rt, a batch", launch(room, "batch", given=BATCH, PATH=path), Ran(3, b"", missing))
+    yield Outcome("launcher: no rt, a question", launch(room, "gaps", "north", PATH=path), wanting(UNBUILT))
+    yield Outcome("tools/build: no rt", command(room, "tools/build", PATH=path), Ran(1, b"", missing))
 
 
 def a_built_program(room: Room) -> Iterator[Outcome]:
@@ -147,7 +146,8 @@ def a_built_program(room: Room) -> Iterator[Outcome]:
     make_repository(room, unproved=tries(0))
     command(room, "tools/build")
     tried = calls(room, "")
-    for words in (["batch"], ["--db", "shop.db", "batch"], []):
+    calls_of_it: list[list[str]] = [["batch"], ["--db", "shop.db", "batch"], []]
+    for words in calls_of_it:
         came = launch(room, *words, given=BATCH)
         wanted = Ran(1, f"ran {' '.join(words)}\n".encode() + BATCH)
         yield Outcome(f"launcher: built, {words}", came, wanted)

@@ -1,6 +1,6 @@
 """What `bench/run` measures: its batches are answered as they are meant, and its ratios are read right."""
 
-from collections.abc import Iterator
+from collections.abc import Iterable, Iterator
 from functools import partial
 from itertools import islice
 
@@ -57,7 +57,7 @@ TEXTS = [
 ]
 
 
-def answers(name: str, pieces, wanted: bytes, room: Room) -> Iterator[Outcome]:
+def answers(name: str, pieces: Iterable[str], wanted: bytes, room: Room) -> Iterator[Outcome]:
     came = room.run("batch", given="".join(pieces).encode())
     yield Outcome(f"measured: {name}", came, Ran(0, wanted))
 

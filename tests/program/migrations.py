@@ -16,6 +16,7 @@ from tests.program.databases import (
 )
 from tests.program.room import Group, Ran, Room
 from tests.running import Outcome
+from tools.words import Row
 
 # The tables of version 1, without a series.
 TABLES = """\
@@ -252,9 +253,9 @@ def check(case: Case, room: Room) -> Iterator[Outcome]:
     yield Outcome(f"goes on: {case.name}", came, (Ran(case.status, case.answers), []))
 
 
-def keys(room: Room, table: str, file: str) -> list[list[tuple]]:
+def keys(room: Room, table: str, file: str) -> list[list[Row]]:
     """The columns of each primary or unique key of a table, with how they compare."""
-    found = []
+    found: list[list[Row]] = []
     for _, name, _, origin, _ in rows(room, f"PRAGMA index_list({table})", file):
         if origin != "c":
             columns = rows(room, f"PRAGMA index_xinfo({name})", file)
@@ -262,7 +263,7 @@ def keys(room: Room, table: str, file: str) -> list[list[tuple]]:
     return sorted(found)
 
 
-def shapes(room: Room, file: str) -> dict:
+def shapes(room: Room, file: str) -> dict[str, dict[str, list[Row] | list[list[Row]]]]:
     """Of each table whether it is strict, its columns, its keys and its parents."""
     return {
         table: {

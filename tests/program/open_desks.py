@@ -7,14 +7,16 @@ import socket
 import stat
 import subprocess
 import time
-from collections.abc import Iterator
+from collections.abc import Iterator, Sequence
+from contextlib import AbstractContextManager
 from typing import NamedTuple
 
 from tests.program.commands import AGREEMENT, APPLIED, FIRST
 from tests.program.databases import DATABASE, batch, gaps
 from tests.program.room import SECONDS, UNREADABLE, Group, Ran, Room
-from tests.program.serving import Exchange, connected, free_port, receive, send, serving
+from tests.program.serving import Exchange, Serving, connected, free_port, receive, send, serving
 from tests.running import Outcome
+from tools.words import Word
 
 SOCKET = "desk.socket"
 
@@ -44,7 +46,9 @@ GAPS = Exchange(
 )
 
 
-def open_desk(room: Room, connections: int | None, words=("--db", DATABASE)):
+def open_desk(
+    room: Room, connections: int | None, words: Sequence[str] = ("--db", DATABASE)
+) -> AbstractContextManager[Serving]:
     """A run of `serve` with a socket beside its port."""
     return serving(room, [*words], connections, ["--batches", SOCKET])
 
@@ -69,9 +73,9 @@ def answered(room: Room, text: bytes) -> bytes:
         return receive(peer)
 
 
-def sent(room: Room, text: bytes | None, **more) -> Ran:
+def sent(room: Room, text: bytes | None, is_full: bool = False) -> Ran:
     """How `batch` ends that sends its input to the socket."""
-    return room.run("--batches", SOCKET, "batch", given=text, **more)
+    return room.run("--batches", SOCKET, "batch", given=text, is_full=is_full)
 
 
 class Batch(NamedTuple):
@@ -235,12 +239,13 @@ def killed_amid_a_batch(room: Room) -> Iterator[Outcome]:
     """Whatever a client had been answered is in the file, and of the rest at most what comes next in order."""
     yield Outcome("a kill: the desk", batch(room, AGREEMENT), Ran(0, AGREED))
     with open_desk(room, None) as desk:
-        words = [room.program, "--batches", SOCKET, "batch"]
+        words: list[Word] = [room.program, "--batches", SOCKET, "batch"]
         room.write("many.csv", b"".join(MESSAGE % number for number in range(1, MANY + 1)))
         with open(room.path("many.csv"), "rb") as many:
             client = subprocess.Popen(
                 words, cwd=room.folder, stdin=many, stdout=subprocess.PIPE, stderr=subprocess.PIPE
             )
+        assert client.stdout
         come = b"".join(client.stdout.readline() for _ in range(COME))
         desk.process.send_signal(signal.SIGKILL)
         rest, errors = client.communicate(timeout=SECONDS)

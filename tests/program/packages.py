@@ -11,7 +11,7 @@ from tests.running import Outcome
 from tools.root import ROOT
 
 # What each package may import beside the standard library and itself.
-MAY_IMPORT = {
+MAY_IMPORT: dict[str, set[str]] = {
     "lib/command_lines": set(),
     "lib/desk_copy": {"command_lines"},
     "lib/desk_follow": {"command_lines", "desk_copy", "psycopg2"},
@@ -20,7 +20,7 @@ MAY_IMPORT = {
     "tools": set(),
     "bench": {"desk_copy", "desk_follow", "psycopg2", "tools"},
     # The tests of the page drive a browser.
-    "tests": {"bench", "desk_copy", "desk_follow", "onix_to_csv", "psycopg2", "selenium", "tools"},
+    "tests": {"bench", "command_lines", "desk_copy", "desk_follow", "onix_to_csv", "psycopg2", "selenium", "tools"},
 }
 
 

@@ -2,6 +2,7 @@
 
 import contextlib
 import gzip
+import io
 import itertools
 import os
 import struct
@@ -48,7 +49,7 @@ def changed(data: bytes, places: list[tuple[bytes, int]], value: bytes) -> bytes
     return bytes(made)
 
 
-def spaced(megabytes: int):
+def spaced(megabytes: int) -> Iterator[bytes]:
     """A feed that is nearly all spaces, which pack to less than a thousandth."""
     yield FRAMES["products"].before.encode()
     yield from itertools.repeat(b"<x>" + b" " * 999_993 + b"</x>", megabytes)
@@ -178,7 +179,7 @@ class Repeating:
 
 def bound_on_all(room: Room) -> Iterator[Outcome]:
     """What unpacks to more than 4 GiB is refused, here by the class alone, since a file would take long."""
-    unpacked = Unpacked(None, ".gz", lambda: GIB)
+    unpacked = Unpacked(io.BytesIO(), ".gz", lambda: GIB)
     unpacked.stream = Repeating()
     given = 0
     try:

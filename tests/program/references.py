@@ -73,7 +73,7 @@ def missing(reference: tuple[str, str, list[str], list[str]]) -> list[str]:
         for name in names
         if not name[0].isupper()
         for clause in clauses
-        if not has_clause(item(source, name), clause, fields)
+        if not has_clause(item(source, name) or "", clause, fields)
     ]
 
 
@@ -112,7 +112,7 @@ def sources(room: Room) -> Iterator[Outcome]:
     yield Outcome("crates without a README", [str(page) for page in pages if not page.is_file()], [])
     for page in filter(Path.is_file, pages):
         home = page.parent.relative_to(ROOT) if page.parent.parent.name == "crates" else None
-        lost = lost_sources(page.read_text(encoding="utf-8"), home and str(home))
+        lost = lost_sources(page.read_text(encoding="utf-8"), str(home) if home else None)
         yield Outcome(f"{page.relative_to(ROOT)}: the sources that it names", lost, [])
 
 

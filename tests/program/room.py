@@ -4,13 +4,13 @@ import contextlib
 import os
 import subprocess
 import tempfile
-from collections.abc import Callable, Iterator
-from functools import partial
+from collections.abc import Callable, Iterator, Mapping, Sequence
 from pathlib import Path
 from typing import NamedTuple
 
 from tests.running import Cases, Outcome
 from tools.root import ROOT
+from tools.words import Word
 
 # No run of a case takes a tenth of it; a program that hangs fails its case.
 SECONDS = 120
@@ -38,24 +38,41 @@ class Room:
     def write(self, name: str, data: bytes) -> None:
         self.path(name).write_bytes(data)
 
-    def run(self, *words, given: bytes | None = b"", is_full: bool = False) -> Ran:
-        """Runs the program on these words and this input; `is_full` gives it an output that takes
-        nothing."""
+    def call(
+        self,
+        words: Sequence[Word | bytes],
+        given: bytes | int | None = b"",
+        output: int = subprocess.PIPE,
+        environment: Mapping[str, str] | None = None,
+        folder: str = ".",
+    ) -> Ran:
+        """How a program ends that is run in the room, and what it writes. Its input is bytes or an open file, whose
+        number is given, as is that of another output; the environment stands in place of this one."""
         with contextlib.ExitStack() as opened:
-            streams = {"stdout": subprocess.PIPE, "stderr": subprocess.PIPE}
-            if is_full:
-                streams["stdout"] = opened.enter_context(open("/dev/full", "wb"))
+            text, stream = (given, None) if isinstance(given, bytes) else (None, given)
             if given is UNREADABLE:
-                streams["stdin"] = os.open(self.folder, os.O_RDONLY)
-                opened.callback(os.close, streams["stdin"])
-            else:
-                streams["input"] = given
+                stream = os.open(self.folder, os.O_RDONLY)
+                opened.callback(os.close, stream)
             done = subprocess.run(
-                [self.program, *words], cwd=self.folder, timeout=SECONDS, **streams
+                words,
+                cwd=self.path(folder),
+                env=environment,
+                input=text,
+                stdin=stream,
+                stdout=output,
+                stderr=subprocess.PIPE,
+                timeout=SECONDS,
             )
         return Ran(done.returncode, done.stdout or b"", done.stderr)
 
-    def start(self, *words, stdin=subprocess.DEVNULL) -> subprocess.Popen:
+    def run(self, *words: Word | bytes, given: bytes | None = b"", is_full: bool = False) -> Ran:
+        """Runs the program on these words and this input; `is_full` gives it an output that takes nothing."""
+        if not is_full:
+            return self.call([self.program, *words], given)
+        with open("/dev/full", "wb") as full:
+            return self.call([self.program, *words], given, full.fileno())
+
+    def start(self, *words: Word, stdin: int = subprocess.DEVNULL) -> subprocess.Popen[bytes]:
         """Starts the program, to be asked while it runs."""
         return subprocess.Popen(
             [self.program, *words],
@@ -73,7 +90,7 @@ class Group(Cases):
     program = ROOT / "crates/onixdesk/out/onixdesk"
 
     def __init__(self, name: str, check: Callable[[Room], Iterator[Outcome]]) -> None:
-        super().__init__(name, (check.func if isinstance(check, partial) else check).__module__)
+        super().__init__(name, getattr(check, "func", check).__module__)
         self.check = check
 
     def outcomes(self) -> Iterator[Outcome]:

@@ -11,6 +11,7 @@ from tests.program.feed_notes import Said, count_line, read_errors, read_summary
 from tests.program.feed_writing import Place
 from tests.program.room import Group, Ran, Room
 from tests.running import Outcome
+from tools.words import Word
 
 FOLDER = Path(__file__).resolve().parent.parent / "feeds"
 
@@ -58,7 +59,7 @@ def noted(path: Path, said: list[Said]) -> list[tuple[str, str, str]]:
     found = []
     for (place, what), (_, _, word) in zip(said, NOTED):
         reference, reason = what.split(": ", 1)
-        found.append((reference, element_at(feed, Place(*place)), word if word in reason else reason))
+        found.append((reference, element_at(feed, Place(place[0], place[1] or 0)), word if word in reason else reason))
     return found
 
 
@@ -71,7 +72,7 @@ def sample(path: Path, room: Room) -> Iterator[Outcome]:
     said = errors.of_files.get(str(path), [])
     summary = read_summary(errors.summary)
     count = len(noted_here)
-    found = noted(path, said), len(said), sum(summary.reasons.values()), summary.count
+    found = noted(path, said), len(said), sum(summary.reasons.values()), summary.last
     wanted = noted_here, count, count, count_line(count)
     yield Outcome(f"{path.name}: its notes", found, wanted)
     counted = [(COUNTED[path.stem] in line, count) for line, count in summary.passed_over.items()]
@@ -94,10 +95,9 @@ def delivered(room: Room) -> Iterator[Outcome]:
         b"Agree,centrale,06,5410000000019,06,5012345678900,9\n"
     )
     answers = []
-    for database, files in [
-        ("typed.db", [path.with_suffix(".csv") for path in paths]),
-        ("converted.db", [f"{path.stem}.csv" for path in paths]),
-    ]:
+    as_typed: list[Word] = [path.with_suffix(".csv") for path in paths]
+    as_converted: list[Word] = [f"{path.stem}.csv" for path in paths]
+    for database, files in [("typed.db", as_typed), ("converted.db", as_converted)]:
         agreed = room.run("--db", database, "batch", given=agreements).status
         answers.append((agreed, room.run("--db", database, "deliver", *files)))
     yield Outcome("the samples, delivered as converted and as typed", answers[1], answers[0])

@@ -16,6 +16,7 @@ from typing import NamedTuple
 
 from tests.program.converter import convert
 from tests.program.feed_makers import BAD_CODES, NO_PARTS, PARTS, REGIONS, Maker
+from tests.program.feed_notes import Said
 from tests.program.feed_notes import (
     MOST_LINES,
     Errors,
@@ -27,7 +28,7 @@ from tests.program.feed_notes import (
     read_summary,
 )
 from tests.program.feed_territories import WORLD
-from tests.program.feed_oracle import Verdict, effect, judge, records_text
+from tests.program.feed_oracle import Refused, Verdict, effect, judge, records_text
 from tests.program.feed_trees import Identifier, Words
 from tests.program.feed_writing import Writer, Written
 from tests.program.room import Group, Ran, Room
@@ -113,7 +114,8 @@ def made(seed: int) -> Case:
     maker = Maker(random)
     sender = random.choice(series.senders)
     if maker.is_one_of(80):
-        sender = random.choice([None, [], identifiers(("06", ""))])
+        odd: list[list[Identifier] | None] = [None, [], identifiers(("06", ""))]
+        sender = random.choice(odd)
     message = maker.message(sender, series.addressees, number)
     file = f"{number}" + random.choice([".xml"] * 8 + [".xml.gz", ".XML.ZIP"])
     written = Writer(random).write(message)
@@ -148,13 +150,13 @@ def converted(name: str, cases: list[Case], words: Words, room: Room) -> Iterato
         yield Outcome(f"{case.name}: what is said", *said_of(case, errors))
     is_whole = not any(case.verdict.refusal or case.verdict.leaves_out_products for case in cases)
     files = {case.file for case in cases}
-    wanted = 0 if is_whole else 1, b"", []
+    wanted: tuple[int, bytes, list[str]] = 0 if is_whole else 1, b"", []
     found = came.status, came.output, [file for file in errors.of_files if file not in files]
     yield Outcome(f"{name}: the status and the files that are named", found, wanted)
     yield from summaries(name, cases, errors)
 
 
-def files_of(case: Case, words: Words, room: Room):
+def files_of(case: Case, words: Words, room: Room) -> tuple[dict[str, bytes], dict[str, bytes]]:
     """The files that a message became, and those that are wanted."""
     names = part_names(case.number, words)
     texts = [part.text() for part in case.verdict.parts]
@@ -163,11 +165,11 @@ def files_of(case: Case, words: Words, room: Room):
     return {name: path.read_bytes() for name, path in paths.items() if path.exists()}, wanted
 
 
-def said_of(case: Case, errors: Errors):
+def said_of(case: Case, errors: Errors) -> tuple[object, object]:
     """What is wrong with the lines about a message, and nothing."""
     said = errors.of_files.get(case.file, [])
-    if case.verdict.refusal:
-        return refusal_of(case, said), ("refused", "within")
+    if refusal := case.verdict.refusal:
+        return refusal_of(case, refusal, said), ("refused", "within")
     notes = case.verdict.notes
     found = compared(notes, case.written.starts, said)
     if len(notes) <= MOST_LINES:
@@ -175,9 +177,8 @@ def said_of(case: Case, errors: Errors):
     return (len(said), found.surplus), (MOST_LINES, [])
 
 
-def refusal_of(case: Case, said: list):
+def refusal_of(case: Case, refusal: Refused, said: list[Said]) -> tuple[object, str]:
     """How a message is refused, and whether the line is one of the composite that it is refused for."""
-    refusal = case.verdict.refusal
     if len(said) != 1:
         return said, ""
     (line, _column), what = said[0]
@@ -193,11 +194,11 @@ def summaries(name: str, cases: list[Case], errors: Errors) -> Iterator[Outcome]
     """What the last lines count: all notes, those of each reason, and what is passed over."""
     notes = [note for case in cases for note in case.verdict.notes]
     summary = read_summary(errors.summary)
-    found = summary.count, sum(summary.reasons.values()), miscounted(notes, summary.reasons)
+    found = summary.last, sum(summary.reasons.values()), miscounted(notes, summary.reasons)
     yield Outcome(f"{name}: the summary", found, (count_line(len(notes)), len(notes), []))
     texts = [text for text in FEED_TEXTS for line in errors.summary if is_named(text, line)]
     yield Outcome(f"{name}: texts of feeds in the summary", texts, [])
-    passed_over = Counter()
+    passed_over: Counter[str] = Counter()
     for case in cases:
         passed_over.update(case.verdict.passed_over)
     counts = {each: sum_of(summary.passed_over, each) for each in passed_over}

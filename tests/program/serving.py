@@ -3,6 +3,7 @@
 import contextlib
 import socket
 import subprocess
+from collections.abc import Iterator, Sequence
 from typing import NamedTuple
 
 from tests.program.room import SECONDS, Ran, Room
@@ -77,7 +78,7 @@ def receive(peer: socket.socket) -> bytes:
 class Serving:
     """A run of `serve`."""
 
-    def __init__(self, process: subprocess.Popen, port: int, first_line: bytes) -> None:
+    def __init__(self, process: subprocess.Popen[bytes], port: int, first_line: bytes) -> None:
         self.process = process
         self.port = port
         self.first_line = first_line
@@ -107,26 +108,28 @@ class Serving:
 def free_port() -> int:
     with socket.socket() as listener:
         listener.bind((HOST, 0))
-        return listener.getsockname()[1]
+        port: int = listener.getsockname()[1]
+    return port
 
 
-def started(room: Room, words: list[str], connections: int | None, more=()) -> Serving:
+def started(room: Room, words: list[str], connections: int | None, more: Sequence[str] = ()) -> Serving:
     """Starts `serve` for so many connections, or until it is stopped, on a port that no other program
     has; `more` stands behind its own words."""
     requests = [] if connections is None else ["--requests", str(connections)]
     for _ in range(TRIES):
         port = free_port()
         process = room.start(*words, "serve", "--port", str(port), *requests, *more)
+        assert process.stdout
         if line := process.stdout.readline():
             return Serving(process, port, line)
         output, errors = process.communicate(timeout=SECONDS)
         if errors != b"onixdesk: port %d\n" % port:
             break
-    raise RuntimeError(f"serve does not listen: {errors}")
+    raise RuntimeError(f"serve does not listen: {errors!r}")
 
 
 @contextlib.contextmanager
-def serving(room: Room, words: list[str], connections: int | None, more=()):
+def serving(room: Room, words: list[str], connections: int | None, more: Sequence[str] = ()) -> Iterator[Serving]:
     desk = started(room, words, connections, more)
     try:
         yield desk

@@ -1,11 +1,10 @@
 """A repository of four crates, with the launcher, the tools and a toolchain that stands in for `rt`."""
 
-import contextlib
 import os
 import shutil
 import subprocess
 
-from tests.program.room import SECONDS, UNREADABLE, Ran, Room
+from tests.program.room import Ran, Room
 from tools.root import ROOT
 
 # The program stands on two of the three others.
@@ -101,23 +100,12 @@ def environment(room: Room, **others: str) -> dict[str, str]:
 
 def command(room: Room, *words: str, given: bytes | None = b"", folder: str = ".", **others: str) -> Ran:
     """Runs a command of the repository from a folder of the room."""
-    with contextlib.ExitStack() as opened:
-        streams = {"input": given}
-        if given is UNREADABLE:
-            streams = {"stdin": os.open(room.folder, os.O_RDONLY)}
-            opened.callback(os.close, streams["stdin"])
-        done = subprocess.run(
-            [room.path(words[0]), *words[1:]],
-            cwd=room.path(folder),
-            env=environment(room, **others),
-            capture_output=True,
-            timeout=SECONDS,
-            **streams,
-        )
-    return Ran(done.returncode, done.stdout, done.stderr)
+    return room.call(
+        [room.path(words[0]), *words[1:]], given, environment=environment(room, **others), folder=folder
+    )
 
 
-def begun(room: Room, *words: str) -> subprocess.Popen:
+def begun(room: Room, *words: str) -> subprocess.Popen[bytes]:
     """Starts a command of the repository."""
     return subprocess.Popen(
         [room.path(words[0]), *words[1:]],

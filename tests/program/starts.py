@@ -16,7 +16,7 @@ SCRIPT = ROOT / "examples/wait-for-desk.sh"
 AGREEMENT = b"Agree,north,06,S,,,1\n"
 
 
-def wait(room: Room, *words, process: int | None = None, user: int | None = None) -> Ran:
+def wait(room: Room, *words: object, process: int | None = None, user: int | None = None) -> Ran:
     named = {} if process is None else {"MAINPID": str(process)}
     done = subprocess.run(
         [SCRIPT, *map(str, words)],
@@ -90,7 +90,7 @@ def in_vain(room: Room) -> Iterator[Outcome]:
         yield Outcome("wait-for-desk.sh: a port that another program has", ran, wanted)
 
 
-def unit(_room) -> Iterator[Outcome]:
+def unit(_room: Room) -> Iterator[Outcome]:
     lines = (ROOT / "examples/onixdesk.service").read_text(encoding="utf-8").splitlines()
     wanted = [
         "Before=nginx.service",

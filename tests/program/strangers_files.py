@@ -2,7 +2,7 @@
 were. So it does with a desk of which a page is damaged, which is to be restored and not begun anew."""
 
 import random
-from collections.abc import Iterator
+from collections.abc import Callable, Iterator
 from functools import partial
 
 from tests.program.commands import AGREEMENT, FIRST
@@ -48,7 +48,7 @@ FILES = {
 }
 
 
-def is_refused(name: str, contents, room: Room) -> Iterator[Outcome]:
+def is_refused(name: str, contents: Callable[[Room], bytes], room: Room) -> Iterator[Outcome]:
     held = contents(room)
     room.write(DATABASE, held)
     room.write(MESSAGE, FIRST)

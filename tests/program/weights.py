@@ -2,17 +2,17 @@
 the functions of a crate by what their proofs took."""
 
 import os
-import subprocess
-from collections import Counter
+from collections import defaultdict
 from collections.abc import Iterator
 from unittest import mock
 
 from bench.figures import weighing
 from bench.figures.profile import profile
 from bench.figures.weighing import ELSE, Sampler, crates_below, part_named, report
-from tests.program.room import SECONDS, Group, Room
+from tests.program.room import Group, Ran, Room
 from tests.running import Outcome
 from tools.root import ROOT
+from tools.words import Word
 
 # The words of a process, the folder that it works in, and its part.
 PARTS = [
@@ -42,7 +42,7 @@ def parts(room: Room) -> Iterator[Outcome]:
 
 # What a process was seen to be, look by look, and the part that its time counts for. A process begins as a copy
 # of the one that started it, and has no words any more when it ends.
-LOOKS = [
+LOOKS: list[tuple[list[str | OSError], str]] = [
     ([ELSE, "proof of price_rules", ELSE], "proof of price_rules"),
     ([ELSE, "proof of price_rules", OSError()], "proof of price_rules"),
     ([OSError(), ELSE], ELSE),
@@ -64,16 +64,16 @@ def a_table(room: Room) -> Iterator[Outcome]:
     lines = ["# the crates", "csv_records: csv", "desk_store: csv_records sqlite", "onix_terms: jiff"]
     below = crates_below(lines, "desk_store")
     yield Outcome("bench/weight: crates below one", below, {"csv_records", "desk_store"})
-    sums = Counter({"proof of desk_store": 6.0, "proof of onix_terms": 2.0, "proof of csv_records": 1.0})
+    sums: defaultdict[str, float] = defaultdict(float)
+    sums |= {"proof of desk_store": 6.0, "proof of onix_terms": 2.0, "proof of csv_records": 1.0}
     yield Outcome("bench/weight: the table", report(sums, below, 120), TABLE)
 
 
 def a_run(room: Room) -> Iterator[Outcome]:
-    words = [ROOT / "bench/weight", "--file", room.path("weight.txt"), "sh", "-c", "exit 3"]
-    done = subprocess.run(words, cwd=room.folder, capture_output=True, timeout=SECONDS)
-    said = (done.returncode, done.stdout, done.stderr)
+    words: list[Word] = [ROOT / "bench/weight", "--file", room.path("weight.txt"), "sh", "-c", "exit 3"]
+    said = room.call(words)
     kept = room.path("weight.txt").read_bytes()
-    yield Outcome("bench/weight: the status of what was run", said, (3, kept, b""))
+    yield Outcome("bench/weight: the status of what was run", said, Ran(3, kept))
     yield Outcome("bench/weight: how long it ran", kept.splitlines()[-1], b"    0.0 min on the clock")
 
 
@@ -104,14 +104,14 @@ def a_profile(room: Room) -> Iterator[Outcome]:
     folder = room.path("kept")
     folder.mkdir()
     yield Outcome("bench/proofs: nothing kept", profile(folder, 1), "")
-    time = 1_000_000_000
+    time = 1e9
     for name, seconds in KEPT:
         time += seconds
         (folder / name).write_bytes(b"")
         os.utime(folder / name, (time, time))
     yield Outcome("bench/proofs: the dearest function", profile(folder, 1), PROFILE)
-    done = subprocess.run([ROOT / "bench/proofs"], capture_output=True, timeout=SECONDS)
-    yield Outcome("bench/proofs: no crate", (done.returncode, done.stdout), (2, b""))
+    came = room.call([ROOT / "bench/proofs"])
+    yield Outcome("bench/proofs: no crate", (came.status, came.output), (2, b""))
 
 
 GROUPS = [

@@ -10,8 +10,14 @@ import unittest
 from collections.abc import Callable, Iterable, Iterator
 from concurrent.futures import ThreadPoolExecutor
 from fnmatch import fnmatchcase
+from pathlib import Path
 from types import TracebackType
 from typing import Any, NamedTuple
+
+from tools.root import ROOT
+
+# The program that is tested where no other is named.
+PROGRAM = ROOT / "crates/onixdesk/out/onixdesk"
 
 # How much of a value a line shows.
 SHOWN = 2000
@@ -94,13 +100,26 @@ def pattern_of(text: str) -> str:
     return text if "*" in text else f"*{text}*"
 
 
-def add_choice(parser: argparse.ArgumentParser) -> None:
-    """Adds the words by which cases are chosen."""
+def command_line(name: str, text: str | None) -> argparse.ArgumentParser:
+    """The words by which the cases and the program that is tested are chosen."""
+    parser = argparse.ArgumentParser(name, description=text, formatter_class=argparse.RawDescriptionHelpFormatter)
+    parser.add_argument("program", metavar="PROGRAM", type=Path, nargs="?")
     parser.add_argument("-k", metavar="PATTERN", action="append", type=pattern_of, default=[], dest="patterns",
         help="only the groups 'MODULE: NAME' that have this text, or keep to it where it has a *; several are joined")
     parser.add_argument("--case", metavar="TEXT", default="", help="of these only the cases whose name has this text;"
         " what the others before them do is done")
     parser.add_argument("--list", action="store_true", help="write the names of the groups, and try none")
+    return parser
+
+
+def why_not(program: Path, missing: list[str], is_listed: bool = False) -> str | None:
+    """Why that program cannot be tested, while these of Debian's packages are missing; that the cases are listed needs
+    no program."""
+    if missing:
+        return f"needs Debian's packages {' '.join(missing)}"
+    if not is_listed and not os.access(program, os.X_OK):
+        return f"no program {program}; make build builds it"
+    return None
 
 
 def choice(given: argparse.Namespace) -> Chosen:

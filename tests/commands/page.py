@@ -11,15 +11,12 @@ no case is tried but those that take the pictures of docs/ anew. Status 0; 1 whe
 run, there is no program or a package is missing.
 """
 
-import argparse
 import importlib.util
 import os
 import shutil
 import sys
-from pathlib import Path
 
-from tests.running import add_choice, choice, run_side_by_side
-from tools.root import ROOT
+from tests.running import PROGRAM, choice, command_line, run_side_by_side, why_not
 
 # Debian's packages, each with a command that it brings.
 COMMANDS = {
@@ -37,30 +34,13 @@ def missing_packages() -> list[str]:
     return missing
 
 
-def why_not(program: Path | None) -> str | None:
-    """Why the page cannot be tested with that program, or the tests not be listed without one."""
-    if missing := missing_packages():
-        return f"needs Debian's packages {' '.join(missing)}"
-    if program and not os.access(program, os.X_OK):
-        return f"no program {program}; make build builds it"
-    return None
-
-
-def command_line() -> argparse.ArgumentParser:
-    parser = argparse.ArgumentParser("tests/page/run",
-        description=__doc__, formatter_class=argparse.RawDescriptionHelpFormatter)
-    add_choice(parser)
-    parser.add_argument("--pictures", action="store_true", help="take the pictures of docs/ anew, and try nothing else")
-    parser.add_argument("program", metavar="PROGRAM", type=Path, nargs="?",
-        default=ROOT / "crates/onixdesk/out/onixdesk")
-    return parser
-
-
 def main() -> int:
-    given = command_line().parse_args()
+    parser = command_line("tests/page/run", __doc__)
+    parser.add_argument("--pictures", action="store_true", help="take the pictures of docs/ anew, and try nothing else")
+    given = parser.parse_args()
     os.environ["PATH"] += ":/usr/sbin"
-    program = given.program.resolve()
-    if why := why_not(None if given.list else program):
+    program = (given.program or PROGRAM).resolve()
+    if why := why_not(program, missing_packages(), given.list):
         print(f"tests/page/run: {why}", file=sys.stderr)
         return 2
     # It needs Selenium.

@@ -11,7 +11,6 @@ and at the end `postgres: N cases, M failed`. Status 0; 1 where a case failed; 2
 program or a package is missing.
 """
 
-import argparse
 import importlib.util
 import os
 import sys
@@ -19,8 +18,7 @@ from collections.abc import Callable
 from functools import partial
 from pathlib import Path
 
-from tests.running import Counted, add_choice, choice, count_all, run_side_by_side
-from tools.root import ROOT
+from tests.running import PROGRAM, Counted, choice, command_line, count_all, run_side_by_side, why_not
 
 PROGRAMS = Path(os.environ.get("POSTGRES_BIN", "/usr/lib/postgresql/15/bin"))
 AT_ONCE = 4
@@ -31,28 +29,10 @@ def missing_packages() -> list[str]:
     return missing + ["python3-psycopg2"] * (importlib.util.find_spec("psycopg2") is None)
 
 
-def why_not(program: Path | None) -> str | None:
-    """Why the follower cannot be tested with that program, or the tests not be listed without one."""
-    if missing := missing_packages():
-        return f"needs Debian's packages {' '.join(missing)}"
-    if program and not os.access(program, os.X_OK):
-        return f"no program {program}; make build builds it"
-    return None
-
-
-def command_line() -> argparse.ArgumentParser:
-    parser = argparse.ArgumentParser("tests/postgres/run",
-        description=__doc__, formatter_class=argparse.RawDescriptionHelpFormatter)
-    add_choice(parser)
-    parser.add_argument("program", metavar="PROGRAM", type=Path, nargs="?",
-        default=ROOT / "crates/onixdesk/out/onixdesk")
-    return parser
-
-
 def main() -> int:
-    given = command_line().parse_args()
-    program = given.program.resolve()
-    if why := why_not(None if given.list else program):
+    given = command_line("tests/postgres/run", __doc__).parse_args()
+    program = (given.program or PROGRAM).resolve()
+    if why := why_not(program, missing_packages(), given.list):
         print(f"tests/postgres/run: {why}", file=sys.stderr)
         return 2
     # They need psycopg2.

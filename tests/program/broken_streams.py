@@ -10,6 +10,7 @@ from pathlib import Path
 from tests.program.clients import RESET
 from tests.program.databases import DATABASE, batch, complaints
 from tests.program.exchange_cases import AGREEMENTS, APPLIED, DELIVERY, NO_NUMBERS
+from tests.program.messages import AGREED, applied
 from tests.program.room import Group, Ran, Room
 from tests.program.serving import Exchange, connected, posted, serving
 from tests.running import Outcome
@@ -17,8 +18,7 @@ from tools.words import Word
 
 # A batch in parts, and what a batch is answered that ends within this part or at its end. A record whose first
 # field begins no request belongs to the request before it.
-AGREED = b"agreed,north,1\n"
-DELIVERED = AGREED + b"applied,north,1,replaced=1,updated=0,deleted=0,unknown=0,ignored=0\n"
+DELIVERED = AGREED + applied(1, 1)
 PARTS = [
     (b"Agree,north,06,4012345000009,06,5012345678900,", b"refused,malformed,1\n"),
     (b"1\n", AGREED),
@@ -163,15 +163,14 @@ def full_disks(room: Room) -> Iterator[Outcome]:
     yield Outcome("a batch on a full disk", batch(full, LARGE.encode()), fault)
     yield Outcome("the desk after the full disk", batch(room, ASK_GAPS), NONE_APPLIED)
     line, body = "503 Service Unavailable", '{"answer":"fault","reason":"disk"}'
-    exchange = Exchange("a delivery", posted(LARGE), line, body)
+    exchange = Exchange("a delivery", posted(LARGE.encode()), line, body)
     with serving(full, ["--db", DATABASE], 2) as desk:
         yield Outcome("a delivery on a full disk", desk.reply([exchange.input]), exchange.reply())
         came = desk.reply([NO_NUMBERS.input])
         yield Outcome("a question on a full disk", came, NO_NUMBERS.reply())
         yield Outcome("the lines on a full disk", desk.ended(), desk.wanted(["503", "200"]))
-    applied = b"applied,north,1,replaced=%d,updated=0,deleted=0,unknown=0,ignored=0\n" % RECORDS
     found = batch(room, LARGE.encode()), complaints(room)
-    yield Outcome("the batch once there is room", found, (Ran(0, applied), []))
+    yield Outcome("the batch once there is room", found, (Ran(0, applied(1, RECORDS)), []))
     yield Outcome("the desk then", batch(room, ASK_GAPS), ONE_APPLIED)
 
 

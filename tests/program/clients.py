@@ -9,10 +9,11 @@ from collections.abc import Iterator
 from pathlib import Path
 from typing import NamedTuple
 
-from tests.program.commands import AGREEMENT, APPLIED, FIRST
+from tests.program.commands import APPLIED, FIRST
 from tests.program.databases import DATABASE, batch
+from tests.program.messages import AGREED, AGREEMENT, bare
 from tests.program.room import UNREADABLE, Group, Ran, Room
-from tests.program.serving import HOST, TRIES, Exchange, Serving, connected, free_port, receive, serving
+from tests.program.serving import HOST, TRIES, Exchange, Serving, connected, free_port, posted, receive, serving
 from tests.running import Outcome
 from tools.words import sought
 
@@ -26,12 +27,8 @@ class Client(NamedTuple):
     line: str
 
 
-# A message of `north` without products, and its delivery.
-MESSAGE = b"Message,1,06,4012345000009,06,5012345678900,%d,,,,\nEndMessage,1\n"
-DELIVERY = b"POST /messages HTTP/1.1\r\nContent-Length: 63\r\n\r\n" + MESSAGE
-
 CLIENTS = [
-    Client(DELIVERY % 1, False, "200"),
+    Client(posted(bare(1)), False, "200"),
     Client(b"", True, "400"),
     # Falls silent in its head. The desk waits for it for 10 seconds.
     Client(b"GET /series/north/gaps", False, "fault"),
@@ -49,7 +46,6 @@ GAPS = Exchange(
 )
 
 
-AGREED = b"agreed,north,1\n"
 
 # How many connections are served by a desk that has no number of them.
 UNENDED = 40
@@ -87,12 +83,12 @@ def clients_that_are_gone(room: Room) -> Iterator[Outcome]:
     yield Outcome("the agreement", batch(room, AGREEMENT), Ran(0, AGREED))
     with serving(room, ["--db", DATABASE], 5) as desk:
         first, whole, reset, part = [connected(desk.port) for _ in range(4)]
-        whole.sendall(DELIVERY % 1)
+        whole.sendall(posted(bare(1)))
         whole.close()
-        reset.sendall(DELIVERY % 2)
+        reset.sendall(posted(bare(2)))
         reset.setsockopt(socket.SOL_SOCKET, socket.SO_LINGER, RESET)
         reset.close()
-        part.sendall((DELIVERY % 3)[:-1])
+        part.sendall(posted(bare(3))[:-1])
         part.close()
         first.sendall(GAPS.input)
         receive(first)

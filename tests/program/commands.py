@@ -5,33 +5,24 @@ from functools import partial
 from typing import NamedTuple
 
 from tests.program.databases import DATABASE, batch, gaps
+from tests.program.messages import AGREED, AGREEMENT, applied, bare, held, priced
 from tests.program.room import UNREADABLE, Group, Ran, Room
 from tests.running import Outcome
-
-AGREEMENT = b"Agree,north,06,4012345000009,06,5012345678900,1\n"
 
 # The file that holds the text of a case.
 FILE = "message.csv"
 
 # Message 1 of the series `north`, and its answer.
-FIRST = b"""\
-Message,1,06,4012345000009,06,5012345678900,1,1,20250301,02,GBP
-Product,R1,03,15,9781234567897
-ProductSupply,GB IE,,
-SupplyDetail,04,06,4012345000009,North Books,21,
-Price,,1,,,,,,
-EndMessage,5
-"""
+FIRST = priced(1, "R1", "1")
 
-APPLIED = b"applied,north,1,replaced=1,updated=0,deleted=0,unknown=0,ignored=0\n"
-
+APPLIED = applied(1, 1)
 
 # Message 2 of it, without products, and its answer.
-SECOND = b"Message,1,06,4012345000009,06,5012345678900,2,,,,\nEndMessage,1\n"
+SECOND = bare(2)
 
-HELD = b"held,north,2,waiting-for=1\n"
+HELD = held(2, 1)
 
-SECOND_APPLIED = b"applied,north,2,replaced=0,updated=0,deleted=0,unknown=0,ignored=0\n"
+SECOND_APPLIED = applied(2)
 
 
 class Delivery(NamedTuple):
@@ -57,7 +48,7 @@ DELIVERIES = [
     Delivery("an empty file", b"", [FILE], Ran(1, b"refused,malformed,1\n")),
     Delivery(
         "two messages in a file",
-        b"Message,1,06,4012345000009,06,5012345678900,1,,,,\nEndMessage,1\n" * 2,
+        bare(1) * 2,
         [FILE],
         Ran(1, b"refused,malformed,3\n"),
     ),
@@ -121,7 +112,7 @@ def deliver(case: Delivery, room: Room) -> Iterator[Outcome]:
     room.write(FILE, case.text)
     agreed = batch(room, AGREEMENT)
     came = room.run("--db", DATABASE, "deliver", *case.files, given=case.given)
-    wanted = Ran(0, b"agreed,north,1\n"), case.wanted
+    wanted = Ran(0, AGREED), case.wanted
     yield Outcome(f"deliver: {case.name}", (agreed, came), wanted)
 
 
@@ -144,7 +135,7 @@ LAST = b"5"
 
 def cut_off_behind_each_byte(room: Room) -> Iterator[Outcome]:
     """A message that is cut off is not applied, unless it lacks its last line end alone."""
-    yield Outcome("cut off: the agreement", batch(room, AGREEMENT), Ran(0, b"agreed,north,1\n"))
+    yield Outcome("cut off: the agreement", batch(room, AGREEMENT), Ran(0, AGREED))
     texts, answers = [b""], [b"refused,malformed,1\n"]
     for part, row in PARTS:
         for at in range(len(part)):
@@ -175,7 +166,7 @@ def without_agreements(room: Room) -> Iterator[Outcome]:
 def gaps_of_an_agreed_series(room: Room) -> Iterator[Outcome]:
     agreed = batch(room, AGREEMENT)
     report = b"gaps,north,first=1,next=1,greatest=,held=0,missing=0\n"
-    wanted = Ran(0, b"agreed,north,1\n"), Ran(0, report)
+    wanted = Ran(0, AGREED), Ran(0, report)
     yield Outcome("the gaps of an agreed series", (agreed, gaps(room)), wanted)
 
 

@@ -7,39 +7,19 @@ from contextlib import closing
 from functools import partial
 
 from tests.program.databases import DATABASE, batch, execute
+from tests.program.messages import AGREED, AGREEMENT, applied, bare, held, priced
 from tests.program.room import Group, Ran, Room
 from tests.running import Outcome
 
 # What the desk is asked before, and what it answers.
 BEFORE = (
-    b"""\
-Agree,north,06,4012345000009,06,5012345678900,1
-Message,1,06,4012345000009,06,5012345678900,1,1,20250301,02,GBP
-Product,R1,03,15,9781234567897
-ProductSupply,GB IE,,
-SupplyDetail,04,06,4012345000009,North Books,21,
-Price,,12.99,,,,,,
-EndMessage,5
-Message,1,06,4012345000009,06,5012345678900,3,,,,
-EndMessage,1
-Message,1,06,4012345000009,06,5012345678900,4,,,,
-EndMessage,1
-""",
-    b"""\
-agreed,north,1
-applied,north,1,replaced=1,updated=0,deleted=0,unknown=0,ignored=0
-held,north,3,waiting-for=2
-held,north,4,waiting-for=2
-""",
+    AGREEMENT + priced(1, "R1", "12.99") + bare(3) + bare(4),
+    AGREED + applied(1, 1) + held(3, 2) + held(4, 2),
 )
 
 # Message 2, after which 3 and 4 are applied, and then a report.
 SECOND = (
-    b"""\
-Message,1,06,4012345000009,06,5012345678900,2,,,,
-EndMessage,1
-AskGaps,north
-""",
+    bare(2) + b"AskGaps,north\n",
     b"""\
 applied,north,2,replaced=0,updated=0,deleted=0,unknown=0,ignored=0
 gaps,north,first=1,next=5,greatest=4,held=0,missing=0
@@ -80,19 +60,7 @@ offer,north,R1,1,21,12.990
 )
 
 # Message 1 again.
-REPEAT = (
-    b"""\
-Message,1,06,4012345000009,06,5012345678900,1,1,20250301,02,GBP
-Product,R1,03,15,9781234567897
-ProductSupply,GB IE,,
-SupplyDetail,04,06,4012345000009,North Books,21,
-Price,,12.99,,,,,,
-EndMessage,5
-""",
-    b"""\
-applied,north,1,replaced=1,updated=0,deleted=0,unknown=0,ignored=0
-""",
-)
+REPEAT = priced(1, "R1", "12.99"), applied(1, 1)
 
 # A statement that leaves a bad value, one that puts it right, what is asked, and what is answered once it
 # is right.
@@ -178,7 +146,7 @@ REQUESTS = [
     b"AskPrice,9781234567897,20250301,GB,GBP,02\n",
     b"AskChoice,9781234567897,20250301,GB,GBP,02\n",
     b"AskCalendar,9781234567897,20250301,20250302,GB,GBP,02\n",
-    b"Agree,north,06,4012345000009,06,5012345678900,1\n",
+    AGREEMENT,
     b"Waive,north,1\n",
     b"Waive,north,5\n",
     SECOND[0],
@@ -218,8 +186,7 @@ def an_applied_text_that_is_none(room: Room) -> Iterator[Outcome]:
 
     execute(room, "UPDATE applied SET contents = 'x' WHERE number = 1")
     other_contents = Ran(1, b"refused,other-contents,north,1\n")
-    bare = b"Message,1,06,4012345000009,06,5012345678900,1,,,,\nEndMessage,1\n"
-    for asked in REPEAT[0], bare:
+    for asked in REPEAT[0], bare(1):
         came = batch(room, asked)
         is_refused = came in [other_contents, FAULT]
         yield Outcome(f"an applied text that is none: {asked!r}", is_refused or came, True)

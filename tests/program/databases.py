@@ -7,6 +7,7 @@ from contextlib import closing
 from functools import partial
 from typing import NamedTuple
 
+from tests.program.messages import AGREED, AGREEMENT, applied, bare, held, priced
 from tests.program.room import UNREADABLE, Group, Ran, Room
 from tests.running import Outcome
 from tools.words import Row
@@ -80,12 +81,12 @@ Price,02,{amount},GBP,,WORLD,,,
 """
 
 
-def put(number: int, reference: str, amount: str) -> Row:
+def put_row(number: int, reference: str, amount: str) -> Row:
     """The row of such a message that was applied."""
     return (number, contents(reference, amount), 1, 0, 0, 0, 0)
 
 
-def bare(number: int) -> Row:
+def bare_row(number: int) -> Row:
     """The row of a message without products that was applied."""
     return (number, "", 0, 0, 0, 0, 0)
 
@@ -93,53 +94,19 @@ def bare(number: int) -> Row:
 KEPT = [
     Kept(
         "late messages",
-        b"""\
-Agree,north,06,4012345000009,06,5012345678900,1
-Message,1,06,4012345000009,06,5012345678900,3,1,20250301,02,GBP
-Product,R3,03,15,9781234567897
-ProductSupply,GB IE,,
-SupplyDetail,04,06,4012345000009,North Books,21,
-Price,,3,,,,,,
-EndMessage,5
-Message,1,06,4012345000009,06,5012345678900,4,1,20250301,02,GBP
-Product,R4,03,15,9781234567897
-ProductSupply,GB IE,,
-SupplyDetail,04,06,4012345000009,North Books,21,
-Price,,4,,,,,,
-EndMessage,5
-Message,1,06,4012345000009,06,5012345678900,1,1,20250301,02,GBP
-Product,R1,03,15,9781234567897
-ProductSupply,GB IE,,
-SupplyDetail,04,06,4012345000009,North Books,21,
-Price,,1,,,,,,
-EndMessage,5
-Message,1,06,4012345000009,06,5012345678900,2,1,20250301,02,GBP
-Product,R2,03,15,9781234567897
-ProductSupply,GB IE,,
-SupplyDetail,04,06,4012345000009,North Books,21,
-Price,,2,,,,,,
-EndMessage,5
-Message,1,06,4012345000009,06,5012345678900,3,1,20250301,02,GBP
-Product,R3,03,15,9781234567897
-ProductSupply,GB IE,,
-SupplyDetail,04,06,4012345000009,North Books,21,
-Price,,3,,,,,,
-EndMessage,5
-""",
+        AGREEMENT
+        + priced(3, "R3", "3")
+        + priced(4, "R4", "4")
+        + priced(1, "R1", "1")
+        + priced(2, "R2", "2")
+        + priced(3, "R3", "3"),
         0,
-        b"""\
-agreed,north,1
-held,north,3,waiting-for=1
-held,north,4,waiting-for=1
-applied,north,1,replaced=1,updated=0,deleted=0,unknown=0,ignored=0
-applied,north,2,replaced=1,updated=0,deleted=0,unknown=0,ignored=0
-applied,north,3,replaced=1,updated=0,deleted=0,unknown=0,ignored=0
-""",
+        AGREED + held(3, 1) + held(4, 1) + applied(1, 1) + applied(2, 1) + applied(3, 1),
         [
-            put(1, "R1", "1.000"),
-            put(2, "R2", "2.000"),
-            put(3, "R3", "3.000"),
-            put(4, "R4", "4.000"),
+            put_row(1, "R1", "1.000"),
+            put_row(2, "R2", "2.000"),
+            put_row(3, "R3", "3.000"),
+            put_row(4, "R4", "4.000"),
         ],
         [],
         5,
@@ -147,65 +114,22 @@ applied,north,3,replaced=1,updated=0,deleted=0,unknown=0,ignored=0
     ),
     Kept(
         "a message behind the next gap stays held",
-        b"""\
-Agree,north,06,4012345000009,06,5012345678900,1
-Message,1,06,4012345000009,06,5012345678900,1,,,,
-EndMessage,1
-Message,1,06,4012345000009,06,5012345678900,3,,,,
-EndMessage,1
-Message,1,06,4012345000009,06,5012345678900,5,,,,
-EndMessage,1
-Message,1,06,4012345000009,06,5012345678900,2,,,,
-EndMessage,1
-""",
+        AGREEMENT + bare(1) + bare(3) + bare(5) + bare(2),
         0,
-        b"""\
-agreed,north,1
-applied,north,1,replaced=0,updated=0,deleted=0,unknown=0,ignored=0
-held,north,3,waiting-for=2
-held,north,5,waiting-for=2
-applied,north,2,replaced=0,updated=0,deleted=0,unknown=0,ignored=0
-""",
-        [bare(1), bare(2), bare(3)],
+        AGREED + applied(1) + held(3, 2) + held(5, 2) + applied(2),
+        [bare_row(1), bare_row(2), bare_row(3)],
         [(5, "")],
         4,
         b"gaps,north,first=1,next=4,greatest=5,held=1,missing=1\nmissing,4,4\n",
     ),
     Kept(
         "other contents of a number that is held",
-        b"""\
-Agree,north,06,4012345000009,06,5012345678900,1
-Message,1,06,4012345000009,06,5012345678900,3,1,20250301,02,GBP
-Product,R3,03,15,9781234567897
-ProductSupply,GB IE,,
-SupplyDetail,04,06,4012345000009,North Books,21,
-Price,,5.00,,,,,,
-EndMessage,5
-Message,1,06,4012345000009,06,5012345678900,3,1,20250301,02,GBP
-Product,R3,03,15,9781234567897
-ProductSupply,GB IE,,
-SupplyDetail,04,06,4012345000009,North Books,21,
-Price,,6.00,,,,,,
-EndMessage,5
-Message,1,06,4012345000009,06,5012345678900,3,1,20250301,02,GBP
-Product,R3,03,15,9781234567897
-ProductSupply,GB IE,,
-SupplyDetail,04,06,4012345000009,North Books,21,
-Price,,5,,,,,,
-EndMessage,5
-Message,1,06,4012345000009,06,5012345678900,1,1,20250301,02,GBP
-Product,R1,03,15,9781234567897
-ProductSupply,GB IE,,
-SupplyDetail,04,06,4012345000009,North Books,21,
-Price,,1.00,,,,,,
-EndMessage,5
-Message,1,06,4012345000009,06,5012345678900,2,1,20250301,02,GBP
-Product,R2,03,15,9781234567897
-ProductSupply,GB IE,,
-SupplyDetail,04,06,4012345000009,North Books,21,
-Price,,2.00,,,,,,
-EndMessage,5
-""",
+        AGREEMENT
+        + priced(3, "R3", "5.00")
+        + priced(3, "R3", "6.00")
+        + priced(3, "R3", "5")
+        + priced(1, "R1", "1.00")
+        + priced(2, "R2", "2.00"),
         1,
         b"""\
 agreed,north,1
@@ -215,21 +139,14 @@ held,north,3,waiting-for=1
 applied,north,1,replaced=1,updated=0,deleted=0,unknown=0,ignored=0
 applied,north,2,replaced=1,updated=0,deleted=0,unknown=0,ignored=0
 """,
-        [put(1, "R1", "1.000"), put(2, "R2", "2.000"), put(3, "R3", "5.000")],
+        [put_row(1, "R1", "1.000"), put_row(2, "R2", "2.000"), put_row(3, "R3", "5.000")],
         [],
         4,
         b"gaps,north,first=1,next=4,greatest=3,held=0,missing=0\n",
     ),
     Kept(
         "a waiver closes the gap",
-        b"""\
-Agree,north,06,4012345000009,06,5012345678900,1
-Message,1,06,4012345000009,06,5012345678900,1,,,,
-EndMessage,1
-Message,1,06,4012345000009,06,5012345678900,3,,,,
-EndMessage,1
-Waive,north,2
-""",
+        AGREEMENT + bare(1) + bare(3) + b"Waive,north,2\n",
         0,
         b"""\
 agreed,north,1
@@ -237,7 +154,7 @@ applied,north,1,replaced=0,updated=0,deleted=0,unknown=0,ignored=0
 held,north,3,waiting-for=2
 waived,north,2
 """,
-        [bare(1), (2, "waived", 0, 0, 0, 0, 0), bare(3)],
+        [bare_row(1), (2, "waived", 0, 0, 0, 0, 0), bare_row(3)],
         [],
         4,
         b"gaps,north,first=1,next=4,greatest=3,held=0,missing=0\n",
@@ -296,26 +213,21 @@ def tables_after_a_batch(case: Kept, room: Room) -> Iterator[Outcome]:
     yield Outcome(f"{name}, opened again", came, (Ran(0, case.gaps), wanted))
 
 
-def message(number: int) -> bytes:
-    return b"Message,1,06,4012345000009,06,5012345678900,%d,,,,\nEndMessage,1\n" % number
-
-
 def forty_messages_backwards(room: Room) -> Iterator[Outcome]:
     """Two days of a shop, each batch a run of the program."""
-    came = batch(room, b"Agree,north,06,4012345000009,06,5012345678900,1\n")
-    yield Outcome("forty messages: the agreement", came, Ran(0, b"agreed,north,1\n"))
+    came = batch(room, AGREEMENT)
+    yield Outcome("forty messages: the agreement", came, Ran(0, AGREED))
 
     backwards = range(41, 1, -1)
-    ran = batch(room, b"".join(message(number) for number in backwards))
+    ran = batch(room, b"".join(map(bare, backwards)))
     came = ran, rows(room, APPLIED), rows(room, HELD), numbers(room, NEXT)
-    answers = b"".join(b"held,north,%d,waiting-for=1\n" % number for number in backwards)
+    answers = b"".join(held(number, 1) for number in backwards)
     wanted: Row = Ran(0, answers), [], [(number, "") for number in range(2, 42)], [1]
     yield Outcome("forty messages: the first day", came, wanted)
 
-    ran = batch(room, message(1))
+    ran = batch(room, bare(1))
     came = ran, rows(room, APPLIED), rows(room, HELD), numbers(room, NEXT)
-    answer = b"applied,north,1,replaced=0,updated=0,deleted=0,unknown=0,ignored=0\n"
-    wanted: Row = Ran(0, answer), [bare(number) for number in range(1, 42)], [], [42]
+    wanted: Row = Ran(0, applied(1)), [bare_row(number) for number in range(1, 42)], [], [42]
     yield Outcome("forty messages: the second day", came, wanted)
 
     report = b"gaps,north,first=1,next=42,greatest=41,held=0,missing=0\n"
@@ -456,8 +368,8 @@ SupplyDetail,04,06,4012345000009,North Books,21,
 def beside_another_table(room: Room) -> Iterator[Outcome]:
     """A database without a desk's tables counts as empty, and what else it holds stays."""
     execute(room, "CREATE TABLE book (title TEXT); INSERT INTO book VALUES ('north');")
-    came = batch(room, b"Agree,north,06,4012345000009,06,5012345678900,1\n")
-    yield Outcome("beside another table: a batch", came, Ran(0, b"agreed,north,1\n"))
+    came = batch(room, AGREEMENT)
+    yield Outcome("beside another table: a batch", came, Ran(0, AGREED))
     came = numbers(room, VERSION), rows(room, "SELECT * FROM book"), complaints(room)
     yield Outcome("beside another table: what is kept", came, ([2], [("north",)], []))
 

@@ -14,6 +14,7 @@ from pathlib import Path
 
 from desk_copy import copying
 from tests.program.databases import DATABASE, batch, execute
+from tests.program.messages import AGREEMENT
 from tests.program.room import Group, Ran, Room
 from tests.program.serving import HOST, Serving, posted, serving
 from tests.running import Outcome
@@ -22,7 +23,6 @@ from tools.words import Row, Word
 
 PROGRAM = ROOT / "bin/desk-copy"
 
-AGREEMENT = b"Agree,north,06,4012345000009,06,5012345678900,1\n"
 
 COPIES = 200
 AT_ONCE = 2
@@ -63,7 +63,7 @@ class Sender:
         seeded = random.Random(20250301)
         while not self.is_to_end.is_set():
             self.sent += 1
-            reply = self.desk.reply([posted(message(self.sent))])
+            reply = self.desk.reply([posted(message(self.sent).encode())])
             if not reply.startswith(b"HTTP/1.1 200 "):
                 self.unexpected.append(reply)
                 return

@@ -4,47 +4,21 @@ desk in memory answer to many messages."""
 from collections.abc import Iterator
 
 from tests.program.databases import DATABASE, batch
+from tests.program.messages import AGREED, AGREEMENT, applied, bare, held, priced
 from tests.program.room import Group, Ran, Room
 from tests.running import Outcome
 
 # What a desk is asked first, and what it answers.
 FIRST = (
-    b"""\
-Agree,north,06,4012345000009,06,5012345678900,1
-Message,1,06,4012345000009,06,5012345678900,1,,,,
-EndMessage,1
-Message,1,06,4012345000009,06,5012345678900,2,,,,
-EndMessage,1
-Message,1,06,4012345000009,06,5012345678900,5,,,,
-EndMessage,1
-Message,1,06,4012345000009,06,5012345678900,9,,,,
-EndMessage,1
-""",
-    b"""\
-agreed,north,1
-applied,north,1,replaced=0,updated=0,deleted=0,unknown=0,ignored=0
-applied,north,2,replaced=0,updated=0,deleted=0,unknown=0,ignored=0
-held,north,5,waiting-for=3
-held,north,9,waiting-for=3
-""",
+    AGREEMENT + bare(1) + bare(2) + bare(5) + bare(9),
+    AGREED + applied(1) + applied(2) + held(5, 3) + held(9, 3),
 )
 
 # And then. One answer is a refusal.
 SECOND = (
-    b"""\
-AskGaps,north
-AskGaps,west
-Message,1,06,4012345000009,06,5012345678900,3,1,20250301,02,GBP
-Product,R1,03,15,9781234567897
-ProductSupply,GB IE,,
-SupplyDetail,04,06,4012345000009,North Books,21,
-Price,,12.99,,,,,,
-EndMessage,5
-Waive,north,4
-AskGaps,north
-AskCatalogue,north
-AskPrice,9781234567897,20250301,GB,GBP,02
-""",
+    b"AskGaps,north\nAskGaps,west\n"
+    + priced(3, "R1", "12.99")
+    + b"Waive,north,4\nAskGaps,north\nAskCatalogue,north\nAskPrice,9781234567897,20250301,GB,GBP,02\n",
     b"""\
 gaps,north,first=1,next=3,greatest=9,held=2,missing=2
 missing,3,4
@@ -78,24 +52,14 @@ def over_memory(room: Room) -> Iterator[Outcome]:
     yield Outcome("a desk in memory, both", came, Ran(1, answers))
 
 
-def numbered(number: int) -> str:
+def numbered(number: int) -> bytes:
     """A message with that number and a record of its own, and two questions."""
-    return f"""\
-Message,1,06,4012345000009,06,5012345678900,{number},1,20250301,02,GBP
-Product,R{number},03,15,9781234567897
-ProductSupply,GB IE,,
-SupplyDetail,04,06,4012345000009,North Books,21,
-Price,,1,,,,,,
-EndMessage,5
-AskPrice,9781234567897,20250301,GB,GBP,02
-AskGaps,north
-"""
+    return priced(number, f"R{number}", "1") + b"AskPrice,9781234567897,20250301,GB,GBP,02\nAskGaps,north\n"
 
 
 def two_hundred_numbers_backwards(room: Room) -> Iterator[Outcome]:
     """The desk in a file and the desk in memory answer alike."""
-    agreement = "Agree,north,06,4012345000009,06,5012345678900,1\n"
-    text = (agreement + "".join(map(numbered, range(200, 0, -1)))).encode()
+    text = AGREEMENT + b"".join(map(numbered, range(200, 0, -1)))
     in_memory = room.run("batch", given=text)
     in_file = room.run("--db", DATABASE, "batch", given=text)
     last = b"gaps,north,first=1,next=201,greatest=200,held=0,missing=0\n"

@@ -4,6 +4,7 @@ import os
 import shlex
 from collections.abc import Iterator
 
+from tests.program.messages import AGREEMENT, bare
 from tests.program.room import Group, Ran, Room
 from tests.program.serving import free_port, posted, serving
 from tests.running import Outcome
@@ -86,8 +87,8 @@ def desk_in_a_file(room: Room) -> Iterator[Outcome]:
         yield Outcome("docs/TOUR.md: the lines of serve", desk.ended(), desk.wanted(statuses))
 
 
-# A message with a price, its agreement, and rules that choose its offer.
-PRICED = """\
+# A message with a price, and rules that choose its offer.
+PRICED = b"""\
 Message,1,06,4012345000009,06,5012345678900,1,,,02,GBP
 Product,R1,03,15,9781234567897
 ProductSupply,GB IE,,
@@ -95,13 +96,7 @@ SupplyDetail,04,06,4012345000009,North Books,21,
 Price,,12.99,,,,,,
 EndMessage,5
 """
-AGREEMENT = "Agree,north,06,4012345000009,06,5012345678900,1\n"
 RULES = b'[[rule]]\nseries = "north"\ncodes = ["21"]\n'
-
-
-def bare(number: int) -> str:
-    """A message without products."""
-    return f"Message,1,06,4012345000009,06,5012345678900,{number},,,,\nEndMessage,1\n"
 
 
 def replies(room: Room, words: list[str], inputs: list[bytes], wanted: list[str]) -> Iterator[Outcome]:
@@ -126,13 +121,13 @@ def page_of_http(room: Room) -> Iterator[Outcome]:
     of_series = [lines for lines in questions if "/series/" in lines[0]]
 
     room.write("rules.toml", RULES)
-    room.run("--db", "priced.db", "batch", given=AGREEMENT.encode())
+    room.run("--db", "priced.db", "batch", given=AGREEMENT)
     inputs = [posted(PRICED), posted(bare(3)), *(asked(line) for line, _ in of_articles)]
     wanted = deliveries + [body for _, body in of_articles]
     yield from replies(room, ["--db", "priced.db", "--rules", "rules.toml"], inputs, wanted)
 
-    messages = AGREEMENT + "".join(bare(number) for number in (1, 2, 5, 9))
-    room.run("--db", "bare.db", "batch", given=messages.encode())
+    messages = AGREEMENT + bare(1) + bare(2) + bare(5) + bare(9)
+    room.run("--db", "bare.db", "batch", given=messages)
     inputs, wanted = [asked(line) for line, _ in of_series], [body for _, body in of_series]
     yield from replies(room, ["--db", "bare.db"], inputs, wanted)
     yield Outcome("docs/HTTP.md: its questions", (len(of_articles), len(of_series)), (3, 2))
@@ -157,9 +152,7 @@ def script_of_http(room: Room) -> Iterator[Outcome]:
 def gaps_by_night(room: Room) -> Iterator[Outcome]:
     """The script over a database file, and at the socket of a desk that is open: numbers that lack, then
     none, then series and files that are not there."""
-    agreement = b"Agree,north,06,4012345000009,06,5012345678900,1\n"
-    message = "Message,1,06,4012345000009,06,5012345678900,{},,,,\nEndMessage,1\n"
-    room.run("--db", "shop.db", "batch", given=agreement + message.format(2).encode())
+    room.run("--db", "shop.db", "batch", given=AGREEMENT + bare(2))
     report = b"gaps,north,first=1,next=1,greatest=2,held=1,missing=1\nmissing,1,1\n"
     no_report = b"west: no report\n"
     found = gaps_script(room, "shop.db", "north")
@@ -169,7 +162,7 @@ def gaps_by_night(room: Room) -> Iterator[Outcome]:
     with serving(room, ["--db", "shop.db"], 2, ["--batches", "shop.socket"]):
         found = gaps_script(room, "shop.socket", "west", "north")
         yield Outcome("gaps.sh: at the socket of an open desk", found, Ran(2, report, no_report))
-    room.run("--db", "shop.db", "batch", given=message.format(1).encode())
+    room.run("--db", "shop.db", "batch", given=bare(1))
     yield Outcome("gaps.sh: no number lacks", gaps_script(room, "shop.db", "north"), Ran(0))
     found = gaps_script(room, "other.db", "west")
     line = b"onixdesk: storage: unusable\n"

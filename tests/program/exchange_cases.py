@@ -1,5 +1,6 @@
 """What is sent to a desk over HTTP, and what is replied. See `exchanges`."""
 
+from tests.program.messages import bare, priced
 from tests.program.serving import Exchange, got, posted
 
 # The agreements of the desk: `north` from number 1 on, and `south` from number 5 on, of which 7 is waived.
@@ -20,38 +21,31 @@ def refusal(reason: str) -> str:
 DELIVERIES = [
     Exchange(
         "held behind a gap",
-        posted("Message,1,06,4012345000009,06,5012345678900,3,,,,\nEndMessage,1\n"),
+        posted(bare(3)),
         "202 Accepted",
         '{"answer":"held","number":3,"series":"north","waiting_for":1}',
     ),
     Exchange(
         "applied",
-        posted("""\
-Message,1,06,4012345000009,06,5012345678900,1,1,20250301,02,GBP
-Product,R1,03,15,9781234567897
-ProductSupply,GB IE,,
-SupplyDetail,04,06,4012345000009,North Books,21,
-Price,,12.99,,,,,,
-EndMessage,5
-"""),
+        posted(priced(1, "R1", "12.99")),
         "200 OK",
         '{"answer":"applied","deleted":0,"ignored":0,"number":1,"replaced":1,"series":"north","unknown":0,"updated":0}',
     ),
     Exchange(
         "other contents",
-        posted("Message,1,06,4012345000009,06,5012345678900,1,,,,\nEndMessage,1\n"),
+        posted(bare(1)),
         "409 Conflict",
         '{"answer":"refused","number":1,"reason":"other-contents","series":"north"}',
     ),
     Exchange(
         "a number before the first",
-        posted("Message,1,06,5000000000005,06,5012345678900,4,,,,\nEndMessage,1\n"),
+        posted(b"Message,1,06,5000000000005,06,5012345678900,4,,,,\nEndMessage,1\n"),
         "422 Unprocessable Content",
         '{"answer":"refused","first":5,"number":4,"reason":"before-first","series":"south"}',
     ),
     Exchange(
         "a waived number",
-        posted("Message,1,06,5000000000005,06,5012345678900,7,,,,\nEndMessage,1\n"),
+        posted(b"Message,1,06,5000000000005,06,5012345678900,7,,,,\nEndMessage,1\n"),
         "409 Conflict",
         '{"answer":"refused","number":7,"reason":"waived","series":"south"}',
     ),
@@ -67,37 +61,37 @@ Price,05,9.5,EUR,,WORLD,IE,,,10
 ProductSupply,,,
 SupplyDetail,04,06,5000000000005,,40,
 EndMessage,8
-'''),
+'''.encode()),
         "200 OK",
         '{"answer":"applied","deleted":0,"ignored":0,"number":5,"replaced":1,"series":"south","unknown":0,"updated":0}',
     ),
     Exchange(
         "parties that are not agreed",
-        posted("Message,1,06,4012345000010,06,5012345678900,1,,,,\nEndMessage,1\n"),
+        posted(b"Message,1,06,4012345000010,06,5012345678900,1,,,,\nEndMessage,1\n"),
         "422 Unprocessable Content",
         '{"answer":"refused","reason":"unknown-series"}',
     ),
     Exchange(
         "no number",
-        posted("Message,1,06,4012345000009,06,5012345678900,,,,,\nEndMessage,1\n"),
+        posted(b"Message,1,06,4012345000009,06,5012345678900,,,,,\nEndMessage,1\n"),
         "422 Unprocessable Content",
         '{"answer":"refused","reason":"unnumbered"}',
     ),
     Exchange(
         "a wrong count",
-        posted("Message,1,06,4012345000009,06,5012345678900,1,,,,\nEndMessage,2\n"),
+        posted(b"Message,1,06,4012345000009,06,5012345678900,1,,,,\nEndMessage,2\n"),
         "422 Unprocessable Content",
         '{"answer":"refused","reason":"malformed","row":2}',
     ),
     Exchange(
         "no records",
-        posted(""),
+        posted(b""),
         "422 Unprocessable Content",
         '{"answer":"refused","reason":"malformed","row":1}',
     ),
     Exchange(
         "updates and deletions, some of them unknown",
-        posted("""\
+        posted(b"""\
 Message,1,06,4012345000009,06,5012345678900,2,,,,
 Product,R1,04,15,9780000000002
 Product,R9,04,15,9780000000002
@@ -110,13 +104,13 @@ EndMessage,5
     ),
     Exchange(
         "applied when its turn came",
-        posted("Message,1,06,4012345000009,06,5012345678900,3,,,,\nEndMessage,1\n"),
+        posted(bare(3)),
         "200 OK",
         '{"answer":"applied","deleted":0,"ignored":0,"number":3,"replaced":0,"series":"north","unknown":0,"updated":0}',
     ),
     Exchange(
         "held behind the next gap",
-        posted("Message,1,06,4012345000009,06,5012345678900,5,,,,\nEndMessage,1\n"),
+        posted(bare(5)),
         "202 Accepted",
         '{"answer":"held","number":5,"series":"north","waiting_for":4}',
     ),
@@ -340,7 +334,7 @@ BEFORE_A_WAIVER = [
     DELIVERY,
     Exchange(
         "held behind the number that is waived",
-        posted("Message,1,06,4012345000009,06,5012345678900,3,,,,\nEndMessage,1\n"),
+        posted(bare(3)),
         "202 Accepted",
         '{"answer":"held","number":3,"series":"north","waiting_for":2}',
     ),
@@ -349,13 +343,13 @@ BEFORE_A_WAIVER = [
 AFTER_A_WAIVER = [
     Exchange(
         "the number that is waived",
-        posted("Message,1,06,4012345000009,06,5012345678900,2,,,,\nEndMessage,1\n"),
+        posted(bare(2)),
         "409 Conflict",
         '{"answer":"refused","number":2,"reason":"waived","series":"north"}',
     ),
     Exchange(
         "the message that was held",
-        posted("Message,1,06,4012345000009,06,5012345678900,3,,,,\nEndMessage,1\n"),
+        posted(bare(3)),
         "200 OK",
         '{"answer":"applied","deleted":0,"ignored":0,"number":3,"replaced":0,"series":"north","unknown":0,"updated":0}',
     ),

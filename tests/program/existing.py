@@ -3,8 +3,9 @@
 from collections.abc import Iterator
 from functools import partial
 
-from tests.program.commands import AGREEMENT, APPLIED, FIRST
+from tests.program.commands import APPLIED, FIRST
 from tests.program.databases import DATABASE, complaints
+from tests.program.messages import AGREED, AGREEMENT
 from tests.program.room import UNREADABLE, Group, Ran, Room
 from tests.program.serving import got, serving
 from tests.running import Outcome
@@ -54,7 +55,7 @@ def is_there(room: Room) -> Iterator[Outcome]:
     room.write(DATABASE, b"")
     room.write("message.csv", FIRST)
     for command, given, wanted in [
-        ("batch", AGREEMENT, b"agreed,north,1\n"),
+        ("batch", AGREEMENT, AGREED),
         ("deliver message.csv", UNREADABLE, APPLIED),
         ("gaps north", UNREADABLE, GAPS),
         ("migrate", UNREADABLE, b"schema 2\n"),

@@ -29,6 +29,7 @@ from tests.program.inboxes import (
     script,
     taken,
 )
+from tests.program.messages import AGREED
 from tests.program.room import Group, Ran, Room
 from tests.program.serving import free_port, serving
 from tests.running import Outcome
@@ -48,7 +49,7 @@ def zipped(data: bytes) -> bytes:
 def each_kind_of_file(room: Room) -> Iterator[Outcome]:
     """Those that are applied and held, in the order in which they were written, and those that the desk
     refuses."""
-    yield Outcome("inbox: the agreement", batch(room, AGREEMENT), Ran(0, b"agreed,north,1\n"))
+    yield Outcome("inbox: the agreement", batch(room, AGREEMENT), Ran(0, AGREED))
     one, stranger = feed_of("R1"), b"Message,1,06,T,,,1,,,,\nEndMessage,1\n"
     packed, typed = gzip.compress(numbered(["R1"], 4), mtime=0), message_of("R1", number=3)
     two = numbered(["R2"], 2)

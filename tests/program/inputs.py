@@ -4,28 +4,22 @@ import subprocess
 from collections.abc import Iterator
 
 from tests.program.databases import DATABASE, batch, gaps
+from tests.program.messages import AGREED, AGREEMENT, bare
 from tests.program.room import SECONDS, UNREADABLE, Group, Ran, Room
 from tests.running import Outcome
-
-AGREEMENT = b"Agree,north,06,4012345000009,06,5012345678900,1\n"
 
 OPENING = b"Message,1,06,4012345000009,06,5012345678900,1,,,,\n"
 
 PRODUCT = b"Product,R1,03,15,9781234567897\n"
 
 # Two messages without products.
-MESSAGES = b"""\
-Message,1,06,4012345000009,06,5012345678900,1,,,,
-EndMessage,1
-Message,1,06,4012345000009,06,5012345678900,2,,,,
-EndMessage,1
-"""
+MESSAGES = bare(1) + bare(2)
 
 INPUTS = [
     (
         "a text of 4,194,304 bytes",
         AGREEMENT + b"\n" * 4_194_256,
-        Ran(0, b"agreed,north,1\n"),
+        Ran(0, AGREED),
     ),
     (
         "a text of 4,194,305 bytes",
@@ -87,7 +81,7 @@ def report(text: bytes) -> Ran:
 def broken_streams_over_a_file(room: Room) -> Iterator[Outcome]:
     """After a failed read the desk is as before, and after the failed write of an answer its request
     has had its effect, and no later one."""
-    yield Outcome("broken streams: the agreement", batch(room, AGREEMENT), Ran(0, b"agreed,north,1\n"))
+    yield Outcome("broken streams: the agreement", batch(room, AGREEMENT), Ran(0, AGREED))
 
     over_a_file = "--db", DATABASE, "batch"
     for name, text, line in [

@@ -6,17 +6,12 @@ from itertools import islice
 
 from bench.figures import in_files, in_memory, texts
 from bench.figures.figure import Figure
+from tests.program.messages import AGREED, applied, held
 from tests.program.room import Group, Ran, Room
 from tests.running import Outcome
 
-AGREED = b"agreed,north,1\n"
-
 # A batch has at most so many bytes.
 LIMIT = 4_194_304
-
-
-def applied(number: int, replaced: int) -> bytes:
-    return b"applied,north,%d,replaced=%d,updated=0,deleted=0,unknown=0,ignored=0\n" % (number, replaced)
 
 
 def record(product: int, prices: list[bytes]) -> bytes:
@@ -35,7 +30,7 @@ TEXTS = [
     (
         "small messages reversed",
         texts.small_messages(2, is_reversed=True),
-        AGREED + b"held,north,2,waiting-for=1\n" + applied(1, 1),
+        AGREED + held(2, 1) + applied(1, 1),
     ),
     (
         "offers, and the same in further messages",

@@ -14,6 +14,7 @@ from tests.program.databases import (
     rows,
     table_names,
 )
+from tests.program.messages import bare, priced
 from tests.program.room import Group, Ran, Room
 from tests.running import Outcome
 from tools.words import Row
@@ -56,23 +57,10 @@ CASES = [
         "INSERT INTO series VALUES ('north', '06', '4012345000009', '06', '5012345678900', 1, 5)",
         4,
         "",
-        b"""\
-AskGaps,north
-AskCatalogue,north
-Message,1,06,4012345000009,06,5012345678900,3,1,20250301,02,GBP
-Product,R3,03,15,9781234567897
-ProductSupply,GB IE,,
-SupplyDetail,04,06,4012345000009,North Books,21,
-Price,,3,,,,,,
-EndMessage,5
-Message,1,06,4012345000009,06,5012345678900,5,1,20250301,02,GBP
-Product,R5,03,15,9781234567897
-ProductSupply,GB IE,,
-SupplyDetail,04,06,4012345000009,North Books,21,
-Price,,5,,,,,,
-EndMessage,5
-AskPrice,9781234567897,20250301,GB,GBP,02
-""",
+        b"AskGaps,north\nAskCatalogue,north\n"
+        + priced(3, "R3", "3")
+        + priced(5, "R5", "5")
+        + b"AskPrice,9781234567897,20250301,GB,GBP,02\n",
         0,
         b"""\
 gaps,north,first=1,next=5,greatest=4,held=0,missing=0
@@ -158,14 +146,7 @@ INSERT INTO applied VALUES ('north', 1, '', 0, 0, 0, 0, 0);
 INSERT INTO applied VALUES ('north', 2, 'waived', 0, 0, 0, 0, 0);
 INSERT INTO applied VALUES ('north', 3, '', 0, 0, 0, 0, 0)
 """,
-        b"""\
-AskGaps,north
-AskCatalogue,north
-Message,1,06,4012345000009,06,5012345678900,2,,,,
-EndMessage,1
-Waive,north,2
-Waive,north,3
-""",
+        b"AskGaps,north\nAskCatalogue,north\n" + bare(2) + b"Waive,north,2\nWaive,north,3\n",
         1,
         b"""\
 gaps,north,first=1,next=4,greatest=3,held=0,missing=0
@@ -183,10 +164,9 @@ refused,had,north,3
 INSERT INTO held VALUES ('north', 3, '');
 INSERT INTO held VALUES ('north', 5, 'waived')
 """,
-        b"""\
-AskGaps,north
-Message,1,06,4012345000009,06,5012345678900,2,,,,
-EndMessage,1
+        b"AskGaps,north\n"
+        + bare(2)
+        + b"""\
 AskGaps,north
 Message,2,06,4012345000009,06,5012345678900,4,1,20250301,02,GBP
 Product,R1,03,15,9781234567897

@@ -11,8 +11,9 @@ from collections.abc import Iterator, Sequence
 from contextlib import AbstractContextManager
 from typing import NamedTuple
 
-from tests.program.commands import AGREEMENT, APPLIED, FIRST
+from tests.program.commands import APPLIED, FIRST
 from tests.program.databases import DATABASE, batch, gaps
+from tests.program.messages import AGREED, AGREEMENT, applied, bare
 from tests.program.room import SECONDS, UNREADABLE, Group, Ran, Room
 from tests.program.serving import Exchange, Serving, connected, free_port, receive, send, serving
 from tests.running import Outcome
@@ -23,11 +24,6 @@ SOCKET = "desk.socket"
 # The longest text of a batch.
 LARGEST = 4_194_304
 
-AGREED = b"agreed,north,1\n"
-
-# A message of `north` without products, and its answer where it is next.
-MESSAGE = b"Message,1,06,4012345000009,06,5012345678900,%d,,,,\nEndMessage,1\n"
-DONE = b"applied,north,%d,replaced=0,updated=0,deleted=0,unknown=0,ignored=0\n"
 
 QUESTION = b"AskGaps,north\n"
 NO_GAPS = b"gaps,north,first=1,next=%d,greatest=%s,held=0,missing=0\n"
@@ -116,8 +112,8 @@ def batches_to_an_open_desk(room: Room) -> Iterator[Outcome]:
     with open_desk(room, len(BATCHES) + 2) as desk:
         for case in BATCHES:
             yield Outcome(f"open desk: {case.name}", sent(room, case.text), case.wanted)
-        came = answered(room, MESSAGE % 2 + QUESTION)
-        yield Outcome("open desk: a client of its own", came, DONE % 2 + NO_GAPS % (3, b"2"))
+        came = answered(room, bare(2) + QUESTION)
+        yield Outcome("open desk: a client of its own", came, applied(2) + NO_GAPS % (3, b"2"))
         gaps_now = GAPS.body.replace('"greatest":1', '"greatest":2').replace('"next":2', '"next":3')
         yield Outcome("open desk: the port", desk.reply([HEAD]), GAPS._replace(body=gaps_now).reply())
         lines = [*(case.line for case in BATCHES), "batch 0", "200"]
@@ -127,7 +123,7 @@ def batches_to_an_open_desk(room: Room) -> Iterator[Outcome]:
 
 def in_turn(room: Room) -> Iterator[Outcome]:
     """While clients wait at both, one of the port and one of the socket come next by turns."""
-    yield Outcome("in turn: the desk", batch(room, AGREEMENT + MESSAGE % 1), Ran(0, AGREED + DONE % 1))
+    yield Outcome("in turn: the desk", batch(room, AGREEMENT + bare(1)), Ran(0, AGREED + applied(1)))
     with open_desk(room, 7) as desk, contextlib.ExitStack() as clients:
         first = clients.enter_context(connected(desk.port))
         first.sendall(HEAD[:4])
@@ -152,7 +148,7 @@ def a_client_that_stalls(room: Room) -> Iterator[Outcome]:
     """It is waited for 10 seconds, nothing of its batch is asked, and the next is served."""
     yield Outcome("a stall: the desk", batch(room, AGREEMENT), Ran(0, AGREED))
     with open_desk(room, 2) as desk, reached(room) as silent:
-        silent.sendall(MESSAGE % 1)
+        silent.sendall(bare(1))
         began = time.monotonic()
         came = sent(room, QUESTION)
         waited = time.monotonic() - began
@@ -165,13 +161,13 @@ def a_client_that_stalls(room: Room) -> Iterator[Outcome]:
 def a_client_that_is_slow(room: Room) -> Iterator[Outcome]:
     """What the desk does between reads and writes is not counted: a client that takes its answers late, but
     waits for none, is served whole."""
-    text = AGREEMENT + b"".join(MESSAGE % number for number in range(1, 201))
+    text = AGREEMENT + b"".join(bare(number) for number in range(1, 201))
     with open_desk(room, 1) as desk, reached(room) as peer:
         for at in range(0, len(text), 4096):
             time.sleep(0.05)
             peer.sendall(text[at : at + 4096])
         peer.shutdown(socket.SHUT_WR)
-        wanted = AGREED + b"".join(DONE % number for number in range(1, 201))
+        wanted = AGREED + b"".join(applied(number) for number in range(1, 201))
         yield Outcome("a slow client: its answers", receive(peer), wanted)
         yield Outcome("a slow client: the line", desk.ended(), desk.wanted(["batch 0"]))
 
@@ -240,7 +236,7 @@ def killed_amid_a_batch(room: Room) -> Iterator[Outcome]:
     yield Outcome("a kill: the desk", batch(room, AGREEMENT), Ran(0, AGREED))
     with open_desk(room, None) as desk:
         words: list[Word] = [room.program, "--batches", SOCKET, "batch"]
-        room.write("many.csv", b"".join(MESSAGE % number for number in range(1, MANY + 1)))
+        room.write("many.csv", b"".join(bare(number) for number in range(1, MANY + 1)))
         with open(room.path("many.csv"), "rb") as many:
             client = subprocess.Popen(
                 words, cwd=room.folder, stdin=many, stdout=subprocess.PIPE, stderr=subprocess.PIPE
@@ -252,7 +248,7 @@ def killed_amid_a_batch(room: Room) -> Iterator[Outcome]:
     # The last may be cut.
     lines = [line for line in (come + rest).splitlines(keepends=True) if line.endswith(b"\n")]
     yield Outcome("a kill: the client", (client.returncode, errors), (3, b"onixdesk: socket\n"))
-    wanted = [DONE % number for number in range(1, len(lines) + 1)]
+    wanted = [applied(number) for number in range(1, len(lines) + 1)]
     yield Outcome("a kill: what was answered", lines, wanted)
     yield Outcome("a kill: before the end", len(lines) < MANY, True)
     kept = gaps(room).output

@@ -8,8 +8,7 @@ from collections.abc import Callable, Iterator, Mapping, Sequence
 from pathlib import Path
 from typing import NamedTuple
 
-from tests.running import Cases, Outcome
-from tools.root import ROOT
+from tests.running import PROGRAM, Cases, Outcome
 from tools.words import Word
 
 # No run of a case takes a tenth of it; a program that hangs fails its case.
@@ -87,7 +86,7 @@ class Group(Cases):
     """Cases over a room of their own."""
 
     # The program that is tested.
-    program = ROOT / "crates/onixdesk/out/onixdesk"
+    program = PROGRAM
 
     def __init__(self, name: str, check: Callable[[Room], Iterator[Outcome]]) -> None:
         super().__init__(name, getattr(check, "func", check).__module__)

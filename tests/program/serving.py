@@ -37,9 +37,8 @@ class Exchange(NamedTuple):
         return self.line.split(" ")[0]
 
 
-def posted(records: str) -> bytes:
-    body = records.encode()
-    return b"POST /messages HTTP/1.1\r\nContent-Length: %d\r\n\r\n" % len(body) + body
+def posted(records: bytes) -> bytes:
+    return b"POST /messages HTTP/1.1\r\nContent-Length: %d\r\n\r\n" % len(records) + records
 
 
 def got(target: str, line: str, body: str) -> Exchange:

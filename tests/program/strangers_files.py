@@ -5,8 +5,9 @@ import random
 from collections.abc import Callable, Iterator
 from functools import partial
 
-from tests.program.commands import AGREEMENT, FIRST
+from tests.program.commands import FIRST
 from tests.program.databases import DATABASE
+from tests.program.messages import AGREEMENT
 from tests.program.room import Group, Room
 from tests.running import Outcome
 

@@ -9,7 +9,7 @@ from tests.program.room import SECONDS, UNREADABLE, Group, Ran, Room
 from tests.program.stand_in import FAILS, WAITS, begun, calls, change_source, command, environment, make_repository, tries
 from tests.running import Outcome
 
-TO_BUILD = "'make build' proves and builds it, in about an hour the first time"
+TO_BUILD = "'make build' proves and builds it, in half an hour or more the first time"
 TO_WAIT = "'make build' waits for it"
 UNBUILT = "the program is not built"
 CHANGED = "a source has changed since the program was built"

@@ -27,7 +27,7 @@ RULES = "rules.toml"
 # The program refuses more than one byte less, as input or as rules.
 MOST = 4_194_305
 
-TO_BUILD = "'make build' proves and builds it, in about an hour the first time"
+TO_BUILD = "'make build' proves and builds it, in half an hour or more the first time"
 
 
 class Fault(Exception):

@@ -8,14 +8,12 @@ use Rattle.series_rules.specs.Views.{DeskKind, LeavesEither, LeavesOnly, View}
 use Rattle.series_rules.specs.declared.requests.Request.{Request}
 use Rattle.desk_batch.specs.Batch.{output, requests_of}
 use Rattle.desk_batch.specs.Leaves.{KeepsAnswered}
-use Rattle.desk_http.specs.Connections.{Connection, LeavesKept}
 use Rattle.onixdesk.proofs.QuestionLemmas.{without_question}
-use Rattle.onixdesk.specs.Connections as both
+use Rattle.onixdesk.specs.Connections.{Connection, KeepsServed, LeavesKept}
 use Rattle.onixdesk.specs.Course.{Course}
 use Rattle.onixdesk.specs.Deliveries.{DeliveriesEnd, KeepsDelivered}
 use Rattle.onixdesk.specs.Ends.{Ends}
 use Rattle.onixdesk.specs.GapsEnd.{with_question}
-use Rattle.onixdesk.specs.Serving.{KeepsServed}
 use Rattle.onixdesk.specs.TaskEnds.{TaskEnds}
 use Rattle.onixdesk.specs.declared.command_line.Task.{Task}
 use Rattle.onixdesk.specs.declared.command_line.Task.TheVariants as task
@@ -156,29 +154,6 @@ module _ {k : DeskKind} (c : Course k) (new : View k) (comes : ComesOf c new) (s
       go leaves (inl no_more) = λ x may. leaves x (no_more x may)
       go leaves (inr alone) = λ x may. inl (alone _ keeps.stands_after x may)
 
-  -- `serve` with a socket for batches
-  more_still : (count : ℕ) (L : List Request) → both.AtMostMore count L c.stands → both.AtMostMore count L new.stands_for
-  more_still count L more = (more.0, more.1, comes.stands sound _ more.2)
-
-  more_left_still : (count : ℕ) (L : List Request) → both.AtMostMore count L c.stands → both.LeavesAtMostMore count L c.left → both.LeavesAtMostMore count L new
-  more_left_still count L more most = go (comes.left sound)
-    where
-      go : ((x : k.Left) → new.may_leave x → c.left.may_leave x) ⊎ ((K : List Request) → c.stands K → LeavesOnly new K) → both.LeavesAtMostMore count L new
-      go (inl no_more) = λ x may. most x (no_more x may)
-      go (inr alone) = λ x may. (more.0, more.1, alone _ more.2 x may)
-
-  both_still : (L : List Request) (connections : List both.Connection) → both.KeepsServed c.rules L connections c.stands c.left → both.KeepsServed c.rules L connections new.stands_for new
-  both_still L connections kept = record {
-    whole = kept.whole;
-    kept = kept.kept;
-    answered = kept.answered;
-    others = kept.others;
-    in_doubt = kept.in_doubt;
-    all = kept.all;
-    stands_after = more_still (both.all_asked kept.others) kept.kept kept.stands_after;
-    left_after = more_left_still (both.all_asked kept.others) kept.kept kept.stands_after kept.left_after;
-  }
-
 pub task_ended : {k : DeskKind} (c : Course k) (new : View k) → ComesOf c new → (task : Task) (told : Option (List ℕ)) (status : ℕ) → TaskEnds c task told status → TaskEnds (ended_over c new) task told status
 task_ended c new comes task.Batch told status ended = (
   ended.0,
@@ -201,24 +176,9 @@ task_ended c new comes (task.Gaps name) told status ended = λ L stood sound.
     let end = ended L stood (comes.premise sound) in
     let named = series_name_of name.now in
     ((end.0.0, stood_still c new comes sound L named end.0.1), λ only. question_still c new comes sound L named end.0.1 (end.1 only))
-task_ended c new comes (task.Serve port requests None) told status ended = (
+task_ended c new comes (task.Serve port requests batches) told status ended = (
   ended.0,
-  (ended.1.0, λ L stood sound. served_still c new comes sound L ended.0 (ended.1.1 L stood (comes.premise sound))),
-  ended.2,
-  ended.3,
-)
-task_ended c new comes (task.Serve port requests (Some socket)) told status ended = (
-  ended.0,
-  (
-    ended.1.0,
-    λ L stood sound.
-        let end = ended.1.1 L stood (comes.premise sound) in (
-          more_still c new comes sound (both.all_asked ended.0) L end.0,
-          λ only.
-              let kept = end.1 only in
-              (more_left_still c new comes sound (both.all_asked ended.0) L end.0 kept.0, both_still c new comes sound L ended.0 kept.1),
-        ),
-  ),
+  (ended.1.0, ended.1.1, λ L stood sound. served_still c new comes sound L ended.0 (ended.1.2 L stood (comes.premise sound))),
   ended.2,
   ended.3,
 )

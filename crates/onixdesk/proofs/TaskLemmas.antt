@@ -84,13 +84,14 @@ task_begun c stood was (task.Gaps name) told status ended begins = λ L began so
     let from = begins L began sound in
     let end = ended L from.0 sound in
     (end.0, λ only. end.1 from.1)
-task_begun c stood was (task.Serve port requests None) told status ended begins = (
+task_begun c stood was (task.Serve port requests batches) told status ended begins = (
   ended.0,
   (
     ended.1.0,
+    ended.1.1,
     λ L began sound.
         let from = begins L began sound in
-        let keeps = ended.1.1 L from.0 sound in
+        let keeps = ended.1.2 L from.0 sound in
         record {
           kept = keeps.kept;
           doubted = keeps.doubted;
@@ -98,18 +99,6 @@ task_begun c stood was (task.Serve port requests None) told status ended begins 
           stands_after = keeps.stands_after;
           left_after = λ only. keeps.left_after from.1;
         },
-  ),
-  ended.2,
-  ended.3,
-)
-task_begun c stood was (task.Serve port requests (Some socket)) told status ended begins = (
-  ended.0,
-  (
-    ended.1.0,
-    λ L began sound.
-        let from = begins L began sound in
-        let end = ended.1.1 L from.0 sound in
-        (end.0, λ only. end.1 from.1),
   ),
   ended.2,
   ended.3,

@@ -2,10 +2,10 @@
 
 ghost use Rattle.std.specs.Fmt.{decimal};
 ghost use Rattle.std.specs.Io.KnownBytes.{Appends, Keeps};
-ghost use Rattle.std.specs.Prelude.{◌++◌, ◌∷◌, [], codes};
-ghost use Rattle.onixdesk.specs.BatchServing.{ServesBatch, batch_line_of};
-ghost use Rattle.onixdesk.specs.Serving.{ServesConnection, WritesWhole, line_of};
+ghost use Rattle.std.specs.Prelude.{◌++◌, ◌∷◌, []};
+ghost use Rattle.onixdesk.specs.Serving.{ServesBatch, ServesConnection, ServesExchange, WritesWhole, batch_line_of, fault_line, line_of};
 
+use crate::clients::Protocol;
 use crate::fault::Fault;
 use csv_records::streams::{WriteFault, write_whole};
 use desk_batch::{BatchFault, run_batch};
@@ -64,7 +64,7 @@ pub fn print_number<O: Write>(before: &str, number: u64, output: &mut O) -> Resu
 // Writes the line of a connection that was not served whole.
 fn print_fault<O: Write>(output: &mut O) -> Result<(), Fault>
     ensures { WritesWhole (Appends (O.contents output.old) (O.contents output.new))
-        (codes "fault" ++ 10 ∷ []) result }
+        fault_line result }
 {
     match write_whole(output, b"fault\n") {
         Ok(()) => flush(output),
@@ -99,8 +99,8 @@ fn print_batch_line<O: Write>(
     }
 }
 
-/// Serves one connection as an exchange over HTTP, and writes its line.
-pub fn serve_connection<D: Desk, R: Read, W: Write, O: Write>(
+// Serves one connection as an exchange over HTTP, and writes its line.
+fn serve_exchange<D: Desk, R: Read, W: Write, O: Write>(
     alloc: Global,
     desk: &mut D,
     precedence: &Precedence,
@@ -108,7 +108,7 @@ pub fn serve_connection<D: Desk, R: Read, W: Write, O: Write>(
     writer: &mut W,
     output: &mut O,
 ) -> Result<(), Fault>
-    ensures { ServesConnection D.seen precedence.now (R.remaining reader.old) desk.old desk.new
+    ensures { ServesExchange D.seen precedence.now (R.remaining reader.old) desk.old desk.new
         (Appends (W.contents writer.old) (W.contents writer.new))
         (Appends (O.contents output.old) (O.contents output.new)) result }
 {
@@ -116,9 +116,9 @@ pub fn serve_connection<D: Desk, R: Read, W: Write, O: Write>(
     print_line(&outcome, output)
 }
 
-/// Serves one connection as a batch, the text to the end of what the client sends, and writes its
-/// line.
-pub fn serve_batch<D: Desk, R: Read, W: Write, O: Write>(
+// Serves one connection as a batch, the text to the end of what the client sends, and writes its
+// line.
+fn serve_batch<D: Desk, R: Read, W: Write, O: Write>(
     alloc: Global,
     desk: &mut D,
     precedence: &Precedence,
@@ -132,4 +132,25 @@ pub fn serve_batch<D: Desk, R: Read, W: Write, O: Write>(
 {
     let outcome = run_batch(alloc, desk, precedence, reader, writer);
     print_batch_line(&outcome, output)
+}
+
+/// Serves one connection by the protocol of its client, and writes its line.
+pub fn serve_connection<D: Desk, R: Read, W: Write, O: Write>(
+    alloc: Global,
+    desk: &mut D,
+    precedence: &Precedence,
+    protocol: Protocol,
+    reader: &mut R,
+    writer: &mut W,
+    output: &mut O,
+) -> Result<(), Fault>
+    ensures { ServesConnection D.seen precedence.now protocol (R.remaining reader.old)
+        desk.old desk.new
+        (Appends (W.contents writer.old) (W.contents writer.new))
+        (Appends (O.contents output.old) (O.contents output.new)) result }
+{
+    match protocol {
+        Protocol::Exchange => serve_exchange(alloc, desk, precedence, reader, writer, output),
+        Protocol::Batch => serve_batch(alloc, desk, precedence, reader, writer, output),
+    }
 }

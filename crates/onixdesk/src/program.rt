@@ -5,14 +5,14 @@ ghost use Rattle.std.specs.Io.KnownBytes.{Appends};
 ghost use Rattle.onixdesk.specs.Course.{course};
 ghost use Rattle.onixdesk.specs.FileEnds.{ActionEnds, AreRulesOf, Closes, FileEnds, InvocationEnds, IsUnruled, EndsLeaving, MigrateEnds, NewDeskEnds, RunEnds, path_of};
 ghost use Rattle.onixdesk.specs.FileViews.{seen_left};
-ghost use Rattle.onixdesk.specs.TaskEnds.{ServeAtEnds, TaskEnds};
+ghost use Rattle.onixdesk.specs.TaskEnds.{TaskEnds};
 
 use crate::command_line::{self, Action, Database, Invocation, Reading, Task};
 use crate::database::look_at;
 use crate::fault::{Fault, report};
 use crate::files::{FilesLeft, unopened};
 use crate::rules::{RulesFault, open_table, report_rules};
-use crate::{batch, deliver, gaps, migrate, sending, serve, serve_both};
+use crate::{batch, deliver, gaps, migrate, sending, serve};
 use desk_memory::MemoryDesk;
 use desk_store::DeskStore;
 use desk_terms::StoreFault;
@@ -22,31 +22,6 @@ use sqlite::{FileFrom, FileStore, Start};
 use sqlite_disk::Disk;
 use std::io::{Read, Write};
 use std::rt::HostRuntime;
-
-// Serves a desk at a port, and at a socket for batches where one is named.
-fn serve_at<D: Desk, W: Write, E: Write>(
-    rt: &HostRuntime,
-    desk: &mut D,
-    precedence: &Precedence,
-    port: u16,
-    batches: Option<&str>,
-    requests: u64,
-    output: &mut W,
-    errors: &mut E,
-) -> u8
-    ensures status { result ≤ 3 }
-    ensures premise { (D.seen desk.new).sound → (D.seen desk.old).sound }
-    ensures end { ServeAtEnds (course precedence.now (D.seen desk.old) (D.seen desk.new)
-        (Appends (W.contents output.old) (W.contents output.new)))
-        batches.entry port requests result }
-{
-    match batches {
-        None => serve::run(rt, desk, precedence, port, requests, output, errors),
-        Some(socket) => {
-            serve_both::run(rt, desk, precedence, port, socket, requests, output, errors)
-        }
-    }
-}
 
 // Runs a command over a desk.
 fn run_task<D: Desk, R: Read, W: Write, E: Write>(
@@ -82,7 +57,7 @@ fn run_task<D: Desk, R: Read, W: Write, E: Write>(
             port,
             requests,
             batches,
-        } => serve_at(
+        } => serve::run(
             rt, desk, precedence, *port, *batches, *requests, output, errors,
         ),
     }

@@ -1,14 +1,15 @@
-//! The command `serve`: the desk over HTTP on a port of 127.0.0.1.
+//! The command `serve`: the desk over HTTP at a port of 127.0.0.1, and for batches at a socket of
+//! the file system where one is named.
 
-ghost use Rattle.std.specs.Prelude.{◌≡◌, ◌≤◌, ℕ, List, OnErr, OnOk, Result, length, ⊤};
+ghost use Rattle.std.specs.Prelude.{◌≤◌, is_some};
 ghost use Rattle.std.specs.Io.KnownBytes.{Appends};
 ghost use Rattle.onixdesk.specs.Clients.{ServesNext};
-ghost use Rattle.onixdesk.specs.Course.{Course, course};
-ghost use Rattle.onixdesk.specs.Serving.{WritesWhole, line_of, listening_line};
+ghost use Rattle.onixdesk.specs.Course.{course};
 ghost use Rattle.onixdesk.specs.TaskEnds.{ConnectionsServed, ServeEnds};
 
 use crate::clients::Clients;
 use crate::connection::{print_line, print_number, serve_connection};
+use crate::doors::Doors;
 use crate::fault::{Fault, report};
 use crate::port::Port;
 use desk_http::HttpFault;
@@ -25,16 +26,17 @@ fn serve_next<D: Desk, C: Clients, O: Write>(
     clients: &mut C,
     output: &mut O,
 ) -> Result<(), Fault>
-    ensures { ServesNext D.seen precedence.now (C.coming clients.old) (C.coming clients.new)
-        desk.old desk.new
+    ensures { ServesNext D.seen precedence.now C.takes_batches
+        (C.coming clients.old) (C.coming clients.new) desk.old desk.new
         (Appends (O.contents output.old) (O.contents output.new)) result }
 {
     match clients.accept() {
-        Ok(Some((mut reader, mut writer))) => {
+        Ok(Some((protocol, mut reader, mut writer))) => {
             let ended = serve_connection(
                 rt.alloc(),
                 desk,
                 precedence,
+                protocol,
                 &mut reader,
                 &mut writer,
                 output,
@@ -49,7 +51,7 @@ fn serve_next<D: Desk, C: Clients, O: Write>(
 
 /// Serves so many clients, one after the other, and writes the line of each connection at once.
 /// Gives 0, or 3 where no more clients can be had or a line cannot be written, which is reported.
-pub fn serve_port<D: Desk, C: Clients, O: Write, E: Write>(
+pub fn serve_clients<D: Desk, C: Clients, O: Write, E: Write>(
     rt: &HostRuntime,
     desk: &mut D,
     precedence: &Precedence,
@@ -60,11 +62,12 @@ pub fn serve_port<D: Desk, C: Clients, O: Write, E: Write>(
 ) -> u8
     ensures status { result ≤ 3 }
     ensures premise { (D.seen desk.new).sound → (D.seen desk.old).sound }
-    // Each client was replied to as the desk makes it, and what was answered is kept: behind a fault of
-    // the store too, once a later answer changed something. The lines are written, each whole but
-    // perhaps the last; with 0 they are all.
+    // Each client was replied to or answered as the desk makes it, and what was answered is kept,
+    // by an exchange or within a batch: behind a fault of the store too. The lines are written, each
+    // whole but perhaps the last; with 0 they are all.
     ensures end { ConnectionsServed (course precedence.now (D.seen desk.old) (D.seen desk.new)
-        (Appends (O.contents output.old) (O.contents output.new))) (C.coming clients.old) requests result }
+        (Appends (O.contents output.old) (O.contents output.new)))
+        C.takes_batches (C.coming clients.old) requests result }
 {
     'serving: for _served in 0..requests {
         match serve_next(rt, desk, precedence, clients, output) {
@@ -75,27 +78,12 @@ pub fn serve_port<D: Desk, C: Clients, O: Write, E: Write>(
     0
 }
 
-// Listens at a port of 127.0.0.1, and says so.
-fn listen<'a, O: Write>(rt: &'a HostRuntime, number: u16, output: &mut O) -> Result<Port<'a>, Fault>
-    ensures { WritesWhole (Appends (O.contents output.old) (O.contents output.new))
-        (listening_line number) result }
-{
-    let port = match Port::open(rt, number) {
-        Ok(port) => port,
-        Err(fault) => return Err(fault),
-    };
-    match print_number("listening ", u64::from(number), output) {
-        Ok(()) => Ok(port),
-        Err(fault) => Err(fault),
-    }
-}
-
-/// Listens at a port of 127.0.0.1, writes `listening` and its number, and serves so many
-/// connections. Gives 0, or 3 after a fault of the port or of the output, which is reported.
-pub fn run<D: Desk, O: Write, E: Write>(
+// Says which port is listened at, and serves its clients.
+fn serve_at<D: Desk, C: Clients, O: Write, E: Write>(
     rt: &HostRuntime,
     desk: &mut D,
     precedence: &Precedence,
+    clients: &mut C,
     number: u16,
     requests: u64,
     output: &mut O,
@@ -103,12 +91,70 @@ pub fn run<D: Desk, O: Write, E: Write>(
 ) -> u8
     ensures status { result ≤ 3 }
     ensures premise { (D.seen desk.new).sound → (D.seen desk.old).sound }
-    // As `serve_port`, behind the line of the port.
     ensures end { ServeEnds (course precedence.now (D.seen desk.old) (D.seen desk.new)
-        (Appends (O.contents output.old) (O.contents output.new))) number requests result }
+        (Appends (O.contents output.old) (O.contents output.new)))
+        C.takes_batches number requests result }
 {
-    match listen(rt, number, output) {
-        Ok(mut port) => serve_port(rt, desk, precedence, &mut port, requests, output, errors),
+    match print_number("listening ", u64::from(number), output) {
+        Ok(()) => serve_clients(rt, desk, precedence, clients, requests, output, errors),
         Err(fault) => report(&fault, errors),
+    }
+}
+
+// What cannot be listened at is reported, and nothing is served.
+fn serve_opened<D: Desk, C: Clients + Drop, O: Write, E: Write>(
+    rt: &HostRuntime,
+    desk: &mut D,
+    precedence: &Precedence,
+    opened: Result<C, Fault>,
+    number: u16,
+    requests: u64,
+    output: &mut O,
+    errors: &mut E,
+) -> u8
+    ensures status { result ≤ 3 }
+    ensures premise { (D.seen desk.new).sound → (D.seen desk.old).sound }
+    ensures end { ServeEnds (course precedence.now (D.seen desk.old) (D.seen desk.new)
+        (Appends (O.contents output.old) (O.contents output.new)))
+        C.takes_batches number requests result }
+{
+    match opened {
+        Ok(mut clients) => serve_at(
+            rt, desk, precedence, &mut clients, number, requests, output, errors,
+        ),
+        Err(fault) => report(&fault, errors),
+    }
+}
+
+/// Listens at a port of 127.0.0.1, and at a socket of the file system where one is named, writes
+/// `listening` and the number of the port, and serves so many connections: an exchange over HTTP at
+/// the port, a batch at the socket. Gives 0, or 3 after a fault of the port, of the socket or of the
+/// output, which is reported.
+pub fn run<D: Desk, O: Write, E: Write>(
+    rt: &HostRuntime,
+    desk: &mut D,
+    precedence: &Precedence,
+    number: u16,
+    batches: Option<&str>,
+    requests: u64,
+    output: &mut O,
+    errors: &mut E,
+) -> u8
+    ensures status { result ≤ 3 }
+    ensures premise { (D.seen desk.new).sound → (D.seen desk.old).sound }
+    // As `serve_clients`, behind the line of the port; with batches only where a socket is named.
+    ensures end { ServeEnds (course precedence.now (D.seen desk.old) (D.seen desk.new)
+        (Appends (O.contents output.old) (O.contents output.new)))
+        (is_some batches.entry) number requests result }
+{
+    match batches {
+        None => {
+            let opened = Port::open(rt, number);
+            serve_opened(rt, desk, precedence, opened, number, requests, output, errors)
+        }
+        Some(socket) => {
+            let opened = Doors::open(rt, number, socket);
+            serve_opened(rt, desk, precedence, opened, number, requests, output, errors)
+        }
     }
 }

@@ -1,13 +1,14 @@
-use Rattle.std.proofs.Common.{[], arith, inl, inr, refl}
+use Rattle.std.proofs.Common.{arith, inr}
 use Rattle.std.proofs.KnownBytes.{Appends-trans}
 use Rattle.onixdesk.proofs.LineLemmas.{lines_behind}
-use Rattle.onixdesk.proofs.ServingLemmas.{none_served}
+use Rattle.onixdesk.proofs.ServingLemmas.{unserved_ends}
+use Rattle.onixdesk.specs.Course.{course}
 use Rattle.onixdesk.specs.Serving.{listening_line}
-use Rattle.onixdesk.proofs.serve.run.Goals as goal
+use Rattle.onixdesk.proofs.serve.serve_at.Goals as goal
 
 pub returns-in-Ok-clause-end : goal.returns-in-Ok-clause-end
 returns-in-Ok-clause-end g c =
-    let ended = c.serve_port.ensures.end in (
+    let ended = c.serve_clients.ensures.end in (
       ended.0,
       ended.2,
       inr (lines_behind _ _ _ (listening_line c.args.number) ended.0 c.in-Ok.ensures ended.3),
@@ -15,9 +16,5 @@ returns-in-Ok-clause-end g c =
     )
 
 pub returns-in-Err-clause-end : goal.returns-in-Err-clause-end
-returns-in-Err-clause-end g c = (
-  [],
-  (omega arith, λ L stands sound. none_served c.args.precedence.now L (g.D.Desk.seen c.args.desk.now) stands),
-  inl (refl, c.in-Err.ensures),
-  λ zero. absurd (omega (arith, zero, c.report.ensures)),
-)
+returns-in-Err-clause-end g c =
+    unserved_ends c.args.precedence.now (g.D.Desk.seen c.args.desk.now) _ g.C.Clients.takes_batches c.args.number c.args.requests c.report.result c.report.ensures c.in-Err.ensures

@@ -110,7 +110,8 @@ module _ {D : Type 0} {k : DeskKind} (seen : D → View k) (rules : List Rule) w
   batch_kept text (Err fault.Read) steps are old new trace kept doubted stood sound = same_kept old new kept doubted stood sound (none_asked seen rules steps old new are trace)
   batch_kept text (Err (fault.Store done f)) steps (before, r, are, next, all) old new trace kept doubted stood sound =
       let rs = requests_of text in
-      let one : take 1 (drop done rs) ≡ r ∷ [] = next_one done rs r (subst (λ n. take n rs ≡ take done rs ++ r ∷ []) (omega arith) next) in
+      let same : done + 1 ≡ suc done = omega arith in
+      let one : take 1 (drop done rs) ≡ r ∷ [] = next_one done rs r (subst (λ n. take n rs ≡ take done rs ++ r ∷ []) same next) in
       let last = last_asked before r (Err f) old new (subst (λ ss. Trace seen rules ss old new) all trace) in
       let first = all_kept (take done rs) before are old last.0 last.1 kept doubted stood (last.2.premise sound) in
       let faulted = fault_kept last.0 new (followed_by kept (take done rs)) (still_doubted kept (take done rs) doubted) first.0 sound r f last.2 in

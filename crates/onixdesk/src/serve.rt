@@ -5,6 +5,7 @@ ghost use Rattle.std.specs.Prelude.{◌≤◌, is_some};
 ghost use Rattle.std.specs.Io.KnownBytes.{Appends};
 ghost use Rattle.onixdesk.specs.Clients.{ServesNext};
 ghost use Rattle.onixdesk.specs.Course.{course};
+ghost use Rattle.onixdesk.specs.Serving.{WritesWhole, listening_line};
 ghost use Rattle.onixdesk.specs.TaskEnds.{ConnectionsServed, ServeEnds};
 
 use crate::clients::Clients;
@@ -78,6 +79,14 @@ pub fn serve_clients<D: Desk, C: Clients, O: Write, E: Write>(
     0
 }
 
+// Writes the line of the port.
+fn print_listening<O: Write>(number: u16, output: &mut O) -> Result<(), Fault>
+    ensures { WritesWhole (Appends (O.contents output.old) (O.contents output.new))
+        (listening_line number) result }
+{
+    print_number("listening ", u64::from(number), output)
+}
+
 // Says which port is listened at, and serves its clients.
 fn serve_at<D: Desk, C: Clients, O: Write, E: Write>(
     rt: &HostRuntime,
@@ -95,7 +104,7 @@ fn serve_at<D: Desk, C: Clients, O: Write, E: Write>(
         (Appends (O.contents output.old) (O.contents output.new)))
         C.takes_batches number requests result }
 {
-    match print_number("listening ", u64::from(number), output) {
+    match print_listening(number, output) {
         Ok(()) => serve_clients(rt, desk, precedence, clients, requests, output, errors),
         Err(fault) => report(&fault, errors),
     }

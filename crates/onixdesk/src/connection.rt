@@ -9,7 +9,7 @@ use crate::clients::Protocol;
 use crate::fault::Fault;
 use csv_records::streams::{WriteFault, write_whole};
 use desk_batch::{BatchFault, run_batch};
-use desk_http::{HttpFault, serve_one};
+use desk_http::{HttpFault, Routes, serve_one};
 use itoa::Buffer;
 use price_rules::precedence::Precedence;
 use series_rules::desk::Desk;
@@ -102,6 +102,7 @@ fn print_batch_line<O: Write>(
 // Serves one connection as an exchange over HTTP, and writes its line.
 fn serve_exchange<D: Desk, R: Read, W: Write, O: Write>(
     alloc: Global,
+    routes: &Routes,
     desk: &mut D,
     precedence: &Precedence,
     reader: &mut R,
@@ -112,7 +113,7 @@ fn serve_exchange<D: Desk, R: Read, W: Write, O: Write>(
         (Appends (W.contents writer.old) (W.contents writer.new))
         (Appends (O.contents output.old) (O.contents output.new)) result }
 {
-    let outcome = serve_one(alloc, desk, precedence, reader, writer);
+    let outcome = serve_one(alloc, routes, desk, precedence, reader, writer);
     print_line(&outcome, output)
 }
 
@@ -134,9 +135,11 @@ fn serve_batch<D: Desk, R: Read, W: Write, O: Write>(
     print_batch_line(&outcome, output)
 }
 
-/// Serves one connection by the protocol of its client, and writes its line.
+/// Serves one connection by the protocol of its client, and writes its line. The routes are those of
+/// all exchanges.
 pub fn serve_connection<D: Desk, R: Read, W: Write, O: Write>(
     alloc: Global,
+    routes: &Routes,
     desk: &mut D,
     precedence: &Precedence,
     protocol: Protocol,
@@ -150,7 +153,9 @@ pub fn serve_connection<D: Desk, R: Read, W: Write, O: Write>(
         (Appends (O.contents output.old) (O.contents output.new)) result }
 {
     match protocol {
-        Protocol::Exchange => serve_exchange(alloc, desk, precedence, reader, writer, output),
+        Protocol::Exchange => {
+            serve_exchange(alloc, routes, desk, precedence, reader, writer, output)
+        }
         Protocol::Batch => serve_batch(alloc, desk, precedence, reader, writer, output),
     }
 }

@@ -13,7 +13,7 @@ use crate::connection::{print_line, print_number, serve_connection};
 use crate::doors::Doors;
 use crate::fault::{Fault, report};
 use crate::port::Port;
-use desk_http::HttpFault;
+use desk_http::{HttpFault, Routes};
 use price_rules::precedence::Precedence;
 use series_rules::desk::Desk;
 use std::io::Write;
@@ -22,6 +22,7 @@ use std::io::Write;
 // before nothing was read, and nothing was asked of the desk.
 fn serve_next<D: Desk, C: Clients, O: Write>(
     rt: &HostRuntime,
+    routes: &Routes,
     desk: &mut D,
     precedence: &Precedence,
     clients: &mut C,
@@ -35,6 +36,7 @@ fn serve_next<D: Desk, C: Clients, O: Write>(
         Ok(Some((protocol, mut reader, mut writer))) => {
             let ended = serve_connection(
                 rt.alloc(),
+                routes,
                 desk,
                 precedence,
                 protocol,
@@ -54,6 +56,7 @@ fn serve_next<D: Desk, C: Clients, O: Write>(
 /// Gives 0, or 3 where no more clients can be had or a line cannot be written, which is reported.
 pub fn serve_clients<D: Desk, C: Clients, O: Write, E: Write>(
     rt: &HostRuntime,
+    routes: &Routes,
     desk: &mut D,
     precedence: &Precedence,
     clients: &mut C,
@@ -71,7 +74,7 @@ pub fn serve_clients<D: Desk, C: Clients, O: Write, E: Write>(
         C.takes_batches (C.coming clients.old) requests result }
 {
     'serving: for _served in 0..requests {
-        match serve_next(rt, desk, precedence, clients, output) {
+        match serve_next(rt, routes, desk, precedence, clients, output) {
             Ok(()) => {}
             Err(fault) => return report(&fault, errors),
         }
@@ -90,6 +93,7 @@ fn print_listening<O: Write>(number: u16, output: &mut O) -> Result<(), Fault>
 // Says which port is listened at, and serves its clients.
 fn serve_at<D: Desk, C: Clients, O: Write, E: Write>(
     rt: &HostRuntime,
+    routes: &Routes,
     desk: &mut D,
     precedence: &Precedence,
     clients: &mut C,
@@ -105,7 +109,7 @@ fn serve_at<D: Desk, C: Clients, O: Write, E: Write>(
         C.takes_batches number requests result }
 {
     match print_listening(number, output) {
-        Ok(()) => serve_clients(rt, desk, precedence, clients, requests, output, errors),
+        Ok(()) => serve_clients(rt, routes, desk, precedence, clients, requests, output, errors),
         Err(fault) => report(&fault, errors),
     }
 }
@@ -113,6 +117,7 @@ fn serve_at<D: Desk, C: Clients, O: Write, E: Write>(
 // What cannot be listened at is reported, and nothing is served.
 fn serve_opened<D: Desk, C: Clients + Drop, O: Write, E: Write>(
     rt: &HostRuntime,
+    routes: &Routes,
     desk: &mut D,
     precedence: &Precedence,
     opened: Result<C, Fault>,
@@ -129,16 +134,50 @@ fn serve_opened<D: Desk, C: Clients + Drop, O: Write, E: Write>(
 {
     match opened {
         Ok(mut clients) => serve_at(
-            rt, desk, precedence, &mut clients, number, requests, output, errors,
+            rt, routes, desk, precedence, &mut clients, number, requests, output, errors,
         ),
         Err(fault) => report(&fault, errors),
+    }
+}
+
+// Listens, and serves by these routes.
+fn listen<D: Desk, O: Write, E: Write>(
+    rt: &HostRuntime,
+    routes: &Routes,
+    desk: &mut D,
+    precedence: &Precedence,
+    number: u16,
+    batches: Option<&str>,
+    requests: u64,
+    output: &mut O,
+    errors: &mut E,
+) -> u8
+    ensures status { result ≤ 3 }
+    ensures premise { (D.seen desk.new).sound → (D.seen desk.old).sound }
+    ensures end { ServeEnds (course precedence.now (D.seen desk.old) (D.seen desk.new)
+        (Appends (O.contents output.old) (O.contents output.new)))
+        (is_some batches.entry) number requests result }
+{
+    match batches {
+        None => {
+            let opened = Port::open(rt, number);
+            serve_opened(
+                rt, routes, desk, precedence, opened, number, requests, output, errors,
+            )
+        }
+        Some(socket) => {
+            let opened = Doors::open(rt, number, socket);
+            serve_opened(
+                rt, routes, desk, precedence, opened, number, requests, output, errors,
+            )
+        }
     }
 }
 
 /// Listens at a port of 127.0.0.1, and at a socket of the file system where one is named, writes
 /// `listening` and the number of the port, and serves so many connections: an exchange over HTTP at
 /// the port, a batch at the socket. Gives 0, or 3 after a fault of the port, of the socket or of the
-/// output, which is reported.
+/// output, or for want of memory, which is reported. The routes of HTTP are made before.
 pub fn run<D: Desk, O: Write, E: Write>(
     rt: &HostRuntime,
     desk: &mut D,
@@ -156,14 +195,10 @@ pub fn run<D: Desk, O: Write, E: Write>(
         (Appends (O.contents output.old) (O.contents output.new)))
         (is_some batches.entry) number requests result }
 {
-    match batches {
-        None => {
-            let opened = Port::open(rt, number);
-            serve_opened(rt, desk, precedence, opened, number, requests, output, errors)
-        }
-        Some(socket) => {
-            let opened = Doors::open(rt, number, socket);
-            serve_opened(rt, desk, precedence, opened, number, requests, output, errors)
-        }
+    match Routes::new(rt.alloc()) {
+        Ok(routes) => listen(
+            rt, &routes, desk, precedence, number, batches, requests, output, errors,
+        ),
+        Err(_) => report(&Fault::Memory, errors),
     }
 }

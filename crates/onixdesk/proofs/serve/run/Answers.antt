@@ -1,7 +1,10 @@
+use Rattle.std.proofs.Common.{[], refl}
+use Rattle.std.proofs.KnownBytes.{Appends-nil}
+use Rattle.onixdesk.proofs.ServingLemmas.{unserved_ends}
+use Rattle.onixdesk.specs.Serving.{listening_line}
 use Rattle.onixdesk.proofs.serve.run.Goals as goal
 
-pub returns-in-None-clause-end : goal.returns-in-None-clause-end
-returns-in-None-clause-end g c = rw c.in-None.is c.serve_opened.ensures.end
-
-pub returns-in-Some-clause-end : goal.returns-in-Some-clause-end
-returns-in-Some-clause-end g c = rw c.in-Some.is c.serve_opened-in-Some.ensures.end
+pub returns-in-Err-clause-end : goal.returns-in-Err-clause-end
+returns-in-Err-clause-end g c =
+    unserved_ends c.args.precedence.now (g.D.Desk.seen c.args.desk.now) _ _ c.args.number c.args.requests c.report.result c.report.ensures
+    ([], listening_line c.args.number, refl, Appends-nil (g.O.Write.contents c.args.output.now))

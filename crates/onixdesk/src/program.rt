@@ -260,7 +260,7 @@ pub fn run<S: Start, R: Read, W: Write, E: Write>(
     errors: &mut E,
 ) -> (u8, Option<FilesLeft<FileFrom<S>>>)
     ensures status { result.0 ≤ 3 }
-    // Which command the words are read as no clause says.
+    // As what the words are read no clause says.
     ensures end { RunEnds ⟦<MemoryDesk as Desk>⟧.seen (path_of S.Start)
         (Appends (W.contents output.old) (W.contents output.new))
         (R.remaining input.old) result.0 result.1 }

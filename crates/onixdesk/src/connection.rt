@@ -2,7 +2,8 @@
 
 ghost use Rattle.std.specs.Fmt.{decimal};
 ghost use Rattle.std.specs.Io.KnownBytes.{Appends, Keeps};
-ghost use Rattle.std.specs.Prelude.{◌++◌, ◌∷◌, []};
+ghost use Rattle.std.specs.Prelude.{◌++◌, ◌≡◌, ◌∷◌, [], IsErrAnd, IsOk, OnErr, OnOk};
+ghost use Rattle.onixdesk.specs.declared.fault.Fault.{Fault};
 ghost use Rattle.onixdesk.specs.Serving.{ServesBatch, ServesConnection, ServesExchange, WritesWhole, batch_line_of, fault_line, line_of};
 
 use crate::clients::Protocol;
@@ -39,11 +40,12 @@ fn write_number<O: Write>(before: &str, number: u64, output: &mut O) -> Result<(
     }
 }
 
-// Hands on what was written: whoever reads the lines sees each as it comes.
-fn flush<O: Write>(output: &mut O) -> Result<(), Fault>
-    ensures { Keeps (O.contents output.old) (O.contents output.new) }
+// Whether what was written was handed on, so that whoever reads the lines sees each as it comes.
+fn handed_on(flushed: std::io::Result<()>) -> Result<(), Fault>
+    ensures ok { OnOk flushed (IsOk result) }
+    ensures err { OnErr flushed (IsErrAnd result (λ fault. fault ≡ Fault.Output)) }
 {
-    match output.flush() {
+    match flushed {
         Ok(()) => Ok(()),
         Err(_) => Err(Fault::Output),
     }
@@ -56,7 +58,7 @@ pub fn print_number<O: Write>(before: &str, number: u64, output: &mut O) -> Resu
         (before.now ++ decimal number ++ 10 ∷ []) result }
 {
     match write_number(before, number, output) {
-        Ok(()) => flush(output),
+        Ok(()) => handed_on(output.flush()),
         Err(WriteFault) => Err(Fault::Output),
     }
 }
@@ -67,7 +69,7 @@ fn print_fault<O: Write>(output: &mut O) -> Result<(), Fault>
         fault_line result }
 {
     match write_whole(output, b"fault\n") {
-        Ok(()) => flush(output),
+        Ok(()) => handed_on(output.flush()),
         Err(WriteFault) => Err(Fault::Output),
     }
 }

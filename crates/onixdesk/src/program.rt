@@ -20,6 +20,7 @@ use price_rules::precedence::Precedence;
 use series_rules::desk::Desk;
 use sqlite::{FileFrom, FileStore, Start};
 use sqlite_disk::Disk;
+use std::fs::metadata;
 use std::io::{Read, Write};
 use std::rt::HostRuntime;
 
@@ -136,7 +137,7 @@ fn run_in_file<S: Start, R: Read, W: Write, E: Write>(
         (Appends (W.contents output.old) (W.contents output.new))
         task.now (R.remaining input.old) result.0 result.1 }
 {
-    if let Err(fault) = look_at(rt, db, errors) {
+    if let Err(fault) = look_at(rt, db, &metadata(rt, db.name), errors) {
         return (report(&fault, errors), None);
     }
     match DeskStore::open(rt, db.name, start) {
@@ -160,7 +161,7 @@ fn migrate_file<S: Start, W: Write, E: Write>(
     ensures end { MigrateEnds (path_of S.Start)
         (Appends (W.contents output.old) (W.contents output.new)) result.0 result.1 }
 {
-    match look_at(rt, db, errors) {
+    match look_at(rt, db, &metadata(rt, db.name), errors) {
         Ok(()) => migrate::run(rt, db.name, start, output, errors),
         Err(fault) => (report(&fault, errors), None),
     }

@@ -11,6 +11,7 @@ from tests.program.clients import RESET
 from tests.program.databases import DATABASE, batch, complaints
 from tests.program.exchange_cases import AGREEMENTS, APPLIED, DELIVERY, NO_NUMBERS
 from tests.program.messages import AGREED, applied
+from tests.program.open_desks import SOCKET, answered
 from tests.program.room import Group, Ran, Room
 from tests.program.serving import Exchange, connected, posted, serving
 from tests.running import Outcome
@@ -37,6 +38,9 @@ PARTS = [
 
 BATCH = b"".join(part for part, _ in PARTS)
 ANSWERS = PARTS[-1][1]
+
+AGREEMENT = BATCH.splitlines(keepends=True)[0]
+OTHER_AGREEMENT = AGREEMENT.replace(b"north", b"south")
 
 ASK_GAPS = b"AskGaps,north\n"
 NOT_AGREED = Ran(1, b"refused,unknown-series\n")
@@ -157,8 +161,7 @@ def full_disks(room: Room) -> Iterator[Outcome]:
     """A request for which the disk has no room is answered by a fault, and nothing of it is kept; it may be
     sent again once there is room."""
     full = Limited(room, FULL)
-    agreement = BATCH.splitlines(keepends=True)[0]
-    yield Outcome("the agreement before the full disk", batch(full, agreement), Ran(0, AGREED))
+    yield Outcome("the agreement before the full disk", batch(full, AGREEMENT), Ran(0, AGREED))
     fault = Ran(3, b"", b"onixdesk: storage: disk\n")
     yield Outcome("a batch on a full disk", batch(full, LARGE.encode()), fault)
     yield Outcome("the desk after the full disk", batch(room, ASK_GAPS), NONE_APPLIED)
@@ -174,10 +177,28 @@ def full_disks(room: Room) -> Iterator[Outcome]:
     yield Outcome("the desk then", batch(room, ASK_GAPS), ONE_APPLIED)
 
 
+def a_fault_within_a_batch(room: Room) -> Iterator[Outcome]:
+    """At an open desk the batch ends there, and what is answered before it and behind it is kept, whatever
+    ends the program."""
+    full = Limited(room, FULL)
+    with serving(full, ["--db", DATABASE], None, ["--batches", SOCKET]) as desk:
+        text = AGREEMENT + LARGE.encode() + OTHER_AGREEMENT
+        yield Outcome("a batch with a fault: its answers", answered(room, text), AGREED)
+        yield Outcome("a batch with a fault: an exchange behind it", desk.reply([DELIVERY.input]), DELIVERY.reply())
+        yield Outcome("a batch with a fault: a batch behind that", answered(room, OTHER_AGREEMENT), b"agreed,south,1\n")
+        desk.process.kill()
+        yield Outcome("a batch with a fault: the lines", desk.ended(), desk.wanted(["fault", "200", "batch 0"], -9))
+    asked = ASK_GAPS + b"AskGaps,south\n"
+    wanted = ONE_APPLIED.output + b"gaps,south,first=1,next=1,greatest=,held=0,missing=0\n"
+    yield Outcome("a batch with a fault: what is kept", batch(room, asked), Ran(0, wanted))
+    yield Outcome("a batch with a fault: the tables", complaints(room), [])
+
+
 GROUPS = [
     Group("batches cut off", cut_batches),
     Group("batches that cannot be read to their ends", unread_batches),
     Group("answers that are taken in part", written_in_parts),
     Group("deliveries that cannot be read to their ends", unread_deliveries),
     Group("full disks", full_disks),
+    Group("a fault within a batch at an open desk", a_fault_within_a_batch),
 ]

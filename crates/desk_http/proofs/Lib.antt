@@ -2,7 +2,7 @@ pub mod AskLemmas
 pub mod AsksLaws
 pub mod ExchangeLemmas
 pub mod ServesLemmas
-pub mod ConnectionLemmas
+pub mod ExchangedLemmas
 pub mod WantedLemmas
 pub mod Statuses
 pub mod InsertLemmas

@@ -13,4 +13,4 @@ pub mod Writing
 pub mod Keys
 pub mod Place
 pub mod Table
-pub mod Connections
+pub mod Exchanged

@@ -1,6 +1,6 @@
 //! The desk over HTTP/1.1: one request and one reply for each connection. `serve::serve_one` reads
-//! a request, asks a desk, and writes the reply; `answer_reply::reply_of` makes the reply to an
-//! answer.
+//! a request, finds its route among the desk's `Routes`, which are made once, asks a desk, and writes
+//! the reply; `answer_reply::reply_of` makes the reply to an answer.
 //!
 //! `specs/Asks.antt` says what the bytes of a connection ask for. Its parts: the head and the body,
 //! which are defined in `http_requests`; `Routing` over `Place`, `Table` and `Keys` (the path and the
@@ -26,4 +26,5 @@ pub mod serve;
 
 pub use answer_reply::reply_of;
 pub use exchange::HttpFault;
+pub use routes::Routes;
 pub use serve::serve_one;

@@ -9,7 +9,7 @@ ghost use Rattle.http_requests.specs.HeadRead.{IsHeadOf};
 ghost use Rattle.http_requests.specs.Steps.{Gives};
 
 use crate::questions::{read_calendar_question, read_price_question, read_series};
-use crate::routes::{Route, cut, part};
+use crate::routes::{Route, Routes, cut, part};
 use crate::routing::read_route;
 use http_requests::body::read_posted;
 use http_requests::fault::InputFault;
@@ -79,6 +79,7 @@ fn read_at<R: Read>(
 // What a head and the bytes behind it ask for.
 fn read_behind<R: Read>(
     alloc: Global,
+    routes: &Routes,
     reader: &mut R,
     head: &Head,
     behind: &[u8],
@@ -88,20 +89,24 @@ fn read_behind<R: Read>(
     ensures taken { (h : RequestHead) → IsHeadOf head.now h →
         TakesAtMost (most_behind h - length behind.now) (R.remaining reader.old) (R.remaining reader.new) }
 {
-    match read_route(alloc, head) {
+    match read_route(routes, head) {
         Ok(route) => read_at(alloc, reader, head, behind, route),
-        Err(fault) => Err(fault),
+        Err(why) => Err(InputFault::Refused(why)),
     }
 }
 
 /// Reads the request that an input asks for: its head, and the body of a POST that gets so far. A
 /// refusal comes as soon as the bytes that were read decide it, and no byte behind the body is read.
-pub(crate) fn read_request<R: Read>(alloc: Global, reader: &mut R) -> Result<Request, InputFault>
+pub(crate) fn read_request<R: Read>(
+    alloc: Global,
+    routes: &Routes,
+    reader: &mut R,
+) -> Result<Request, InputFault>
     ensures asks { IfSome (R.remaining reader.old) (λ input. IfDecided result (AsksFor input)) }
     ensures taken { TakesWanted (R.remaining reader.old) (R.remaining reader.new) }
 {
     match read_head(alloc, reader) {
-        Ok(head) => read_behind(alloc, reader, &head, head.behind()),
+        Ok(head) => read_behind(alloc, routes, reader, &head, head.behind()),
         Err(fault) => Err(fault),
     }
 }

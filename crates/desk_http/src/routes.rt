@@ -1,6 +1,6 @@
 //! The routes of the desk.
 
-ghost use Rattle.std.specs.Prelude.{◌≡◌, ◌<◌, ◌==◌, [], ℕ, List, Some, IfOk, OnOk};
+ghost use Rattle.std.specs.Prelude.{◌≡◌, ◌<◌, ◌==◌, [], ℕ, List, Some, OnOk};
 ghost use Rattle.std.specs.List.{after_first, before_first};
 ghost use Rattle.desk_http.specs.Keys.{part_at, route_at, segment_behind};
 ghost use Rattle.desk_http.specs.Place.{HasSegment, IsPathOf, Place, part_of, path_text, route_of};
@@ -40,23 +40,29 @@ fn add_all(router: &mut Router<Route>) -> Result<(), InsertError>
     Ok(())
 }
 
-/// The routes of the desk.
-pub fn routes(alloc: Global) -> Result<Router<Route>, InsertError>
-    ensures { IfOk result (λ router. router ≡ table) }
-{
-    let mut router = Router::new(alloc);
-    add_all(&mut router)?;
-    Ok(router)
+/// All routes of the desk, made once for many requests.
+#[derive(Drop)]
+pub struct Routes {
+    router: Router<Route>,
+    ghost all: { router ≡ table },
 }
 
-/// The route of a path.
-pub fn find(router: &Router<Route>, path: &str) -> Option<Route>
-    requires { router.now ≡ table }
-    ensures { result ≡ route_at path.now }
-{
-    match router.at(path) {
-        Ok(found) => Some(*found.value),
-        Err(_) => None,
+impl Routes {
+    /// Makes them. They are refused for want of memory.
+    pub fn new(alloc: Global) -> Result<Routes, InsertError> {
+        let mut router = Router::new(alloc);
+        add_all(&mut router)?;
+        Ok(Routes { router })
+    }
+
+    /// The route of a path.
+    pub fn find(&self, path: &str) -> Option<Route>
+        ensures { result ≡ route_at path.now }
+    {
+        match self.router.at(path) {
+            Ok(found) => Some(*found.value),
+            Err(_) => None,
+        }
     }
 }
 

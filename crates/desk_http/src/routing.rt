@@ -3,17 +3,11 @@
 ghost use Rattle.std.specs.Prelude.{◌≡◌};
 ghost use Rattle.httparse.specs.Grammar.{RequestHead};
 ghost use Rattle.http_requests.specs.HeadRead.{IsHeadOf};
-ghost use Rattle.desk_http.specs.Keys.{route_at};
 ghost use Rattle.desk_http.specs.Routing.{method_name, method_of, route_asked, route_found};
-ghost use Rattle.desk_http.specs.Table.{table};
-ghost use Rattle.http_requests.specs.Steps.{Gives};
 
-use crate::routes::{Route, cut, find, routes};
-use http_requests::fault::InputFault;
+use crate::routes::{Route, Routes, cut};
 use http_requests::parts::Head;
 use http_requests::refusal::{Method, Refusal};
-use matchit::Router;
-use std::alloc::Global;
 
 // The method that a route takes.
 fn method_of(route: Route) -> Method
@@ -37,11 +31,10 @@ pub(crate) fn method_name(method: Method) -> &'static str
 }
 
 // The route of a path, where it is asked by its method.
-fn take_route(router: &Router<Route>, path: &str, name: &[u8]) -> Result<Route, Refusal>
-    requires { router.now ≡ table }
+fn take_route(routes: &Routes, path: &str, name: &[u8]) -> Result<Route, Refusal>
     ensures { result ≡ route_found path.now name.now }
 {
-    let route = find(router, path).ok_or(Refusal::NotFound)?;
+    let route = routes.find(path).ok_or(Refusal::NotFound)?;
     let method = method_of(route);
     if name == method_name(method).as_bytes() {
         Ok(route)
@@ -50,24 +43,14 @@ fn take_route(router: &Router<Route>, path: &str, name: &[u8]) -> Result<Route, 
     }
 }
 
-// The same by the routes of the desk.
-fn find_route(alloc: Global, path: &str, name: &[u8]) -> Result<Route, InputFault>
-    ensures { Gives result (route_found path.now name.now) }
-{
-    match routes(alloc) {
-        Ok(router) => Ok(take_route(&router, path, name)?),
-        Err(_) => Err(InputFault::Memory),
-    }
-}
-
 /// The route that a head asks for.
 #[tactic(auto, unfolding(crate::specs::Routing::route_asked))]
-pub(crate) fn read_route(alloc: Global, head: &Head) -> Result<Route, InputFault>
-    ensures { (h : RequestHead) → IsHeadOf head.now h → Gives result (route_asked h) }
+pub(crate) fn read_route(routes: &Routes, head: &Head) -> Result<Route, Refusal>
+    ensures { (h : RequestHead) → IsHeadOf head.now h → result ≡ route_asked h }
 {
     if head.has_field(b"transfer-encoding") {
-        return Err(InputFault::Refused(Refusal::TransferEncoding));
+        return Err(Refusal::TransferEncoding);
     }
     let (path, _) = cut(head.target_text(), '?');
-    find_route(alloc, path, head.method())
+    take_route(routes, path, head.method())
 }

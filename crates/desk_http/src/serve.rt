@@ -17,6 +17,7 @@ use crate::answer_reply::{fault_kind, reply_of};
 use crate::exchange::{HttpFault, ReplyText, Wanted};
 use crate::reply::reply_text;
 use crate::request::read_request;
+use crate::routes::Routes;
 use crate::routing::method_name;
 use csv_records::streams::{WriteFault, write_whole};
 use desk_json::bodies::{fault_body, refused_body};
@@ -82,13 +83,17 @@ fn reply_of_fault(alloc: Global, fault: &StoreFault) -> Result<ReplyText, AllocE
 }
 
 // Reads what is asked for.
-fn read_wanted<R: Read>(alloc: Global, reader: &mut R) -> Result<Wanted, HttpFault>
+fn read_wanted<R: Read>(
+    alloc: Global,
+    routes: &Routes,
+    reader: &mut R,
+) -> Result<Wanted, HttpFault>
     ensures asks { IfOk result (λ wanted. IfSome (R.remaining reader.old) (λ input. AsksFor input wanted)) }
     ensures taken { TakesWanted (R.remaining reader.old) (R.remaining reader.new) }
     ensures write { IfWrite result (λ _. ⊥) }
     ensures memory { IfMemory result (λ taken. taken ≡ false) }
 {
-    match read_request(alloc, reader) {
+    match read_request(alloc, routes, reader) {
         Ok(request) => Ok(Wanted::Asked(request)),
         Err(InputFault::Refused(why)) => Ok(Wanted::Refused(why)),
         Err(InputFault::Read) => Err(HttpFault::Read),
@@ -170,6 +175,7 @@ fn send<W: Write>(alloc: Global, writer: &mut W, reply: &ReplyText) -> Result<()
 /// the request are not looked at, and the writer is not flushed.
 pub fn serve_one<D: Desk, R: Read, W: Write>(
     alloc: Global,
+    routes: &Routes,
     desk: &mut D,
     precedence: &Precedence,
     reader: &mut R,
@@ -179,7 +185,7 @@ pub fn serve_one<D: Desk, R: Read, W: Write>(
         (Appends (W.contents writer.old) (W.contents writer.new)) result }
     ensures taken { TakesWanted (R.remaining reader.old) (R.remaining reader.new) }
 {
-    let wanted = match read_wanted(alloc, reader) {
+    let wanted = match read_wanted(alloc, routes, reader) {
         Ok(wanted) => wanted,
         Err(fault) => return Err(fault),
     };

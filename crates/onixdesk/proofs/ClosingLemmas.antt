@@ -18,7 +18,7 @@ use Rattle.desk_store.specs.Desks.{AreRowsOf, KeepsRequests}
 use Rattle.desk_store.specs.Migrations.{MakesSecond}
 use Rattle.desk_store.specs.Openings.{MakesNothing}
 use Rattle.desk_store.specs.Seen.{in_tables, seen_in}
-use Rattle.onixdesk.proofs.EndLemmas.{ComesOf, task_ended}
+use Rattle.onixdesk.proofs.EndLemmas.{ComesOf, task_between}
 use Rattle.onixdesk.specs.Course.{course}
 use Rattle.onixdesk.specs.FileEnds.{Closes, EndsLeaving, FileEnds, IsStatus, Path, SparesUnmigrated, SparesUnopened}
 use Rattle.onixdesk.specs.FileViews.{seen_files, seen_image, seen_left}
@@ -68,7 +68,7 @@ pub closed_ended : {D : Type 0} (g : Ghosts D) (rules : List Rule) (was : View i
 closed_ended g rules was written c result left closes task told own status ok err ended = (
   own,
   is_status c result left closes own status ok err,
-  task_ended (course rules was (seen_in (file_state c)) written) (seen_left left) (left_comes g rules was written c result left closes) task told own ended,
+  task_between was (course rules was (seen_in (file_state c)) written) (seen_left left) (λ L stood sound. (stood, λ only. only)) (left_comes g rules was written c result left closes) task told own ended,
 )
 
 -- what is left of files that could not be opened

@@ -1,21 +1,20 @@
--- A command that ended over a desk ended so over what comes of it, as over its files once they are closed.
+-- A command that ended over a desk ended so over what that came from and what comes of it, as over its files before they are opened and once they are closed.
 use Rattle.std.proofs.Common.{◌≡◌, ◌∙◌, ◌⊎◌, ◌++◌, ℕ, List, [], Option, Some, None, inl, inr, arith, length, map, append-nil, append_assoc, refl, subst, sym}
 use Rattle.std.proofs.Math.Seq.{take-length}
 use Rattle.std.specs.Prelude.{take}
 use Rattle.std.specs.Borrow.{Bor}
 use Rattle.onix_terms.specs.SeriesName.{series_name_of}
+use Rattle.price_rules.specs.declared.precedence.Rule.{Rule}
 use Rattle.series_rules.specs.Views.{DeskKind, LeavesEither, LeavesOnly, View}
 use Rattle.series_rules.specs.declared.requests.Request.{Request}
 use Rattle.desk_batch.specs.Batch.{output, requests_of}
 use Rattle.desk_batch.specs.Leaves.{KeepsAnswered}
-use Rattle.desk_http.specs.Connections.{Connection, LeavesKept}
 use Rattle.onixdesk.proofs.QuestionLemmas.{without_question}
-use Rattle.onixdesk.specs.Connections as both
-use Rattle.onixdesk.specs.Course.{Course}
+use Rattle.onixdesk.specs.Connections.{Connection, KeepsServed, LeavesKept}
+use Rattle.onixdesk.specs.Course.{Course, course}
 use Rattle.onixdesk.specs.Deliveries.{DeliveriesEnd, KeepsDelivered}
 use Rattle.onixdesk.specs.Ends.{Ends}
 use Rattle.onixdesk.specs.GapsEnd.{with_question}
-use Rattle.onixdesk.specs.Serving.{KeepsServed}
 use Rattle.onixdesk.specs.TaskEnds.{TaskEnds}
 use Rattle.onixdesk.specs.declared.command_line.Task.{Task}
 use Rattle.onixdesk.specs.declared.command_line.Task.TheVariants as task
@@ -26,11 +25,23 @@ pub record ComesOf {k : DeskKind} (c : Course k) (new : View k) : Type 0 where
   pub stands : new.sound → (M : List Request) → c.stands M → new.stands_for M
   pub left : new.sound → ((x : k.Left) → new.may_leave x → c.left.may_leave x) ⊎ ((M : List Request) → c.stands M → LeavesOnly new M)
 
--- the same, ended over that
-abbrev pub ended_over : {k : DeskKind} → Course k → View k → Course k
-ended_over c new = record c { sound = new.sound; stands = new.stands_for; left = new }
+-- what a command left comes of itself
+pub same_comes : {k : DeskKind} (rules : List Rule) (old new : View k) (written : List ℕ → Type 0) → ComesOf (course rules old new written) new
+same_comes rules old new written = record {
+  premise = λ sound. sound;
+  stands = λ sound M stands. stands;
+  left = λ sound. inl (λ x may. may);
+}
 
-module _ {k : DeskKind} (c : Course k) (new : View k) (comes : ComesOf c new) (sound : new.sound) where
+-- what is seen of what a desk came from, where the command ended in soundness: each list of it is one that the desk stood for, and a crash left no more of the desk
+abbrev pub ComesTo : {k : DeskKind} → View k → Course k → Type 0
+ComesTo old c = (L : List Request) → old.stands_for L → c.sound → c.stood L × (LeavesOnly old L → LeavesOnly c.was L)
+
+-- the same, from the one to the other
+abbrev pub between : {k : DeskKind} → View k → Course k → View k → Course k
+between old c new = course c.rules old new c.written
+
+module _ {k : DeskKind} (old : View k) (c : Course k) (new : View k) (comes : ComesOf c new) (sound : new.sound) where
   only_still : (M : List Request) → c.stands M → LeavesOnly c.left M → LeavesOnly new M
   only_still M stood only = go (comes.left sound)
     where
@@ -46,10 +57,10 @@ module _ {k : DeskKind} (c : Course k) (new : View k) (comes : ComesOf c new) (s
       go (inr alone) = λ x may. inl (alone M stood x may)
 
   -- `batch`
-  batch_still : (L : List Request) (text : List ℕ) (status : ℕ) → Ends c L text status → Ends (ended_over c new) L text status
-  batch_still L text status (inl a) = inl (a.0, a.1, a.2, comes.stands sound _ a.3, λ only. only_still _ a.3 (a.4 only))
-  batch_still L text status (inr (inr u)) = inr (inr (u.0, u.1, comes.stands sound _ u.2, λ only. only_still _ u.2 (u.3 only)))
-  batch_still L text status (inr (inl s)) = inr (inl record {
+  batch_still : (L : List Request) (text : List ℕ) (status : ℕ) → (LeavesOnly old L → LeavesOnly c.was L) → Ends c L text status → Ends (between old c new) L text status
+  batch_still L text status from (inl a) = inl (a.0, a.1, a.2, comes.stands sound _ a.3, λ only. only_still _ a.3 (a.4 (from only)))
+  batch_still L text status from (inr (inr u)) = inr (inr (u.0, u.1, comes.stands sound _ u.2, λ only. only_still _ u.2 (u.3 (from only))))
+  batch_still L text status from (inr (inl s)) = inr (inl record {
     status_is = s.status_is;
     has_records = s.has_records;
     done = s.done;
@@ -62,7 +73,7 @@ module _ {k : DeskKind} (c : Course k) (new : View k) (comes : ComesOf c new) (s
     last_is = s.last_is;
     answers_are = s.answers_are;
     stands_after = comes.stands sound _ s.stands_after;
-    left_after = λ only. either_still _ _ s.stands_after (s.left_after only);
+    left_after = λ only. either_still _ _ s.stands_after (s.left_after (from only));
   })
 
   -- where only what the desk stood for is left, whatever was written is of requests that are
@@ -89,7 +100,7 @@ module _ {k : DeskKind} (c : Course k) (new : View k) (comes : ComesOf c new) (s
       go (inr alone) = answered_alone L text status alone ended
 
   -- `deliver`
-  deliveries_still : (L : List Request) (count : ℕ) (texts last : List (List ℕ)) (status : ℕ) → DeliveriesEnd c L count texts last status → DeliveriesEnd (ended_over c new) L count texts last status
+  deliveries_still : (L : List Request) (count : ℕ) (texts last : List (List ℕ)) (status : ℕ) → DeliveriesEnd c L count texts last status → DeliveriesEnd (between old c new) L count texts last status
   deliveries_still L count texts last status (inl (d, none)) = inl (
     record {
       all = d.all;
@@ -143,81 +154,53 @@ module _ {k : DeskKind} (c : Course k) (new : View k) (comes : ComesOf c new) (s
   stood_still L name (inr stood) = inr (comes.stands sound _ stood)
 
   -- `serve`
-  served_still : (L : List Request) (served : List Connection) → KeepsServed c.rules L served c.stands c.was c.left → KeepsServed c.rules L served new.stands_for c.was new
-  served_still L served keeps = record {
+  served_still : (L : List Request) (served : List Connection) → (LeavesOnly old L → LeavesOnly c.was L) → KeepsServed c.rules L served c.stands c.was c.left → KeepsServed c.rules L served new.stands_for old new
+  served_still L served from keeps = record {
     kept = keeps.kept;
     doubted = keeps.doubted;
     are_served = keeps.are_served;
     stands_after = comes.stands sound _ keeps.stands_after;
-    left_after = λ only. go (keeps.left_after only) (comes.left sound);
+    left_after = λ only. go (keeps.left_after (from only)) (comes.left sound);
   }
     where
       go : LeavesKept keeps.doubted keeps.kept c.left → ((x : k.Left) → new.may_leave x → c.left.may_leave x) ⊎ ((K : List Request) → c.stands K → LeavesOnly new K) → LeavesKept keeps.doubted keeps.kept new
       go leaves (inl no_more) = λ x may. leaves x (no_more x may)
       go leaves (inr alone) = λ x may. inl (alone _ keeps.stands_after x may)
 
-  -- `serve` with a socket for batches
-  more_still : (count : ℕ) (L : List Request) → both.AtMostMore count L c.stands → both.AtMostMore count L new.stands_for
-  more_still count L more = (more.0, more.1, comes.stands sound _ more.2)
-
-  more_left_still : (count : ℕ) (L : List Request) → both.AtMostMore count L c.stands → both.LeavesAtMostMore count L c.left → both.LeavesAtMostMore count L new
-  more_left_still count L more most = go (comes.left sound)
-    where
-      go : ((x : k.Left) → new.may_leave x → c.left.may_leave x) ⊎ ((K : List Request) → c.stands K → LeavesOnly new K) → both.LeavesAtMostMore count L new
-      go (inl no_more) = λ x may. most x (no_more x may)
-      go (inr alone) = λ x may. (more.0, more.1, alone _ more.2 x may)
-
-  both_still : (L : List Request) (connections : List both.Connection) → both.KeepsServed c.rules L connections c.stands c.left → both.KeepsServed c.rules L connections new.stands_for new
-  both_still L connections kept = record {
-    whole = kept.whole;
-    kept = kept.kept;
-    answered = kept.answered;
-    others = kept.others;
-    in_doubt = kept.in_doubt;
-    all = kept.all;
-    stands_after = more_still (both.all_asked kept.others) kept.kept kept.stands_after;
-    left_after = more_left_still (both.all_asked kept.others) kept.kept kept.stands_after kept.left_after;
-  }
-
-pub task_ended : {k : DeskKind} (c : Course k) (new : View k) → ComesOf c new → (task : Task) (told : Option (List ℕ)) (status : ℕ) → TaskEnds c task told status → TaskEnds (ended_over c new) task told status
-task_ended c new comes task.Batch told status ended = (
+pub task_between : {k : DeskKind} (old : View k) (c : Course k) (new : View k) → ComesTo old c → ComesOf c new → (task : Task) (told : Option (List ℕ)) (status : ℕ) → TaskEnds c task told status → TaskEnds (between old c new) task told status
+task_between old c new begins comes task.Batch told status ended = (
   ended.0,
   ended.1,
   λ L stood sound.
-      let end = ended.2 L stood (comes.premise sound) in
-      (batch_still c new comes sound L ended.0 status end.0, λ only. answered_still c new comes sound L ended.0 status end.0 (end.1 only)),
+      let from = begins L stood (comes.premise sound) in
+      let end = ended.2 L from.0 (comes.premise sound) in
+      (batch_still old c new comes sound L ended.0 status from.1 end.0, λ only. answered_still old c new comes sound L ended.0 status end.0 (end.1 (from.1 only))),
 )
-task_ended c new comes (task.Deliver names) told status ended = (
+task_between old c new begins comes (task.Deliver names) told status ended = (
   ended.0,
   ended.1,
   ended.2,
   λ L stood sound.
-      let end = ended.3 L stood (comes.premise sound) in (
-        deliveries_still c new comes sound L (length (map (λ (name : Bor (List ℕ)). name.now) names.items)) ended.0 ended.1 status end.0,
-        λ only. delivered_still c new comes sound L (length (map (λ (name : Bor (List ℕ)). name.now) names.items)) ended.0 ended.1 status end.0 (end.1 only),
+      let from = begins L stood (comes.premise sound) in
+      let end = ended.3 L from.0 (comes.premise sound) in
+      let count = length (map (λ (name : Bor (List ℕ)). name.now) names.items) in (
+        deliveries_still old c new comes sound L count ended.0 ended.1 status end.0,
+        λ only. delivered_still old c new comes sound L count ended.0 ended.1 status end.0 (end.1 (from.1 only)),
       ),
 )
-task_ended c new comes (task.Gaps name) told status ended = λ L stood sound.
-    let end = ended L stood (comes.premise sound) in
+task_between old c new begins comes (task.Gaps name) told status ended = λ L stood sound.
+    let from = begins L stood (comes.premise sound) in
+    let end = ended L from.0 (comes.premise sound) in
     let named = series_name_of name.now in
-    ((end.0.0, stood_still c new comes sound L named end.0.1), λ only. question_still c new comes sound L named end.0.1 (end.1 only))
-task_ended c new comes (task.Serve port requests None) told status ended = (
-  ended.0,
-  (ended.1.0, λ L stood sound. served_still c new comes sound L ended.0 (ended.1.1 L stood (comes.premise sound))),
-  ended.2,
-  ended.3,
-)
-task_ended c new comes (task.Serve port requests (Some socket)) told status ended = (
+    ((end.0.0, stood_still old c new comes sound L named end.0.1), λ only. question_still old c new comes sound L named end.0.1 (end.1 (from.1 only)))
+task_between old c new begins comes (task.Serve port requests batches) told status ended = (
   ended.0,
   (
     ended.1.0,
+    ended.1.1,
     λ L stood sound.
-        let end = ended.1.1 L stood (comes.premise sound) in (
-          more_still c new comes sound (both.all_asked ended.0) L end.0,
-          λ only.
-              let kept = end.1 only in
-              (more_left_still c new comes sound (both.all_asked ended.0) L end.0 kept.0, both_still c new comes sound L ended.0 kept.1),
-        ),
+        let from = begins L stood (comes.premise sound) in
+        served_still old c new comes sound L ended.0 from.1 (ended.1.2 L from.0 (comes.premise sound)),
   ),
   ended.2,
   ended.3,

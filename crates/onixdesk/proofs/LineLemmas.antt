@@ -3,9 +3,10 @@ use Rattle.std.proofs.Common.{◌++◌, ◌∷◌, ◌∙◌, [], ℕ, List, Opt
 use Rattle.std.specs.Prelude.{OnErr, OnOk}
 use Rattle.std.specs.Io.KnownBytes.{Appends}
 use Rattle.std.proofs.KnownBytes.{Appends-trans}
-use Rattle.desk_http.specs.Connections.{Connection}
+use Rattle.std.proofs.lemmas.List.Concat.{flat_map-append}
 use Rattle.desk_http.specs.Writing.{WritesFront}
-use Rattle.onixdesk.specs.Serving.{WritesLines, WritesWhole, line_of, lines_of}
+use Rattle.onixdesk.specs.Connections.{Connection, WritesLines, connection_line, lines_of}
+use Rattle.onixdesk.specs.Serving.{WritesWhole}
 
 -- a first part of a text is one of more
 pub front_begins : (written : List ℕ → Type 0) (a b : List ℕ) → WritesFront written a → WritesFront written (a ++ b)
@@ -21,11 +22,18 @@ module _ (was before holds : Option (List ℕ)) where
   pub lines_behind : (a : List ℕ) (served : List Connection) → Appends was before a → WritesLines (Appends before holds) served → WritesLines (λ lines. Appends was holds (a ++ lines)) served
   lines_behind a served first (lines, last, is, few, (part, rest, cut, wrote)) = (lines, last, is, few, (part, rest, cut, Appends-trans was before holds _ _ first wrote))
 
+  -- one line more
+  pub one_more_line : (served : List Connection) (c : Connection) → Appends was before (lines_of served) → Appends before holds (connection_line c) → Appends was holds (lines_of (served ++ c ∷ []))
+  one_more_line served c lines line =
+      subst (Appends was holds)
+      (ap (λ t. lines_of served ++ t) (sym (append-nil (connection_line c))) ∙ sym (flat_map-append connection_line served (c ∷ [])))
+      (Appends-trans was before holds _ _ lines line)
+
   -- a first part of one line more
-  pub cut_line : (served : List Connection) (c : Connection) → Appends was before (lines_of served) → WritesFront (Appends before holds) (line_of c.outcome)
+  pub cut_line : (served : List Connection) (c : Connection) → Appends was before (lines_of served) → WritesFront (Appends before holds) (connection_line c)
       → WritesLines (Appends was holds) (served ++ c ∷ [])
   cut_line served c lines (part, rest, is, wrote) =
-      (served, c ∷ [], refl, omega arith, (part, rest, is ∙ sym (append-nil (line_of c.outcome)), Appends-trans was before holds _ _ lines wrote))
+      (served, c ∷ [], refl, omega arith, (part, rest, is ∙ sym (append-nil (connection_line c)), Appends-trans was before holds _ _ lines wrote))
 
 -- all lines, each whole
 pub whole_lines : (was holds : Option (List ℕ)) (served : List Connection) → Appends was holds (lines_of served) → WritesLines (Appends was holds) served

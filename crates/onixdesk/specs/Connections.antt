@@ -1,120 +1,113 @@
--- How the clients of a port and of a socket for batches are served, one after the other.
-use Rattle.series_rules.specs.Views.{DeskKind, LeavesOnly, View}
-use Rattle.std.specs.Prelude.{◌≡◌, ◌≤◌, ◌⊎◌, ◌++◌, ◌∷◌, ◌+◌, ℕ, List, [], None, Result, Ok, Err, ⊤, length}
+-- Connections that were served one after the other: what the desk did with their requests, what is kept of that, and their lines.
+use Rattle.std.specs.Prelude.{◌≡◌, ◌≤◌, ◌⊎◌, ◌++◌, ◌∷◌, ℕ, Bool, true, List, [], Contains, IfErr, Option, Result, Ok, Err, drop, length, take, if◌then◌else◌, ⊤}
 use Rattle.std.specs.List.{flat_map}
+use Rattle.csv_records.specs.Streams.{IsTold}
 use Rattle.price_rules.specs.declared.precedence.Rule.{Rule}
 use Rattle.series_rules.specs.Answers.{followed_by}
+use Rattle.series_rules.specs.Changes.{changes}
+use Rattle.series_rules.specs.Views.{DeskKind, IsFaultOf, LeavesOnly, View}
 use Rattle.series_rules.specs.declared.requests.Request.{Request}
-use Rattle.desk_batch.specs.Batch.{refusals, requests_of}
-use Rattle.desk_batch.specs.Steps.{RunsBatch}
+use Rattle.desk_batch.specs.Batch.{BatchFits, requests_of}
+use Rattle.desk_batch.specs.BatchFaults.{IsBatchFaultOf}
 use Rattle.desk_batch.specs.declared.batch.BatchFault.{BatchFault}
-use Rattle.desk_http.specs.Exchange.{Exchanges}
-use Rattle.desk_http.specs.Reply.{Reply}
-use Rattle.desk_http.specs.Serves.{Serves}
+use Rattle.desk_batch.specs.declared.batch.BatchFault.TheVariants as fault
+use Rattle.desk_http.specs.Exchanged.{Exchange, WasExchanged}
 use Rattle.desk_http.specs.Writing.{WritesFront}
-use Rattle.desk_http.specs.declared.exchange.HttpFault.{HttpFault}
-use Rattle.desk_http.specs.declared.exchange.Wanted.{Wanted}
-use Rattle.onixdesk.specs.BatchServing.{batch_line_of}
-use Rattle.onixdesk.specs.Course.{Course}
-use Rattle.onixdesk.specs.Serving.{WritesWhole, line_of, listening_line}
-use Rattle.onixdesk.specs.declared.fault.Fault.{Fault}
+use Rattle.onixdesk.specs.Serving.{batch_line_of, line_of, listening_line}
 
--- a connection that was served, and how it ended: an exchange over HTTP, or the batch of a text
+-- one batch: what the client sent and what it was sent, each where that is known, the text that was run, and how it ended
+pub record Batch : Type 0 where
+  pub sent : Option (List ℕ)
+  pub received : Option (List ℕ)
+  pub text : List ℕ
+  pub outcome : Result ℕ BatchFault
+
+-- a connection that was served
 pub data Connection : Type 0 where
-  exchange : Result ℕ HttpFault → Connection
-  batch : List ℕ → Result ℕ BatchFault → Connection
+  exchange : Exchange → Connection
+  batch : Batch → Connection
 
--- its line
+-- what its client sent, where that is known
+abbrev pub sent_by : Connection → Option (List ℕ)
+sent_by (exchange e) = e.sent
+sent_by (batch b) = b.sent
+
+-- it is a batch only where these are taken
+abbrev pub IsTaken : Bool → Connection → Type 0
+IsTaken batches (exchange e) = ⊤
+IsTaken batches (batch b) = batches ≡ true
+
+-- ---- what the desk did
+
+-- the requests of a text whose batch ended so, as far as they were answered
+abbrev pub answered_of : List ℕ → Result ℕ BatchFault → List Request
+answered_of text (Ok refused) = requests_of text
+answered_of text (Err (fault.Store done f)) = take done (requests_of text)
+answered_of text (Err (fault.Write done)) = take done (requests_of text)
+answered_of text (Err (fault.Memory done)) = take done (requests_of text)
+answered_of text (Err (fault.Records f)) = []
+answered_of text (Err fault.Read) = []
+
+-- the one of them that had a fault of the store, where there is one
+abbrev pub faulted_of : List ℕ → Result ℕ BatchFault → List Request
+faulted_of text (Err (fault.Store done f)) = take 1 (drop done (requests_of text))
+faulted_of text _ = []
+
+-- a batch was run by a desk that stood for L: its client was sent the answers of those that were answered, as far as it ended so
+abbrev pub WasRun : DeskKind → List Rule → List Request → Batch → Type 0
+WasRun k rules L b =
+    IsTold b.sent b.text × IfErr b.outcome (IsBatchFaultOf k)
+    × BatchFits rules L b.text (IsTold b.received) (λ after. after ≡ followed_by L (answered_of b.text b.outcome)) b.outcome
+
+-- a connection was served by a desk that stood for L: these requests of it were answered, and these had a fault of the store
+pub data IsServed (k : DeskKind) (rules : List Rule) (L : List Request) : Connection → List Request → List Request → Type 0 where
+  exchanged : {e : Exchange} {answered faulted : List Request} → WasExchanged rules (IsFaultOf k) L e answered faulted → IsServed k rules L (exchange e) answered faulted
+  ran : {b : Batch} → WasRun k rules L b → IsServed k rules L (batch b) (answered_of b.text b.outcome) (faulted_of b.text b.outcome)
+
+-- what is still doubted behind requests that were answered after L: nothing once one of them changed something
+abbrev pub still_doubted : List Request → List Request → List Request → List Request
+still_doubted L [] doubted = doubted
+still_doubted L (r ∷ answered) doubted = still_doubted (r ∷ L) answered (if changes L r then [] else doubted)
+
+-- By a desk that stood for L, these connections were served, the first first. Kept: L and then each request that was answered, by an exchange or within a batch. Doubted: the requests that had a fault of the store since the last answer that changed something
+pub data AreServed (k : DeskKind) (rules : List Rule) (L : List Request) : List Connection → List Request → List Request → Type 0 where
+  none : AreServed k rules L [] L []
+  next : {served : List Connection} {kept doubted answered faulted : List Request} (c : Connection)
+      → AreServed k rules L served kept doubted → IsServed k rules kept c answered faulted
+      → AreServed k rules L (served ++ c ∷ []) (followed_by kept answered) (faulted ++ still_doubted kept answered doubted)
+
+-- ---- what is kept
+
+-- whatever a crash leaves has all that was kept, and of what is doubted at most one request
+abbrev pub LeavesKept : {k : DeskKind} → List Request → List Request → View k → Type 0
+LeavesKept {k} doubted kept desk =
+    (x : k.Left) → desk.may_leave x → k.comes_to x kept ⊎ ((r : Request) × Contains doubted r × k.comes_to x (r ∷ kept))
+
+-- What was answered is kept: the desk stands for L and each request that was answered, and whatever a crash leaves has these, and of the requests that had a fault of the store since the last answer that changed something at most one, where it left only L before. Was, left: what was seen of the desk before, and what is
+pub record KeepsServed {k : DeskKind} (rules : List Rule) (L : List Request) (served : List Connection) (stands : List Request → Type 0) (was left : View k) : Type 0 where
+  pub kept : List Request
+  pub doubted : List Request
+  pub are_served : AreServed k rules L served kept doubted
+  pub stands_after : stands kept
+  pub left_after : LeavesOnly was L → LeavesKept doubted kept left
+
+-- ---- their lines
+
+-- the line of a connection
 abbrev pub connection_line : Connection → List ℕ
-connection_line (exchange outcome) = line_of outcome
-connection_line (batch text outcome) = batch_line_of outcome
+connection_line (exchange e) = line_of e.outcome
+connection_line (batch b) = batch_line_of b.outcome
 
 -- the lines of connections
-abbrev pub connection_lines : List Connection → List ℕ
-connection_lines connections = flat_map connection_line connections
-
--- what stands is L and at most so many requests more
-abbrev pub AtMostMore : ℕ → List Request → (List Request → Type 0) → Type 0
-AtMostMore count L stands = (more : List Request) × (length more ≤ count) × stands (more ++ L)
-
--- whatever a crash leaves is L and at most so many requests more
-abbrev pub LeavesAtMostMore : {k : DeskKind} → ℕ → List Request → View k → Type 0
-LeavesAtMostMore {k} count L left = (x : k.Left) → left.may_leave x → (more : List Request) × (length more ≤ count) × k.comes_to x (more ++ L)
-
--- how many requests it asks at most: an exchange one, a batch those of its text
-abbrev pub most_asked : Connection → ℕ
-most_asked (exchange outcome) = 1
-most_asked (batch text outcome) = length (requests_of text)
-
--- how many these connections ask at most
-abbrev pub all_asked : List Connection → ℕ
-all_asked [] = 0
-all_asked (connection ∷ connections) = most_asked connection + all_asked connections
-
--- that connection was served. Of what a client sends and is sent no clause can say which bytes they are. Seen: what is seen of a desk
-abbrev pub IsServed : {D : Type 0} → {k : DeskKind} → (D → View k) → List Rule → D → D → Connection → Type 0
-IsServed seen rules old new (exchange outcome) = Serves seen rules None old new (λ _. ⊤) outcome
-IsServed seen rules old new (batch text outcome) = RunsBatch seen rules text old new (λ _. ⊤) outcome
-
--- One connection was served, whose line was written. Seen: what is seen of a desk. Written: these bytes were written
-pub record ServesNext {D : Type 0} {k : DeskKind} (seen : D → View k) (rules : List Rule) (old new : D) (written : List ℕ → Type 0) (result : Result ⊤ Fault) : Type 0 where
-  pub connection : Connection
-  pub served : IsServed seen rules old new connection
-  pub line : WritesWhole written (connection_line connection) result
+abbrev pub lines_of : List Connection → List ℕ
+lines_of served = flat_map connection_line served
 
 -- the lines of connections were written, each whole but perhaps the last, of which a first part was
-abbrev pub WritesEach : (List ℕ → Type 0) → List Connection → Type 0
-WritesEach written connections =
-    (before last : List Connection) × (before ++ last ≡ connections) × (length last ≤ 1)
-    × WritesFront (λ part. written (connection_lines before ++ part)) (connection_lines last)
-
--- Connections were served one after the other, by a desk that stood for L at first, each replied to or answered to its end, and none with a fault of its store. The list is L with each request that was answered
-pub data AreAnswered (rules : List Rule) (L : List Request) : List Connection → List Request → Type 0 where
-  none : AreAnswered rules L [] L
-  replied : {before : List Connection} {kept after : List Request} {wanted : Wanted} {reply : Reply}
-      → AreAnswered rules L before kept → Exchanges rules (λ f. ⊥) kept wanted reply after → AreAnswered rules L (before ++ exchange (Ok reply.status) ∷ []) after
-  ran : {before : List Connection} {kept : List Request} (text : List ℕ)
-      → AreAnswered rules L before kept → AreAnswered rules L (before ++ batch text (Ok (refusals rules kept (requests_of text))) ∷ []) (followed_by kept (requests_of text))
-
--- these connections begin with one of a fault of the store, or that was not served whole
-abbrev pub BeginUnserved : List Connection → Type 0
-BeginUnserved [] = ⊤
-BeginUnserved (exchange (Ok status) ∷ connections) = status ≡ 503
-BeginUnserved (exchange (Err f) ∷ connections) = ⊤
-BeginUnserved (batch text (Ok refused) ∷ connections) = ⊥
-BeginUnserved (batch text (Err f) ∷ connections) = ⊤
-
--- Whatever a crash leaves has each request that was answered before the first connection of a fault of the store, or that was not served whole; so does what stands. Connections: those that were served
-pub record KeepsServed {k : DeskKind} (rules : List Rule) (L : List Request) (connections : List Connection) (stands : List Request → Type 0) (left : View k) : Type 0 where
-  pub whole : List Connection
-  pub kept : List Request
-  pub answered : AreAnswered rules L whole kept
-  pub others : List Connection
-  pub in_doubt : BeginUnserved others
-  pub all : connections ≡ whole ++ others
-  pub stands_after : AtMostMore (all_asked others) kept stands
-  pub left_after : LeavesAtMostMore (all_asked others) kept left
-
--- how so many connections can end, as far as they were served: each has had no more requests than it may ask. Where a crash left only what the desk stood for, it leaves no more than that, and what was answered
-abbrev pub AllEnd : {k : DeskKind} → Course k → ℕ → List Connection → Type 0
-AllEnd c count connections =
-    (length connections ≤ count) × ((L : List Request) → c.stood L → c.sound →
-    AtMostMore (all_asked connections) L c.stands
-    × (LeavesOnly c.was L → LeavesAtMostMore (all_asked connections) L c.left × KeepsServed c.rules L connections c.stands c.left))
-
--- how serving so many connections can end with this status: the lines of those that were served are written; with 0 they are all
-abbrev pub AreServed : {k : DeskKind} → Course k → ℕ → ℕ → Type 0
-AreServed c count status =
-    (connections : List Connection) × AllEnd c count connections × WritesEach c.written connections
-    × (status ≡ 0 → (length connections ≡ count) × c.written (connection_lines connections))
+abbrev pub WritesLines : (List ℕ → Type 0) → List Connection → Type 0
+WritesLines written served =
+    (before last : List Connection) × (before ++ last ≡ served) × (length last ≤ 1) × WritesFront (λ part. written (lines_of before ++ part)) (lines_of last)
 
 -- the line of the port was written, and behind it those of connections; or a first part of it, and none was served
-abbrev pub WritesAll : (List ℕ → Type 0) → ℕ → List Connection → Type 0
-WritesAll written port connections =
-    ((connections ≡ []) × WritesFront written (listening_line port)) ⊎ WritesEach (λ lines. written (listening_line port ++ lines)) connections
-
--- how `serve` can end with this status, of so many connections at that port and a socket for batches: their lines are written, behind the one of the port; with 0 they are all
-abbrev pub ServeBothEnds : {k : DeskKind} → Course k → ℕ → ℕ → ℕ → Type 0
-ServeBothEnds c port count status =
-    (connections : List Connection) × AllEnd c count connections × WritesAll c.written port connections
-    × (status ≡ 0 → (length connections ≡ count) × c.written (listening_line port ++ connection_lines connections))
+abbrev pub WritesServed : (List ℕ → Type 0) → ℕ → List Connection → Type 0
+WritesServed written port served =
+    ((served ≡ []) × WritesFront written (listening_line port)) ⊎ WritesLines (λ lines. written (listening_line port ++ lines)) served

@@ -1,5 +1,5 @@
 -- How the program ends by what it is asked, with what it leaves of the files of a desk.
-use Rattle.std.specs.Prelude.{◌≡◌, ◌⊎◌, ℕ, true, false, List, [], Ok, Err, Option, Some, None, Result, ⊤}
+use Rattle.std.specs.Prelude.{◌≡◌, ◌⊎◌, ℕ, true, false, List, [], Ok, Err, Option, Some, None, Result, string_bytes, ⊤}
 use Rattle.sqlite.specs.Effect.{Database}
 use Rattle.sqlite.specs.Closing.{IsCopied}
 use Rattle.sqlite.specs.Files.{IsCleanLeft, IsClosed, file_state, image_of}
@@ -26,6 +26,7 @@ use Rattle.desk_store.specs.Migrations.{AreFilesOfEither, AreMigrated, IsTrueAns
 use Rattle.desk_store.specs.Openings.{AreEmptyFiles, AreFilesWith, HoldRowsOf, KeepsFiles, MakesNothing}
 use Rattle.desk_store.specs.Seen.{in_tables}
 use Rattle.desk_store.specs.declared.migrating.MigrateAnswer.{MigrateAnswer}
+use Rattle.desk_http.specs.Writing.{WritesFront}
 use Rattle.onixdesk.specs.Course.{course}
 use Rattle.onixdesk.specs.FileViews.{seen_image, seen_left}
 use Rattle.onixdesk.specs.MigrationEnd.{MigrationEnd}
@@ -35,6 +36,8 @@ use Rattle.onixdesk.specs.TaskEnds.{TaskEnds}
 use Rattle.onixdesk.specs.declared.command_line.Action.{Action}
 use Rattle.onixdesk.specs.declared.command_line.Action.TheVariants.{InMemory, InFile, Migrate, Send}
 use Rattle.onixdesk.specs.declared.command_line.Invocation.{Invocation}
+use Rattle.onixdesk.specs.declared.command_line.Reading.{Reading}
+use Rattle.onixdesk.specs.declared.command_line.Reading.TheVariants as reading
 use Rattle.onixdesk.specs.declared.command_line.Task.{Task}
 use Rattle.onixdesk.specs.declared.files.FilesLeft.{FilesLeft}
 use Rattle.onixdesk.specs.declared.files.FilesLeft.TheVariants.{Closed, Unclosed, Unopened}
@@ -128,7 +131,23 @@ InvocationEnds seen path written told invocation status left =
     ((rules : List Rule) × AreRulesOf invocation.rules rules × ActionEnds seen path rules written told invocation.action status left)
     ⊎ ((fault : RulesFault) × IsUnruled invocation.rules fault × (status ≡ status_of fault) × written [] × (left ≡ None))
 
--- how the program can end: by what some command line asks, or with no file opened
+-- the help or the version that was asked for was written, with 0; or a first part of it, with 3
+abbrev pub HelpEnds : (List ℕ → Type 0) → List ℕ → ℕ → Type 0
+HelpEnds written text status = ((status ≡ 0) × written text) ⊎ ((status ≡ 3) × WritesFront written text)
+
+-- nothing was done: with that status, nothing written and no file opened
+abbrev pub IsUndone : {D : Type 0} → {g : Ghosts D} → ℕ → (List ℕ → Type 0) → ℕ → Option (FilesLeft D g) → Type 0
+IsUndone own written status left = (status ≡ own) × written [] × (left ≡ None)
+
+-- how the program can end by how its words read: by what they ask; with the help that they ask for; undone with 2 where they are no command line, and with 3 where memory ran out
+abbrev pub ReadingEnds : {M : Type 0} → {k : DeskKind} → (M → View k) → {D : Type 0} → {g : Ghosts D} → Path D g → (List ℕ → Type 0) → Option (List ℕ) → Reading → ℕ → Option (FilesLeft D g) → Type 0
+ReadingEnds seen path written told (reading.Run invocation) status left = InvocationEnds seen path written told invocation status left
+ReadingEnds seen path written told (reading.Help text) status left = HelpEnds written (string_bytes text) status × (left ≡ None)
+ReadingEnds seen path written told (reading.Wrong text) status left = IsUndone 2 written status left
+ReadingEnds seen path written told reading.NoDatabase status left = IsUndone 2 written status left
+ReadingEnds seen path written told reading.NoBatch status left = IsUndone 2 written status left
+ReadingEnds seen path written told reading.Memory status left = IsUndone 3 written status left
+
+-- how the program can end: as its words read, which no clause says
 abbrev pub RunEnds : {M : Type 0} → {k : DeskKind} → (M → View k) → {D : Type 0} → {g : Ghosts D} → Path D g → (List ℕ → Type 0) → Option (List ℕ) → ℕ → Option (FilesLeft D g) → Type 0
-RunEnds seen path written told status left =
-    ((invocation : Invocation) × InvocationEnds seen path written told invocation status left) ⊎ (left ≡ None)
+RunEnds seen path written told status left = (read : Reading) × ReadingEnds seen path written told read status left

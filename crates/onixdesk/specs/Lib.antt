@@ -5,9 +5,8 @@ pub mod Deliveries
 pub mod GapsEnd
 pub mod MigrationEnd
 pub mod Serving
-pub mod Clients
-pub mod BatchServing
 pub mod Connections
+pub mod Clients
 pub mod Sending
 pub mod TaskEnds
 pub mod FileViews

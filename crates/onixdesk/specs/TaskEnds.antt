@@ -1,20 +1,19 @@
 -- How a command ends, and what it has answered that is kept.
 use Rattle.series_rules.specs.Views.{DeskKind}
-use Rattle.std.specs.Prelude.{◌≡◌, ◌≤◌, ◌++◌, ℕ, List, Option, None, Some, length, map}
+use Rattle.std.specs.Prelude.{◌≡◌, ◌≤◌, ◌++◌, ℕ, All, Bool, List, Option, is_some, length, map}
 use Rattle.csv_records.specs.Streams.{IsTold}
 use Rattle.onix_terms.specs.SeriesName.{series_name_of}
 use Rattle.series_rules.specs.Views.{LeavesOnly}
 use Rattle.series_rules.specs.declared.requests.Request.{Request}
 use Rattle.desk_batch.specs.Batch.{requests_of}
 use Rattle.desk_batch.specs.Leaves.{KeepsAnswered}
-use Rattle.desk_http.specs.Connections.{Connection}
 use Rattle.onixdesk.specs.Clients.{AreFirst}
-use Rattle.onixdesk.specs.Connections.{ServeBothEnds}
+use Rattle.onixdesk.specs.Connections.{Connection, IsTaken, KeepsServed, WritesLines, WritesServed, lines_of}
 use Rattle.onixdesk.specs.Course.{Course}
 use Rattle.onixdesk.specs.Deliveries.{DeliveriesEnd, KeepsDelivered, TellsInput}
 use Rattle.onixdesk.specs.Ends.{Ends}
 use Rattle.onixdesk.specs.GapsEnd.{GapsEnd}
-use Rattle.onixdesk.specs.Serving.{KeepsServed, WritesLines, WritesServed, lines_of, listening_line}
+use Rattle.onixdesk.specs.Serving.{listening_line}
 use Rattle.onixdesk.specs.declared.command_line.Task.{Task}
 use Rattle.onixdesk.specs.declared.command_line.Task.TheVariants as task
 
@@ -35,30 +34,26 @@ abbrev pub GapsEnds : {k : DeskKind} → Course k → Option (List ℕ) → ℕ 
 GapsEnds c name status =
     (L : List Request) → c.stood L → c.sound → GapsEnd c L name status × (LeavesOnly c.was L → LeavesOnly c.left L)
 
--- how these connections can end, at most so many: each client was replied to as the desk makes it, and what was answered is kept
-abbrev pub ConnectionsEnd : {k : DeskKind} → Course k → ℕ → List Connection → Type 0
-ConnectionsEnd c count served = (length served ≤ count) × ((L : List Request) → c.stood L → c.sound → KeepsServed c.rules L served c.stands c.was c.left)
+-- how these connections can end, at most so many: each client was replied to or answered as the desk makes it, and what was answered is kept. Batches: whether these are taken
+abbrev pub ConnectionsEnd : {k : DeskKind} → Course k → Bool → ℕ → List Connection → Type 0
+ConnectionsEnd c batches count served =
+    (length served ≤ count) × All (IsTaken batches) served × ((L : List Request) → c.stood L → c.sound → KeepsServed c.rules L served c.stands c.was c.left)
 
 -- how serving so many clients can end with this status: the lines of those that were served are written; with 0 they are all. Coming: what the clients send, where that is known
-abbrev pub ConnectionsServed : {k : DeskKind} → Course k → Option (List (List ℕ)) → ℕ → ℕ → Type 0
-ConnectionsServed c coming count status =
-    (served : List Connection) × AreFirst coming served × ConnectionsEnd c count served × WritesLines c.written served
+abbrev pub ConnectionsServed : {k : DeskKind} → Course k → Bool → Option (List (List ℕ)) → ℕ → ℕ → Type 0
+ConnectionsServed c batches coming count status =
+    (served : List Connection) × AreFirst coming served × ConnectionsEnd c batches count served × WritesLines c.written served
     × (status ≡ 0 → (length served ≡ count) × c.written (lines_of served))
 
--- how `serve` can end with this status, of so many connections at that port: their lines are written, behind the one of the port; with 0 they are all
-abbrev pub ServeEnds : {k : DeskKind} → Course k → ℕ → ℕ → ℕ → Type 0
-ServeEnds c port count status =
-    (served : List Connection) × ConnectionsEnd c count served × WritesServed c.written port served
+-- how `serve` can end with this status, of so many connections at that port, and at a socket where batches are taken: their lines are written, behind the one of the port; with 0 they are all
+abbrev pub ServeEnds : {k : DeskKind} → Course k → Bool → ℕ → ℕ → ℕ → Type 0
+ServeEnds c batches port count status =
+    (served : List Connection) × ConnectionsEnd c batches count served × WritesServed c.written port served
     × (status ≡ 0 → (length served ≡ count) × c.written (listening_line port ++ lines_of served))
-
--- so it can end with or without a socket for batches
-abbrev pub ServeAtEnds : {N : Type 0} → {k : DeskKind} → Course k → Option N → ℕ → ℕ → ℕ → Type 0
-ServeAtEnds c None port count status = ServeEnds c port count status
-ServeAtEnds c (Some socket) port count status = ServeBothEnds c port count status
 
 -- how a command can end with this status. No clause can say what a file of a name holds. Told: what the input tells of its bytes
 abbrev pub TaskEnds : {k : DeskKind} → Course k → Task → Option (List ℕ) → ℕ → Type 0
 TaskEnds c task.Batch told status = BatchEnds c told status
 TaskEnds c (task.Deliver names) told status = DeliverEnds c told (map (λ name. name.now) names.items) status
 TaskEnds c (task.Gaps name) told status = GapsEnds c (series_name_of name.now) status
-TaskEnds c (task.Serve port requests batches) told status = ServeAtEnds c batches port requests status
+TaskEnds c (task.Serve port requests batches) told status = ServeEnds c (is_some batches) port requests status

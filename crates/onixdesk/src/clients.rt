@@ -3,10 +3,22 @@
 use crate::fault::Fault;
 use std::io::{Read, Write};
 
+/// By what a client is served.
+#[derive(Clone, Copy)]
+pub enum Protocol {
+    /// One exchange over HTTP.
+    Exchange,
+    /// One batch: the text to the end of what it sends.
+    Batch,
+}
+
 /// Clients that come one after the other.
 pub trait Clients {
-    ghost use Rattle.std.specs.Prelude.{◌≡◌, List, Option, ℕ};
+    ghost use Rattle.std.specs.Prelude.{◌≡◌, Bool, List, Option, ℕ};
     ghost use Rattle.onixdesk.specs.Clients.{Accepts};
+
+    // Whether some may send batches.
+    ghost takes_batches: { Bool };
 
     // What each client sends that is still to come, where that is known.
     ghost coming: { Self → Option (List (List ℕ)) };
@@ -16,10 +28,10 @@ pub trait Clients {
     /// Writes to it.
     type Writer: Write + Drop;
 
-    /// Waits for the next client, and gives the two ways of its connection, or `None` where it was
-    /// gone before that was accepted.
-    fn accept(&mut self) -> Result<Option<(Self::Reader, Self::Writer)>, Fault>
-        ensures { Accepts Self.Reader.remaining Self.Writer.contents
+    /// Waits for the next client, and gives its protocol and the two ways of its connection, or
+    /// `None` where it was gone before that was accepted.
+    fn accept(&mut self) -> Result<Option<(Protocol, Self::Reader, Self::Writer)>, Fault>
+        ensures { Accepts Self.Reader.remaining Self.Writer.contents takes_batches
             (coming self.old) (coming self.new) result };
 
     /// Closes the connection of a client.

@@ -1,11 +1,14 @@
 //! What the words of the command line ask for, read by clap.
 
-ghost use Rattle.std.specs.Prelude.{◌≤◌, ◌≡◌};
+ghost use Rattle.std.specs.Prelude.{◌≡◌};
+ghost use Rattle.std.specs.Io.KnownBytes.{Appends};
+ghost use Rattle.onixdesk.specs.FileEnds.{HelpEnds};
 
 use crate::commands::program;
 use crate::fault::{Fault, report};
 use clap::error::ErrorKind;
 use clap::{ArgMatches, Error};
+use csv_records::streams::{WriteFault, write_whole};
 use std::alloc::{AllocError, Global};
 use std::io::Write;
 
@@ -187,13 +190,14 @@ pub fn read<'a>(alloc: Global, words: &'a [&'a str]) -> Reading<'a> {
     }
 }
 
-/// Writes help or the version, which was asked for, and gives the status.
+/// Writes help or the version, which was asked for, and gives 0, or 3 where it cannot be written,
+/// which is reported.
 pub fn print_help<W: Write, E: Write>(text: &str, output: &mut W, errors: &mut E) -> u8
-    ensures { result ≤ 3 }
+    ensures { HelpEnds (Appends (W.contents output.old) (W.contents output.new)) text.now result }
 {
-    match output.write_all(text.as_bytes()) {
+    match write_whole(output, text.as_bytes()) {
         Ok(()) => 0,
-        Err(_) => report(&Fault::Output, errors),
+        Err(WriteFault) => report(&Fault::Output, errors),
     }
 }
 

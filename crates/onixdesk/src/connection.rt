@@ -2,14 +2,15 @@
 
 ghost use Rattle.std.specs.Fmt.{decimal};
 ghost use Rattle.std.specs.Io.KnownBytes.{Appends, Keeps};
-ghost use Rattle.std.specs.Prelude.{◌++◌, ◌∷◌, [], codes};
-ghost use Rattle.onixdesk.specs.BatchServing.{ServesBatch, batch_line_of};
-ghost use Rattle.onixdesk.specs.Serving.{ServesConnection, WritesWhole, line_of};
+ghost use Rattle.std.specs.Prelude.{◌++◌, ◌≡◌, ◌∷◌, [], IsErrAnd, IsOk, OnErr, OnOk};
+ghost use Rattle.onixdesk.specs.declared.fault.Fault.{Fault};
+ghost use Rattle.onixdesk.specs.Serving.{ServesBatch, ServesConnection, ServesExchange, WritesWhole, batch_line_of, fault_line, line_of};
 
+use crate::clients::Protocol;
 use crate::fault::Fault;
 use csv_records::streams::{WriteFault, write_whole};
 use desk_batch::{BatchFault, run_batch};
-use desk_http::{HttpFault, serve_one};
+use desk_http::{HttpFault, Routes, serve_one};
 use itoa::Buffer;
 use price_rules::precedence::Precedence;
 use series_rules::desk::Desk;
@@ -39,11 +40,12 @@ fn write_number<O: Write>(before: &str, number: u64, output: &mut O) -> Result<(
     }
 }
 
-// Hands on what was written: whoever reads the lines sees each as it comes.
-fn flush<O: Write>(output: &mut O) -> Result<(), Fault>
-    ensures { Keeps (O.contents output.old) (O.contents output.new) }
+// Whether what was written was handed on, so that whoever reads the lines sees each as it comes.
+fn handed_on(flushed: std::io::Result<()>) -> Result<(), Fault>
+    ensures ok { OnOk flushed (IsOk result) }
+    ensures err { OnErr flushed (IsErrAnd result (λ fault. fault ≡ Fault.Output)) }
 {
-    match output.flush() {
+    match flushed {
         Ok(()) => Ok(()),
         Err(_) => Err(Fault::Output),
     }
@@ -56,7 +58,7 @@ pub fn print_number<O: Write>(before: &str, number: u64, output: &mut O) -> Resu
         (before.now ++ decimal number ++ 10 ∷ []) result }
 {
     match write_number(before, number, output) {
-        Ok(()) => flush(output),
+        Ok(()) => handed_on(output.flush()),
         Err(WriteFault) => Err(Fault::Output),
     }
 }
@@ -64,10 +66,10 @@ pub fn print_number<O: Write>(before: &str, number: u64, output: &mut O) -> Resu
 // Writes the line of a connection that was not served whole.
 fn print_fault<O: Write>(output: &mut O) -> Result<(), Fault>
     ensures { WritesWhole (Appends (O.contents output.old) (O.contents output.new))
-        (codes "fault" ++ 10 ∷ []) result }
+        fault_line result }
 {
     match write_whole(output, b"fault\n") {
-        Ok(()) => flush(output),
+        Ok(()) => handed_on(output.flush()),
         Err(WriteFault) => Err(Fault::Output),
     }
 }
@@ -99,26 +101,27 @@ fn print_batch_line<O: Write>(
     }
 }
 
-/// Serves one connection as an exchange over HTTP, and writes its line.
-pub fn serve_connection<D: Desk, R: Read, W: Write, O: Write>(
+// Serves one connection as an exchange over HTTP, and writes its line.
+fn serve_exchange<D: Desk, R: Read, W: Write, O: Write>(
     alloc: Global,
+    routes: &Routes,
     desk: &mut D,
     precedence: &Precedence,
     reader: &mut R,
     writer: &mut W,
     output: &mut O,
 ) -> Result<(), Fault>
-    ensures { ServesConnection D.seen precedence.now (R.remaining reader.old) desk.old desk.new
+    ensures { ServesExchange D.seen precedence.now (R.remaining reader.old) desk.old desk.new
         (Appends (W.contents writer.old) (W.contents writer.new))
         (Appends (O.contents output.old) (O.contents output.new)) result }
 {
-    let outcome = serve_one(alloc, desk, precedence, reader, writer);
+    let outcome = serve_one(alloc, routes, desk, precedence, reader, writer);
     print_line(&outcome, output)
 }
 
-/// Serves one connection as a batch, the text to the end of what the client sends, and writes its
-/// line.
-pub fn serve_batch<D: Desk, R: Read, W: Write, O: Write>(
+// Serves one connection as a batch, the text to the end of what the client sends, and writes its
+// line.
+fn serve_batch<D: Desk, R: Read, W: Write, O: Write>(
     alloc: Global,
     desk: &mut D,
     precedence: &Precedence,
@@ -132,4 +135,29 @@ pub fn serve_batch<D: Desk, R: Read, W: Write, O: Write>(
 {
     let outcome = run_batch(alloc, desk, precedence, reader, writer);
     print_batch_line(&outcome, output)
+}
+
+/// Serves one connection by the protocol of its client, and writes its line. The routes are those of
+/// all exchanges.
+pub fn serve_connection<D: Desk, R: Read, W: Write, O: Write>(
+    alloc: Global,
+    routes: &Routes,
+    desk: &mut D,
+    precedence: &Precedence,
+    protocol: Protocol,
+    reader: &mut R,
+    writer: &mut W,
+    output: &mut O,
+) -> Result<(), Fault>
+    ensures { ServesConnection D.seen precedence.now protocol (R.remaining reader.old)
+        desk.old desk.new
+        (Appends (W.contents writer.old) (W.contents writer.new))
+        (Appends (O.contents output.old) (O.contents output.new)) result }
+{
+    match protocol {
+        Protocol::Exchange => {
+            serve_exchange(alloc, routes, desk, precedence, reader, writer, output)
+        }
+        Protocol::Batch => serve_batch(alloc, desk, precedence, reader, writer, output),
+    }
 }

@@ -1,9 +1,11 @@
 //! Where the command `serve` is reached with `--batches`: a port of 127.0.0.1, and a socket of the file
 //! system.
 
+use crate::clients::{Clients, Protocol};
 use crate::fault::Fault;
 use crate::port::{Port, is_lost};
 use crate::sockets;
+use crate::timed::{Stream, Timed};
 use mio::unix::SourceFd;
 use mio::{Events, Interest, Poll, Token};
 use std::io::{Error, ErrorKind};
@@ -11,7 +13,6 @@ use std::net::{TcpListener, TcpStream};
 use std::os::fd::{AsRawFd, RawFd};
 use std::os::unix::net::{UnixListener, UnixStream};
 use std::rt::HostRuntime;
-use std::time::Duration;
 
 /// A port and a socket for batches that are listened at, neither of which waits by itself.
 #[derive(Drop)]
@@ -24,9 +25,9 @@ pub struct Doors<'a> {
     is_batch_next: bool,
 }
 
-/// A client whose connection comes next.
+// A client whose connection comes next.
 #[derive(Drop)]
-pub enum Client {
+enum Client {
     /// At the port.
     Port(TcpStream),
     /// At the socket for batches.
@@ -111,12 +112,6 @@ impl<'a> Doors<'a> {
         })
     }
 
-    /// How long a client may let the desk wait while it sends, and again while it takes what is sent
-    /// to it.
-    pub fn limit(&self) -> Duration {
-        self.port.limit
-    }
-
     // Waits until the port or the socket may have a client. Both had none when they were asked, so
     // each that comes since then ends the wait.
     fn wait(&mut self) -> Result<(), Fault> {
@@ -126,9 +121,9 @@ impl<'a> Doors<'a> {
         }
     }
 
-    /// Waits for the next client. Where both the port and the socket have some, they are served in
-    /// turn.
-    pub fn next_client(&mut self) -> Result<Client, Fault> {
+    // Waits for the next client. Where both the port and the socket have some, they are served in
+    // turn.
+    fn next_client(&mut self) -> Result<Client, Fault> {
         for _ in 0..u64::MAX {
             if let Some(client) = at_either(self)? {
                 self.is_batch_next = !matches!(&client, Client::Batches(_));
@@ -137,5 +132,36 @@ impl<'a> Doors<'a> {
             self.wait()?;
         }
         Err(Fault::Socket)
+    }
+}
+
+impl<'a> Clients for Doors<'a> {
+    ghost use Rattle.std.specs.Prelude.{None, true};
+
+    ghost takes_batches = { true };
+
+    // Of what a client sends and is sent over a socket no clause can say which bytes they are.
+    ghost coming = { λ doors. None };
+
+    type Reader = Timed<'a>;
+
+    type Writer = Timed<'a>;
+
+    fn accept(&mut self) -> Result<Option<(Protocol, Timed<'a>, Timed<'a>)>, Fault> {
+        let (protocol, stream) = match self.next_client() {
+            Ok(Client::Port(stream)) => (Protocol::Exchange, Stream::Port(stream)),
+            Ok(Client::Batches(stream)) => (Protocol::Batch, Stream::Socket(stream)),
+            Ok(Client::Lost) => return Ok(None),
+            Err(fault) => return Err(fault),
+        };
+        match Timed::both(self.port.rt, stream, self.port.limit) {
+            Some((reader, writer)) => Ok(Some((protocol, reader, writer))),
+            None => Ok(None),
+        }
+    }
+
+    fn close(&mut self, reader: Timed<'a>, writer: Timed<'a>) {
+        drop(writer);
+        reader.into_stream().close();
     }
 }

@@ -2,7 +2,8 @@
 //! reads its words by the `commands` of clap, `rules` reads the precedence table, `database` looks at the
 //! database file, and `fault` has the
 //! texts of what can go wrong. The commands are `batch`, `deliver`, `gaps` and `serve`, each over any
-//! desk; `program` gives them one in a database file, or in memory. `serve` is reached at the `doors`;
+//! desk; `program` gives them one in a database file, or in memory. `serve` is reached at a `port`, or
+//! at its `doors`;
 //! `sending` is a batch to a desk that is open. `migrate` brings a database file of
 //! an earlier version to the one that is kept now. What each request is answered is proved in
 //! `series_rules`.
@@ -25,7 +26,6 @@ mod program;
 mod rules;
 mod sending;
 mod serve;
-mod serve_both;
 mod sockets;
 mod timed;
 

@@ -1,59 +1,11 @@
 //! A port of 127.0.0.1, whose clients come over sockets.
 
-use crate::clients::Clients;
+use crate::clients::{Clients, Protocol};
 use crate::fault::Fault;
-use crate::timed::Timed;
-use std::io::{self, ErrorKind, Read, Write};
-use std::net::{Ipv4Addr, SocketAddr, SocketAddrV4, TcpListener, TcpStream};
+use crate::timed::{Stream, Timed};
+use std::io::{self, ErrorKind};
+use std::net::{Ipv4Addr, SocketAddr, SocketAddrV4, TcpListener};
 use std::time::Duration;
-
-/// One way of a connection at a port.
-#[derive(Drop)]
-pub struct Way<'a> {
-    timed: Timed<'a, TcpStream>,
-}
-
-impl<'a> Way<'a> {
-    /// One way of this connection, with so much time for all its reads, or for all its writes.
-    pub fn new(rt: &'a HostRuntime, stream: TcpStream, limit: Duration) -> Way<'a> {
-        Way {
-            timed: Timed::new(rt, stream, limit),
-        }
-    }
-
-    /// Takes what a client sent behind its request, as far as it is there, and closes: where such
-    /// bytes are left, the close can undo a reply that is still on its way.
-    pub fn close(self) {
-        let mut stream = self.timed.into_stream();
-        let mut rest = [0u8; 4096];
-        if stream.set_nonblocking(true).is_err() {
-            return;
-        }
-        for _ in 0..1024 {
-            match stream.read(&mut rest) {
-                Ok(0) => return,
-                Ok(_) => {}
-                Err(_) => return,
-            }
-        }
-    }
-}
-
-impl<'a> Read for Way<'a> {
-    fn read(&mut self, buffer: &mut [u8]) -> io::Result<usize> {
-        self.timed.read(buffer)
-    }
-}
-
-impl<'a> Write for Way<'a> {
-    fn write(&mut self, bytes: &[u8]) -> io::Result<usize> {
-        self.timed.write(bytes)
-    }
-
-    fn flush(&mut self) -> io::Result<()> {
-        Ok(())
-    }
-}
 
 /// How many seconds a client may let the desk wait while it sends, and again while it takes what is
 /// sent to it.
@@ -93,23 +45,22 @@ impl<'a> Port<'a> {
 }
 
 impl<'a> Clients for Port<'a> {
-    ghost use Rattle.std.specs.Prelude.{None};
+    ghost use Rattle.std.specs.Prelude.{None, false};
+
+    ghost takes_batches = { false };
 
     // Of what a client sends and is sent over a socket no clause can say which bytes they are.
     ghost coming = { λ port. None };
 
-    type Reader = Way<'a>;
+    type Reader = Timed<'a>;
 
-    type Writer = Way<'a>;
+    type Writer = Timed<'a>;
 
-    fn accept(&mut self) -> Result<Option<(Way<'a>, Way<'a>)>, Fault> {
+    fn accept(&mut self) -> Result<Option<(Protocol, Timed<'a>, Timed<'a>)>, Fault> {
         match self.listener.accept() {
-            Ok((stream, _)) => match stream.try_clone() {
-                Ok(other) => Ok(Some((
-                    Way::new(self.rt, stream, self.limit),
-                    Way::new(self.rt, other, self.limit),
-                ))),
-                Err(_) => Err(Fault::Port(self.number)),
+            Ok((stream, _)) => match Timed::both(self.rt, Stream::Port(stream), self.limit) {
+                Some((reader, writer)) => Ok(Some((Protocol::Exchange, reader, writer))),
+                None => Err(Fault::Port(self.number)),
             },
             Err(error) => {
                 if is_lost(&error) {
@@ -121,8 +72,8 @@ impl<'a> Clients for Port<'a> {
         }
     }
 
-    fn close(&mut self, reader: Way<'a>, writer: Way<'a>) {
+    fn close(&mut self, reader: Timed<'a>, writer: Timed<'a>) {
         drop(writer);
-        reader.close();
+        reader.into_stream().close();
     }
 }

@@ -5,14 +5,14 @@ ghost use Rattle.std.specs.Io.KnownBytes.{Appends};
 ghost use Rattle.onixdesk.specs.Course.{course};
 ghost use Rattle.onixdesk.specs.FileEnds.{ActionEnds, AreRulesOf, Closes, FileEnds, InvocationEnds, IsUnruled, EndsLeaving, MigrateEnds, NewDeskEnds, RunEnds, path_of};
 ghost use Rattle.onixdesk.specs.FileViews.{seen_left};
-ghost use Rattle.onixdesk.specs.TaskEnds.{ServeAtEnds, TaskEnds};
+ghost use Rattle.onixdesk.specs.TaskEnds.{TaskEnds};
 
 use crate::command_line::{self, Action, Database, Invocation, Reading, Task};
 use crate::database::look_at;
 use crate::fault::{Fault, report};
 use crate::files::{FilesLeft, unopened};
 use crate::rules::{RulesFault, open_table, report_rules};
-use crate::{batch, deliver, gaps, migrate, sending, serve, serve_both};
+use crate::{batch, deliver, gaps, migrate, sending, serve};
 use desk_memory::MemoryDesk;
 use desk_store::DeskStore;
 use desk_terms::StoreFault;
@@ -20,33 +20,9 @@ use price_rules::precedence::Precedence;
 use series_rules::desk::Desk;
 use sqlite::{FileFrom, FileStore, Start};
 use sqlite_disk::Disk;
+use std::fs::metadata;
 use std::io::{Read, Write};
 use std::rt::HostRuntime;
-
-// Serves a desk at a port, and at a socket for batches where one is named.
-fn serve_at<D: Desk, W: Write, E: Write>(
-    rt: &HostRuntime,
-    desk: &mut D,
-    precedence: &Precedence,
-    port: u16,
-    batches: Option<&str>,
-    requests: u64,
-    output: &mut W,
-    errors: &mut E,
-) -> u8
-    ensures status { result ≤ 3 }
-    ensures premise { (D.seen desk.new).sound → (D.seen desk.old).sound }
-    ensures end { ServeAtEnds (course precedence.now (D.seen desk.old) (D.seen desk.new)
-        (Appends (W.contents output.old) (W.contents output.new)))
-        batches.entry port requests result }
-{
-    match batches {
-        None => serve::run(rt, desk, precedence, port, requests, output, errors),
-        Some(socket) => {
-            serve_both::run(rt, desk, precedence, port, socket, requests, output, errors)
-        }
-    }
-}
 
 // Runs a command over a desk.
 fn run_task<D: Desk, R: Read, W: Write, E: Write>(
@@ -82,7 +58,7 @@ fn run_task<D: Desk, R: Read, W: Write, E: Write>(
             port,
             requests,
             batches,
-        } => serve_at(
+        } => serve::run(
             rt, desk, precedence, *port, *batches, *requests, output, errors,
         ),
     }
@@ -161,7 +137,7 @@ fn run_in_file<S: Start, R: Read, W: Write, E: Write>(
         (Appends (W.contents output.old) (W.contents output.new))
         task.now (R.remaining input.old) result.0 result.1 }
 {
-    if let Err(fault) = look_at(rt, db, errors) {
+    if let Err(fault) = look_at(rt, db, &metadata(rt, db.name), errors) {
         return (report(&fault, errors), None);
     }
     match DeskStore::open(rt, db.name, start) {
@@ -185,7 +161,7 @@ fn migrate_file<S: Start, W: Write, E: Write>(
     ensures end { MigrateEnds (path_of S.Start)
         (Appends (W.contents output.old) (W.contents output.new)) result.0 result.1 }
 {
-    match look_at(rt, db, errors) {
+    match look_at(rt, db, &metadata(rt, db.name), errors) {
         Ok(()) => migrate::run(rt, db.name, start, output, errors),
         Err(fault) => (report(&fault, errors), None),
     }
@@ -285,7 +261,7 @@ pub fn run<S: Start, R: Read, W: Write, E: Write>(
     errors: &mut E,
 ) -> (u8, Option<FilesLeft<FileFrom<S>>>)
     ensures status { result.0 ≤ 3 }
-    // Which command the words are read as no clause says.
+    // As what the words are read no clause says.
     ensures end { RunEnds ⟦<MemoryDesk as Desk>⟧.seen (path_of S.Start)
         (Appends (W.contents output.old) (W.contents output.new))
         (R.remaining input.old) result.0 result.1 }

@@ -1,17 +1,19 @@
-//! The command `serve`: the desk over HTTP on a port of 127.0.0.1.
+//! The command `serve`: the desk over HTTP at a port of 127.0.0.1, and for batches at a socket of
+//! the file system where one is named.
 
-ghost use Rattle.std.specs.Prelude.{◌≡◌, ◌≤◌, ℕ, List, OnErr, OnOk, Result, length, ⊤};
+ghost use Rattle.std.specs.Prelude.{◌≤◌, is_some};
 ghost use Rattle.std.specs.Io.KnownBytes.{Appends};
 ghost use Rattle.onixdesk.specs.Clients.{ServesNext};
-ghost use Rattle.onixdesk.specs.Course.{Course, course};
-ghost use Rattle.onixdesk.specs.Serving.{WritesWhole, line_of, listening_line};
+ghost use Rattle.onixdesk.specs.Course.{course};
+ghost use Rattle.onixdesk.specs.Serving.{WritesWhole, listening_line};
 ghost use Rattle.onixdesk.specs.TaskEnds.{ConnectionsServed, ServeEnds};
 
 use crate::clients::Clients;
 use crate::connection::{print_line, print_number, serve_connection};
+use crate::doors::Doors;
 use crate::fault::{Fault, report};
 use crate::port::Port;
-use desk_http::HttpFault;
+use desk_http::{HttpFault, Routes};
 use price_rules::precedence::Precedence;
 use series_rules::desk::Desk;
 use std::io::Write;
@@ -20,21 +22,24 @@ use std::io::Write;
 // before nothing was read, and nothing was asked of the desk.
 fn serve_next<D: Desk, C: Clients, O: Write>(
     rt: &HostRuntime,
+    routes: &Routes,
     desk: &mut D,
     precedence: &Precedence,
     clients: &mut C,
     output: &mut O,
 ) -> Result<(), Fault>
-    ensures { ServesNext D.seen precedence.now (C.coming clients.old) (C.coming clients.new)
-        desk.old desk.new
+    ensures { ServesNext D.seen precedence.now C.takes_batches
+        (C.coming clients.old) (C.coming clients.new) desk.old desk.new
         (Appends (O.contents output.old) (O.contents output.new)) result }
 {
     match clients.accept() {
-        Ok(Some((mut reader, mut writer))) => {
+        Ok(Some((protocol, mut reader, mut writer))) => {
             let ended = serve_connection(
                 rt.alloc(),
+                routes,
                 desk,
                 precedence,
+                protocol,
                 &mut reader,
                 &mut writer,
                 output,
@@ -49,8 +54,9 @@ fn serve_next<D: Desk, C: Clients, O: Write>(
 
 /// Serves so many clients, one after the other, and writes the line of each connection at once.
 /// Gives 0, or 3 where no more clients can be had or a line cannot be written, which is reported.
-pub fn serve_port<D: Desk, C: Clients, O: Write, E: Write>(
+pub fn serve_clients<D: Desk, C: Clients, O: Write, E: Write>(
     rt: &HostRuntime,
+    routes: &Routes,
     desk: &mut D,
     precedence: &Precedence,
     clients: &mut C,
@@ -60,14 +66,15 @@ pub fn serve_port<D: Desk, C: Clients, O: Write, E: Write>(
 ) -> u8
     ensures status { result ≤ 3 }
     ensures premise { (D.seen desk.new).sound → (D.seen desk.old).sound }
-    // Each client was replied to as the desk makes it, and what was answered is kept: behind a fault of
-    // the store too, once a later answer changed something. The lines are written, each whole but
-    // perhaps the last; with 0 they are all.
+    // Each client was replied to or answered as the desk makes it, and what was answered is kept,
+    // by an exchange or within a batch: behind a fault of the store too. The lines are written, each
+    // whole but perhaps the last; with 0 they are all.
     ensures end { ConnectionsServed (course precedence.now (D.seen desk.old) (D.seen desk.new)
-        (Appends (O.contents output.old) (O.contents output.new))) (C.coming clients.old) requests result }
+        (Appends (O.contents output.old) (O.contents output.new)))
+        C.takes_batches (C.coming clients.old) requests result }
 {
     'serving: for _served in 0..requests {
-        match serve_next(rt, desk, precedence, clients, output) {
+        match serve_next(rt, routes, desk, precedence, clients, output) {
             Ok(()) => {}
             Err(fault) => return report(&fault, errors),
         }
@@ -75,27 +82,21 @@ pub fn serve_port<D: Desk, C: Clients, O: Write, E: Write>(
     0
 }
 
-// Listens at a port of 127.0.0.1, and says so.
-fn listen<'a, O: Write>(rt: &'a HostRuntime, number: u16, output: &mut O) -> Result<Port<'a>, Fault>
+// Writes the line of the port.
+fn print_listening<O: Write>(number: u16, output: &mut O) -> Result<(), Fault>
     ensures { WritesWhole (Appends (O.contents output.old) (O.contents output.new))
         (listening_line number) result }
 {
-    let port = match Port::open(rt, number) {
-        Ok(port) => port,
-        Err(fault) => return Err(fault),
-    };
-    match print_number("listening ", u64::from(number), output) {
-        Ok(()) => Ok(port),
-        Err(fault) => Err(fault),
-    }
+    print_number("listening ", u64::from(number), output)
 }
 
-/// Listens at a port of 127.0.0.1, writes `listening` and its number, and serves so many
-/// connections. Gives 0, or 3 after a fault of the port or of the output, which is reported.
-pub fn run<D: Desk, O: Write, E: Write>(
+// Says which port is listened at, and serves its clients.
+fn serve_at<D: Desk, C: Clients, O: Write, E: Write>(
     rt: &HostRuntime,
+    routes: &Routes,
     desk: &mut D,
     precedence: &Precedence,
+    clients: &mut C,
     number: u16,
     requests: u64,
     output: &mut O,
@@ -103,12 +104,101 @@ pub fn run<D: Desk, O: Write, E: Write>(
 ) -> u8
     ensures status { result ≤ 3 }
     ensures premise { (D.seen desk.new).sound → (D.seen desk.old).sound }
-    // As `serve_port`, behind the line of the port.
     ensures end { ServeEnds (course precedence.now (D.seen desk.old) (D.seen desk.new)
-        (Appends (O.contents output.old) (O.contents output.new))) number requests result }
+        (Appends (O.contents output.old) (O.contents output.new)))
+        C.takes_batches number requests result }
 {
-    match listen(rt, number, output) {
-        Ok(mut port) => serve_port(rt, desk, precedence, &mut port, requests, output, errors),
+    match print_listening(number, output) {
+        Ok(()) => serve_clients(rt, routes, desk, precedence, clients, requests, output, errors),
         Err(fault) => report(&fault, errors),
+    }
+}
+
+// What cannot be listened at is reported, and nothing is served.
+fn serve_opened<D: Desk, C: Clients + Drop, O: Write, E: Write>(
+    rt: &HostRuntime,
+    routes: &Routes,
+    desk: &mut D,
+    precedence: &Precedence,
+    opened: Result<C, Fault>,
+    number: u16,
+    requests: u64,
+    output: &mut O,
+    errors: &mut E,
+) -> u8
+    ensures status { result ≤ 3 }
+    ensures premise { (D.seen desk.new).sound → (D.seen desk.old).sound }
+    ensures end { ServeEnds (course precedence.now (D.seen desk.old) (D.seen desk.new)
+        (Appends (O.contents output.old) (O.contents output.new)))
+        C.takes_batches number requests result }
+{
+    match opened {
+        Ok(mut clients) => serve_at(
+            rt, routes, desk, precedence, &mut clients, number, requests, output, errors,
+        ),
+        Err(fault) => report(&fault, errors),
+    }
+}
+
+// Listens, and serves by these routes.
+fn listen<D: Desk, O: Write, E: Write>(
+    rt: &HostRuntime,
+    routes: &Routes,
+    desk: &mut D,
+    precedence: &Precedence,
+    number: u16,
+    batches: Option<&str>,
+    requests: u64,
+    output: &mut O,
+    errors: &mut E,
+) -> u8
+    ensures status { result ≤ 3 }
+    ensures premise { (D.seen desk.new).sound → (D.seen desk.old).sound }
+    ensures end { ServeEnds (course precedence.now (D.seen desk.old) (D.seen desk.new)
+        (Appends (O.contents output.old) (O.contents output.new)))
+        (is_some batches.entry) number requests result }
+{
+    match batches {
+        None => {
+            let opened = Port::open(rt, number);
+            serve_opened(
+                rt, routes, desk, precedence, opened, number, requests, output, errors,
+            )
+        }
+        Some(socket) => {
+            let opened = Doors::open(rt, number, socket);
+            serve_opened(
+                rt, routes, desk, precedence, opened, number, requests, output, errors,
+            )
+        }
+    }
+}
+
+/// Listens at a port of 127.0.0.1, and at a socket of the file system where one is named, writes
+/// `listening` and the number of the port, and serves so many connections: an exchange over HTTP at
+/// the port, a batch at the socket. Gives 0, or 3 after a fault of the port, of the socket or of the
+/// output, or for want of memory, which is reported. The routes of HTTP are made before.
+pub fn run<D: Desk, O: Write, E: Write>(
+    rt: &HostRuntime,
+    desk: &mut D,
+    precedence: &Precedence,
+    number: u16,
+    batches: Option<&str>,
+    requests: u64,
+    output: &mut O,
+    errors: &mut E,
+) -> u8
+    ensures status { result ≤ 3 }
+    ensures premise { (D.seen desk.new).sound → (D.seen desk.old).sound }
+    // As `serve_clients`, behind the line of the port; with batches only where a socket is named.
+    ensures end { ServeEnds (course precedence.now (D.seen desk.old) (D.seen desk.new)
+        (Appends (O.contents output.old) (O.contents output.new)))
+        (is_some batches.entry) number requests result }
+{
+    match Routes::new(rt.alloc()) {
+        Ok(routes) => listen(
+            rt, &routes, desk, precedence, number, batches, requests, output, errors,
+        ),
+        Err(_) => report(&Fault::Memory, errors),
     }
 }

@@ -7,66 +7,112 @@ use std::net::TcpStream;
 use std::os::unix::net::UnixStream;
 use std::time::{Duration, Instant};
 
-/// A connection that waits for bytes no longer than it is told.
-pub trait Waits {
-    /// Reads; with nothing to read for so long it fails.
-    fn read_within(&self, buffer: &mut [u8], left: Duration) -> Result<usize>
-        ensures bound { ReadsAtMost result buffer.new };
-
-    /// Writes; with no room for so long it fails.
-    fn write_within(&self, bytes: &[u8], left: Duration) -> Result<usize>
-        ensures bound { WritesAtMost result bytes.now };
-}
-
-impl Waits for TcpStream {
-    fn read_within(&self, buffer: &mut [u8], left: Duration) -> Result<usize> {
-        self.set_read_timeout(Some(left))?;
-        let mut stream = self;
-        stream.read(buffer)
-    }
-
-    fn write_within(&self, bytes: &[u8], left: Duration) -> Result<usize> {
-        self.set_write_timeout(Some(left))?;
-        let mut stream = self;
-        stream.write(bytes)
-    }
-}
-
-/// A connection at a socket of the file system, which both ways of it share.
+/// A connection that was accepted.
 #[derive(Drop)]
-pub struct Shared<'s>(pub &'s UnixStream);
+pub enum Stream {
+    /// At a port.
+    Port(TcpStream),
+    /// At a socket of the file system.
+    Socket(UnixStream),
+}
 
-impl<'s> Waits for Shared<'s> {
-    fn read_within(&self, buffer: &mut [u8], left: Duration) -> Result<usize> {
-        self.0.set_read_timeout(Some(left))?;
-        let mut stream = self.0;
-        stream.read(buffer)
+impl Stream {
+    /// The same connection once more, for its other way.
+    pub fn try_clone(&self) -> Result<Stream> {
+        match self {
+            Stream::Port(stream) => Ok(Stream::Port(stream.try_clone()?)),
+            Stream::Socket(stream) => Ok(Stream::Socket(stream.try_clone()?)),
+        }
     }
 
-    fn write_within(&self, bytes: &[u8], left: Duration) -> Result<usize> {
-        self.0.set_write_timeout(Some(left))?;
-        let mut stream = self.0;
-        stream.write(bytes)
+    // Reads; with nothing to read for so long it fails.
+    fn read_within(&self, buffer: &mut [u8], left: Duration) -> Result<usize>
+        ensures bound { ReadsAtMost result buffer.new }
+    {
+        match self {
+            Stream::Port(stream) => {
+                stream.set_read_timeout(Some(left))?;
+                let mut stream = stream;
+                stream.read(buffer)
+            }
+            Stream::Socket(stream) => {
+                stream.set_read_timeout(Some(left))?;
+                let mut stream = stream;
+                stream.read(buffer)
+            }
+        }
+    }
+
+    // Writes; with no room for so long it fails.
+    fn write_within(&self, bytes: &[u8], left: Duration) -> Result<usize>
+        ensures bound { WritesAtMost result bytes.now }
+    {
+        match self {
+            Stream::Port(stream) => {
+                stream.set_write_timeout(Some(left))?;
+                let mut stream = stream;
+                stream.write(bytes)
+            }
+            Stream::Socket(stream) => {
+                stream.set_write_timeout(Some(left))?;
+                let mut stream = stream;
+                stream.write(bytes)
+            }
+        }
+    }
+
+    /// Closes it. What a client of a port sent behind its request is taken first, as far as it is
+    /// there: where such bytes are left, the close can undo a reply that is still on its way.
+    pub fn close(self) {
+        let Stream::Port(mut stream) = self else {
+            return;
+        };
+        let mut rest = [0u8; 4096];
+        if stream.set_nonblocking(true).is_err() {
+            return;
+        }
+        for _ in 0..1024 {
+            match stream.read(&mut rest) {
+                Ok(0) => return,
+                Ok(_) => {}
+                Err(_) => return,
+            }
+        }
     }
 }
 
 /// One way of a connection. All its reads, or all its writes, may wait so long together; over that
 /// each fails. What the desk does between them is not counted.
 #[derive(Drop)]
-pub struct Timed<'a, S: Waits + Drop> {
+pub struct Timed<'a> {
     rt: &'a HostRuntime,
-    stream: S,
+    stream: Stream,
     left: Duration,
 }
 
-impl<'a, S: Waits + Drop> Timed<'a, S> {
+impl<'a> Timed<'a> {
     /// One way of this connection, with so much time for all its reads, or for all its writes.
-    pub fn new(rt: &'a HostRuntime, stream: S, limit: Duration) -> Timed<'a, S> {
+    pub fn new(rt: &'a HostRuntime, stream: Stream, limit: Duration) -> Timed<'a> {
         Timed {
             rt,
             stream,
             left: limit,
         }
+    }
+
+    /// Both ways of this connection, or `None` where it cannot be had twice.
+    pub fn both(
+        rt: &'a HostRuntime,
+        stream: Stream,
+        limit: Duration,
+    ) -> Option<(Timed<'a>, Timed<'a>)> {
+        let Ok(other) = stream.try_clone() else {
+            return None;
+        };
+        Some((
+            Timed::new(rt, stream, limit),
+            Timed::new(rt, other, limit),
+        ))
     }
 
     // Takes what was waited since then from the time that is left. With none left it is zero, which
@@ -78,12 +124,12 @@ impl<'a, S: Waits + Drop> Timed<'a, S> {
     }
 
     /// The connection.
-    pub fn into_stream(self) -> S {
+    pub fn into_stream(self) -> Stream {
         self.stream
     }
 }
 
-impl<'a, S: Waits + Drop> Read for Timed<'a, S> {
+impl<'a> Read for Timed<'a> {
     fn read(&mut self, buffer: &mut [u8]) -> Result<usize> {
         let began = Instant::now(self.rt)?;
         let read = self.stream.read_within(buffer, self.left);
@@ -92,7 +138,7 @@ impl<'a, S: Waits + Drop> Read for Timed<'a, S> {
     }
 }
 
-impl<'a, S: Waits + Drop> Write for Timed<'a, S> {
+impl<'a> Write for Timed<'a> {
     fn write(&mut self, bytes: &[u8]) -> Result<usize> {
         let began = Instant::now(self.rt)?;
         let wrote = self.stream.write_within(bytes, self.left);

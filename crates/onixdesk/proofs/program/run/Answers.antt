@@ -1,20 +1,22 @@
-use Rattle.std.proofs.Common.{inl, inr, refl}
+use Rattle.std.proofs.Common.{inl, inr, refl, subst, sym}
+use Rattle.std.proofs.KnownBytes.{Appends-nil}
+use Rattle.onixdesk.specs.declared.command_line.Reading.TheVariants as reading
 use Rattle.onixdesk.proofs.program.run.Goals as goal
 
 pub returns-in-Run-clause-end : goal.returns-in-Run-clause-end
-returns-in-Run-clause-end g c = inl (c.in-Run.invocation, c.run_invocation.ensures.end)
+returns-in-Run-clause-end g c = (reading.Run c.in-Run.invocation, c.run_invocation.ensures.end)
 
 pub returns-in-Help-clause-end : goal.returns-in-Help-clause-end
-returns-in-Help-clause-end g c = inr refl
+returns-in-Help-clause-end g c = (reading.Help c.in-Help.text, (c.print_help.ensures, refl))
 
 pub returns-in-Wrong-clause-end : goal.returns-in-Wrong-clause-end
-returns-in-Wrong-clause-end g c = inr refl
+returns-in-Wrong-clause-end g c = (reading.Wrong c.in-Wrong.text, (c.print_wrong.ensures, Appends-nil (g.W.Write.contents c.args.output.now), refl))
 
 pub returns-in-NoDatabase-clause-end : goal.returns-in-NoDatabase-clause-end
-returns-in-NoDatabase-clause-end g c = inr refl
-
-pub returns-in-Memory-clause-end : goal.returns-in-Memory-clause-end
-returns-in-Memory-clause-end g c = inr refl
+returns-in-NoDatabase-clause-end g c = (reading.NoDatabase, (c.print_wrong-status.ensures, Appends-nil (g.W.Write.contents c.args.output.now), refl))
 
 pub returns-in-NoBatch-clause-end : goal.returns-in-NoBatch-clause-end
-returns-in-NoBatch-clause-end g c = inr refl
+returns-in-NoBatch-clause-end g c = (reading.NoBatch, (c.print_wrong-status-in-NoBatch.ensures, Appends-nil (g.W.Write.contents c.args.output.now), refl))
+
+pub returns-in-Memory-clause-end : goal.returns-in-Memory-clause-end
+returns-in-Memory-clause-end g c = (reading.Memory, (c.report.ensures, Appends-nil (g.W.Write.contents c.args.output.now), refl))

@@ -5,7 +5,7 @@ use Rattle.sqlite_wal.specs.Files.{image_at}
 use Rattle.desk_store.specs.ContentLemmas.{rows_by_content}
 use Rattle.desk_store.specs.Seen.{seen_in}
 use Rattle.onixdesk.proofs.ClosingLemmas.{file_ended, file_unopened}
-use Rattle.onixdesk.proofs.TaskLemmas.{task_begun}
+use Rattle.onixdesk.proofs.EndLemmas.{same_comes, task_between}
 use Rattle.onixdesk.specs.Course.{course}
 use Rattle.onixdesk.specs.FileEnds.{path_of}
 use Rattle.onixdesk.specs.FileViews.{seen_image, seen_left}
@@ -25,11 +25,12 @@ returns-in-Ok-clause-end g c =
     file_ended (path_of g.S.Start) c.args.precedence.now written c.args.task.now (g.R.Read.remaining c.args.input.now) c.run_and_close-status.result.0 left (
       ran.end.0,
       ran.end.1,
-      task_begun (course c.args.precedence.now desk (seen_left left) written) image.stands_for image c.args.task.now (g.R.Read.remaining c.args.input.now) ran.end.0 ran.end.2
+      task_between image (course c.args.precedence.now desk (seen_left left) written) (seen_left left)
           (λ L files sound. (
             desk.by_content files.0 L files.2 (opened.stands (ran.premise sound) files.0 files.1),
-            λ d may. rows_by_content d files.0 L files.2 (opened.alone (ran.premise sound) files.0 files.1 d may),
-          )),
+            λ only d may. rows_by_content d files.0 L files.2 (opened.alone (ran.premise sound) files.0 files.1 d may),
+          ))
+          (same_comes c.args.precedence.now desk (seen_left left) written) c.args.task.now (g.R.Read.remaining c.args.input.now) ran.end.0 ran.end.2,
     )
 
 pub returns-in-Err-open-clause-end : goal.returns-in-Err-open-clause-end

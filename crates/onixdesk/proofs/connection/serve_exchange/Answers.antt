@@ -1,4 +1,4 @@
-use Rattle.onixdesk.proofs.connection.serve_connection.Goals as goal
+use Rattle.onixdesk.proofs.connection.serve_exchange.Goals as goal
 
 pub returns : goal.returns
 returns g c = record {

@@ -90,11 +90,6 @@ CarriesOutAs with_minimums change row p found rows _ after = IsReadAs with_minim
 abbrev pub CarriesOut : {A : Type 0} → Change → RecordRow → Product → FoundRecord → DeskRows → A → DeskRows → Type 0
 CarriesOut change row p found rows _ after = IsChanged change row p found rows after
 
--- the catalogue of the series gets the product, and the counts are those after it, where prices are read so
-abbrev pub AppliesProduct : Bool → List ℕ → Product → Effect → DeskRows → Effect → DeskRows → Type 0
-AppliesProduct with_minimums series p before rows counts after =
-    (m : ByReference) → HoldsCatalogue series m rows → IsCatalogueReadAs with_minimums m → IsStorableProduct p → IsProductApplied series m p before rows counts after
-
 -- the catalogue of the series gets the products, and the answer is their effect
 abbrev pub AppliesMessage : List ℕ → List Product → DeskRows → Effect → DeskRows → Type 0
 AppliesMessage series products rows effect after = (m : ByReference) → HoldsCatalogue series m rows → IsApplied series m products rows effect after

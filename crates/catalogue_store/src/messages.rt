@@ -1,11 +1,12 @@
 //! A message applied to the rows of a catalogue.
 
-ghost use Rattle.std.specs.Prelude.{◌≡◌, ◌+◌, ◌<◌, ◌^◌, false, IfOk};
+ghost use Rattle.std.specs.Prelude.{◌≡◌, ◌+◌, ◌<◌, ◌^◌, false, IfOk, length};
 ghost use Rattle.catalogue_rules.specs.Effects.{counted};
 ghost use Rattle.catalogue_rules.specs.Plans.{total};
 ghost use Rattle.catalogue_rules.specs.declared.change.Change.TheVariants as asked;
 ghost use Rattle.catalogue_store.specs.Achieves.{Does};
-ghost use Rattle.catalogue_store.specs.Calls.{KeepsRows, Rewrites, ReplacesSuppliesAs, ReplacesRecordAs, CarriesOutAs, CarriesOut, AppliesProduct, AppliesMessage};
+ghost use Rattle.catalogue_store.specs.Calls.{KeepsRows, Rewrites, ReplacesSuppliesAs, ReplacesRecordAs, CarriesOutAs, CarriesOut, AppliesMessage};
+ghost use Rattle.catalogue_store.specs.Runs.{AppliesFound, AppliesSome, IsStep};
 ghost use Rattle.catalogue_store.specs.Minimums.{products_have_minimums};
 ghost use Rattle.catalogue_store.specs.declared.reading.FoundRecord.{FoundRecord};
 ghost use Rattle.desk_tables.specs.RecordAnswers.{has_minimums};
@@ -13,6 +14,7 @@ ghost use Rattle.desk_tables.specs.RecordAnswers.{has_minimums};
 use crate::minimums::products_have_minimums;
 use crate::reading::{FoundRecord, find_record, has_supplies};
 use crate::records::{remove_record, replace_supplies, write_record};
+use crate::runs::{Step, apply_run, brings_new, record_row};
 use catalogue_rules::change::{Change, counted};
 use desk_tables::rows::row_types::RecordRow;
 use desk_tables::work::Work;
@@ -159,31 +161,51 @@ fn change_record<S: Alter>(
     }
 }
 
-// Applies one product to the catalogue of the series, and gives the counts with it.
+// Applies one product, of whose record that was found, and gives the counts with it.
 fn apply_product<S: Alter>(
     alloc: Global,
     work: &mut Work<'_, S>,
-    series: &SeriesName,
+    row: &RecordRow,
     product: &Product,
+    found: FoundRecord,
     effect: Effect,
     with_minimums: bool,
 ) -> Result<Effect, StoreFault>
     requires { total effect + 1 < 2 ^ 32 }
     ensures one { IfOk result (λ e. total e ≡ total effect + 1) }
-    ensures does { Does S.Store (AppliesProduct with_minimums series.now product.now effect)
+    ensures does { Does S.Store (AppliesFound with_minimums row.now product.now found effect)
         work.old work.new result }
 {
-    let row = match product.reference.copy(alloc) {
-        Ok(reference) => RecordRow {
-            series: *series,
-            reference,
-        },
-        Err(_) => return Err(StoreFault::Memory),
-    };
-    let found = find_record(alloc, work, &row, product.ids.as_slice())?;
     let change = Change::of(product.notification);
-    change_record(alloc, work, &row, product, change, found, with_minimums)?;
+    change_record(alloc, work, row, product, change, found, with_minimums)?;
     Ok(counted(effect, change, found.is_there()))
+}
+
+// Applies some of the products, from the first on: a run of new records, or one product. Gives how
+// many, and the counts with them.
+fn apply_some<S: Alter>(
+    alloc: Global,
+    work: &mut Work<'_, S>,
+    series: &SeriesName,
+    products: &[Product],
+    effect: Effect,
+    with_minimums: bool,
+) -> Result<Step, StoreFault>
+    requires some { 0 < length products.now }
+    requires few { total effect + length products.now < 2 ^ 32 }
+    ensures counted { IfOk result (λ step. IsStep (total effect) (length products.now) step) }
+    ensures does { Does S.Store (AppliesSome with_minimums series.now products.now effect)
+        work.old work.new result }
+{
+    let product = &products[0];
+    let row = record_row(alloc, series, product)?;
+    let found = find_record(alloc, work, &row, product.ids.as_slice())?;
+    let is_new = brings_new(product, found);
+    if is_new {
+        return apply_run(alloc, work, series, products, effect);
+    }
+    let effect = apply_product(alloc, work, &row, product, found, effect, with_minimums)?;
+    Ok(Step { count: 1, effect })
 }
 
 // Whether prices of the series may have minimums while these products are applied: one that is there
@@ -220,9 +242,19 @@ pub fn apply_message<S: Alter>(
     contents.is_contents();
     let products = contents.products();
     let with_minimums = may_have_minimums(work, series, products)?;
+    let mut done = 0;
     let mut effect = Effect::none();
-    for product in products {
-        effect = apply_product(alloc, work, series, product, effect, with_minimums)?;
+    while done < products.len() {
+        let step = apply_some(
+            alloc,
+            work,
+            series,
+            &products[done..],
+            effect,
+            with_minimums,
+        )?;
+        done += step.count;
+        effect = step.effect;
     }
     Ok(effect)
 }

@@ -2,42 +2,15 @@
 
 ghost use Rattle.catalogue_store.specs.Achieves.{Does};
 ghost use Rattle.catalogue_store.specs.Calls.{ChangesRows, Writes, Removes, ReplacesSupplies};
-ghost use Rattle.catalogue_store.specs.WrittenRows.{with_articles, with_details, with_identified, with_prices, with_supplies};
+ghost use Rattle.catalogue_store.specs.WrittenRows.{with_identified, with_supplies};
 
 use crate::build::{article_rows, detail_rows, price_rows};
-use desk_tables::rows::row_types::{ArticleRow, OfferRow, PriceRow, RecordRow};
+use desk_tables::rows::row_types::RecordRow;
 use desk_tables::work::Work;
 use desk_terms::StoreFault;
 use onix_records::parts::{ProductIdentifier, ProductSupply};
 use sqlite::Alter;
 use std::alloc::Global;
-
-fn put_articles<S: Alter>(work: &mut Work<'_, S>, added: &[ArticleRow]) -> Result<(), StoreFault>
-    ensures { Does S.Store (ChangesRows (with_articles added.now)) work.old work.new result }
-{
-    for row in added {
-        work.put_article(row)?;
-    }
-    Ok(())
-}
-
-fn put_details<S: Alter>(work: &mut Work<'_, S>, added: &[OfferRow]) -> Result<(), StoreFault>
-    ensures { Does S.Store (ChangesRows (with_details added.now)) work.old work.new result }
-{
-    for row in added {
-        work.put_offer(row)?;
-    }
-    Ok(())
-}
-
-fn put_prices<S: Alter>(work: &mut Work<'_, S>, added: &[PriceRow]) -> Result<(), StoreFault>
-    ensures { Does S.Store (ChangesRows (with_prices added.now)) work.old work.new result }
-{
-    for row in added {
-        work.put_price(row)?;
-    }
-    Ok(())
-}
 
 // Adds the SupplyDetails of the record, and their prices.
 fn put_supplies<S: Alter>(
@@ -52,8 +25,8 @@ fn put_supplies<S: Alter>(
 {
     let details = detail_rows(alloc, &row.series, &row.reference, supplies)?;
     let prices = price_rows(alloc, &row.series, &row.reference, supplies)?;
-    put_details(work, details.as_slice())?;
-    put_prices(work, prices.as_slice())
+    work.put_offers(alloc, details.as_slice())?;
+    work.put_prices(alloc, prices.as_slice())
 }
 
 // Adds the record and its identifiers.
@@ -68,7 +41,7 @@ fn put_identified<S: Alter>(
 {
     let articles = article_rows(alloc, &row.series, &row.reference, ids)?;
     work.add_record(&row.series, row.reference.as_str())?;
-    put_articles(work, articles.as_slice())
+    work.put_articles(alloc, articles.as_slice())
 }
 
 /// Writes the rows of a record with these identifiers and supplies, where it has no rows.

@@ -1,18 +1,24 @@
-//! Calls over whole tables, and over a record, that no crate of the desk makes: tests do alone. They are
-//! part of what the tables offer.
+//! Calls of one row, over whole tables, and over a record, that no crate of the desk makes: tests do
+//! alone. They are part of what the tables offer.
 
-ghost use Rattle.std.specs.Prelude.{◌≡◌};
-ghost use Rattle.desk_tables.specs.Calls.{Adds, Asks, Changes};
+ghost use Rattle.std.specs.Prelude.{◌≡◌, Err};
+ghost use Rattle.desk_tables.specs.Calls.{Adds, AddsMade, Asks, Changes};
 ghost use Rattle.desk_tables.specs.RecordAnswers.{AreArticlesInOrder, AreMinimums, AreOffersInOrder, ArePricesInOrder, ArePricesWith, AreRising};
-ghost use Rattle.desk_tables.specs.RecordChanges.{has_record, with_record, without_articles};
+ghost use Rattle.desk_tables.specs.RecordChanges.{has_record, with_article, with_minimum, with_offer, with_price, with_price_and_minimum, with_record, without_articles};
+ghost use Rattle.desk_tables.specs.RecordRows.{minimum_row, offer_row, price_row};
 ghost use Rattle.desk_tables.specs.Rows.{AreSeriesInOrder};
 
+use crate::many_rows::{PUT_ARTICLE, PUT_MINIMUM, PUT_OFFER, PUT_PRICE};
 use crate::rows::articles::all_articles;
 use crate::rows::offers::all_offers;
 use crate::rows::prices::{all_minimums, all_prices};
 use crate::rows::records::has_row;
 use crate::rows::row_types::{ArticleRow, MinimumRow, OfferRow, PriceRow};
 use crate::rows::series::{SeriesRow, all_series};
+use crate::rows::values::{
+    article_row_values, minimum_row_values, offer_row_values, price_row_values,
+};
+use crate::rows::written::territory_texts;
 use crate::work::Work;
 use desk_terms::StoreFault;
 use onix_terms::series_name::SeriesName;
@@ -48,6 +54,105 @@ impl<S: Alter> Work<'_, S> {
             "INSERT INTO record (series, reference) VALUES (?1, ?2) ON CONFLICT DO NOTHING",
             params![series.as_str(), reference],
         )?;
+        Ok(())
+    }
+
+    /// Adds a row. `Unusable` where the record has an identifier at that place, or the series has
+    /// no such record.
+    pub fn put_article(&mut self, row: &ArticleRow) -> Result<(), StoreFault>
+        ensures { Adds S.Store (with_article row.now) self.old self.new result }
+    {
+        self.run(PUT_ARTICLE, &article_row_values(row))?;
+        Ok(())
+    }
+
+    // Adds a row whose market has these texts.
+    fn put_offer_texts(
+        &mut self,
+        row: &OfferRow,
+        included: &str,
+        excluded: &str,
+    ) -> Result<(), StoreFault>
+        ensures { Adds S.Store
+            (with_offer (record (offer_row row.now) {
+              included = included.now;
+              excluded = excluded.now;
+            }))
+            self.old self.new result }
+    {
+        self.run(PUT_OFFER, &offer_row_values(row, included, excluded))?;
+        Ok(())
+    }
+
+    /// Adds a row. `Unusable` where the record has an offer at that place, or the series has no
+    /// such record.
+    pub fn put_offer(&mut self, row: &OfferRow) -> Result<(), StoreFault>
+        ensures { AddsMade S.Store (with_offer (offer_row row.now)) self.old self.new result }
+    {
+        if self.spent {
+            return Err(StoreFault::Unusable);
+        }
+        let texts = match territory_texts(&row.reference, &row.market) {
+            Ok(texts) => texts,
+            Err(fault) => {
+                self.spent = true;
+                return Err(fault);
+            }
+        };
+        self.put_offer_texts(row, texts.included.as_str(), texts.excluded.as_str())
+    }
+
+    // Adds a row of `price` whose territory has these texts.
+    fn put_price_texts(
+        &mut self,
+        row: &PriceRow,
+        included: &str,
+        excluded: &str,
+    ) -> Result<(), StoreFault>
+        ensures { Adds S.Store
+            (with_price (record (price_row row.now) {
+              included = included.now;
+              excluded = excluded.now;
+            }))
+            self.old self.new result }
+    {
+        self.run(PUT_PRICE, &price_row_values(row, included, excluded))?;
+        Ok(())
+    }
+
+    // Adds a row of `price_minimum`.
+    fn put_minimum(&mut self, row: &PriceRow) -> Result<(), StoreFault>
+        ensures { Adds S.Store (with_minimum (minimum_row row.now)) self.old self.new result }
+    {
+        self.run(PUT_MINIMUM, &minimum_row_values(row))?;
+        Ok(())
+    }
+
+    /// Adds a price, and its minimum where that is above 1. `Unusable` where the offer has a price
+    /// at that place, or the record has no such offer.
+    pub fn put_price(&mut self, row: &PriceRow) -> Result<(), StoreFault>
+        ensures { AddsMade S.Store (with_price_and_minimum row.now) self.old self.new result }
+    {
+        if self.spent {
+            return Err(StoreFault::Unusable);
+        }
+        let texts = match territory_texts(&row.reference, &row.price.territory) {
+            Ok(texts) => texts,
+            Err(fault) => {
+                self.spent = true;
+                return Err(fault);
+            }
+        };
+        if let Err(fault) = self.put_price_texts(
+            row,
+            texts.included.as_str(),
+            texts.excluded.as_str(),
+        ) {
+            return Err(fault);
+        }
+        if row.price.minimum.value() > 1 {
+            return self.put_minimum(row);
+        }
         Ok(())
     }
 

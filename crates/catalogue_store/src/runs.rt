@@ -1,0 +1,252 @@
+//! Runs of new records, which are written table by table.
+
+ghost use Rattle.std.specs.Prelude.{◌≡◌, ◌+◌, ◌<◌, ◌≤◌, ◌^◌, IfOk, length};
+ghost use Rattle.std.specs.List.{list_any};
+ghost use Rattle.std.specs.Str.{bytes_eq};
+ghost use Rattle.catalogue_rules.specs.Plans.{total};
+ghost use Rattle.catalogue_store.specs.Achieves.{Does};
+ghost use Rattle.catalogue_store.specs.Calls.{ChangesRows, KeepsRows};
+ghost use Rattle.catalogue_store.specs.EntryRows.{record_row};
+ghost use Rattle.catalogue_store.specs.Runs.{brings_new, is_replaced, with_identifiers_of, with_supplies_of, AppliesRun, AreNewIn, IsNewIn, IsStep};
+ghost use Rattle.catalogue_store.specs.WrittenRows.{articles_of, details_of, prices_of, records_of, with_products};
+
+use crate::build::{add_article_rows, add_detail_rows, add_price_rows};
+use crate::reading::{FoundRecord, find_record};
+use catalogue_rules::change::Change;
+use desk_tables::rows::row_types::{ArticleRow, OfferRow, PriceRow, RecordRow};
+use desk_tables::work::Work;
+use desk_terms::{Effect, StoreFault};
+use onix_records::parts::Product;
+use onix_terms::series_name::SeriesName;
+use onix_terms::text::Text;
+use sqlite::Alter;
+use std::alloc::Global;
+
+// The most products of a run: the more, the fewer statements, and the more looks for a reference.
+const LONGEST_RUN: usize = 64;
+
+/// Products that were applied at once.
+#[derive(Clone, Copy)]
+pub struct Step {
+    /// How many.
+    pub count: usize,
+    /// The counts with them.
+    pub effect: Effect,
+}
+
+/// The row of the record of a product.
+pub fn record_row(
+    alloc: Global,
+    series: &SeriesName,
+    product: &Product,
+) -> Result<RecordRow, StoreFault>
+    ensures { IfOk result (λ row. row ≡ record_row series.now product.now.reference) }
+{
+    match product.reference.copy(alloc) {
+        Ok(reference) => Ok(RecordRow {
+            series: *series,
+            reference,
+        }),
+        Err(_) => Err(StoreFault::Memory),
+    }
+}
+
+// Whether the product brings a whole record.
+fn is_replaced(product: &Product) -> bool
+    ensures { result ≡ is_replaced product.now }
+{
+    match Change::of(product.notification) {
+        Change::Replace => true,
+        Change::Update | Change::Delete | Change::Ignore => false,
+    }
+}
+
+/// Whether the product brings a whole record, where that was found at its reference.
+pub fn brings_new(product: &Product, found: FoundRecord) -> bool
+    ensures { result ≡ brings_new product.now found }
+{
+    is_replaced(product) && !found.is_there()
+}
+
+// Whether one of the products has the reference.
+fn has_reference(products: &[Product], reference: &Text) -> bool
+    ensures { result ≡ list_any (λ p. bytes_eq p.reference reference.now) products.now }
+{
+    products
+        .iter()
+        .any(|product| product.reference == *reference)
+}
+
+// Whether the product brings a record that the catalogue does not have.
+fn is_new<S: Alter>(
+    alloc: Global,
+    work: &mut Work<'_, S>,
+    series: &SeriesName,
+    product: &Product,
+) -> Result<bool, StoreFault>
+    ensures { Does S.Store (KeepsRows (IsNewIn series.now product.now)) work.old work.new result }
+{
+    let row = record_row(alloc, series, product)?;
+    let found = find_record(alloc, work, &row, product.ids.as_slice())?;
+    Ok(brings_new(product, found))
+}
+
+// How many of the products, the first of which is one, are new records of other references each.
+fn count_new<S: Alter>(
+    alloc: Global,
+    work: &mut Work<'_, S>,
+    series: &SeriesName,
+    products: &[Product],
+) -> Result<usize, StoreFault>
+    requires { 0 < length products.now }
+    ensures within { IfOk result (λ n. n ≤ length products.now) }
+    ensures some { IfOk result (λ n. 0 < n) }
+    ensures does { Does S.Store (KeepsRows (AreNewIn series.now products.now))
+        work.old work.new result }
+{
+    let most = products.len().min(LONGEST_RUN);
+    for i in 1..most {
+        let product = &products[i];
+        if has_reference(&products[..i], &product.reference) {
+            return Ok(i);
+        }
+        let is_new = is_new(alloc, work, series, product)?;
+        if !is_new {
+            return Ok(i);
+        }
+    }
+    Ok(most)
+}
+
+fn record_rows(
+    alloc: Global,
+    series: &SeriesName,
+    products: &[Product],
+) -> Result<Vec<RecordRow>, StoreFault>
+    ensures { IfOk result (λ rows. rows.items ≡ records_of series.now products.now) }
+{
+    let mut rows = Vec::new(alloc);
+    for product in products {
+        let row = record_row(alloc, series, product)?;
+        if rows.push(row).is_err() {
+            return Err(StoreFault::Memory);
+        }
+    }
+    Ok(rows)
+}
+
+fn article_rows(
+    alloc: Global,
+    series: &SeriesName,
+    products: &[Product],
+) -> Result<Vec<ArticleRow>, StoreFault>
+    ensures { IfOk result (λ rows. rows.items ≡ articles_of series.now products.now) }
+{
+    let mut rows = Vec::new(alloc);
+    for product in products {
+        let ids = product.ids.as_slice();
+        add_article_rows(alloc, series, &product.reference, ids, &mut rows)?;
+    }
+    Ok(rows)
+}
+
+fn detail_rows(
+    alloc: Global,
+    series: &SeriesName,
+    products: &[Product],
+) -> Result<Vec<OfferRow>, StoreFault>
+    ensures { IfOk result (λ rows. rows.items ≡ details_of series.now products.now) }
+{
+    let mut rows = Vec::new(alloc);
+    for product in products {
+        let supplies = product.supplies.as_slice();
+        add_detail_rows(alloc, series, &product.reference, supplies, &mut rows)?;
+    }
+    Ok(rows)
+}
+
+fn price_rows(
+    alloc: Global,
+    series: &SeriesName,
+    products: &[Product],
+) -> Result<Vec<PriceRow>, StoreFault>
+    ensures { IfOk result (λ rows. rows.items ≡ prices_of series.now products.now) }
+{
+    let mut rows = Vec::new(alloc);
+    for product in products {
+        let supplies = product.supplies.as_slice();
+        add_price_rows(alloc, series, &product.reference, supplies, &mut rows)?;
+    }
+    Ok(rows)
+}
+
+// Adds the records of the products and their identifiers.
+fn put_identified<S: Alter>(
+    alloc: Global,
+    work: &mut Work<'_, S>,
+    series: &SeriesName,
+    products: &[Product],
+) -> Result<(), StoreFault>
+    ensures { Does S.Store (ChangesRows (with_identifiers_of series.now products.now))
+        work.old work.new result }
+{
+    let records = record_rows(alloc, series, products)?;
+    let articles = article_rows(alloc, series, products)?;
+    work.put_records(alloc, records.as_slice())?;
+    work.put_articles(alloc, articles.as_slice())
+}
+
+// Adds the SupplyDetails of the products and their prices.
+fn put_supplied<S: Alter>(
+    alloc: Global,
+    work: &mut Work<'_, S>,
+    series: &SeriesName,
+    products: &[Product],
+) -> Result<(), StoreFault>
+    ensures { Does S.Store (ChangesRows (with_supplies_of series.now products.now))
+        work.old work.new result }
+{
+    let details = detail_rows(alloc, series, products)?;
+    let prices = price_rows(alloc, series, products)?;
+    work.put_offers(alloc, details.as_slice())?;
+    work.put_prices(alloc, prices.as_slice())
+}
+
+// Adds the records of the products, which have no rows, table by table.
+fn write_products<S: Alter>(
+    alloc: Global,
+    work: &mut Work<'_, S>,
+    series: &SeriesName,
+    products: &[Product],
+) -> Result<(), StoreFault>
+    ensures { Does S.Store (ChangesRows (with_products series.now products.now))
+        work.old work.new result }
+{
+    put_identified(alloc, work, series, products)?;
+    put_supplied(alloc, work, series, products)
+}
+
+/// Applies the run of new records that begins with the first product, which is one. A fault is one of
+/// the store, or want of memory; `Unusable` where the series is not there or a row cannot be read back.
+pub fn apply_run<S: Alter>(
+    alloc: Global,
+    work: &mut Work<'_, S>,
+    series: &SeriesName,
+    products: &[Product],
+    effect: Effect,
+) -> Result<Step, StoreFault>
+    requires some { 0 < length products.now }
+    requires few { total effect + length products.now < 2 ^ 32 }
+    ensures counted { IfOk result (λ step. IsStep (total effect) (length products.now) step) }
+    ensures does { Does S.Store (AppliesRun series.now products.now effect)
+        work.old work.new result }
+{
+    let count = count_new(alloc, work, series, products)?;
+    write_products(alloc, work, series, &products[..count])?;
+    let mut counts = effect;
+    counts.replaced += count as u32;
+    Ok(Step {
+        count,
+        effect: counts,
+    })
+}

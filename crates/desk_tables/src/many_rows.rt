@@ -1,0 +1,150 @@
+//! INSERT of many rows into a table of the catalogues: eight by one statement while there are as many,
+//! and then one by one.
+
+ghost use Rattle.std.specs.Prelude.{◌≡◌, ◌*◌, ◌≤◌, length};
+ghost use Rattle.sqlite.specs.Values.{bound};
+ghost use Rattle.desk_tables.specs.ManyRows.{many_of, text_of, width_of, RunsEach, RunsRows, RunsValues};
+
+use crate::work::Work;
+use desk_terms::StoreFault;
+use sqlite::Alter;
+use sqlite::types::ValueRef;
+use std::alloc::AllocError;
+
+pub const PUT_RECORD: &str = "INSERT INTO record (series, reference) VALUES (?1, ?2)";
+
+pub const PUT_8_RECORDS: &str =
+    "INSERT INTO record (series, reference) VALUES (?, ?), (?, ?), (?, ?), (?, ?), (?, ?), (?, ?), (?, ?), (?, ?)";
+
+pub const PUT_ARTICLE: &str =
+    "INSERT INTO article (series, reference, id_place, id_type, id_value) VALUES (?1, ?2, ?3, ?4, ?5)";
+
+pub const PUT_8_ARTICLES: &str =
+    "INSERT INTO article (series, reference, id_place, id_type, id_value) VALUES (?, ?, ?, ?, ?), (?, ?, ?, ?, ?), (?, ?, ?, ?, ?), (?, ?, ?, ?, ?), (?, ?, ?, ?, ?), (?, ?, ?, ?, ?), (?, ?, ?, ?, ?), (?, ?, ?, ?, ?)";
+
+pub const PUT_OFFER: &str =
+    "INSERT INTO offer (series, reference, place, supply, included, world, excluded, role, supplier_type, supplier_value, supplier_name, availability, unpriced) VALUES (?1, ?2, ?3, ?4, ?5, ?6, ?7, ?8, ?9, ?10, ?11, ?12, ?13)";
+
+pub const PUT_8_OFFERS: &str =
+    "INSERT INTO offer (series, reference, place, supply, included, world, excluded, role, supplier_type, supplier_value, supplier_name, availability, unpriced) VALUES (?, ?, ?, ?, ?, ?, ?, ?, ?, ?, ?, ?, ?), (?, ?, ?, ?, ?, ?, ?, ?, ?, ?, ?, ?, ?), (?, ?, ?, ?, ?, ?, ?, ?, ?, ?, ?, ?, ?), (?, ?, ?, ?, ?, ?, ?, ?, ?, ?, ?, ?, ?), (?, ?, ?, ?, ?, ?, ?, ?, ?, ?, ?, ?, ?), (?, ?, ?, ?, ?, ?, ?, ?, ?, ?, ?, ?, ?), (?, ?, ?, ?, ?, ?, ?, ?, ?, ?, ?, ?, ?), (?, ?, ?, ?, ?, ?, ?, ?, ?, ?, ?, ?, ?)";
+
+pub const PUT_PRICE: &str =
+    "INSERT INTO price (series, reference, place, price_place, price_type, amount, currency, included, world, excluded, from_day, until_day) VALUES (?1, ?2, ?3, ?4, ?5, ?6, ?7, ?8, ?9, ?10, ?11, ?12)";
+
+pub const PUT_8_PRICES: &str =
+    "INSERT INTO price (series, reference, place, price_place, price_type, amount, currency, included, world, excluded, from_day, until_day) VALUES (?, ?, ?, ?, ?, ?, ?, ?, ?, ?, ?, ?), (?, ?, ?, ?, ?, ?, ?, ?, ?, ?, ?, ?), (?, ?, ?, ?, ?, ?, ?, ?, ?, ?, ?, ?), (?, ?, ?, ?, ?, ?, ?, ?, ?, ?, ?, ?), (?, ?, ?, ?, ?, ?, ?, ?, ?, ?, ?, ?), (?, ?, ?, ?, ?, ?, ?, ?, ?, ?, ?, ?), (?, ?, ?, ?, ?, ?, ?, ?, ?, ?, ?, ?), (?, ?, ?, ?, ?, ?, ?, ?, ?, ?, ?, ?)";
+
+pub const PUT_MINIMUM: &str =
+    "INSERT INTO price_minimum (series, reference, place, price_place, minimum) VALUES (?1, ?2, ?3, ?4, ?5)";
+
+pub const PUT_8_MINIMUMS: &str =
+    "INSERT INTO price_minimum (series, reference, place, price_place, minimum) VALUES (?, ?, ?, ?, ?), (?, ?, ?, ?, ?), (?, ?, ?, ?, ?), (?, ?, ?, ?, ?), (?, ?, ?, ?, ?), (?, ?, ?, ?, ?), (?, ?, ?, ?, ?), (?, ?, ?, ?, ?)";
+
+/// A table that keeps the catalogues.
+#[derive(Clone, Copy)]
+pub enum CatalogueTable {
+    Record,
+    Article,
+    Offer,
+    Price,
+    PriceMinimum,
+}
+
+impl CatalogueTable {
+    // How many values a row has.
+    fn width(self) -> usize
+        ensures { result ≡ width_of self }
+    {
+        match self {
+            CatalogueTable::Record => 2,
+            CatalogueTable::Article => 5,
+            CatalogueTable::Offer => 13,
+            CatalogueTable::Price => 12,
+            CatalogueTable::PriceMinimum => 5,
+        }
+    }
+
+    // The INSERT of eight rows, or of one.
+    fn text(self, eight: bool) -> &'static str
+        ensures { result.now ≡ text_of self eight }
+    {
+        match (self, eight) {
+            (CatalogueTable::Record, false) => PUT_RECORD,
+            (CatalogueTable::Record, true) => PUT_8_RECORDS,
+            (CatalogueTable::Article, false) => PUT_ARTICLE,
+            (CatalogueTable::Article, true) => PUT_8_ARTICLES,
+            (CatalogueTable::Offer, false) => PUT_OFFER,
+            (CatalogueTable::Offer, true) => PUT_8_OFFERS,
+            (CatalogueTable::Price, false) => PUT_PRICE,
+            (CatalogueTable::Price, true) => PUT_8_PRICES,
+            (CatalogueTable::PriceMinimum, false) => PUT_MINIMUM,
+            (CatalogueTable::PriceMinimum, true) => PUT_8_MINIMUMS,
+        }
+    }
+}
+
+// How many rows a statement puts.
+fn many(eight: bool) -> usize
+    ensures { result ≡ many_of eight }
+{
+    if eight { 8 } else { 1 }
+}
+
+impl<S: Alter> Work<'_, S> {
+    // Puts rows by statements of eight, or of one: those of the statements from one up to another.
+    fn run_each(
+        &mut self,
+        table: CatalogueTable,
+        eight: bool,
+        from: usize,
+        to: usize,
+        values: &[ValueRef<'_>],
+    ) -> Result<(), StoreFault>
+        requires rising { from ≤ to }
+        requires within { many_of eight * to * width_of table ≤ length values.now }
+        ensures { RunsEach S.Store table eight from to (bound values.now)
+            self.old self.new result }
+    {
+        if self.spent {
+            return Err(StoreFault::Unusable);
+        }
+        let sql = table.text(eight);
+        let length = many(eight) * table.width();
+        for place in from..to {
+            let start = place * length;
+            self.run(sql, &values[start..start + length])?;
+        }
+        Ok(())
+    }
+
+    // Puts the rows of these values.
+    fn run_rows(&mut self, table: CatalogueTable, values: &[ValueRef<'_>]) -> Result<(), StoreFault>
+        ensures { RunsRows S.Store table (bound values.now) self.old self.new result }
+    {
+        let count = values.len() / table.width();
+        let eights = count / 8;
+        self.run_each(table, true, 0, eights, values)?;
+        self.run_each(table, false, 8 * eights, count, values)
+    }
+
+    // Puts the rows of these values, where memory sufficed for them.
+    pub(crate) fn run_values(
+        &mut self,
+        table: CatalogueTable,
+        values: Result<Vec<ValueRef<'_>>, AllocError>,
+    ) -> Result<(), StoreFault>
+        ensures { RunsValues S.Store table values.entry (λ v. bound v.items)
+            self.old self.new result }
+    {
+        if self.spent {
+            return Err(StoreFault::Unusable);
+        }
+        match values {
+            Ok(values) => self.run_rows(table, values.as_slice()),
+            Err(_) => {
+                self.spent = true;
+                Err(StoreFault::Memory)
+            }
+        }
+    }
+}

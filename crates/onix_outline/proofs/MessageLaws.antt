@@ -3,7 +3,7 @@ use Rattle.std.proofs.Common.{◌≡◌, ℕ, Bool, true, false, List, Option, S
 use Rattle.std.specs.Prelude.{IfOk, IfErr}
 use Rattle.xml_text.specs.Grammar.{Token}
 use Rattle.xml_text.specs.Places.{IsDocument}
-use Rattle.xml_text.specs.Documents.{IsTold}
+use Rattle.xml_text.specs.EncodingNames.{IsTextOf}
 use Rattle.xml_text.specs.Tree.{Content}
 use Rattle.xml_text.specs.Trees.{IsTree}
 use Rattle.onix_outline.specs.declared.dialect.Wrong.{Wrong}
@@ -18,7 +18,7 @@ use Rattle.onix_outline.proofs.FeedLaws.{knows, outcome, tree_feeds, has_root, k
 
 -- a message was read
 abbrev pub Reads : {T : Type 0} → (T → List Line → T) → T → Option (List ℕ) → T → Type 0
-Reads after taker told taken = (text : List ℕ) × (d : Dialect) × (inside : Content) × IsTold told text × IsMessage text d inside × (taken ≡ fold after taker (parts_of (nodes_in d inside)))
+Reads after taker told taken = (text : List ℕ) × (d : Dialect) × (inside : Content) × IsTextOf told text × IsMessage text d inside × (taken ≡ fold after taker (parts_of (nodes_in d inside)))
 
 -- what a call gave is one of the two
 pub record Comes {T : Type 0} (after : T → List Line → T) (taker : T) (told : Option (List ℕ)) (result : Result T Fault) : Type 0 where
@@ -26,7 +26,7 @@ pub record Comes {T : Type 0} (after : T → List Line → T) (taker : T) (told 
   pub err : IfErr result (Explains told)
 
 pub comes : {T : Type 0} (after : T → List Line → T) (taker : T) (told : Option (List ℕ)) (text : List ℕ) (tokens : List Token) (name : List ℕ) (inside : Content)
-    → IsTold told text → IsDocument text tokens → IsTree tokens name inside → Comes after taker told (finished (fold (feed after) (first_feed taker) tokens))
+    → IsTextOf told text → IsDocument text tokens → IsTree tokens name inside → Comes after taker told (finished (fold (feed after) (first_feed taker) tokens))
 comes after taker told text tokens name inside is document tree = rw (tree_feeds after taker tokens name inside tree) (go (root_of tokens) refl (knows true tokens) refl)
   where
     go : (o : Option (Result Dialect Wrong)) → root_of tokens ≡ o → (k : Bool) → knows true tokens ≡ k → Comes after taker told (finished (outcome after taker inside k o))

@@ -1,9 +1,9 @@
 -- Why no message was read.
 use Rattle.std.specs.Prelude.{◌≡◌, ℕ, Bool, false, List, Option, Some, None, Result, Ok, Err, IfSome, if◌then◌else◌}
 use Rattle.std.specs.List.{list_all}
-use Rattle.xml_text.specs.declared.fault.Fault.TheVariants.{Malformed, TooDeep, TooLong, LargeTag}
+use Rattle.xml_text.specs.declared.fault.Fault.TheVariants.{Malformed, TooDeep, TooLong, LargeTag, UnknownEncoding}
 use Rattle.xml_text.specs.Grammar.{Token}
-use Rattle.xml_text.specs.Documents.{IsTold}
+use Rattle.xml_text.specs.EncodingNames.{IsTextOf, OfText, IsOfUnknown}
 use Rattle.xml_text.specs.Limits.{Meets, IsDeep, IsLarge, IsLong}
 use Rattle.xml_text.specs.Places.{IsDocument, IsNoDocument, first_place}
 use Rattle.onix_outline.specs.declared.dialect.Wrong.{Wrong}
@@ -20,16 +20,17 @@ Refuses (Document fault) tokens = Unit {0}
 Refuses (Message wrong) tokens = root_of tokens ≡ Some (Err wrong)
 Refuses Reference tokens = list_all is_known tokens ≡ false
 
--- a text that a reader has left, where it tells that, is a document that is refused
+-- the text of the bytes that a reader has left, where it tells them, is a document that is refused
 abbrev pub RefusesDocument : Option (List ℕ) → Fault → Type 0
-RefusesDocument told fault = (text : List ℕ) × (tokens : List Token) × IsTold told text × IsDocument text tokens × Refuses fault tokens
+RefusesDocument told fault = (text : List ℕ) × (tokens : List Token) × IsTextOf told text × IsDocument text tokens × Refuses fault tokens
 
--- Malformed: what the reader has left is no document. Too deep, too long and with a large tag: it goes beyond that bound. Root and release: it is one with another root or release. Reference: it is one with a reference that stands for nothing.
+-- Malformed: what the reader has left is no document. Unknown encoding: it says that it has one that is none of those. Too deep, too long and with a large tag: it goes beyond that bound. Root and release: it is one with another root or release. Reference: it is one with a reference that stands for nothing.
 abbrev pub Explains : Option (List ℕ) → Fault → Type 0
-Explains told (Document Malformed) = IfSome told IsNoDocument
-Explains told (Document TooDeep) = IfSome told (Meets IsDeep first_place)
-Explains told (Document TooLong) = IfSome told (Meets IsLong first_place)
-Explains told (Document LargeTag) = IfSome told (Meets IsLarge first_place)
+Explains told (Document Malformed) = OfText IsNoDocument told
+Explains told (Document TooDeep) = OfText (Meets IsDeep first_place) told
+Explains told (Document TooLong) = OfText (Meets IsLong first_place) told
+Explains told (Document LargeTag) = OfText (Meets IsLarge first_place) told
+Explains told (Document UnknownEncoding) = IfSome told IsOfUnknown
 Explains told (Document other) = Unit {0}
 Explains told (Message wrong) = RefusesDocument told (Message wrong)
 Explains told Reference = RefusesDocument told Reference

@@ -1,9 +1,10 @@
 //! The tokens of a message, of which each Header and Product becomes an outline.
 
-ghost use Rattle.std.specs.Prelude.{◌≡◌, [], IfOk, OnOk, true, unwrap_or, is_some};
+ghost use Rattle.std.specs.Prelude.{◌≡◌, [], IfOk, OnOk, true, unwrap_or, is_some, fold};
 ghost use Rattle.xml_text.specs.EntityView.{entity_views};
 ghost use Rattle.xml_text.specs.References.{reference_text};
-ghost use Rattle.onix_outline.specs.Feed.{feeding, first_feed, begun, ended, emptied, spoken, handed, settled};
+ghost use Rattle.xml_text.specs.View.{piece_view};
+ghost use Rattle.onix_outline.specs.Feed.{feed, feeding, first_feed, begun, ended, emptied, spoken, handed, settled};
 ghost use Rattle.onix_outline.specs.Faults.{finished};
 ghost use Rattle.onix_outline.specs.Growing.{closed};
 ghost use Rattle.onix_outline.specs.Nodes.{named_characters};
@@ -229,14 +230,11 @@ impl<T: Taker + Drop> Outliner<T> {
         let (text, known) = reference_text(self.alloc, body)?;
         self.speak(&text, known)
     }
-}
 
-impl<T: Taker + Drop> Sink for Outliner<T> {
-    ghost use Rattle.onix_outline.specs.Feed.{feed};
-
-    ghost after = { λ f token. feed T.after f token };
-
-    fn take(&mut self, piece: Piece<'_>) -> Result<(), AllocError> {
+    // Takes what was read next.
+    fn take_piece(&mut self, piece: Piece<'_>) -> Result<(), AllocError>
+        ensures { OnOk result (self.new ≡ fold (feed T.after) self.old (piece_view piece.entry)) }
+    {
         match piece {
             Piece::Text(run) => self.speak(run, true),
             Piece::Markup(Token::Start(name, attributes, _)) => self.begin(name, &attributes),
@@ -249,5 +247,19 @@ impl<T: Taker + Drop> Sink for Outliner<T> {
             Piece::Markup(Token::Declaration(_)) => self.speak(b"", true),
             Piece::Markup(Token::Doctype(_)) => self.speak(b"", true),
         }
+    }
+}
+
+impl<T: Taker + Drop> Sink for Outliner<T> {
+    ghost use Rattle.std.specs.Prelude.{true};
+    ghost use Rattle.onix_outline.specs.Feed.{feed};
+
+    ghost after = { λ f token. feed T.after f token };
+
+    ghost goes_on = { λ f. true };
+
+    fn take(&mut self, piece: Piece<'_>, _: &[u8]) -> Result<bool, AllocError> {
+        self.take_piece(piece)?;
+        Ok(true)
     }
 }

@@ -1,8 +1,7 @@
 //! The reading of messages.
 
 ghost use Rattle.std.specs.Prelude.{◌≡◌, ℕ, List, IfOk, IfErr, fold};
-ghost use Rattle.xml_text.specs.Documents.{IsTold};
-ghost use Rattle.xml_text.specs.Encodings.{text_left};
+ghost use Rattle.xml_text.specs.EncodingNames.{IsTextOf};
 ghost use Rattle.xml_text.specs.Tree.{Content};
 ghost use Rattle.onix_outline.specs.Dialect.{Dialect};
 ghost use Rattle.onix_outline.specs.Faults.{Explains};
@@ -14,7 +13,7 @@ use crate::dialect::Wrong;
 use crate::outliner::{Outliner, Taker};
 use std::alloc::Global;
 use std::io::Read;
-use xml_text::{Encoding, documents_are_trees, read_encoded};
+use xml_text::{documents_are_trees, read_document};
 
 /// Why no message was read.
 #[derive(Debug, Drop)]
@@ -27,25 +26,22 @@ pub enum Fault {
     Reference,
 }
 
-/// Reads a message in an encoding, hands on its Header and each of its Products in order, and gives
-/// back what took them. Its first bytes, the head, were read before.
+/// Reads a message, hands on its Header and each of its Products in order, and gives back what took them. Its first
+/// bytes tell its encoding.
 pub fn read_message<R: Read, T: Taker + Drop>(
     alloc: Global,
-    head: &[u8],
     reader: &mut R,
-    encoding: Encoding,
     taker: T,
 ) -> Result<T, Fault>
     ensures message { IfOk result (λ taken. (text : List ℕ) × (d : Dialect) × (inside : Content)
-        × IsTold (text_left encoding head.now (R.remaining reader.old)) text
+        × IsTextOf (R.remaining reader.old) text
         × IsMessage text d inside
         × (taken ≡ fold T.after taker (parts_of (nodes_in d inside)))) }
-    ensures refused { IfErr result (λ fault.
-        Explains (text_left encoding head.now (R.remaining reader.old)) fault) }
+    ensures refused { IfErr result (λ fault. Explains (R.remaining reader.old) fault) }
 {
     documents_are_trees();
     let mut outliner = Outliner::new(alloc, taker);
-    match read_encoded(alloc, head, reader, encoding, &mut outliner) {
+    match read_document(alloc, reader, &mut outliner) {
         Err(fault) => Err(Fault::Document(fault)),
         Ok(()) => outliner.finish(),
     }

@@ -9,7 +9,6 @@ use crate::shown::Shown;
 use onix_outline::{Fault, Wrong, read_message};
 use std::io;
 use std::io::Read;
-use xml_text::Encoding;
 
 fn verdict(fault: &Fault) -> &'static str {
     match fault {
@@ -24,7 +23,7 @@ fn verdict(fault: &Fault) -> &'static str {
 fn tell(rt: HostRuntime, line: &[u8]) -> io::Result<()> {
     let mut reader = line;
     let shown = Shown::new(rt.alloc());
-    match read_message(rt.alloc(), &[], &mut reader, Encoding::Utf8, shown) {
+    match read_message(rt.alloc(), &mut reader, shown) {
         Ok(shown) => {
             let text = shown.as_text();
             println!(rt; "message {text}")

@@ -1,5 +1,5 @@
 use Rattle.onix_outline.proofs.FeedLaws.{text_feeds}
-use Rattle.onix_outline.proofs.outliner.OutlinerSink.take.Goals as goal
+use Rattle.onix_outline.proofs.outliner.Outliner.take_piece.Goals as goal
 
 pub returns-in-Text : goal.returns-in-Text
 returns-in-Text g c =

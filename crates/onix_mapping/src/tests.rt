@@ -4,6 +4,7 @@ use crate::identifiers::{Identifier, SUPPLIER, choose_identifier};
 use onix_outline::Line;
 use std::alloc::{AllocError, Global};
 use std::process::Abort;
+use xml_text::Position;
 
 fn push(
     alloc: Global,
@@ -15,6 +16,7 @@ fn push(
     let line = Line {
         depth,
         name,
+        place: Position { line: 1, column: 1 },
         format: None,
         text: Vec::from_slice(alloc, text)?,
     };

@@ -21,10 +21,10 @@ change-last f (k ∷ lines) l = ap (λ (ls : List Line). k ∷ ls) (change-last 
 
 pub longer-nil : (at : ℕ) (lines : List Line) → change (longer []) at lines ≡ lines
 longer-nil at [] = refl
-longer-nil zero (l ∷ lines) = ap (λ (t : List ℕ). line l.depth l.name l.format t ∷ lines) (append-nil l.text)
+longer-nil zero (l ∷ lines) = ap (λ (t : List ℕ). line l.depth l.name l.tag t ∷ lines) (append-nil l.text)
 longer-nil (suc at) (l ∷ lines) = ap (λ (ls : List Line). l ∷ ls) (longer-nil at lines)
 
 pub longer-append : (at : ℕ) (x y : List ℕ) (lines : List Line) → change (longer (x ++ y)) at lines ≡ change (longer y) at (change (longer x) at lines)
 longer-append at x y [] = refl
-longer-append zero x y (l ∷ lines) = ap (λ (t : List ℕ). line l.depth l.name l.format t ∷ lines) (sym (append_assoc l.text x y))
+longer-append zero x y (l ∷ lines) = ap (λ (t : List ℕ). line l.depth l.name l.tag t ∷ lines) (sym (append_assoc l.text x y))
 longer-append (suc at) x y (l ∷ lines) = ap (λ (ls : List Line). l ∷ ls) (longer-append at x y lines)

@@ -7,7 +7,7 @@ use Rattle.std.proofs.lemmas.List.{take-map, drop-map, take_all, length-drop}
 use Rattle.std.proofs.Math.Seq.{take-append_seam, drop-append_seam}
 use Rattle.xml_text.specs.Grammar.{is_filled}
 use Rattle.onix_outline.specs.declared.line.Line.{Line as Told}
-use Rattle.onix_outline.specs.Views.{line_view, line_views}
+use Rattle.onix_outline.specs.Views.{tag_view, line_view, line_views}
 use Rattle.onix_outline.specs.Nodes.{Nodes, no_nodes, node}
 use Rattle.onix_outline.specs.Outline.{Line, line, outline}
 use Rattle.onix_outline.specs.Composites.{text_in, text_line, deeper}
@@ -15,7 +15,7 @@ use Rattle.onix_outline.specs.Composites.{text_in, text_line, deeper}
 -- a line deeper than the one sought is none
 skip_deeper : (depth deep : ℕ) (name : List ℕ) (nodes : Nodes) (lines : List Line) → depth < deep → text_line depth name (outline deep nodes ++ lines) ≡ text_line depth name lines
 skip_deeper depth deep name no_nodes lines lt = refl
-skip_deeper depth deep name (node n format text below rest) lines lt =
+skip_deeper depth deep name (node n tag text below rest) lines lt =
     let other : eqb deep depth ≡ false = ne_eqb deep depth (λ e. absurd (omega (arith, e))) in
     rw other
     (ap (text_line depth name) (append_assoc (outline (suc deep) below) (outline deep rest) lines)
@@ -23,13 +23,13 @@ skip_deeper depth deep name (node n format text below rest) lines lt =
 
 pub text_is_line : (depth : ℕ) (name : List ℕ) (nodes : Nodes) → text_line depth name (outline depth nodes) ≡ text_in name nodes
 text_is_line depth name no_nodes = refl
-text_is_line depth name (node n format text below rest) = go (bytes_eq n name && is_filled text) refl (text_is_line depth name rest)
+text_is_line depth name (node n tag text below rest) = go (bytes_eq n name && is_filled text) refl (text_is_line depth name rest)
   where
     here : eqb depth depth ≡ true
     here = eq-eqb depth depth refl
 
     go : (t : Bool) → (bytes_eq n name && is_filled text) ≡ t → text_line depth name (outline depth rest) ≡ text_in name rest
-        → text_line depth name (outline depth (node n format text below rest)) ≡ text_in name (node n format text below rest)
+        → text_line depth name (outline depth (node n tag text below rest)) ≡ text_in name (node n tag text below rest)
     go true e before = rw (here, e) refl
     go false e before = rw (here, e) (skip_deeper depth (suc depth) name below (outline depth rest) (omega arith) ∙ before)
 
@@ -38,7 +38,7 @@ text_is_line depth name (node n format text below rest) = go (bytes_eq n name &&
 -- the lines below an element are those that are deeper
 deeper_below : (depth deep : ℕ) (nodes : Nodes) (lines : List Line) → depth < deep → deeper depth (outline deep nodes ++ lines) ≡ length (outline deep nodes) + deeper depth lines
 deeper_below depth deep no_nodes lines lt = omega arith
-deeper_below depth deep (node n format text below rest) lines lt =
+deeper_below depth deep (node n tag text below rest) lines lt =
     let more : ltb depth deep ≡ true = lt-ltb depth deep lt in
     rw more
     (ap (λ k. k + 1)
@@ -49,7 +49,7 @@ deeper_below depth deep (node n format text below rest) lines lt =
 
 deeper_none : (depth : ℕ) (nodes : Nodes) → deeper depth (outline depth nodes) ≡ 0
 deeper_none depth no_nodes = refl
-deeper_none depth (node n format text below rest) =
+deeper_none depth (node n tag text below rest) =
     let none : ltb depth depth ≡ false = le-ltb depth depth (omega arith) in
     rw none refl
 
@@ -63,14 +63,14 @@ other_lines (l ∷ lines) = lines
 
 pub no_first : (depth : ℕ) (lines : List Told) (nodes : Nodes) → length lines < 1 → line_views lines ≡ outline depth nodes → nodes ≡ no_nodes
 no_first depth [] no_nodes lt e = refl
-no_first depth [] (node n format text below rest) lt e = absurd (none e)
+no_first depth [] (node n tag text below rest) lt e = absurd (none e)
   where
     none : {l : Line} {ls : List Line} → [] ≡ l ∷ ls → ⊥
     none h = cc
 no_first depth (l ∷ lines) nodes lt e = absurd (omega (arith, lt))
 
 pub first_told : (depth : ℕ) (lines : List Told) (item : Told) (nodes : Nodes) → 1 ≤ length lines → item ≡ get_or lines 0 item → line_views lines ≡ outline depth nodes
-    → (below : Nodes) × (rest : Nodes) × (nodes ≡ node item.name.now (option_map (λ f. f.items) item.format) item.text.items below rest)
+    → (below : Nodes) × (rest : Nodes) × (nodes ≡ node item.name.now (tag_view item) item.text.items below rest)
     × (line_views (take (deeper depth (line_views (drop 1 lines))) (drop 1 lines)) ≡ outline (suc depth) below)
     × (line_views (drop (deeper depth (line_views (drop 1 lines))) (drop 1 lines)) ≡ outline depth rest)
 first_told depth [] item nodes some is e = absurd (omega (arith, some))
@@ -78,16 +78,16 @@ first_told depth (l ∷ lines) item no_nodes some is e = absurd (none e)
   where
     none : {l : Line} {ls : List Line} → l ∷ ls ≡ [] → ⊥
     none h = cc
-first_told depth (l ∷ lines) item (node n format text below rest) some is e =
-    let first : line_view l ≡ line depth n format text = ap (first_line (line_view l)) e in
+first_told depth (l ∷ lines) item (node n tag text below rest) some is e =
+    let first : line_view l ≡ line depth n tag text = ap (first_line (line_view l)) e in
     let others : line_views lines ≡ outline (suc depth) below ++ outline depth rest = ap other_lines e in
-    let own : line_view item ≡ line depth n format text = ap line_view is ∙ first in
+    let own : line_view item ≡ line depth n tag text = ap line_view is ∙ first in
     let front = outline (suc depth) below in
     let many : deeper depth (line_views lines) ≡ length front =
     ap (deeper depth) others ∙ deeper_below depth (suc depth) below (outline depth rest) (omega arith) ∙ ap (λ k. length front + k) (deeper_none depth rest) ∙ omega arith in (
       below,
       rest,
-      ap (λ (k : Line). node k.name k.format k.text below rest) (sym own),
+      ap (λ (k : Line). node k.name k.tag k.text below rest) (sym own),
       ap (λ k. line_views (take k lines)) many ∙ sym (take-map line_view (length front) lines) ∙ ap (take (length front)) others ∙ take-append_seam front (outline depth rest),
       ap (λ k. line_views (drop k lines)) many ∙ sym (drop-map line_view (length front) lines) ∙ ap (drop (length front)) others ∙ drop-append_seam front (outline depth rest),
     )

@@ -1,21 +1,21 @@
 -- What stands in a composite, and how the lines of its outline tell it.
-use Rattle.std.specs.Prelude.{◌≡◌, ℕ, suc, ◌+◌, ◌&&◌, ◌==◌, nat_lt, List, [], ◌∷◌, Option, Some, None, if◌then◌else◌, option_map}
+use Rattle.std.specs.Prelude.{◌≡◌, ℕ, suc, ◌+◌, ◌&&◌, ◌==◌, nat_lt, List, [], ◌∷◌, Option, Some, None, if◌then◌else◌}
 use Rattle.std.specs.Str.{bytes_eq}
 use Rattle.xml_text.specs.Grammar.{is_filled}
 use Rattle.onix_outline.specs.declared.composites.Node.{Node}
 use Rattle.onix_outline.specs.Nodes.{Nodes, no_nodes, node}
 use Rattle.onix_outline.specs.Outline.{Line, outline}
-use Rattle.onix_outline.specs.Views.{line_views}
+use Rattle.onix_outline.specs.Views.{tag_view, line_views}
 
 -- of the elements of this name the first one that has a text: one without is as absent
 abbrev pub text_in : List ℕ → Nodes → Option (List ℕ)
 text_in name no_nodes = None
-text_in name (node n format text below rest) = if bytes_eq n name && is_filled text then Some text else text_in name rest
+text_in name (node n tag text below rest) = if bytes_eq n name && is_filled text then Some text else text_in name rest
 
 -- what stands in each element of this name
 abbrev pub composites_in : List ℕ → Nodes → List Nodes
 composites_in name no_nodes = []
-composites_in name (node n format text below rest) =
+composites_in name (node n tag text below rest) =
     if bytes_eq n name then below ∷ composites_in name rest else composites_in name rest
 
 -- ---- lines
@@ -35,5 +35,5 @@ deeper depth (l ∷ lines) = if nat_lt depth l.depth then deeper depth lines + 1
 abbrev pub IsFirst : Option Node → ℕ → Nodes → Type 0
 IsFirst None depth nodes = nodes ≡ no_nodes
 IsFirst (Some n) depth nodes =
-    (below : Nodes) × (rest : Nodes) × (nodes ≡ node n.line.now.name.now (option_map (λ f. f.items) n.line.now.format) n.line.now.text.items below rest)
+    (below : Nodes) × (rest : Nodes) × (nodes ≡ node n.line.now.name.now (tag_view n.line.now) n.line.now.text.items below rest)
     × (line_views n.below.now ≡ outline (suc depth) below) × (line_views n.rest.now ≡ outline depth rest)

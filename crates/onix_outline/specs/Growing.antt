@@ -1,5 +1,6 @@
 -- The outline of one child of the root, as it grows from token to token.
 use Rattle.std.specs.Prelude.{ℕ, zero, suc, Bool, true, false, List, [], ◌∷◌, ◌++◌, length, Option, Some, None}
+use Rattle.onix_outline.specs.Nodes.{Tag}
 use Rattle.onix_outline.specs.Outline.{Line, line}
 use Rattle.onix_outline.specs.Spaces.{collapsed}
 
@@ -21,10 +22,10 @@ change f zero (l ∷ lines) = f l ∷ lines
 change f (suc at) (l ∷ lines) = l ∷ change f at lines
 
 abbrev pub longer : List ℕ → Line → Line
-longer text l = line l.depth l.name l.format (l.text ++ text)
+longer text l = line l.depth l.name l.tag (l.text ++ text)
 
 abbrev pub tidied : Line → Line
-tidied l = line l.depth l.name l.format (collapsed l.text)
+tidied l = line l.depth l.name l.tag (collapsed l.text)
 
 abbrev pub change_innermost : (Line → Line) → List ℕ → List Line → List Line
 change_innermost f [] lines = lines
@@ -35,10 +36,10 @@ outer [] = []
 outer (at ∷ more) = more
 
 -- an element begins, with this name where it counts
-abbrev pub opened : ℕ → Option (List ℕ) → Option (List ℕ) → Growing → Growing
-opened (suc passed) name format g = growing g.lines g.open_at (suc (suc passed))
-opened zero None format g = growing g.lines g.open_at 1
-opened zero (Some name) format g = growing (g.lines ++ line (length g.open_at) name format [] ∷ []) (length g.lines ∷ g.open_at) 0
+abbrev pub opened : ℕ → Option (List ℕ) → Tag → Growing → Growing
+opened (suc passed) name tag g = growing g.lines g.open_at (suc (suc passed))
+opened zero None tag g = growing g.lines g.open_at 1
+opened zero (Some name) tag g = growing (g.lines ++ line (length g.open_at) name tag [] ∷ []) (length g.lines ∷ g.open_at) 0
 
 -- the innermost element ends
 abbrev pub closed : ℕ → Growing → Growing

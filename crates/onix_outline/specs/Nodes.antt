@@ -1,16 +1,29 @@
 -- The elements of a message that count, as a tree.
 use Rattle.std.specs.Prelude.{ℕ, List, [], ◌∷◌, ◌++◌, Option, Some, None, codes, unwrap_or, Bool, true, is_some}
-use Rattle.xml_text.specs.Grammar.{Token, raw, reference, cdata, empty}
+use Rattle.xml_text.specs.declared.position.Position.{Position}
+use Rattle.xml_text.specs.Grammar.{Attribute, Token, raw, reference, cdata, start, empty, end, spelling}
+use Rattle.xml_text.specs.Positions.{position_after, position_past}
 use Rattle.xml_text.specs.References.{reference_text}
-use Rattle.xml_text.specs.Tree.{Content, nothing, leaf, element}
+use Rattle.xml_text.specs.Tree.{Content, nothing, leaf, element, tokens_of}
 use Rattle.onix_outline.specs.Dialect.{Dialect, counted, format_of}
 use Rattle.onix_outline.specs.Spaces.{collapsed}
+
+-- What the tag of an element tells: where it stands, and its attribute `dateformat`
+pub record Tag : Type 0 where
+  pub place : Position
+  pub format : Option (List ℕ)
+
+abbrev pub tagged : Position → Option (List ℕ) → Tag
+tagged place format = record { place = place; format = format }
+
+abbrev pub tag_of : Position → List Attribute → Tag
+tag_of place attributes = tagged place (format_of attributes)
 
 -- The elements that count, as a tree
 pub data Nodes : Type 0 where
   no_nodes : Nodes
-  -- the reference name of an element, its attribute `dateformat`, its text, the elements in it, and those that follow it
-  node : List ℕ → Option (List ℕ) → List ℕ → Nodes → Nodes → Nodes
+  -- the reference name of an element, its tag, its text, the elements in it, and those that follow it
+  node : List ℕ → Tag → List ℕ → Nodes → Nodes → Nodes
 
 -- the characters that have a name, without a declaration
 abbrev pub named_characters : List (List ℕ × List ℕ)
@@ -40,17 +53,26 @@ direct_text nothing = []
 direct_text (leaf token rest) = token_text token ++ direct_text rest
 direct_text (element name attributes space inside closing rest) = direct_text rest
 
-abbrev pub with_node : Option (List ℕ) → Option (List ℕ) → List ℕ → Nodes → Nodes → Nodes
-with_node None format text below rest = rest
-with_node (Some name) format text below rest = node name format text below rest
+abbrev pub with_node : Option (List ℕ) → Tag → List ℕ → Nodes → Nodes → Nodes
+with_node None tag text below rest = rest
+with_node (Some name) tag text below rest = node name tag text below rest
 
-abbrev pub leaf_nodes : Dialect → Token → Nodes → Nodes
-leaf_nodes d (empty name attributes space) rest = with_node (counted d name attributes) (format_of attributes) [] no_nodes rest
-leaf_nodes d other rest = rest
+abbrev pub leaf_nodes : Dialect → Position → Token → Nodes → Nodes
+leaf_nodes d p (empty name attributes space) rest = with_node (counted d name attributes) (tag_of p attributes) [] no_nodes rest
+leaf_nodes d p other rest = rest
 
--- the elements that count, each only where all around it count: the others are passed over with all below them
-abbrev pub nodes_in : Dialect → Content → Nodes
-nodes_in d nothing = no_nodes
-nodes_in d (leaf token rest) = leaf_nodes d token (nodes_in d rest)
-nodes_in d (element name attributes space inside closing rest) =
-    with_node (counted d name attributes) (format_of attributes) (collapsed (direct_text inside)) (nodes_in d inside) (nodes_in d rest)
+-- where the content of an element stands, and what follows its end tag
+abbrev pub content_place : Position → List ℕ → List Attribute → List ℕ → Position
+content_place p name attributes space = position_after p (spelling (start name attributes space))
+
+abbrev pub place_behind : Position → Content → List ℕ → List ℕ → Position
+place_behind p inside name closing = position_after (position_past p (tokens_of inside)) (spelling (end name closing))
+
+-- the elements that count of what stands from a place on, each only where all around it count: the others are passed over with all below them
+abbrev pub nodes_in : Dialect → Position → Content → Nodes
+nodes_in d p nothing = no_nodes
+nodes_in d p (leaf token rest) = leaf_nodes d p token (nodes_in d (position_after p (spelling token)) rest)
+nodes_in d p (element name attributes space inside closing rest) =
+    with_node (counted d name attributes) (tag_of p attributes) (collapsed (direct_text inside))
+    (nodes_in d (content_place p name attributes space) inside)
+    (nodes_in d (place_behind (content_place p name attributes space) inside name closing) rest)

@@ -1,33 +1,33 @@
 -- A tree as a list of lines, each indented below the one that it belongs to.
-use Rattle.std.specs.Prelude.{ℕ, suc, Bool, ◌||◌, List, [], ◌∷◌, ◌++◌, Option, codes, if◌then◌else◌}
+use Rattle.std.specs.Prelude.{ℕ, suc, Bool, ◌||◌, List, [], ◌∷◌, ◌++◌, codes, if◌then◌else◌}
 use Rattle.std.specs.Str.{bytes_eq}
-use Rattle.onix_outline.specs.Nodes.{Nodes, no_nodes, node}
+use Rattle.onix_outline.specs.Nodes.{Nodes, no_nodes, node, Tag}
 
--- an element: how deep it is, its reference name, its attribute `dateformat` and its text
+-- an element: how deep it is, its reference name, its tag and its text
 pub record Line : Type 0 where
   pub depth : ℕ
   pub name : List ℕ
-  pub format : Option (List ℕ)
+  pub tag : Tag
   pub text : List ℕ
 
-abbrev pub line : ℕ → List ℕ → Option (List ℕ) → List ℕ → Line
-line depth name format text = record { depth = depth; name = name; format = format; text = text }
+abbrev pub line : ℕ → List ℕ → Tag → List ℕ → Line
+line depth name tag text = record { depth = depth; name = name; tag = tag; text = text }
 
 -- the elements as lines, each with its depth, in the order in which they begin
 abbrev pub outline : ℕ → Nodes → List Line
 outline depth no_nodes = []
-outline depth (node name format text below rest) = line depth name format text ∷ (outline (suc depth) below ++ outline depth rest)
+outline depth (node name tag text below rest) = line depth name tag text ∷ (outline (suc depth) below ++ outline depth rest)
 
 -- a Header or a Product
 abbrev pub is_part : List ℕ → Bool
 is_part name = bytes_eq name (codes "Product") || bytes_eq name (codes "Header")
 
 -- a child of the root by itself, with all that is in it
-abbrev pub part : List ℕ → Option (List ℕ) → List ℕ → Nodes → List Line
-part name format text below = line 0 name format text ∷ outline 1 below
+abbrev pub part : List ℕ → Tag → List ℕ → Nodes → List Line
+part name tag text below = line 0 name tag text ∷ outline 1 below
 
 -- the Headers and Products among the elements in the root, in order
 abbrev pub parts_of : Nodes → List (List Line)
 parts_of no_nodes = []
-parts_of (node name format text below rest) =
-    if is_part name then part name format text below ∷ parts_of rest else parts_of rest
+parts_of (node name tag text below rest) =
+    if is_part name then part name tag text below ∷ parts_of rest else parts_of rest

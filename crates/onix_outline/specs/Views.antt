@@ -2,12 +2,17 @@
 use Rattle.std.specs.Prelude.{List, map, option_map}
 use Rattle.onix_outline.specs.declared.line.Line.{Line}
 use Rattle.onix_outline.specs.declared.names.Word.{Word}
+use Rattle.onix_outline.specs.Nodes.{Tag}
 use Rattle.onix_outline.specs.Outline.{Line as Told}
 use Rattle.onix_outline.specs.Names.{Word as Spelled}
 
--- a line, as its depth and its texts
+-- the tag of a line's element
+abbrev pub tag_view : Line → Tag
+tag_view l = record { place = l.place; format = option_map (λ f. f.items) l.format }
+
+-- a line, as its depth, its tag and its texts
 abbrev pub line_view : Line → Told
-line_view l = record { depth = l.depth; name = l.name.now; format = option_map (λ f. f.items) l.format; text = l.text.items }
+line_view l = record { depth = l.depth; name = l.name.now; tag = tag_view l; text = l.text.items }
 
 -- lines, as that
 abbrev pub line_views : List Line → List Told

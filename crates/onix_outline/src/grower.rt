@@ -2,12 +2,14 @@
 
 ghost use Rattle.std.specs.Prelude.{◌≡◌, OnOk, Some, option_map};
 ghost use Rattle.onix_outline.specs.Growing.{no_lines, change, longer, tidied, opened, closed, texted, is_idle};
+ghost use Rattle.onix_outline.specs.Nodes.{tagged};
 ghost use Rattle.onix_outline.specs.Views.{line_views};
 
 use crate::line::Line;
 use crate::spaces::collapse;
 use std::alloc::{AllocError, Global};
 use std::marker::Model;
+use xml_text::Position;
 
 /// The most lines of an outline. One that has more is refused as want of memory is.
 const MOST_LINES: usize = 65_536;
@@ -24,6 +26,7 @@ pub(crate) struct Grower {
 impl Model for Grower {
     ghost use Rattle.std.specs.Prelude.{reverse};
     ghost use Rattle.onix_outline.specs.Growing.{Growing, growing};
+    ghost use Rattle.onix_outline.specs.Nodes.{tagged};
     ghost use Rattle.onix_outline.specs.Views.{line_views};
 
     ghost Value = { Growing };
@@ -90,14 +93,15 @@ impl Grower {
         self.passed = 0;
     }
 
-    /// Begins an element, with this name where it counts.
+    /// Begins an element at a place, with this name where it counts.
     pub(crate) fn open(
         &mut self,
         name: Option<&'static [u8]>,
+        place: Position,
         format: Option<Vec<u8>>,
     ) -> Result<(), AllocError>
-        ensures { OnOk result (self.new ≡ opened self.old.passed
-            (option_map (λ n. n.now) name.entry) (option_map (λ f. f.items) format) self.old) }
+        ensures { OnOk result (self.new ≡ opened self.old.passed (option_map (λ n. n.now) name.entry)
+            (tagged place (option_map (λ f. f.items) format)) self.old) }
     {
         if self.passed > 0 {
             let Some(passed) = self.passed.checked_add(1) else {
@@ -111,15 +115,20 @@ impl Grower {
                 self.passed = 1;
                 Ok(())
             }
-            Some(name) => self.begin(name, format),
+            Some(name) => self.begin(name, place, format),
         }
     }
 
     // Begins a line.
-    fn begin(&mut self, name: &'static [u8], format: Option<Vec<u8>>) -> Result<(), AllocError>
+    fn begin(
+        &mut self,
+        name: &'static [u8],
+        place: Position,
+        format: Option<Vec<u8>>,
+    ) -> Result<(), AllocError>
         requires { self.old.passed ≡ 0 }
-        ensures { OnOk result (self.new
-            ≡ opened 0 (Some name.now) (option_map (λ f. f.items) format) self.old) }
+        ensures { OnOk result (self.new ≡ opened 0 (Some name.now)
+            (tagged place (option_map (λ f. f.items) format)) self.old) }
     {
         let at = self.lines.len();
         if at >= MOST_LINES {
@@ -128,6 +137,7 @@ impl Grower {
         let line = Line {
             depth: self.open_at.len(),
             name,
+            place,
             format,
             text: Vec::new(self.alloc),
         };

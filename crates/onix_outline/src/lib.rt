@@ -16,4 +16,4 @@ pub use dialect::{Dialect, Wrong};
 pub use line::Line;
 pub use names::{Naming, Word};
 pub use outliner::{Outliner, Taker};
-pub use reading::{Fault, read_message};
+pub use reading::{Fault, Stopped, read_message};

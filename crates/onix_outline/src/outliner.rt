@@ -3,7 +3,8 @@
 ghost use Rattle.std.specs.Prelude.{◌≡◌, [], IfOk, OnOk, true, unwrap_or, is_some};
 ghost use Rattle.xml_text.specs.EntityView.{entity_views};
 ghost use Rattle.xml_text.specs.References.{reference_text};
-ghost use Rattle.onix_outline.specs.Feed.{feeding, first_feed, begun, ended, emptied, spoken, handed, settled};
+ghost use Rattle.xml_text.specs.View.{token_view};
+ghost use Rattle.onix_outline.specs.Feed.{feeding, first_feed, begun, ended, emptied, spoken, handed, settled, told, moved, takes_more};
 ghost use Rattle.onix_outline.specs.Faults.{finished};
 ghost use Rattle.onix_outline.specs.Growing.{closed};
 ghost use Rattle.onix_outline.specs.Nodes.{named_characters};
@@ -16,7 +17,7 @@ use crate::line::Line;
 use crate::reading::Fault;
 use std::alloc::{AllocError, Global};
 use std::marker::Model;
-use xml_text::{Attributes, Entity, Piece, Sink, Token, push_reference};
+use xml_text::{Attributes, Entity, Piece, Position, Sink, Token, push_reference};
 
 /// What takes the outlines of a message: that of its Header and of each of its Products, in order.
 pub trait Taker {
@@ -39,6 +40,7 @@ pub struct Outliner<T> {
     root: Option<Result<Dialect, Wrong>>,
     child: Grower,
     known: bool,
+    place: Position,
 }
 
 impl<T> Model for Outliner<T> {
@@ -46,7 +48,7 @@ impl<T> Model for Outliner<T> {
 
     ghost Value = { Feed T };
 
-    ghost view = { λ o. feeding o.taker o.root o.child o.known };
+    ghost view = { λ o. feeding o.taker o.root o.child o.known o.place };
 }
 
 static NAMED_CHARACTERS: [Entity<'static>; 5] = [
@@ -111,6 +113,7 @@ impl<T: Taker + Drop> Outliner<T> {
             root: None,
             child: Grower::new(alloc),
             known: true,
+            place: Position::first(),
         }
     }
 
@@ -124,6 +127,7 @@ impl<T: Taker + Drop> Outliner<T> {
             root,
             child: _,
             known,
+            place: _,
         } = self;
         match root {
             None => Err(Fault::Message(Wrong::Root)),
@@ -141,7 +145,7 @@ impl<T: Taker + Drop> Outliner<T> {
     // Hands on the lines of a child of the root.
     fn hand_on(&mut self) -> Result<(), AllocError>
         ensures { OnOk result (self.new ≡ feeding (handed T.after self.old.taker self.old.child.lines)
-            self.old.root self.old.child self.old.known) }
+            self.old.root self.old.child self.old.known self.old.place) }
     {
         match self.child.lines() {
             [] => Ok(()),
@@ -180,7 +184,7 @@ impl<T: Taker + Drop> Outliner<T> {
             Some(Ok(dialect)) => {
                 let name = dialect.counted(name, attributes);
                 let format = format_of(self.alloc, attributes)?;
-                self.child.open(name, format)
+                self.child.open(name, self.place, format)
             }
         }
     }
@@ -229,25 +233,72 @@ impl<T: Taker + Drop> Outliner<T> {
         let (text, known) = reference_text(self.alloc, body)?;
         self.speak(&text, known)
     }
+
+    // Takes a token, but for its place.
+    fn take_token(&mut self, token: Token<'_>) -> Result<(), AllocError>
+        ensures { OnOk result (self.new ≡ told T.after self.old (token_view token.entry)) }
+    {
+        match token {
+            Token::Start(name, attributes, _) => self.begin(name, &attributes),
+            Token::Empty(name, attributes, _) => self.empty(name, &attributes),
+            Token::End(_, _) => self.end(),
+            Token::Reference(body) => self.refer(body),
+            Token::CData(body) => self.speak(body, true),
+            Token::Comment(_) => self.speak(b"", true),
+            Token::Instruction(_) => self.speak(b"", true),
+            Token::Declaration(_) => self.speak(b"", true),
+            Token::Doctype(_) => self.speak(b"", true),
+        }
+    }
+
+    // Whether more tokens are taken.
+    fn takes_more(&self) -> bool
+        ensures { result ≡ takes_more self.now }
+    {
+        match &self.root {
+            None => true,
+            Some(Err(_)) => false,
+            Some(Ok(_)) => self.known,
+        }
+    }
+
+    // Goes behind what was read, and tells whether more is taken.
+    fn move_on(&mut self, spelled: &[u8]) -> Result<bool, AllocError>
+        ensures moved { OnOk result (self.new ≡ moved spelled.now self.old) }
+        ensures more { IfOk result (λ more. more ≡ takes_more self.new) }
+    {
+        let Some(place) = self.place.after(spelled) else {
+            return Err(AllocError);
+        };
+        self.place = place;
+        Ok(self.takes_more())
+    }
+
+    /// Where the next token stands.
+    pub(crate) fn place(&self) -> Position
+        ensures { result ≡ self.now.place }
+    {
+        self.place
+    }
 }
 
 impl<T: Taker + Drop> Sink for Outliner<T> {
-    ghost use Rattle.onix_outline.specs.Feed.{feed};
+    ghost use Rattle.onix_outline.specs.Feed.{feed, takes_more};
 
     ghost after = { λ f token. feed T.after f token };
 
-    fn take(&mut self, piece: Piece<'_>) -> Result<(), AllocError> {
+    ghost goes_on = { λ f. takes_more f };
+
+    fn take(&mut self, piece: Piece<'_>, spelled: &[u8]) -> Result<bool, AllocError> {
         match piece {
-            Piece::Text(run) => self.speak(run, true),
-            Piece::Markup(Token::Start(name, attributes, _)) => self.begin(name, &attributes),
-            Piece::Markup(Token::Empty(name, attributes, _)) => self.empty(name, &attributes),
-            Piece::Markup(Token::End(_, _)) => self.end(),
-            Piece::Markup(Token::Reference(body)) => self.refer(body),
-            Piece::Markup(Token::CData(body)) => self.speak(body, true),
-            Piece::Markup(Token::Comment(_)) => self.speak(b"", true),
-            Piece::Markup(Token::Instruction(_)) => self.speak(b"", true),
-            Piece::Markup(Token::Declaration(_)) => self.speak(b"", true),
-            Piece::Markup(Token::Doctype(_)) => self.speak(b"", true),
+            Piece::Text(run) => {
+                self.speak(run, true)?;
+                self.move_on(spelled)
+            }
+            Piece::Markup(token) => {
+                self.take_token(token)?;
+                self.move_on(spelled)
+            }
         }
     }
 }

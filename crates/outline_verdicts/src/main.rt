@@ -4,12 +4,11 @@
 mod lines;
 mod shown;
 
-use crate::lines::split_line;
+use crate::lines::{split_line, with_feeds};
 use crate::shown::Shown;
-use onix_outline::{Fault, Wrong, read_message};
+use onix_outline::{Fault, Stopped, Wrong, read_message};
 use std::io;
 use std::io::Read;
-use xml_text::Encoding;
 
 fn verdict(fault: &Fault) -> &'static str {
     match fault {
@@ -22,16 +21,18 @@ fn verdict(fault: &Fault) -> &'static str {
 
 // Reads a line, and says what it is, with the outlines of a message.
 fn tell(rt: HostRuntime, line: &[u8]) -> io::Result<()> {
-    let mut reader = line;
+    let bytes = with_feeds(rt.alloc(), line)?;
+    let mut reader = bytes.as_slice();
     let shown = Shown::new(rt.alloc());
-    match read_message(rt.alloc(), &[], &mut reader, Encoding::Utf8, shown) {
+    match read_message(rt.alloc(), &mut reader, shown) {
         Ok(shown) => {
             let text = shown.as_text();
             println!(rt; "message {text}")
         }
-        Err(fault) => {
+        Err(Stopped { fault, place }) => {
             let told = verdict(&fault);
-            println!(rt; "{told}")
+            let (line, column) = (place.line, place.column);
+            println!(rt; "{told} {line}:{column}")
         }
     }
 }

@@ -1,12 +1,13 @@
 //! What is shown of a message.
 
 ghost use Rattle.std.specs.Prelude.{◌≡◌, ◌∷◌, [], ◌++◌, OnOk, option_map};
-ghost use Rattle.outline_verdicts.specs.Showing.{depth_shown, format_shown, line_shown, lines_shown};
+ghost use Rattle.outline_verdicts.specs.Showing.{depth_shown, digit, format_shown, place_shown, line_shown, lines_shown};
 ghost use Rattle.onix_outline.specs.Views.{line_view, line_views};
 
 use onix_outline::{Line, Taker};
 use std::alloc::{AllocError, Global};
 use std::marker::Model;
+use xml_text::Position;
 
 /// What was shown so far. Contracts see its bytes.
 #[derive(Drop)]
@@ -66,6 +67,17 @@ impl Shown {
         }
     }
 
+    fn push_place(&mut self, place: Position) -> Result<(), AllocError>
+        ensures { OnOk result (self.new ≡ place_shown self.old place) }
+    {
+        self.push(b'#')?;
+        self.push(digit(place.line))?;
+        self.push(b'.')?;
+        self.push(digit(place.column / 100))?;
+        self.push(digit(place.column / 10))?;
+        self.push(digit(place.column))
+    }
+
     fn push_line(&mut self, line: &Line) -> Result<(), AllocError>
         ensures { OnOk result (self.new ≡ line_shown self.old (line_view line.now)) }
     {
@@ -74,6 +86,7 @@ impl Shown {
         self.push_format(&line.format)?;
         self.push(b'=')?;
         self.extend(&line.text)?;
+        self.push_place(line.place)?;
         self.push(b';')
     }
 
@@ -87,6 +100,12 @@ impl Shown {
         }
         Ok(())
     }
+}
+
+fn digit(n: u64) -> u8
+    ensures { result ≡ digit n }
+{
+    48 + (n % 10) as u8
 }
 
 fn depth_shown(depth: usize) -> u8

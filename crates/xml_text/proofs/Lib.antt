@@ -15,3 +15,5 @@ pub mod LimitLaws
 pub mod NumberLaws
 pub mod TreeLaws
 pub mod EncodingLaws
+pub mod ReadingLaws
+pub mod HeadLaws

@@ -1,9 +1,10 @@
 -- The encoding that a document says it has.
-use Rattle.std.specs.Prelude.{ℕ, Bool, true, false, ◌&&◌, ◌||◌, ◌==◌, codes, List, [], ◌∷◌, Option, Some, None, Ok, Err, if◌then◌else◌}
+use Rattle.std.specs.Prelude.{◌≡◌, ℕ, Bool, true, false, ◌&&◌, ◌||◌, ◌==◌, codes, List, [], ◌∷◌, Option, Some, None, Ok, Err, ⊤, if◌then◌else◌, option_map, take, drop}
 use Rattle.std.specs.Char.{to_ascii_lowercase}
 use Rattle.xml_text.specs.declared.encodings.Encoding.{Encoding}
-use Rattle.xml_text.specs.declared.encodings.Encoding.TheVariants.{Utf8, Ascii, Latin1, Windows1252}
+use Rattle.xml_text.specs.declared.encodings.Encoding.TheVariants.{Utf8, Ascii, Latin1, Windows1252, Utf16Big, Utf16Little}
 use Rattle.xml_text.specs.Distinct.{value_of}
+use Rattle.xml_text.specs.Encodings.{decoded}
 use Rattle.xml_text.specs.Grammar.{Attribute, begins}
 use Rattle.xml_text.specs.Reading.{attributes_at}
 use Rattle.xml_text.specs.Steps.{Step, ◌>>=◌, literal}
@@ -36,6 +37,36 @@ abbrev pub named : Option (List ℕ) → Option Encoding
 named None = Some Utf8
 named (Some name) = encoding_of name
 
--- The encoding of a document that begins so: UTF-8 behind a byte order mark of it, and else the one of its declaration.
-abbrev pub encoding_at : List ℕ → Option Encoding
-encoding_at head = if begins (239 ∷ 187 ∷ 191 ∷ []) head then Some Utf8 else named (declared_name head)
+-- the encoding of a byte order mark at the front, and how many bytes the mark has
+abbrev pub marked : List ℕ → Option (Encoding × ℕ)
+marked head =
+    if begins (239 ∷ 187 ∷ 191 ∷ []) head then Some (Utf8, 3)
+    else if begins (254 ∷ 255 ∷ []) head then Some (Utf16Big, 2)
+    else if begins (255 ∷ 254 ∷ []) head then Some (Utf16Little, 2)
+    else None
+
+abbrev pub or_declared : Option (Encoding × ℕ) → List ℕ → Option (Encoding × ℕ)
+or_declared (Some found) head = Some found
+or_declared None head = option_map (λ encoding. (encoding, 0)) (named (declared_name head))
+
+-- The encoding of a document that begins so, and how many bytes its byte order mark has: the one that the mark tells, else the one of its declaration.
+abbrev pub encoding_at : List ℕ → Option (Encoding × ℕ)
+encoding_at head = or_declared (marked head) head
+
+-- The text of a document's bytes, where its encoding is known. It is told within the first 1,024 bytes, and the mark is no part of the text.
+abbrev pub text_of : List ℕ → Option (List ℕ)
+text_of bytes = option_map (λ found. decoded found.0 (drop found.1 bytes)) (encoding_at (take 1024 bytes))
+
+-- a text is that of the bytes that a reader has left, where the reader tells them
+abbrev pub IsTextOf : Option (List ℕ) → List ℕ → Type 0
+IsTextOf None text = ⊤
+IsTextOf (Some bytes) text = text_of bytes ≡ Some text
+
+-- the bytes that a reader has left, where it tells them, are a text, and this holds of it
+abbrev pub OfText : (List ℕ → Type 0) → Option (List ℕ) → Type 0
+OfText P None = ⊤
+OfText P (Some bytes) = (text : List ℕ) × (text_of bytes ≡ Some text) × P text
+
+-- their encoding is none that is known
+abbrev pub IsOfUnknown : List ℕ → Type 0
+IsOfUnknown bytes = text_of bytes ≡ None

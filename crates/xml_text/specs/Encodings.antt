@@ -1,9 +1,11 @@
 -- Encodings, and the text that bytes are in one.
-use Rattle.std.specs.Prelude.{ℕ, ◌==◌, nat_lt, List, Option, if◌then◌else◌, option_map, encode_utf8}
+use Rattle.std.specs.Prelude.{ℕ, ◌+◌, ◌-◌, ◌*◌, Bool, ◌&&◌, ◌==◌, nat_lt, nat_le, List, [], ◌∷◌, ◌++◌, Option, if◌then◌else◌, option_map, encode_utf8}
 use Rattle.std.specs.List.{flat_map}
 use Rattle.std.specs.Io.KnownBytes.{prepend_known}
 use Rattle.xml_text.specs.declared.encodings.Encoding.{Encoding}
-use Rattle.xml_text.specs.declared.encodings.Encoding.TheVariants.{Utf8, Ascii, Latin1, Windows1252}
+use Rattle.xml_text.specs.declared.encodings.Encoding.TheVariants.{Utf8, Ascii, Latin1, Windows1252, Utf16Big, Utf16Little}
+use Rattle.xml_text.specs.declared.encodings.Held.{Held}
+use Rattle.xml_text.specs.declared.encodings.Held.TheVariants.{Nothing, Byte, Lead, LeadByte}
 
 -- the code point of a byte of windows-1252 from 128 on; 0 where it has none
 abbrev pub windows_code : ℕ → ℕ
@@ -39,25 +41,91 @@ windows_code b =
 
 -- The code point of a byte. One that the encoding does not have is 0, a character that no document has.
 abbrev pub code_of : Encoding → ℕ → ℕ
-code_of Utf8 b = b
 code_of Ascii b = if nat_lt b 128 then b else 0
-code_of Latin1 b = b
 code_of Windows1252 b = if nat_lt b 128 then b else windows_code b
+code_of other b = b
 
 abbrev pub byte_text : Encoding → ℕ → List ℕ
 byte_text encoding b = encode_utf8 (code_of encoding b)
 
+-- ---- UTF-16
+
+-- the unit of two bytes
+abbrev pub unit_of : Encoding → ℕ → ℕ → ℕ
+unit_of Utf16Big a b = a * 256 + b
+unit_of other a b = b * 256 + a
+
+-- the first unit of a surrogate pair, and the second
+abbrev pub is_lead : ℕ → Bool
+is_lead u = nat_le 55296 u && nat_lt u 56320
+
+abbrev pub is_trail : ℕ → Bool
+is_trail u = nat_le 56320 u && nat_lt u 57344
+
+-- What is held behind a unit, and the text that it completes: a character, or the first unit of a pair. A second one alone is U+0000.
+abbrev pub after_unit : ℕ → Held × List ℕ
+after_unit u = if is_lead u then (Lead u, []) else if is_trail u then (Nothing, 0 ∷ []) else (Nothing, encode_utf8 u)
+
+-- The same behind the first unit of a pair: the character of the pair. Where no second unit follows, U+0000.
+abbrev pub after_pair : ℕ → ℕ → Held × List ℕ
+after_pair lead u = (Nothing, if is_trail u then encode_utf8 (65536 + ((lead - 55296) * 1024 + (u - 56320))) else 0 ∷ [])
+
+-- the same behind a byte, of which two are a unit
+abbrev pub after_byte : Encoding → Held → ℕ → Held × List ℕ
+after_byte encoding Nothing b = (Byte b, [])
+after_byte encoding (Byte a) b = after_unit (unit_of encoding a b)
+after_byte encoding (Lead u) b = (LeadByte u b, [])
+after_byte encoding (LeadByte u a) b = after_pair u (unit_of encoding a b)
+
+-- what is held behind bytes, and the text that they complete
+abbrev pub held16 : Encoding → Held → List ℕ → Held
+held16 encoding held [] = held
+held16 encoding held (b ∷ bytes) = held16 encoding (after_byte encoding held b).0 bytes
+
+abbrev pub text16 : Encoding → Held → List ℕ → List ℕ
+text16 encoding held [] = []
+text16 encoding held (b ∷ bytes) = (after_byte encoding held b).1 ++ text16 encoding (after_byte encoding held b).0 bytes
+
+-- at the end of a text nothing is held; what is held there is U+0000
+abbrev pub ending16 : Held → List ℕ
+ending16 Nothing = []
+ending16 other = 0 ∷ []
+
+-- ---- all encodings
+
+-- what is held behind bytes, and the text that they complete
+abbrev pub held_behind : Encoding → Held → List ℕ → Held
+held_behind Utf16Big held bytes = held16 Utf16Big held bytes
+held_behind Utf16Little held bytes = held16 Utf16Little held bytes
+held_behind other held bytes = held
+
+abbrev pub text_from : Encoding → Held → List ℕ → List ℕ
+text_from Utf8 held bytes = bytes
+text_from Ascii held bytes = flat_map (byte_text Ascii) bytes
+text_from Latin1 held bytes = flat_map (byte_text Latin1) bytes
+text_from Windows1252 held bytes = flat_map (byte_text Windows1252) bytes
+text_from Utf16Big held bytes = text16 Utf16Big held bytes
+text_from Utf16Little held bytes = text16 Utf16Little held bytes
+
+-- what the end of a text adds to it
+abbrev pub ending : Encoding → Held → List ℕ
+ending Utf16Big held = ending16 held
+ending Utf16Little held = ending16 held
+ending other held = []
+
+-- the UTF-8 of a text that ends with these bytes, behind what is held
+abbrev pub decoded_from : Encoding → Held → List ℕ → List ℕ
+decoded_from Utf8 held bytes = bytes
+decoded_from encoding held bytes = text_from encoding held bytes ++ ending encoding (held_behind encoding held bytes)
+
 -- the UTF-8 of a text whose bytes these are
 abbrev pub decoded : Encoding → List ℕ → List ℕ
-decoded Utf8 bytes = bytes
-decoded Ascii bytes = flat_map (byte_text Ascii) bytes
-decoded Latin1 bytes = flat_map (byte_text Latin1) bytes
-decoded Windows1252 bytes = flat_map (byte_text Windows1252) bytes
+decoded encoding bytes = decoded_from encoding Nothing bytes
 
 -- the same of the bytes that a reader has left, where it tells them
-abbrev pub decoded_rest : Encoding → Option (List ℕ) → Option (List ℕ)
-decoded_rest encoding rest = option_map (decoded encoding) rest
+abbrev pub decoded_rest : Encoding → Held → Option (List ℕ) → Option (List ℕ)
+decoded_rest encoding held rest = option_map (decoded_from encoding held) rest
 
 -- the text of a head that was read before, and of what a reader has left
 abbrev pub text_left : Encoding → List ℕ → Option (List ℕ) → Option (List ℕ)
-text_left encoding head rest = decoded_rest encoding (prepend_known head rest)
+text_left encoding head rest = decoded_rest encoding Nothing (prepend_known head rest)

@@ -20,3 +20,5 @@ pub mod Trees
 pub mod private
 pub mod Encodings
 pub mod EncodingNames
+pub mod Positions
+pub mod Faults

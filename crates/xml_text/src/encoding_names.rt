@@ -1,8 +1,7 @@
 //! The encoding that a document says it has.
 
-ghost use Rattle.std.specs.Prelude.{◌≡◌, ◌∷◌, [], option_map};
-ghost use Rattle.xml_text.specs.EncodingNames.{is_alike, encoding_of, declared_name, encoding_at};
-ghost use Rattle.xml_text.specs.Grammar.{begins};
+ghost use Rattle.std.specs.Prelude.{◌≡◌, ◌≤◌, ◌∷◌, [], IfSome, length, option_map};
+ghost use Rattle.xml_text.specs.EncodingNames.{is_alike, encoding_of, declared_name, named, marked, encoding_at};
 
 use crate::attributes::read_attributes;
 use crate::encodings::Encoding;
@@ -59,27 +58,41 @@ fn declared_name(head: &[u8]) -> Option<&[u8]>
     }
 }
 
-// Whether the byte order mark of UTF-8 stands at the front.
-fn has_mark(head: &[u8]) -> bool
-    ensures { result ≡ begins (239 ∷ 187 ∷ 191 ∷ []) head.now }
+// The encoding that the declaration names, and UTF-8 where none does.
+fn declared_encoding(head: &[u8]) -> Option<Encoding>
+    ensures { result ≡ named (declared_name head.now) }
 {
-    match head {
-        [a, b, c, ..] => *a == 239 && (*b == 187 && *c == 191),
-        _ => false,
-    }
-}
-
-/// The encoding of a document that begins so, if it is one that is known: UTF-8 behind its byte order mark, else the one
-/// that the declaration names, in capital letters or small ones, and UTF-8 where none does. The declaration has to be
-/// there whole.
-pub fn encoding_at(head: &[u8]) -> Option<Encoding>
-    ensures { result ≡ encoding_at head.now }
-{
-    if has_mark(head) {
-        return Some(Encoding::Utf8);
-    }
     match declared_name(head) {
         None => Some(Encoding::Utf8),
         Some(name) => encoding_of(name),
+    }
+}
+
+// The encoding of the byte order mark at the front, and how many bytes the mark has.
+fn marked(head: &[u8]) -> Option<(Encoding, usize)>
+    ensures mark { result ≡ marked head.now }
+    ensures within { IfSome result (λ x. x.1 ≤ length head.now) }
+{
+    match head {
+        [239, 187, 191, ..] => Some((Encoding::Utf8, 3)),
+        [254, 255, ..] => Some((Encoding::Utf16Big, 2)),
+        [255, 254, ..] => Some((Encoding::Utf16Little, 2)),
+        _ => None,
+    }
+}
+
+/// The encoding of a document that begins so, if it is one that is known, and how many bytes its byte order mark has:
+/// UTF-8 or UTF-16 behind their marks, else the encoding that the declaration names, in capital letters or small ones,
+/// and UTF-8 where none does. A declaration has to be there whole.
+pub(crate) fn encoding_at(head: &[u8]) -> Option<(Encoding, usize)>
+    ensures gives { result ≡ encoding_at head.now }
+    ensures within { IfSome result (λ x. x.1 ≤ length head.now) }
+{
+    if let Some(found) = marked(head) {
+        return Some(found);
+    }
+    match declared_encoding(head) {
+        None => None,
+        Some(encoding) => Some((encoding, 0)),
     }
 }

@@ -1,9 +1,10 @@
 //! Elements in one another.
 
-ghost use Rattle.std.specs.Prelude.{◌≡◌, ◌≤◌, ◌<◌, Some, None, OnOk, IsErrOf, map, length};
+ghost use Rattle.std.specs.Prelude.{◌≡◌, ◌≤◌, ◌<◌, Some, None, OnOk, IfErr, IsErrOf, map, length};
 ghost use Rattle.std.specs.List.{list_all};
 ghost use Rattle.xml_text.specs.Grammar.{is_space, raw};
 ghost use Rattle.xml_text.specs.Places.{nested, nests, first_nesting, opened, is_closed};
+ghost use Rattle.xml_text.specs.Faults.{IsOfPlace};
 ghost use Rattle.xml_text.specs.View.{token_view};
 
 use crate::classes::{Kind, all_pass};
@@ -47,7 +48,7 @@ impl Nesting {
             → nests self.old (map raw run.now) ≡ None }
         ensures deep { IsErrOf result Fault.TooDeep → MOST_OPEN ≤ length self.old.names }
         ensures large { ¬ (IsErrOf result Fault.LargeTag) }
-        ensures long { ¬ (IsErrOf result Fault.TooLong) }
+        ensures fault { IfErr result IsOfPlace }
     {
         if self.names.is_nothing() {
             if all_pass(Kind::Space, run) {
@@ -66,7 +67,7 @@ impl Nesting {
         ensures malformed { IsErrOf result Fault.Malformed → opened name.now self.old ≡ None }
         ensures deep { IsErrOf result Fault.TooDeep → MOST_OPEN ≤ length self.old.names }
         ensures large { ¬ (IsErrOf result Fault.LargeTag) }
-        ensures long { ¬ (IsErrOf result Fault.TooLong) }
+        ensures fault { IfErr result IsOfPlace }
     {
         if self.begun && self.names.is_nothing() {
             return Err(Fault::Malformed);
@@ -88,7 +89,7 @@ impl Nesting {
             → nested self.old (token_view token.now) ≡ None }
         ensures deep { IsErrOf result Fault.TooDeep → MOST_OPEN ≤ length self.old.names }
         ensures large { ¬ (IsErrOf result Fault.LargeTag) }
-        ensures long { ¬ (IsErrOf result Fault.TooLong) }
+        ensures fault { IfErr result IsOfPlace }
     {
         match token {
             Token::Comment(_) => Ok(()),

@@ -1,6 +1,6 @@
 //! The characters of a text, byte by byte.
 
-ghost use Rattle.std.specs.Prelude.{◌≡◌, ◌<◌, IfSome};
+ghost use Rattle.std.specs.Prelude.{◌≡◌, ◌<◌, ◌≤◌, ℕ, Some, None, IfOk, IfErr, IfSome, length};
 ghost use Rattle.xml_text.specs.Texts.{next_part, follow, is_start, IsSmall};
 
 use crate::characters::is_char;
@@ -67,22 +67,34 @@ fn next_part(part: Part, b: u8) -> Option<Part>
     }
 }
 
-/// The part behind these bytes, where they are of a text.
-pub(crate) fn follow(part: Part, bytes: &[u8]) -> Option<Part>
+// This place where a character begins at it, else the other one.
+#[inline(always)]
+fn last_start(part: Part, at: usize, other: usize) -> usize
+    ensures { (most : ℕ) → at ≤ most → other ≤ most → result ≤ most }
+{
+    if is_start(part) { at } else { other }
+}
+
+/// The part behind these bytes, where they are of a text; else how many stand before the character that is none.
+pub(crate) fn follow(part: Part, bytes: &[u8]) -> Result<Part, usize>
     requires { IsSmall part }
-    ensures gives { result ≡ follow part bytes.now }
-    ensures small { IfSome result IsSmall }
+    ensures gives { IfOk result (λ next. follow part bytes.now ≡ Some next) }
+    ensures small { IfOk result IsSmall }
+    ensures none { IfErr result (λ _. follow part bytes.now ≡ None) }
+    ensures within { IfErr result (λ whole. whole ≤ length bytes.now) }
 {
     let mut part = part;
     let mut rest = bytes;
+    let mut whole = 0;
     while let [b, tail @ ..] = rest {
+        whole = last_start(part, bytes.len() - rest.len(), whole);
         let Some(next) = next_part(part, *b) else {
-            return None;
+            return Err(whole);
         };
         part = next;
         rest = tail;
     }
-    Some(part)
+    Ok(part)
 }
 
 /// Whether a character begins here.

@@ -123,19 +123,27 @@ impl Shown {
             _ => Ok(()),
         }
     }
-}
 
-impl Sink for Shown {
-    ghost use Rattle.xml_verdicts.specs.Showing.{after};
-
-    ghost after = { after };
-
-    fn take(&mut self, piece: Piece<'_>) -> Result<(), AllocError>
+    fn take_piece(&mut self, piece: Piece<'_>) -> Result<(), AllocError>
         ensures { OnOk result (self.new ≡ fold after self.old (piece_view piece.entry)) }
     {
         match piece {
             Piece::Text(run) => self.push(run),
             Piece::Markup(token) => self.take_token(&token),
         }
+    }
+}
+
+impl Sink for Shown {
+    ghost use Rattle.std.specs.Prelude.{true};
+    ghost use Rattle.xml_verdicts.specs.Showing.{after};
+
+    ghost after = { after };
+
+    ghost goes_on = { λ s. true };
+
+    fn take(&mut self, piece: Piece<'_>, _: &[u8]) -> Result<bool, AllocError> {
+        self.take_piece(piece)?;
+        Ok(true)
     }
 }

@@ -9,7 +9,7 @@ use Rattle.onix_outline.proofs.grower.append_at.Goals as goal
 pub returns-in_ok-extend_from_slice : goal.returns-in_ok-extend_from_slice
 returns-in_ok-extend_from_slice c =
     let l = line_view c.index_mut-line.result.now in
-    let told = λ (t : List ℕ). line l.depth l.name l.format t in
+    let told = λ (t : List ℕ). line l.depth l.name l.tag t in
     set_line (longer c.args.text.now) c.args.lines.now.items c.args.at _ c.index_mut-line.result.now (omega (arith, c.if-at-len.true, c.len.ensures, c.args.lines.now.ok.0))
     (ap told c.in_ok-extend_from_slice.ensures.items ∙ ap (λ (k : Line). longer c.args.text.now (line_view k)) c.index_mut-line.ensures.value)
 

@@ -10,7 +10,7 @@ use Rattle.onix_outline.proofs.grower.tidy_at.Goals as goal
 pub returns-in_ok-line : goal.returns-in_ok-line
 returns-in_ok-line c =
     let l = line_view c.index_mut-line.result.now in
-    let told = λ (t : List ℕ). line l.depth l.name l.format t in
+    let told = λ (t : List ℕ). line l.depth l.name l.tag t in
     set_line tidied c.args.lines.now.items c.args.at _ c.index_mut-line.result.now (omega (arith, c.if-at-len.true, c.len.ensures, c.args.lines.now.ok.0))
     (ap told (c.in_ok-line.ensures ∙ ap collapsed c.deref.ensures.value) ∙ ap (λ (k : Line). tidied (line_view k)) c.index_mut-line.ensures.value)
 

@@ -1,4 +1,4 @@
-use Rattle.std.proofs.Common.{◌≡◌, length}
+use Rattle.std.proofs.Common.{◌≡◌, ◌≤◌, length}
 use Rattle.xml_text.specs.Texts.{follow, IsSmall}
 use Rattle.xml_text.proofs.texts.follow.Given as goal
 
@@ -6,6 +6,8 @@ abbrev pub invariant-loop-rest : goal.invariant-loop-rest
 invariant-loop-rest l = record {
   so_far : follow l.part l.rest ≡ follow l.fn.part l.bytes;
   small : IsSmall l.part;
+  shorter : length l.rest ≤ length l.bytes;
+  within : l.whole ≤ length l.bytes;
 }
 
 abbrev pub decreases-loop-rest : goal.decreases-loop-rest

@@ -1,7 +1,20 @@
-use Rattle.onix_outline.proofs.FeedLaws.{text_feeds}
+use Rattle.std.proofs.Common.{◌≡◌, ◌∙◌, ap, List, ℕ, sym, Result, Ok, Err}
+use Rattle.std.specs.Prelude.{OnOk}
+use Rattle.std.specs.List.{flat_map}
+use Rattle.xml_text.specs.Grammar.{spelling}
+use Rattle.xml_text.specs.View.{piece_view}
+use Rattle.onix_outline.specs.Feed.{moved}
+use Rattle.onix_outline.proofs.FeedLaws.{raws, text_feeds}
 use Rattle.onix_outline.proofs.outliner.OutlinerSink.take.Goals as goal
 
-pub returns-in-Text : goal.returns-in-Text
-returns-in-Text g c =
+ok_then : {T E : Type 0} {P Q : Type 0} (r : Result T E) → OnOk r P → (P → Q) → OnOk r Q
+ok_then (Ok x) h f = f h
+ok_then (Err e) h f = tt
+
+pub returns-in_ok-speak-in-Text-clause-taken : goal.returns-in_ok-speak-in-Text-clause-taken
+returns-in_ok-speak-in-Text-clause-taken g c =
     let f = c.args.self.now in
-    rw (c.in-Text.is, text_feeds g.T.Taker.after f.taker f.root f.child.lines f.child.open_at f.child.passed f.known c.in-Text.run'.now) c.speak.ensures
+    let run = c.in-Text.run'.now in
+    let spelled : c.args.spelled.now ≡ run = c.requires ∙ ap (λ q. flat_map spelling (piece_view q)) c.in-Text.is ∙ raws run in
+    rw c.in-Text.is (ok_then c.move_on.result c.move_on.ensures.moved (λ m. m ∙ ap (λ bytes. moved bytes c.speak.new.self) spelled ∙ ap (moved run) c.in_ok-speak-in-Text.ensures
+    ∙ sym (text_feeds g.T.Taker.after f.taker f.root f.child.lines f.child.open_at f.child.passed f.known f.place run)))

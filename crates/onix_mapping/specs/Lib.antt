@@ -1,3 +1,4 @@
 pub mod Identifiers
 pub mod Views
 pub mod Next
+pub mod Elements

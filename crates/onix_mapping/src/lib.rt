@@ -3,6 +3,8 @@
 
 pub mod elements;
 pub mod identifiers;
+pub mod notes;
+mod regions;
 #[cfg(test)]
 mod tests;
 

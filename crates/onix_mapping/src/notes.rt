@@ -1,0 +1,37 @@
+//! Notes on what of a message is left out.
+
+use onix_outline::Line;
+
+/// Why something is left out.
+#[derive(Clone, Copy, Debug, PartialEq, Eq)]
+pub enum Why {
+    /// A region in RegionsIncluded beside a country or the world: without it the territory is
+    /// smaller, or the same.
+    RegionIncluded,
+    /// A region in RegionsExcluded that is a part of a country.
+    RegionExcluded,
+    /// A Price or Market that holds in a region, without a country and without the world.
+    RegionAlone,
+    /// A Price or Market that does not hold in a region that is no part of a country.
+    RegionOfNoCountry,
+    /// A ProductSupply without SupplyDetail.
+    NoSupplyDetail,
+    /// An identifier of a deletion that is wrong.
+    WrongIdentifier,
+    /// All supplies of a Product that replaces those that the desk has.
+    NoSupplyLeft,
+}
+
+/// Why something is left out, and the text that is the reason, where there is one.
+#[derive(Clone, Copy, Debug)]
+pub struct Reason<'a> {
+    pub why: Why,
+    pub text: &'a [u8],
+}
+
+/// That something is left out: the line of what the note speaks of, and the reason.
+#[derive(Clone, Copy)]
+pub struct Note<'a> {
+    pub line: &'a Line,
+    pub reason: Reason<'a>,
+}

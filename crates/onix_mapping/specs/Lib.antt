@@ -4,3 +4,5 @@ pub mod Next
 pub mod Elements
 pub mod Notes
 pub mod Regions
+pub mod Records
+pub mod Territories

@@ -4,9 +4,13 @@
 pub mod elements;
 pub mod identifiers;
 pub mod notes;
+mod records;
 mod regions;
+pub mod territories;
 #[cfg(test)]
 mod tests;
 
 pub use elements::{Composite, first_composite, next_composite, text_or_empty};
 pub use identifiers::{ADDRESSEE, Identifier, Kind, PRODUCT, SENDER, SUPPLIER, choose_identifier};
+pub use notes::{Note, Reason, Why};
+pub use territories::{Area, area_fields, area_in, push_left_out_regions, read_market, unheld};

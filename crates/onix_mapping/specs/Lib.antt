@@ -6,3 +6,5 @@ pub mod Notes
 pub mod Regions
 pub mod Records
 pub mod Territories
+pub mod Dates
+pub mod DateViews

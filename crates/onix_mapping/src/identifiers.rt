@@ -60,7 +60,7 @@ fn identifier_in<'a>(kind: Kind, depth: usize, lines: &'a [Line]) -> Identifier<
 }
 
 // Whether a text is that one.
-fn is_text(text: &[u8], found: Option<&[u8]>) -> bool
+pub(crate) fn is_text(text: &[u8], found: Option<&[u8]>) -> bool
     ensures { result ≡ is_text text.now (option_map (λ t. t.now) found.entry) }
 {
     match found {

@@ -1,15 +1,19 @@
 //! What an ONIX message in XML says to the desk, by the outlines of its Header and Products.
 #![tactic(auto)]
 
+pub mod dates;
 pub mod elements;
 pub mod identifiers;
 pub mod notes;
+#[cfg(test)]
+mod price_tests;
 mod records;
 mod regions;
 pub mod territories;
 #[cfg(test)]
 mod tests;
 
+pub use dates::{Days, days_in};
 pub use elements::{Composite, first_composite, next_composite, text_or_empty};
 pub use identifiers::{ADDRESSEE, Identifier, Kind, PRODUCT, SENDER, SUPPLIER, choose_identifier};
 pub use notes::{Note, Reason, Why};

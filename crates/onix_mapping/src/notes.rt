@@ -5,6 +5,28 @@ use onix_outline::Line;
 /// Why something is left out.
 #[derive(Clone, Copy, Debug, PartialEq, Eq)]
 pub enum Why {
+    /// A Price with a PriceQualifier, which is the text.
+    PriceQualifier,
+    /// A Price that is not for one copy: its PricePer is the text.
+    PricePer,
+    /// A Price with a PriceCondition of the type that is the text, or of none.
+    PriceCondition,
+    /// A Price with a PriceConstraint of the type that is the text, or of none.
+    PriceConstraint,
+    /// A Price with PriceCoded.
+    PriceCoded,
+    /// A Price with a CurrencyZone, which is the text.
+    CurrencyZone,
+    /// A Price with a PriceDate in another format than its role asks for: the format is the text.
+    DateFormat,
+    /// A Price with a PriceDate without Date, whose role is the text.
+    NoDate,
+    /// A Price with a PriceDate that is to have two days: the text, its Date, is not 16 characters.
+    NotTwoDays,
+    /// A Price whose amount, the text, has more than three decimals.
+    MoreDecimals,
+    /// A Price that the desk could not take.
+    PriceRefused,
     /// A region in RegionsIncluded beside a country or the world: without it the territory is
     /// smaller, or the same.
     RegionIncluded,

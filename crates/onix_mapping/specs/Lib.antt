@@ -8,3 +8,8 @@ pub mod Records
 pub mod Territories
 pub mod Dates
 pub mod DateViews
+pub mod Prices
+pub mod PriceViews
+pub mod Parties
+pub mod Details
+pub mod PartyViews

@@ -70,7 +70,7 @@ pub(crate) fn is_text(text: &[u8], found: Option<&[u8]>) -> bool
 }
 
 // The first identifier of lines of this depth, and the lines behind it.
-fn next_identifier<'a>(
+pub(crate) fn next_identifier<'a>(
     kind: Kind,
     depth: usize,
     lines: &'a [Line],

@@ -2,11 +2,14 @@
 #![tactic(auto)]
 
 pub mod dates;
+pub mod details;
 pub mod elements;
 pub mod identifiers;
 pub mod notes;
+pub mod parties;
 #[cfg(test)]
 mod price_tests;
+pub mod prices;
 mod records;
 mod regions;
 pub mod territories;
@@ -14,7 +17,10 @@ pub mod territories;
 mod tests;
 
 pub use dates::{Days, days_in};
+pub use details::add_detail;
 pub use elements::{Composite, first_composite, next_composite, text_or_empty};
 pub use identifiers::{ADDRESSEE, Identifier, Kind, PRODUCT, SENDER, SUPPLIER, choose_identifier};
 pub use notes::{Note, Reason, Why};
+pub use parties::Pair;
+pub use prices::add_price;
 pub use territories::{Area, area_fields, area_in, push_left_out_regions, read_market, unheld};

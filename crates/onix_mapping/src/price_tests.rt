@@ -1,12 +1,19 @@
-//! Tests of Prices.
+//! Tests of SupplyDetails and Prices.
 
 use crate::dates::{Days, days_in};
+use crate::details::add_detail;
 use crate::notes::{Reason, Why};
+use csv_records::buffer::RecordBuffer;
+use csv_records::fields::FieldBuffer;
+use csv_records::writing::write_records;
 use onix_outline::Line;
+use onix_records::opening::read_opening;
+use onix_records::row::{Opening, RowFault};
 use std::alloc::{AllocError, Global};
 use std::process::Abort;
 
-fn push(
+/// Adds a line.
+pub(crate) fn push(
     alloc: Global,
     lines: &mut Vec<Line>,
     depth: usize,
@@ -117,5 +124,219 @@ fn price_dates_in_other_formats_are_wrong(rt: HostRuntime) -> Result<(), AllocEr
         is_wrong(days_in(1, &lines), Why::NotTwoDays),
         "one day for two",
     );
+    Ok(())
+}
+
+// A SupplyDetail, but for its Prices.
+fn push_supplier(alloc: Global, lines: &mut Vec<Line>) -> Result<(), AllocError> {
+    push(alloc, lines, 1, b"Supplier", b"")?;
+    push(alloc, lines, 2, b"SupplierRole", b"04")?;
+    push(alloc, lines, 2, b"SupplierIdentifier", b"")?;
+    push(alloc, lines, 3, b"SupplierIDType", b"06")?;
+    push(alloc, lines, 3, b"IDValue", b"4012345000009")?;
+    push(alloc, lines, 2, b"SupplierName", b"North Books")?;
+    push(alloc, lines, 1, b"ProductAvailability", b"21")
+}
+
+// A message with defaults for type and currency.
+fn opening_of(alloc: Global) -> Result<Opening, RowFault> {
+    let mut fields = FieldBuffer::new(alloc);
+    fields.push_all(&["Message", "2", "06", "S", "", "", "1", "", "", "02", "GBP"])?;
+    let mut list = Vec::new(alloc);
+    read_opening(alloc, &fields.as_record(), &mut list)
+}
+
+// What comes of a SupplyDetail: the reasons for what was left out, its records as a text.
+fn told(alloc: Global, lines: &[Line], whys: &mut Vec<Why>) -> Result<String, RowFault> {
+    let opening = opening_of(alloc)?;
+    let mut fields = FieldBuffer::new(alloc);
+    let mut records = RecordBuffer::new(alloc);
+    let mut notes = Vec::new(alloc);
+    add_detail(
+        alloc,
+        &opening,
+        b"06",
+        1,
+        lines,
+        &mut fields,
+        &mut records,
+        &mut notes,
+    )?;
+    whys.clear();
+    for note in &notes {
+        whys.push(note.reason.why)?;
+    }
+    Ok(write_records(alloc, &records.as_records())?)
+}
+
+fn expect_text(stop: &impl Abort, found: Result<String, RowFault>, wanted: &str, case: &str) {
+    match found {
+        Ok(text) => expect(stop, text.as_str() == wanted, case),
+        Err(_) => expect(stop, false, case),
+    }
+}
+
+// Each field of a Price is written as it stands; what is absent is empty.
+#[test]
+fn prices_are_written_as_they_stand(rt: HostRuntime) -> Result<(), AllocError> {
+    let alloc = rt.alloc();
+    let mut lines = Vec::new(alloc);
+    let mut whys = Vec::new(alloc);
+    push_supplier(alloc, &mut lines)?;
+    push(alloc, &mut lines, 1, b"Price", b"")?;
+    push(alloc, &mut lines, 2, b"UnpricedItemType", b"02")?;
+    push(alloc, &mut lines, 1, b"Price", b"")?;
+    push(alloc, &mut lines, 2, b"PriceType", b"01")?;
+    push(alloc, &mut lines, 2, b"PriceQualifier", b"00")?;
+    push(alloc, &mut lines, 2, b"MinimumOrderQuantity", b"010")?;
+    push(alloc, &mut lines, 2, b"PriceAmount", b"0012.5")?;
+    push(alloc, &mut lines, 2, b"CurrencyCode", b"EUR")?;
+    push(alloc, &mut lines, 2, b"Territory", b"")?;
+    push(alloc, &mut lines, 3, b"CountriesIncluded", b"FR DE")?;
+    push(alloc, &mut lines, 3, b"RegionsIncluded", b"WORLD")?;
+    push(alloc, &mut lines, 3, b"CountriesExcluded", b"CH")?;
+    push(alloc, &mut lines, 2, b"PriceDate", b"")?;
+    push(alloc, &mut lines, 3, b"PriceDateRole", b"14")?;
+    push(alloc, &mut lines, 3, b"Date", b"20250301")?;
+    push(alloc, &mut lines, 1, b"Price", b"")?;
+    push(alloc, &mut lines, 2, b"PriceAmount", b"12.99")?;
+    expect_text(
+        &rt,
+        told(alloc, &lines, &mut whys),
+        "SupplyDetail,04,06,4012345000009,North Books,21,02\nPrice,01,0012.5,EUR,FR DE,WORLD,CH,20250301,,010\nPrice,,12.99,,,,,,\n",
+        "two prices",
+    );
+    expect(&rt, whys.is_empty(), "nothing is left out");
+    Ok(())
+}
+
+// A SupplyDetail with one Price of this amount, in which this element stands.
+fn expect_left_out(
+    stop: &impl Abort,
+    alloc: Global,
+    amount: &[u8],
+    name: &'static [u8],
+    text: &[u8],
+    below: &'static [u8],
+    why: Why,
+) -> Result<(), AllocError> {
+    let mut lines = Vec::new(alloc);
+    let mut whys = Vec::new(alloc);
+    push_supplier(alloc, &mut lines)?;
+    push(alloc, &mut lines, 1, b"Price", b"")?;
+    push(alloc, &mut lines, 2, b"PriceAmount", amount)?;
+    push(alloc, &mut lines, 2, name, text)?;
+    push(alloc, &mut lines, 3, below, b"10")?;
+    expect_text(
+        stop,
+        told(alloc, &lines, &mut whys),
+        "SupplyDetail,04,06,4012345000009,North Books,21,\n",
+        "no price",
+    );
+    expect(
+        stop,
+        whys.len() == 1 && whys.as_slice().first() == Some(&why),
+        "why it is left out",
+    );
+    Ok(())
+}
+
+// A Price that is another than the desk knows, or that it could not take, has one note.
+#[test]
+fn other_prices_are_left_out(rt: HostRuntime) -> Result<(), AllocError> {
+    let alloc = rt.alloc();
+    expect_left_out(
+        &rt,
+        alloc,
+        b"1",
+        b"PriceQualifier",
+        b"05",
+        b"",
+        Why::PriceQualifier,
+    )?;
+    expect_left_out(&rt, alloc, b"1", b"PricePer", b"01", b"", Why::PricePer)?;
+    expect_left_out(
+        &rt,
+        alloc,
+        b"1",
+        b"PriceCondition",
+        b"",
+        b"PriceConditionType",
+        Why::PriceCondition,
+    )?;
+    expect_left_out(
+        &rt,
+        alloc,
+        b"1",
+        b"PriceConstraint",
+        b"",
+        b"",
+        Why::PriceConstraint,
+    )?;
+    expect_left_out(&rt, alloc, b"", b"PriceCoded", b"", b"", Why::PriceCoded)?;
+    expect_left_out(
+        &rt,
+        alloc,
+        b"1",
+        b"CurrencyZone",
+        b"EUR",
+        b"",
+        Why::CurrencyZone,
+    )?;
+    expect_left_out(
+        &rt,
+        alloc,
+        b"12.9900",
+        b"PriceType",
+        b"02",
+        b"",
+        Why::MoreDecimals,
+    )?;
+    expect_left_out(
+        &rt,
+        alloc,
+        b"12,99",
+        b"PriceType",
+        b"02",
+        b"",
+        Why::PriceRefused,
+    )?;
+    expect_left_out(&rt, alloc, b"1", b"PriceType", b"2", b"", Why::PriceRefused)?;
+    expect_left_out(
+        &rt,
+        alloc,
+        b"1",
+        b"Territory",
+        b"",
+        b"RegionsIncluded",
+        Why::RegionAlone,
+    )?;
+    expect_left_out(
+        &rt,
+        alloc,
+        b"1",
+        b"MinimumOrderQuantity",
+        b"0",
+        b"",
+        Why::PriceRefused,
+    )
+}
+
+// A SupplyDetail without a supplier, or whose supplier has an identifier without a value, is wrong.
+#[test]
+fn details_without_a_supplier_are_wrong(rt: HostRuntime) -> Result<(), AllocError> {
+    let alloc = rt.alloc();
+    let mut lines = Vec::new(alloc);
+    let mut whys = Vec::new(alloc);
+    push(alloc, &mut lines, 1, b"ProductAvailability", b"21")?;
+    let wrong = matches!(told(alloc, &lines, &mut whys), Err(RowFault::Wrong));
+    expect(&rt, wrong, "no supplier");
+    push(alloc, &mut lines, 1, b"Supplier", b"")?;
+    push(alloc, &mut lines, 2, b"SupplierRole", b"04")?;
+    push(alloc, &mut lines, 2, b"SupplierName", b"North Books")?;
+    push(alloc, &mut lines, 2, b"SupplierIdentifier", b"")?;
+    push(alloc, &mut lines, 3, b"SupplierIDType", b"06")?;
+    let wrong = matches!(told(alloc, &lines, &mut whys), Err(RowFault::Wrong));
+    expect(&rt, wrong, "an identifier without a value");
     Ok(())
 }

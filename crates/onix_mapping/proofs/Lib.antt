@@ -1,3 +1,4 @@
 pub mod WordLaws
 pub mod DateLaws
 pub mod PriceLaws
+pub mod HeaderLaws

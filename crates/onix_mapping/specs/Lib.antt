@@ -13,3 +13,5 @@ pub mod PriceViews
 pub mod Parties
 pub mod Details
 pub mod PartyViews
+pub mod Header
+pub mod HeaderViews

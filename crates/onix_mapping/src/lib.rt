@@ -4,6 +4,9 @@
 pub mod dates;
 pub mod details;
 pub mod elements;
+pub mod header;
+#[cfg(test)]
+mod header_tests;
 pub mod identifiers;
 pub mod notes;
 pub mod parties;
@@ -19,6 +22,7 @@ mod tests;
 pub use dates::{Days, days_in};
 pub use details::add_detail;
 pub use elements::{Composite, first_composite, next_composite, text_or_empty};
+pub use header::{Choices, HeaderFault, Heading, Refusal, fill_message, read_heading};
 pub use identifiers::{ADDRESSEE, Identifier, Kind, PRODUCT, SENDER, SUPPLIER, choose_identifier};
 pub use notes::{Note, Reason, Why};
 pub use parties::Pair;

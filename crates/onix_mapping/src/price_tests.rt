@@ -164,7 +164,9 @@ fn told(alloc: Global, lines: &[Line], whys: &mut Vec<Why>) -> Result<String, Ro
     )?;
     whys.clear();
     for note in &notes {
-        whys.push(note.reason.why)?;
+        let Ok(()) = whys.push(note.reason.why) else {
+            return Err(RowFault::Memory);
+        };
     }
     Ok(write_records(alloc, &records.as_records())?)
 }

@@ -7,8 +7,8 @@ ghost use Rattle.std.specs.Str.{is_utf8};
 use csv_records::fields::FieldBuffer;
 use onix_records::row::RowFault;
 
-// The text of bytes, where they are UTF-8.
-fn utf8_text(bytes: &[u8]) -> Option<&str>
+/// The text of bytes, where they are UTF-8.
+pub(crate) fn utf8_text(bytes: &[u8]) -> Option<&str>
     ensures text { IfSome result (λ t. t.now ≡ bytes.now) }
     ensures utf8 { IfSome result (λ t. is_utf8 bytes.now ≡ true) }
     ensures none { IfNone result (is_utf8 bytes.now ≡ false) }

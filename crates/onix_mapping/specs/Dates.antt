@@ -46,7 +46,7 @@ first_day date = days (Some date) None
 abbrev pub last_day : List ℕ → Days
 last_day date = days None (Some date)
 
--- the two days of a date of 16 characters
+-- the two days of a date of 16 bytes
 abbrev pub two_days : Result (List ℕ) Reason → Result Days Reason
 two_days (Err e) = Err e
 two_days (Ok date) = if length date == 16 then Ok (days (Some (take 8 date)) (Some (drop 8 date))) else Err (reason NotTwoDays date)

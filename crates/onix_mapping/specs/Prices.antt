@@ -4,18 +4,24 @@ use Rattle.std.specs.Char.{is_ascii_digit}
 use Rattle.std.specs.List.{list_all}
 use Rattle.std.specs.Option.{option_or, option_to_list, unwrap_or}
 use Rattle.std.specs.Result.{result_err, result_unwrap_or}
-use Rattle.std.specs.Str.{bytes_eq}
+use Rattle.std.specs.Str.{bytes_eq, is_utf8}
 use Rattle.onix_outline.specs.Composites.{text_in}
 use Rattle.onix_outline.specs.Nodes.{Nodes}
+use Rattle.onix_records.specs.Fields.{optional, or_default}
 use Rattle.onix_records.specs.Price.{price_of}
+use Rattle.onix_terms.specs.Amount.{amount_of}
+use Rattle.onix_terms.specs.Code.{code2_of, currency_of}
+use Rattle.onix_terms.specs.Day.{day_of}
+use Rattle.onix_terms.specs.Quantity.{quantity_of}
 use Rattle.onix_records.specs.declared.row.Opening.{Opening}
 use Rattle.onix_mapping.specs.Dates.{Days, days, days_in}
 use Rattle.onix_mapping.specs.Elements.{Composite, Element, composites, first, text_or_empty}
 use Rattle.onix_mapping.specs.Identifiers.{is_text}
 use Rattle.onix_mapping.specs.Notes.{Note, Reason, reason}
 use Rattle.onix_mapping.specs.Records.{said}
-use Rattle.onix_mapping.specs.Territories.{Area, area_fields, area_in, left_out_regions, unheld}
-use Rattle.onix_mapping.specs.declared.notes.Why.TheVariants.{PriceQualifier, PricePer, PriceCondition, PriceConstraint, PriceCoded, CurrencyZone, MoreDecimals, PriceRefused}
+use Rattle.onix_mapping.specs.Territories.{Area, area_fields, area_in, left_out_regions, market_of, unheld}
+use Rattle.onix_mapping.specs.declared.notes.Why.TheVariants.{PriceQualifier, PricePer, PriceCondition, PriceConstraint, PriceCoded, CurrencyZone, MoreDecimals, WrongPriceType, WrongAmount, WrongCurrency, WrongTerritory, WrongDay, WrongQuantity, PriceRefused}
+use Rattle.onix_mapping.specs.declared.notes.Why.{Why}
 
 -- ---- the record
 
@@ -69,14 +75,40 @@ has_more_decimals (b ∷ text) = is_ascii_digit b && is_long_part (behind_digits
 abbrev pub long_amount : Nodes → Option (List ℕ)
 long_amount nodes = option_and_then (λ text. if has_more_decimals text then Some text else None) (text_in (codes "PriceAmount") nodes)
 
--- a Price of which the desk could not take the record: a field is outside its grammar, too long or has a control character, or has no default in the header
-abbrev pub refusal : Opening → Nodes → Option Reason
-refusal o nodes = if is_some (said (price_of o) (price_fields nodes)) then None else Some (reason PriceRefused [])
-
 -- the first of some reasons that holds
 abbrev pub first_some : {A : Type 0} → List (Option A) → Option A
 first_some [] = None
 first_some (x ∷ xs) = option_or x (first_some xs)
+
+-- a value that a text writes
+abbrev pub term_said : {A : Type 0} → (List ℕ → Option A) → List ℕ → Option A
+term_said term text = if is_utf8 text then term text else None
+
+-- a reason where something does not hold
+abbrev pub unless : Bool → Why → List ℕ → Option Reason
+unless holds why text = if holds then None else Some (reason why text)
+
+-- a reason where a text is not read so
+abbrev pub unread : {A : Type 0} → (List ℕ → Option A) → Why → List ℕ → Option Reason
+unread read why text = unless (is_some (read text)) why text
+
+-- Which fields of a Price the desk does not take, each where it does not: it is outside its grammar, or it is empty and has no default in the header
+abbrev pub field_reasons : Opening → Nodes → List (Option Reason)
+field_reasons o nodes =
+    unread (or_default (term_said code2_of) o.header.default_type) WrongPriceType (text_or_empty (codes "PriceType") nodes)
+    ∷ unread (term_said amount_of) WrongAmount (text_or_empty (codes "PriceAmount") nodes)
+    ∷ unread (or_default (term_said currency_of) o.header.default_currency) WrongCurrency (text_or_empty (codes "CurrencyCode") nodes)
+    ∷ unless (is_some (market_of (area_in nodes))) WrongTerritory []
+    ∷ unread (optional (term_said day_of)) WrongDay (unwrap_or (right_days nodes).first [])
+    ∷ unread (optional (term_said day_of)) WrongDay (unwrap_or (right_days nodes).last [])
+    ∷ unread (optional (term_said quantity_of)) WrongQuantity (text_or_empty (codes "MinimumOrderQuantity") nodes)
+    ∷ []
+
+-- a Price of which the desk could not take the record, for the first field that it does not take, if it is one of those
+abbrev pub refusal : Opening → Nodes → Option Reason
+refusal o nodes =
+    if is_some (said (price_of o) (price_fields nodes)) then None
+    else Some (unwrap_or (first_some (field_reasons o nodes)) (reason PriceRefused []))
 
 -- why a Price is another than the desk knows, each where it holds
 abbrev pub early_reasons : Nodes → List (Option Reason)

@@ -14,6 +14,7 @@ pub mod parties;
 mod price_tests;
 pub mod prices;
 mod records;
+mod refusals;
 mod regions;
 pub mod territories;
 #[cfg(test)]

@@ -21,11 +21,23 @@ pub enum Why {
     DateFormat,
     /// A Price with a PriceDate without Date, whose role is the text.
     NoDate,
-    /// A Price with a PriceDate that is to have two days: the text, its Date, is not 16 characters.
+    /// A Price with a PriceDate that is to have two days: the text, its Date, is not 16 bytes long.
     NotTwoDays,
     /// A Price whose amount, the text, has more than three decimals.
     MoreDecimals,
-    /// A Price that the desk could not take.
+    /// A Price whose PriceType, the text, is no code; where it is empty the Header has no default.
+    WrongPriceType,
+    /// A Price whose amount, the text, is none.
+    WrongAmount,
+    /// A Price whose currency, the text, is none; where it is empty the Header has no default.
+    WrongCurrency,
+    /// A Price whose Territory has countries that are none.
+    WrongTerritory,
+    /// A Price that holds from or until a day, the text, that is none.
+    WrongDay,
+    /// A Price whose MinimumOrderQuantity, the text, is none.
+    WrongQuantity,
+    /// A Price that the desk could not take for another reason.
     PriceRefused,
     /// A region in RegionsIncluded beside a country or the world: without it the territory is
     /// smaller, or the same.

@@ -2,7 +2,7 @@
 
 use crate::dates::{Days, days_in};
 use crate::details::add_detail;
-use crate::notes::{Reason, Why};
+use crate::notes::{Note, Reason, Why};
 use csv_records::buffer::RecordBuffer;
 use csv_records::fields::FieldBuffer;
 use csv_records::writing::write_records;
@@ -146,12 +146,15 @@ fn opening_of(alloc: Global) -> Result<Opening, RowFault> {
     read_opening(alloc, &fields.as_record(), &mut list)
 }
 
-// What comes of a SupplyDetail: the reasons for what was left out, its records as a text.
-fn told(alloc: Global, lines: &[Line], whys: &mut Vec<Why>) -> Result<String, RowFault> {
+// Adds what comes of a SupplyDetail.
+fn add<'a>(
+    alloc: Global,
+    lines: &'a [Line],
+    records: &mut RecordBuffer,
+    notes: &mut Vec<Note<'a>>,
+) -> Result<(), RowFault> {
     let opening = opening_of(alloc)?;
     let mut fields = FieldBuffer::new(alloc);
-    let mut records = RecordBuffer::new(alloc);
-    let mut notes = Vec::new(alloc);
     add_detail(
         alloc,
         &opening,
@@ -159,9 +162,16 @@ fn told(alloc: Global, lines: &[Line], whys: &mut Vec<Why>) -> Result<String, Ro
         1,
         lines,
         &mut fields,
-        &mut records,
-        &mut notes,
-    )?;
+        records,
+        notes,
+    )
+}
+
+// What comes of a SupplyDetail: the reasons for what was left out, its records as a text.
+fn told<'a>(alloc: Global, lines: &'a [Line], whys: &mut Vec<Why>) -> Result<String, RowFault> {
+    let mut records = RecordBuffer::new(alloc);
+    let mut notes: Vec<Note<'a>> = Vec::new(alloc);
+    add(alloc, lines, &mut records, &mut notes)?;
     whys.clear();
     for note in &notes {
         let Ok(()) = whys.push(note.reason.why) else {
@@ -303,7 +313,33 @@ fn other_prices_are_left_out(rt: HostRuntime) -> Result<(), AllocError> {
         b"",
         Why::PriceRefused,
     )?;
-    expect_left_out(&rt, alloc, b"1", b"PriceType", b"2", b"", Why::PriceRefused)?;
+    expect_left_out(
+        &rt,
+        alloc,
+        b"1",
+        b"PriceType",
+        b"2",
+        b"",
+        Why::WrongPriceType,
+    )?;
+    expect_left_out(
+        &rt,
+        alloc,
+        b"1",
+        b"CurrencyCode",
+        b"pounds",
+        b"",
+        Why::WrongCurrency,
+    )?;
+    expect_left_out(
+        &rt,
+        alloc,
+        b"1",
+        b"Territory",
+        b"",
+        b"CountriesIncluded",
+        Why::WrongTerritory,
+    )?;
     expect_left_out(
         &rt,
         alloc,

@@ -2,7 +2,7 @@
 
 ghost use Rattle.std.specs.Prelude.{◌≡◌, ◌++◌, ◌∷◌, [], ◌<◌, ℕ, List, None, IfOk, IsErrOf, OnOk, false, true, is_some, map, codes, option_map};
 ghost use Rattle.std.specs.List.{list_all};
-ghost use Rattle.std.specs.Option.{option_or, option_to_list};
+ghost use Rattle.std.specs.Option.{option_or, option_to_list, unwrap_or};
 ghost use Rattle.std.specs.Result.{result_err, result_unwrap_or};
 ghost use Rattle.std.specs.Str.{is_utf8};
 ghost use Rattle.onix_mapping.specs.DateViews.{days_read, days_view};
@@ -12,6 +12,7 @@ ghost use Rattle.onix_mapping.specs.Notes.{note_views, reason, reason_view};
 ghost use Rattle.onix_mapping.specs.PriceViews.{reason_read, text_view};
 ghost use Rattle.onix_mapping.specs.Prices.{behind_digits, coded_in, early_reasons, eight_fields, first_some, has_more_decimals, is_long_part, is_unpriced, long_amount, note_of, other_in, other_type, outcome, outcome_notes, outcome_of, outcome_records, price_fields, reasons_against, refusal, right_days};
 ghost use Rattle.onix_mapping.specs.Records.{said};
+ghost use Rattle.onix_mapping.specs.declared.notes.Why.TheVariants.{PriceRefused};
 ghost use Rattle.onix_mapping.specs.Territories.{area_in, area_view};
 ghost use Rattle.onix_outline.specs.Nodes.{Nodes};
 ghost use Rattle.onix_outline.specs.Outline.{outline};
@@ -24,6 +25,7 @@ use crate::elements::{Composite, first_composite, next_composite, text_or_empty}
 use crate::identifiers::is_text;
 use crate::notes::{Note, Reason, Why};
 use crate::records::push_texts;
+use crate::refusals::field_reason;
 use crate::territories::{Area, area_fields, area_in, push_left_out_regions, unheld};
 use csv_records::buffer::RecordBuffer;
 use csv_records::fields::FieldBuffer;
@@ -140,8 +142,8 @@ fn because<'a>(why: Why, text: Option<&'a [u8]>) -> Option<Reason<'a>>
     }
 }
 
-// The first of two reasons that holds.
-fn former<'a>(one: Option<Reason<'a>>, other: Option<Reason<'a>>) -> Option<Reason<'a>>
+/// The first of two reasons that holds.
+pub(crate) fn former<'a>(one: Option<Reason<'a>>, other: Option<Reason<'a>>) -> Option<Reason<'a>>
     ensures { reason_read result ≡ option_or (reason_read one.entry) (reason_read other.entry) }
 {
     match one {
@@ -327,6 +329,19 @@ fn take_price(
     }
 }
 
+// A reason, or that the desk could not take a Price for another.
+fn or_refused<'a>(field: Option<Reason<'a>>) -> Reason<'a>
+    ensures { reason_view result ≡ unwrap_or (reason_read field.entry) (reason PriceRefused []) }
+{
+    match field {
+        Some(reason) => reason,
+        None => Reason {
+            why: Why::PriceRefused,
+            text: b"",
+        },
+    }
+}
+
 // Adds the record of a Price with these days in this territory, or gives the reason for which the
 // desk could not take it.
 fn write_price<'a>(
@@ -353,10 +368,8 @@ fn write_price<'a>(
         records.push(&fields.as_record())?;
         return Ok(None);
     }
-    Ok(Some(Reason {
-        why: Why::PriceRefused,
-        text: b"",
-    }))
+    let field = field_reason(alloc, opening, area, days, depth, lines)?;
+    Ok(Some(or_refused(field)))
 }
 
 // Adds a note on the element of a line.

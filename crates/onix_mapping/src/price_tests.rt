@@ -311,7 +311,7 @@ fn other_prices_are_left_out(rt: HostRuntime) -> Result<(), AllocError> {
         b"PriceType",
         b"02",
         b"",
-        Why::PriceRefused,
+        Why::WrongAmount,
     )?;
     expect_left_out(
         &rt,
@@ -356,7 +356,7 @@ fn other_prices_are_left_out(rt: HostRuntime) -> Result<(), AllocError> {
         b"MinimumOrderQuantity",
         b"0",
         b"",
-        Why::PriceRefused,
+        Why::WrongQuantity,
     )
 }
 

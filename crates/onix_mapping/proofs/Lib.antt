@@ -2,3 +2,4 @@ pub mod WordLaws
 pub mod DateLaws
 pub mod PriceLaws
 pub mod HeaderLaws
+pub mod TerritorySets

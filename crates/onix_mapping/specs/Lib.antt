@@ -15,3 +15,4 @@ pub mod Details
 pub mod PartyViews
 pub mod Header
 pub mod HeaderViews
+pub mod Unions

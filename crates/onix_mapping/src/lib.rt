@@ -17,6 +17,7 @@ mod records;
 mod refusals;
 mod regions;
 pub mod territories;
+pub mod unions;
 #[cfg(test)]
 mod tests;
 

@@ -3,3 +3,4 @@ pub mod DateLaws
 pub mod PriceLaws
 pub mod HeaderLaws
 pub mod TerritorySets
+pub mod UnionLaws

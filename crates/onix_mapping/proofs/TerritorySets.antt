@@ -36,8 +36,7 @@ lies-from country t is =
 
 pub lies-to : (country : List ℕ) (t : Territory) → lies_in country t ≡ true → IsIn country t
 lies-to country t is =
-    let parts = and_parts (not (list_any (bytes_eq country) t.excluded)) (t.world || list_any (bytes_eq country) t.included) is in
-    (
+    let parts = and_parts (not (list_any (bytes_eq country) t.excluded)) (t.world || list_any (bytes_eq country) t.included) is in (
       λ out. never-found _ parts.0 (there-found country t.excluded out),
       elim (one-of t.world (list_any (bytes_eq country) t.included) parts.1) [ inl world ↦ inl world | inr there ↦ inr (found-there country t.included there) ],
     )

@@ -8,6 +8,7 @@ pub mod header;
 #[cfg(test)]
 mod header_tests;
 pub mod identifiers;
+pub mod laws;
 pub mod notes;
 pub mod parties;
 #[cfg(test)]
@@ -17,9 +18,9 @@ mod records;
 mod refusals;
 mod regions;
 pub mod territories;
-pub mod unions;
 #[cfg(test)]
 mod tests;
+pub mod unions;
 
 pub use dates::{Days, days_in};
 pub use details::add_detail;

@@ -4,3 +4,5 @@ pub mod PriceLaws
 pub mod HeaderLaws
 pub mod TerritorySets
 pub mod UnionLaws
+pub mod MarketLaws
+pub mod ElementLaws

@@ -111,35 +111,48 @@ not-outside : (t : Bool) → (not (not t) && true) ≡ t
 not-outside true = refl
 not-outside false = refl
 
-in-none : (a b : Bool) → false ≡ (a || b) → a ≡ (a || b)
-in-none true b is = refl
-in-none false b is = is
+-- whether a country lies in a territory, where there is one
+unfoldable lies-in-some : List ℕ → Option Territory → Bool
+lies-in-some country None = false
+lies-in-some country (Some t) = lies_in country t
 
-of-inside : (first : Territory) (more : List Territory) (country : List ℕ) (inside : List (List ℕ)) → list_any (bytes_eq country) inside ≡ lies_in_one (first ∷ more) country
-    → lies_in country (of_countries first inside) ≡ lies_in_one (first ∷ more) country
-of-inside first more country [] is = in-none (lies_in country first) (lies_in_one more country) is
-of-inside first more country (c ∷ inside) is = is
+of-inside : (country : List ℕ) (inside : List (List ℕ)) → lies-in-some country (of_countries inside) ≡ list_any (bytes_eq country) inside
+unfolding lies-in-some
+of-inside country [] = refl
+of-inside country (c ∷ inside) = refl
 
-pub in-union : (first : Territory) (more : List Territory) (country : List ℕ) → country_of country ≡ Some country
-    → lies_in country (union first (first ∷ more)) ≡ lies_in_one (first ∷ more) country
-in-union first more country is = go (has_world (first ∷ more))
+in-union : (territories : List Territory) (country : List ℕ) → country_of country ≡ Some country
+    → lies-in-some country (union territories) ≡ lies_in_one territories country
+unfolding lies-in-some
+in-union territories country is = go (has_world territories)
   where
-    go : (w : Bool) → lies_in country (if w then world_without (wanted (first ∷ more) false) else of_countries first (wanted (first ∷ more) true)) ≡ lies_in_one (first ∷ more) country
-    go true =
-        ap (λ t. not t && true) (wanted-there (first ∷ more) false country is) ∙ not-outside (lies_in_one (first ∷ more) country)
-    go false = of-inside first more country (wanted (first ∷ more) true) (wanted-there (first ∷ more) true country is)
+    go : (w : Bool) → lies-in-some country (if w then Some (world_without (wanted territories false)) else of_countries (wanted territories true)) ≡ lies_in_one territories country
+    go true = ap (λ t. not t && true) (wanted-there territories false country is) ∙ not-outside (lies_in_one territories country)
+    go false = of-inside country (wanted territories true) ∙ wanted-there territories true country is
 
 any-to : {T : Type 0} (P Q : T → Type 0) → ((x : T) → P x → Q x) → (xs : List T) → Any P xs → Any Q xs
 any-to P Q to xs (k, x, less, at, holds) = (k, x, less, at, to x holds)
 
+in-one : (territories : List Territory) (country : List ℕ) → Any (IsIn country) territories → lies_in_one territories country ≡ true
+in-one territories country inside =
+    list_any-from_Any (lies_in country) territories (any-to (IsIn country) (λ t. lies_in country t ≡ true) (lies-from country) territories inside)
+
 -- a country lies in the union exactly where it lies in one of the territories
-pub union-has : (first : Territory) (more : List Territory) (country : List ℕ) → country_of country ≡ Some country
-    → IsIn country (union first (first ∷ more)) ↔ Any (IsIn country) (first ∷ more)
-union-has first more country is =
-    let same = in-union first more country is in
-    let all = first ∷ more in (
-      λ inside. any-to (λ t. lies_in country t ≡ true) (IsIn country) (lies-to country) all
-          (Any-from_list_any (lies_in country) all (sym same ∙ lies-from country (union first all) inside)),
-      λ inside. lies-to country (union first all)
-          (same ∙ list_any-from_Any (lies_in country) all (any-to (IsIn country) (λ t. lies_in country t ≡ true) (lies-from country) all inside)),
+pub union-has : (territories : List Territory) (t : Territory) → union territories ≡ Some t → (country : List ℕ) → country_of country ≡ Some country
+    → IsIn country t ↔ Any (IsIn country) territories
+unfolding lies-in-some
+union-has territories t union-is country is =
+    let same : lies_in country t ≡ lies_in_one territories country = ap (lies-in-some country) (sym union-is) ∙ in-union territories country is in
+    (
+      λ inside. any-to (λ u. lies_in country u ≡ true) (IsIn country) (lies-to country) territories
+          (Any-from_list_any (lies_in country) territories (sym same ∙ lies-from country t inside)),
+      λ inside. lies-to country t (same ∙ in-one territories country inside),
     )
+
+-- without a union no country lies in one of them
+pub union-none : (territories : List Territory) → union territories ≡ None → (country : List ℕ) → country_of country ≡ Some country → Any (IsIn country) territories → ⊥
+unfolding lies-in-some
+union-none territories union-is country is inside =
+    let none : false ≡ lies_in_one territories country = ap (lies-in-some country) (sym union-is) ∙ in-union territories country is in
+    let some : lies_in_one territories country ≡ true = in-one territories country inside in
+    cc

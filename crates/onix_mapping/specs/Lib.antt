@@ -16,3 +16,5 @@ pub mod PartyViews
 pub mod Header
 pub mod HeaderViews
 pub mod Unions
+pub mod Markets
+pub mod Products

@@ -1,5 +1,5 @@
 -- Several territories as one.
-use Rattle.std.specs.Prelude.{ℕ, Bool, true, false, ◌&&◌, ◌||◌, not, List, [], ◌∷◌, filter, if◌then◌else◌, codes}
+use Rattle.std.specs.Prelude.{ℕ, Bool, true, false, ◌&&◌, ◌||◌, not, List, [], ◌∷◌, Option, Some, None, filter, if◌then◌else◌, codes}
 use Rattle.std.specs.List.{filter_map, flat_map, list_any}
 use Rattle.std.specs.Str.{bytes_eq}
 use Rattle.onix_terms.specs.Code.{country_of}
@@ -39,13 +39,13 @@ has_world territories = list_any (λ t. t.world) territories
 abbrev pub world_without : List (List ℕ) → Territory
 world_without outside = record { included = []; world = true; excluded = outside }
 
--- nothing included would be the world, so without a country the territory stays as it is
-abbrev pub of_countries : Territory → List (List ℕ) → Territory
-of_countries t [] = t
-of_countries t (country ∷ inside) = record { included = country ∷ inside; world = false; excluded = [] }
+-- the territory of these countries; nothing, where there is none, since a territory that includes nothing is the world
+abbrev pub of_countries : List (List ℕ) → Option Territory
+of_countries [] = None
+of_countries (country ∷ inside) = Some (record { included = country ∷ inside; world = false; excluded = [] })
 
--- The union of territories, of which this one is the first: the countries that lie in one of them and nothing else, or, where the world is one of them, the world without the countries that lie in none.
--- Where no country lies in them it is the first as it stands.
-abbrev pub union : Territory → List Territory → Territory
-union first territories =
-    if has_world territories then world_without (wanted territories false) else of_countries first (wanted territories true)
+-- The union of territories: the countries that lie in one of them and nothing else, or, where the world is one of them, the world without the countries that lie in none.
+-- Nothing, where no country lies in them.
+abbrev pub union : List Territory → Option Territory
+union territories =
+    if has_world territories then Some (world_without (wanted territories false)) else of_countries (wanted territories true)

@@ -9,11 +9,15 @@ pub mod header;
 mod header_tests;
 pub mod identifiers;
 pub mod laws;
+#[cfg(test)]
+mod market_tests;
+pub mod markets;
 pub mod notes;
 pub mod parties;
 #[cfg(test)]
 mod price_tests;
 pub mod prices;
+pub mod products;
 mod records;
 mod refusals;
 mod regions;
@@ -27,7 +31,9 @@ pub use details::add_detail;
 pub use elements::{Composite, first_composite, next_composite, text_or_empty};
 pub use header::{Choices, HeaderFault, Heading, Refusal, fill_message, read_heading};
 pub use identifiers::{ADDRESSEE, Identifier, Kind, PRODUCT, SENDER, SUPPLIER, choose_identifier};
+pub use markets::fill_supply;
 pub use notes::{Note, Reason, Why};
 pub use parties::Pair;
 pub use prices::add_price;
+pub use products::fill_product;
 pub use territories::{Area, area_fields, area_in, push_left_out_regions, read_market, unheld};

@@ -1,6 +1,10 @@
 //! Notes on what of a message is left out.
 
+ghost use Rattle.std.specs.Prelude.{◌≡◌, ◌++◌, ◌∷◌, [], OnOk};
+ghost use Rattle.onix_mapping.specs.Notes.{note_view, note_views};
+
 use onix_outline::Line;
+use std::alloc::AllocError;
 
 /// Why something is left out.
 #[derive(Clone, Copy, Debug, PartialEq, Eq)]
@@ -68,4 +72,13 @@ pub struct Reason<'a> {
 pub struct Note<'a> {
     pub line: &'a Line,
     pub reason: Reason<'a>,
+}
+
+/// Adds a note.
+pub(crate) fn push_note<'a>(notes: &mut Vec<Note<'a>>, note: Note<'a>) -> Result<(), AllocError>
+    ensures { OnOk result (note_views notes.new.items
+        ≡ note_views notes.old.items ++ note_view note.entry ∷ []) }
+{
+    notes.push(note)?;
+    Ok(())
 }

@@ -2,11 +2,15 @@
 
 ghost use Rattle.std.specs.Prelude.{◌≡◌, ◌++◌, ◌<◌, OnOk, map, option_map};
 ghost use Rattle.onix_mapping.specs.Notes.{note_views, reason_view};
+ghost use Rattle.onix_mapping.specs.Markets.{as_it_stands, as_union};
+ghost use Rattle.onix_mapping.specs.Records.{clean, Fills};
 ghost use Rattle.onix_mapping.specs.Territories.{area_fields, area_in, area_view, left_out_regions, market_of, region_alone, unheld};
 ghost use Rattle.onix_outline.specs.Nodes.{Nodes};
 ghost use Rattle.onix_outline.specs.Outline.{outline};
 ghost use Rattle.onix_outline.specs.Views.{line_views};
+ghost use Rattle.onix_records.specs.Fields.{territory_fields};
 ghost use Rattle.onix_records.specs.Gives.{Gives};
+ghost use Rattle.onix_records.specs.Supply.{supply_of};
 
 use crate::elements::{first_composite, text_or_empty};
 use crate::notes::{Note, Reason, Why};
@@ -18,6 +22,8 @@ use onix_records::fields::read_fields;
 use onix_records::parts::ProductSupply;
 use onix_records::row::RowFault;
 use onix_records::supply::read_supply;
+use onix_terms::countries::countries_text;
+use onix_terms::territory::Territory;
 use std::alloc::{AllocError, Global};
 
 /// Where a Market or a Price holds: the line of its Territory, where it has one, and the four
@@ -116,14 +122,73 @@ pub fn push_left_out_regions<'a>(
     push_regions(notes, line, Why::RegionExcluded, area.regions_excluded)
 }
 
-/// The market of a territory, as the desk reads it. `Wrong` exactly where it reads none.
-pub fn read_market(alloc: Global, area: &Area<'_>) -> Result<ProductSupply, RowFault>
-    ensures { Gives result (market_of (area_view area.now)) }
+// The market that the fields of a record say.
+fn read_fields_of_market(alloc: Global, buffer: &FieldBuffer) -> Result<ProductSupply, RowFault>
+    ensures { Gives result (clean supply_of buffer.now) }
 {
-    let mut buffer = FieldBuffer::new(alloc);
-    push_texts(&mut buffer, &area_fields(area))?;
     let record = buffer.as_record();
     let mut fields = Vec::new(alloc);
     read_fields(&record, &mut fields)?;
     read_supply(alloc, &fields)
+}
+
+/// The market of a Territory, as the desk reads it. `Wrong` exactly where it reads none.
+pub fn read_market(alloc: Global, area: &Area<'_>) -> Result<ProductSupply, RowFault>
+    ensures { Gives result (market_of (area_view area.now)) }
+{
+    let mut fields = FieldBuffer::new(alloc);
+    push_texts(&mut fields, &area_fields(area))?;
+    read_fields_of_market(alloc, &fields)
+}
+
+// Adds the three fields of a territory, written out.
+fn push_territory(
+    alloc: Global,
+    fields: &mut FieldBuffer,
+    territory: &Territory,
+) -> Result<(), AllocError>
+    ensures { OnOk result (fields.new ≡ fields.old ++ territory_fields territory.now) }
+{
+    fields.push(countries_text(alloc, territory.included.as_slice())?.as_str())?;
+    fields.push(if territory.world { "WORLD" } else { "" })?;
+    fields.push(countries_text(alloc, territory.excluded.as_slice())?.as_str())
+}
+
+// The market of a territory that is written out.
+fn reread_market(alloc: Global, territory: &Territory) -> Result<ProductSupply, RowFault>
+    ensures { Gives result (clean supply_of (territory_fields territory.now)) }
+{
+    let mut fields = FieldBuffer::new(alloc);
+    push_territory(alloc, &mut fields, territory)?;
+    read_fields_of_market(alloc, &fields)
+}
+
+/// Puts the record of a ProductSupply with this Territory into the buffer, as it stands. `Wrong`
+/// exactly where the desk would not take it.
+pub(crate) fn fill_as_it_stands(
+    alloc: Global,
+    fields: &mut FieldBuffer,
+    area: &Area<'_>,
+) -> Result<(), RowFault>
+    ensures { Fills result fields.new (as_it_stands (area_view area.now)) }
+{
+    drop(read_market(alloc, area)?);
+    fields.clear();
+    fields.push("ProductSupply")?;
+    push_texts(fields, &area_fields(area))
+}
+
+/// Puts the record of a ProductSupply with this union of territories into the buffer. `Wrong`
+/// exactly where the desk would not take it, since it is too long.
+pub(crate) fn fill_as_union(
+    alloc: Global,
+    fields: &mut FieldBuffer,
+    territory: &Territory,
+) -> Result<(), RowFault>
+    ensures { Fills result fields.new (as_union territory.now) }
+{
+    drop(reread_market(alloc, territory)?);
+    fields.clear();
+    fields.push("ProductSupply")?;
+    Ok(push_territory(alloc, fields, territory)?)
 }

@@ -6,7 +6,6 @@ ghost use Rattle.onix_terms.specs.Code.{country_of};
 
 use onix_terms::code::Country;
 use onix_terms::items::Items;
-use onix_terms::plain::Plain;
 use onix_terms::territory::Territory;
 use std::alloc::{AllocError, Global};
 
@@ -98,40 +97,31 @@ fn has_world(territories: &[Territory]) -> bool
     territories.iter().any(|territory| territory.world)
 }
 
-// The territory of these countries. Nothing included would be the world, so without a country it
-// is this territory.
-fn of_countries(
-    alloc: Global,
-    territory: &Territory,
-    inside: Items<Country>,
-) -> Result<Territory, AllocError>
-    ensures { IfOk result (λ t. t ≡ of_countries territory.now inside) }
+// The territory of these countries, or nothing where there is none.
+fn of_countries(alloc: Global, inside: Items<Country>) -> Option<Territory>
+    ensures { result ≡ of_countries inside }
 {
     if inside.is_empty() {
-        return territory.duplicate();
+        return None;
     }
-    Ok(Territory {
+    Some(Territory {
         included: inside,
         world: false,
         excluded: Items::new(alloc),
     })
 }
 
-/// The union of territories, of which `first` is the first: a country lies in it exactly where it
-/// lies in one of them.
-pub fn union(
-    alloc: Global,
-    first: &Territory,
-    territories: &[Territory],
-) -> Result<Territory, AllocError>
-    ensures { IfOk result (λ t. t ≡ union first.now territories.now) }
+/// The union of territories: a country lies in it exactly where it lies in one of them. `None`
+/// where no country does.
+pub fn union(alloc: Global, territories: &[Territory]) -> Result<Option<Territory>, AllocError>
+    ensures { IfOk result (λ t. t ≡ union territories.now) }
 {
     if has_world(territories) {
-        return Ok(Territory {
+        return Ok(Some(Territory {
             included: Items::new(alloc),
             world: true,
             excluded: wanted(alloc, territories, false)?,
-        });
+        }));
     }
-    of_countries(alloc, first, wanted(alloc, territories, true)?)
+    Ok(of_countries(alloc, wanted(alloc, territories, true)?))
 }

@@ -142,8 +142,7 @@ pub union-has : (territories : List Territory) (t : Territory) → union territo
     → IsIn country t ↔ Any (IsIn country) territories
 unfolding lies-in-some
 union-has territories t union-is country is =
-    let same : lies_in country t ≡ lies_in_one territories country = ap (lies-in-some country) (sym union-is) ∙ in-union territories country is in
-    (
+    let same : lies_in country t ≡ lies_in_one territories country = ap (lies-in-some country) (sym union-is) ∙ in-union territories country is in (
       λ inside. any-to (λ u. lies_in country u ≡ true) (IsIn country) (lies-to country) territories
           (Any-from_list_any (lies_in country) territories (sym same ∙ lies-from country t inside)),
       λ inside. lies-to country t (same ∙ in-one territories country inside),

@@ -161,10 +161,7 @@ fn several_markets_are_one(rt: HostRuntime) -> Result<(), AllocError> {
     expect_market(
         &rt,
         alloc,
-        &[
-            [b"IE GB IE", b"", b"IE GB", b""],
-            [b"FR", b"", b"FR", b""],
-        ],
+        &[[b"IE GB IE", b"", b"IE GB", b""], [b"FR", b"", b"FR", b""]],
         b"ProductSupply|IE GB IE||IE GB|",
         &[],
     )

@@ -48,10 +48,7 @@ fn read_territory<'a>(
 }
 
 // Adds a territory, where there is one.
-fn push_some(
-    found: &mut Items<Territory>,
-    territory: Option<Territory>,
-) -> Result<(), AllocError>
+fn push_some(found: &mut Items<Territory>, territory: Option<Territory>) -> Result<(), AllocError>
     ensures { OnOk result (found.new ≡ found.old ++ option_to_list territory) }
 {
     match territory {

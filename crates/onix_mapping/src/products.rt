@@ -147,7 +147,15 @@ fn push_right_pairs<'a>(
 {
     let mut rest = lines;
     while let Some((identifier, behind)) = next_composite(b"ProductIdentifier", depth, rest) {
-        push_right_pair(alloc, texts, reference, notification, identifier, depth + 1, notes)?;
+        push_right_pair(
+            alloc,
+            texts,
+            reference,
+            notification,
+            identifier,
+            depth + 1,
+            notes,
+        )?;
         rest = behind;
     }
     Ok(())
@@ -196,7 +204,15 @@ fn push_deletion_pairs<'a>(
         ++ wrong_identifiers reference.now notification.now (identifiers_in nodes)) }
 {
     let mut pairs: Vec<&'a [u8]> = Vec::new(alloc);
-    push_right_pairs(alloc, &mut pairs, reference, notification, depth, lines, notes)?;
+    push_right_pairs(
+        alloc,
+        &mut pairs,
+        reference,
+        notification,
+        depth,
+        lines,
+        notes,
+    )?;
     push_or_reference(texts, reference, &pairs)
 }
 
@@ -219,7 +235,15 @@ fn product_texts<'a>(
     let mut texts: Vec<&'a [u8]> = Vec::new(alloc);
     push_pair(&mut texts, [reference, notification])?;
     if notification == b"05".as_slice() {
-        push_deletion_pairs(alloc, &mut texts, reference, notification, depth, lines, notes)?;
+        push_deletion_pairs(
+            alloc,
+            &mut texts,
+            reference,
+            notification,
+            depth,
+            lines,
+            notes,
+        )?;
         return Ok(texts);
     }
     push_pairs(&mut texts, depth, lines)?;

@@ -6,3 +6,4 @@ pub mod TerritorySets
 pub mod UnionLaws
 pub mod MarketLaws
 pub mod ElementLaws
+pub mod SupplyLaws

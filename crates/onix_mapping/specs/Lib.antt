@@ -18,3 +18,4 @@ pub mod HeaderViews
 pub mod Unions
 pub mod Markets
 pub mod Products
+pub mod Supplies

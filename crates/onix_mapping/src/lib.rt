@@ -21,6 +21,7 @@ pub mod products;
 mod records;
 mod refusals;
 mod regions;
+pub mod supplies;
 pub mod territories;
 #[cfg(test)]
 mod tests;

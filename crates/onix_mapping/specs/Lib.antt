@@ -19,3 +19,4 @@ pub mod Unions
 pub mod Markets
 pub mod Products
 pub mod Supplies
+pub mod ProductRecords

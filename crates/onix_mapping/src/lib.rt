@@ -21,6 +21,7 @@ pub mod products;
 mod records;
 mod refusals;
 mod regions;
+pub mod product_records;
 pub mod supplies;
 pub mod territories;
 #[cfg(test)]

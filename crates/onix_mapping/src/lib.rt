@@ -37,5 +37,7 @@ pub use markets::fill_supply;
 pub use notes::{Note, Reason, Why};
 pub use parties::Pair;
 pub use prices::add_price;
+pub use product_records::add_product;
 pub use products::fill_product;
+pub use supplies::add_supplies;
 pub use territories::{Area, area_fields, area_in, push_left_out_regions, read_market, unheld};

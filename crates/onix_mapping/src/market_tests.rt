@@ -1,11 +1,16 @@
 //! Tests of Markets and of the records of Products.
 
+use crate::elements::Composite;
 use crate::markets::fill_supply;
 use crate::notes::{Note, Why};
+use crate::product_records::add_product;
 use crate::products::fill_product;
+use csv_records::buffer::RecordBuffer;
 use csv_records::fields::FieldBuffer;
+use csv_records::writing::write_records;
 use onix_outline::Line;
-use onix_records::row::RowFault;
+use onix_records::opening::read_opening;
+use onix_records::row::{Opening, RowFault};
 use std::alloc::{AllocError, Global};
 use std::process::Abort;
 
@@ -182,4 +187,106 @@ fn deletions_keep_right_identifiers(rt: HostRuntime) -> Result<(), AllocError> {
     expect(&rt, &shown(alloc, &fields)?, b"Product|R1|05|01|R1|");
     expect_notes(&rt, &notes, &[Why::WrongIdentifier]);
     Ok(())
+}
+
+// A Product with an identifier and this NotificationType.
+fn push_product(
+    alloc: Global,
+    lines: &mut Vec<Line>,
+    notification: &[u8],
+) -> Result<(), AllocError> {
+    push(alloc, lines, 0, b"Product", b"")?;
+    push(alloc, lines, 1, b"RecordReference", b"R1")?;
+    push(alloc, lines, 1, b"NotificationType", notification)?;
+    push_identifier(alloc, lines, b"15", b"9")
+}
+
+// A SupplyDetail of a supplier.
+fn push_detail(alloc: Global, lines: &mut Vec<Line>) -> Result<(), AllocError> {
+    push(alloc, lines, 2, b"SupplyDetail", b"")?;
+    push(alloc, lines, 3, b"Supplier", b"")?;
+    push(alloc, lines, 4, b"SupplierRole", b"04")?;
+    push(alloc, lines, 4, b"SupplierName", b"North")?;
+    push(alloc, lines, 3, b"ProductAvailability", b"21")
+}
+
+// A message without defaults.
+fn opening_of(alloc: Global) -> Result<Opening, RowFault> {
+    let mut fields = FieldBuffer::new(alloc);
+    fields.push_all(&["Message", "2", "06", "S", "", "", "1", "", "", "", ""])?;
+    let mut list = Vec::new(alloc);
+    read_opening(alloc, &fields.as_record(), &mut list)
+}
+
+// The records of a Product.
+fn records_of<'a>(
+    alloc: Global,
+    lines: &'a [Line],
+    notes: &mut Vec<Note<'a>>,
+) -> Result<String, RowFault> {
+    let opening = opening_of(alloc)?;
+    let mut fields = FieldBuffer::new(alloc);
+    let mut records = RecordBuffer::new(alloc);
+    let [line, below @ ..] = lines else {
+        return Err(RowFault::Wrong);
+    };
+    let product = Composite { line, below };
+    add_product(
+        alloc,
+        &opening,
+        b"06",
+        1,
+        product,
+        &mut fields,
+        &mut records,
+        notes,
+    )?;
+    Ok(write_records(alloc, &records.as_records())?)
+}
+
+// What comes of a Product: its records, or `wrong`; and the notes.
+fn expect_product(
+    stop: &impl Abort,
+    alloc: Global,
+    lines: &[Line],
+    wanted: &[u8],
+    reasons: &[Why],
+) -> Result<(), AllocError> {
+    let mut notes = Vec::new(alloc);
+    match records_of(alloc, lines, &mut notes) {
+        Ok(text) => expect(stop, text.as_bytes(), wanted),
+        Err(RowFault::Wrong) => return Ok(expect(stop, b"wrong", wanted)),
+        Err(RowFault::Memory) => return Err(AllocError),
+    }
+    expect_notes(stop, &notes, reasons);
+    Ok(())
+}
+
+// A product whose supplies are all left out stands without them, unless it is an update.
+#[test]
+fn products_have_their_supplies(rt: HostRuntime) -> Result<(), AllocError> {
+    let alloc = rt.alloc();
+    let mut lines = Vec::new(alloc);
+    push_product(alloc, &mut lines, b"03")?;
+    push(alloc, &mut lines, 1, b"ProductSupply", b"")?;
+    expect_product(
+        &rt,
+        alloc,
+        &lines,
+        b"Product,R1,03,15,9\n",
+        &[Why::NoSupplyDetail, Why::NoSupplyLeft],
+    )?;
+    push_detail(alloc, &mut lines)?;
+    expect_product(
+        &rt,
+        alloc,
+        &lines,
+        b"Product,R1,03,15,9\nProductSupply,,,\nSupplyDetail,04,,,North,21,\n",
+        &[],
+    )?;
+    let mut update = Vec::new(alloc);
+    push_product(alloc, &mut update, b"04")?;
+    expect_product(&rt, alloc, &update, b"Product,R1,04,15,9\n", &[])?;
+    push(alloc, &mut update, 1, b"ProductSupply", b"")?;
+    expect_product(&rt, alloc, &update, b"wrong", &[])
 }

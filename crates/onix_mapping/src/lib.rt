@@ -17,11 +17,11 @@ pub mod parties;
 #[cfg(test)]
 mod price_tests;
 pub mod prices;
+pub mod product_records;
 pub mod products;
 mod records;
 mod refusals;
 mod regions;
-pub mod product_records;
 pub mod supplies;
 pub mod territories;
 #[cfg(test)]

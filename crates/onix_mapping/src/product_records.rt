@@ -55,7 +55,9 @@ fn add_kept<'a>(
         → IsErrOf result RowFault.Wrong → kept_supplies opening.now preferred.now nodes ≡ None }
 {
     let count = records.len();
-    add_supplies(alloc, opening, preferred, depth, lines, fields, records, notes)?;
+    add_supplies(
+        alloc, opening, preferred, depth, lines, fields, records, notes,
+    )?;
     if records.len() != count {
         return Ok(false);
     }
@@ -113,7 +115,9 @@ fn add_below<'a>(
         → kept_supplies opening.now preferred.now c.below ≡ None }
 {
     let lines = product.below;
-    if add_kept(alloc, opening, preferred, depth, lines, fields, records, notes)? {
+    if add_kept(
+        alloc, opening, preferred, depth, lines, fields, records, notes,
+    )? {
         return Ok(push_bare(notes, product.line)?);
     }
     Ok(())
@@ -150,5 +154,7 @@ pub fn add_product<'a>(
     if is_deletion(depth, lines) {
         return Ok(());
     }
-    add_below(alloc, opening, preferred, depth, product, fields, records, notes)
+    add_below(
+        alloc, opening, preferred, depth, product, fields, records, notes,
+    )
 }

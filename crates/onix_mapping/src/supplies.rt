@@ -46,7 +46,16 @@ fn add_details<'a>(
     let mut rest = lines;
     while let Some((detail, behind)) = next_composite(b"SupplyDetail", depth, rest) {
         let below = detail.below;
-        add_detail(alloc, opening, preferred, depth + 1, below, fields, records, notes)?;
+        add_detail(
+            alloc,
+            opening,
+            preferred,
+            depth + 1,
+            below,
+            fields,
+            records,
+            notes,
+        )?;
         rest = behind;
     }
     Ok(())
@@ -79,7 +88,9 @@ fn add_detailed<'a>(
         return Ok(());
     }
     records.push(&fields.as_record())?;
-    add_details(alloc, opening, preferred, depth, lines, fields, records, notes)
+    add_details(
+        alloc, opening, preferred, depth, lines, fields, records, notes,
+    )
 }
 
 // Adds a note that a ProductSupply has no SupplyDetail.
@@ -118,7 +129,9 @@ fn add_supply<'a>(
     let lines = supply.below;
     match next_composite(b"SupplyDetail", depth, lines) {
         None => Ok(push_no_detail(notes, supply.line)?),
-        Some(_) => add_detailed(alloc, opening, preferred, depth, lines, fields, records, notes),
+        Some(_) => add_detailed(
+            alloc, opening, preferred, depth, lines, fields, records, notes,
+        ),
     }
 }
 
@@ -149,7 +162,16 @@ pub fn add_supplies<'a>(
 {
     let mut rest = lines;
     while let Some((supply, behind)) = next_composite(b"ProductSupply", depth, rest) {
-        add_supply(alloc, opening, preferred, depth + 1, supply, fields, records, notes)?;
+        add_supply(
+            alloc,
+            opening,
+            preferred,
+            depth + 1,
+            supply,
+            fields,
+            records,
+            notes,
+        )?;
         rest = behind;
     }
     Ok(())

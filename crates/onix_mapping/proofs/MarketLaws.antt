@@ -1,5 +1,5 @@
 -- One Market more, and the record of all.
-use Rattle.std.proofs.Common.{◌≡◌, ℕ, true, false, Bool, Result, Ok, Err, List, [], ◌∷◌, ◌++◌, Option, Some, None, option_map, sym, ap, ◌∙◌, append_assoc}
+use Rattle.std.proofs.Common.{◌≡◌, ℕ, true, Result, Ok, Err, List, [], ◌∷◌, ◌++◌, Option, Some, None, option_map, sym, ap, ◌∙◌, append_assoc}
 use Rattle.std.specs.Prelude.{is_some, option_to_list}
 use Rattle.std.specs.Borrow.{Bor}
 use Rattle.onix_terms.specs.Options.{◌>>=◌}

@@ -1,5 +1,5 @@
 -- Notes on what of a message is left out.
-use Rattle.std.specs.Prelude.{ℕ, List, [], map}
+use Rattle.std.specs.Prelude.{ℕ, List, map}
 use Rattle.onix_mapping.specs.Elements.{Element, element_view}
 use Rattle.onix_mapping.specs.declared.notes.Note.{Note as Lent}
 use Rattle.onix_mapping.specs.declared.notes.Reason.{Reason as LentReason}

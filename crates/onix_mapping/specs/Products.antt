@@ -1,5 +1,5 @@
 -- The record of a Product, by its reference, its NotificationType and its identifiers.
-use Rattle.std.specs.Prelude.{ℕ, Bool, true, false, not, List, [], ◌∷◌, ◌++◌, Option, Some, None, if◌then◌else◌, codes, is_some, option_map}
+use Rattle.std.specs.Prelude.{ℕ, Bool, List, [], ◌∷◌, Option, if◌then◌else◌, codes, is_some, option_map}
 use Rattle.std.specs.List.{flat_map}
 use Rattle.std.specs.Str.{bytes_eq}
 use Rattle.onix_outline.specs.Nodes.{Nodes}

@@ -1,7 +1,6 @@
 -- The supplies of a Product: the records that are written of them.
-use Rattle.std.specs.Prelude.{ℕ, Bool, true, false, ◌||◌, List, [], ◌∷◌, ◌++◌, Option, Some, None, if◌then◌else◌, codes, option_map}
+use Rattle.std.specs.Prelude.{ℕ, List, [], ◌∷◌, ◌++◌, Option, Some, None, codes, option_map}
 use Rattle.std.specs.List.{flat_map}
-use Rattle.std.specs.Str.{bytes_eq}
 use Rattle.onix_outline.specs.Nodes.{Nodes}
 use Rattle.onix_terms.specs.Options.{◌>>=◌}
 use Rattle.onix_records.specs.declared.row.Opening.{Opening}
@@ -9,8 +8,7 @@ use Rattle.onix_mapping.specs.Details.{detail_records, prices_notes}
 use Rattle.onix_mapping.specs.Elements.{Composite, composites}
 use Rattle.onix_mapping.specs.Markets.{market_notes_in, record_in}
 use Rattle.onix_mapping.specs.Notes.{Note, note}
-use Rattle.onix_mapping.specs.Products.{is_deletion, notification_in, product_notes, product_record}
-use Rattle.onix_mapping.specs.declared.notes.Why.TheVariants.{NoSupplyDetail, NoSupplyLeft}
+use Rattle.onix_mapping.specs.declared.notes.Why.TheVariants.{NoSupplyDetail}
 
 -- the records of elements, one after the other; nothing, where one of them is wrong
 abbrev pub all_records : (Composite → Option (List (List (List ℕ)))) → List Composite → Option (List (List (List ℕ)))

@@ -1,5 +1,5 @@
 -- Where a Market or a Price holds: what its Territory says, and what of that the desk can hold.
-use Rattle.std.specs.Prelude.{ℕ, Bool, true, false, ◌&&◌, List, [], ◌∷◌, ◌++◌, Option, Some, None, if◌then◌else◌, codes, map, option_map}
+use Rattle.std.specs.Prelude.{ℕ, Bool, true, false, List, [], ◌∷◌, ◌++◌, Option, Some, None, if◌then◌else◌, codes, map, option_map}
 use Rattle.std.specs.Option.{option_map_or, option_or}
 use Rattle.onix_outline.specs.Nodes.{Nodes}
 use Rattle.onix_records.specs.Supply.{supply_of}

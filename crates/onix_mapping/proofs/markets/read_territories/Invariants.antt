@@ -1,7 +1,7 @@
-use Rattle.std.proofs.Common.{◌≡◌, ◌++◌, List, length, option_map}
+use Rattle.std.proofs.Common.{◌≡◌, ◌++◌, length, option_map}
 use Rattle.std.specs.Prelude.{codes}
 use Rattle.onix_mapping.specs.Elements.{composites}
-use Rattle.onix_mapping.specs.Markets.{markets_notes, market_notes_in, territories_of}
+use Rattle.onix_mapping.specs.Markets.{market_notes_in, territories_of}
 use Rattle.onix_mapping.specs.Notes.{note_views}
 use Rattle.onix_outline.specs.Nodes.{Nodes}
 use Rattle.onix_outline.specs.Outline.{outline}

@@ -60,7 +60,7 @@ fn identifier_in<'a>(kind: Kind, depth: usize, lines: &'a [Line]) -> Identifier<
 }
 
 // Whether a text is that one.
-fn is_text(text: &[u8], found: Option<&[u8]>) -> bool
+pub(crate) fn is_text(text: &[u8], found: Option<&[u8]>) -> bool
     ensures { result ≡ is_text text.now (option_map (λ t. t.now) found.entry) }
 {
     match found {
@@ -70,7 +70,7 @@ fn is_text(text: &[u8], found: Option<&[u8]>) -> bool
 }
 
 // The first identifier of lines of this depth, and the lines behind it.
-fn next_identifier<'a>(
+pub(crate) fn next_identifier<'a>(
     kind: Kind,
     depth: usize,
     lines: &'a [Line],

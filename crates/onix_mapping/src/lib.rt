@@ -1,8 +1,43 @@
 //! What an ONIX message in XML says to the desk, by the outlines of its Header and Products.
 #![tactic(auto)]
 
+pub mod dates;
+pub mod details;
+pub mod elements;
+pub mod header;
+#[cfg(test)]
+mod header_tests;
 pub mod identifiers;
+pub mod laws;
+#[cfg(test)]
+mod market_tests;
+pub mod markets;
+pub mod notes;
+pub mod parties;
+#[cfg(test)]
+mod price_tests;
+pub mod prices;
+pub mod product_records;
+pub mod products;
+mod records;
+mod refusals;
+mod regions;
+pub mod supplies;
+pub mod territories;
 #[cfg(test)]
 mod tests;
+pub mod unions;
 
+pub use dates::{Days, days_in};
+pub use details::add_detail;
+pub use elements::{Composite, first_composite, next_composite, text_or_empty};
+pub use header::{Choices, HeaderFault, Heading, Refusal, fill_message, read_heading};
 pub use identifiers::{ADDRESSEE, Identifier, Kind, PRODUCT, SENDER, SUPPLIER, choose_identifier};
+pub use markets::fill_supply;
+pub use notes::{Note, Reason, Why};
+pub use parties::Pair;
+pub use prices::add_price;
+pub use product_records::add_product;
+pub use products::fill_product;
+pub use supplies::add_supplies;
+pub use territories::{Area, area_fields, area_in, push_left_out_regions, read_market, unheld};

@@ -1,0 +1,9 @@
+pub mod WordLaws
+pub mod DateLaws
+pub mod PriceLaws
+pub mod HeaderLaws
+pub mod TerritorySets
+pub mod UnionLaws
+pub mod MarketLaws
+pub mod ElementLaws
+pub mod SupplyLaws

@@ -1,0 +1,52 @@
+-- What is read of a Header, without where it lies in memory.
+use Rattle.std.specs.Prelude.{◌≡◌, ℕ, List, Option, Some, None, Result, Ok, Err, map, option_map}
+use Rattle.std.specs.Borrow.{Bor}
+use Rattle.std.specs.Result.{result_map_both}
+use Rattle.onix_outline.specs.declared.line.Line.{Line}
+use Rattle.onix_outline.specs.Nodes.{Nodes}
+use Rattle.onix_outline.specs.Outline.{outline}
+use Rattle.onix_outline.specs.Views.{line_views}
+use Rattle.onix_mapping.specs.Header.{Choices as Chosen, Heading as Said}
+use Rattle.onix_mapping.specs.Parties.{Pair as Told}
+use Rattle.onix_mapping.specs.PartyViews.{pair_view}
+use Rattle.onix_mapping.specs.declared.header.Choices.{Choices}
+use Rattle.onix_mapping.specs.declared.header.Heading.{Heading}
+use Rattle.onix_mapping.specs.declared.header.HeaderFault.{HeaderFault}
+use Rattle.onix_mapping.specs.declared.header.HeaderFault.TheVariants as fault
+use Rattle.onix_mapping.specs.declared.parties.Pair.{Pair}
+use Rattle.onix_mapping.specs.declared.header.Refusal.{Refusal}
+use Rattle.onix_mapping.specs.declared.header.Refusal.TheVariants.{Malformed}
+use Rattle.onix_records.specs.declared.row.Opening.{Opening}
+
+abbrev pub choices_view : Choices → Chosen
+choices_view c = record {
+  parts = c.parts;
+  number = c.number;
+  offset = c.offset;
+  sender = option_map pair_view c.sender;
+  addressee = option_map pair_view c.addressee;
+  id_type = c.id_type.now;
+}
+
+abbrev pub pair_read : Result Pair Refusal → Result Told Refusal
+pair_read r = result_map_both pair_view (λ e. e) r
+
+-- lines tell what was found, or it was refused
+abbrev pub AreLines : Result (Bor (List Line)) Refusal → ℕ → Result Nodes Refusal → Type 0
+AreLines (Ok lines) depth told = (nodes : Nodes) × (told ≡ Ok nodes) × (line_views lines.now ≡ outline depth nodes)
+AreLines (Err e) depth told = told ≡ Err e
+
+abbrev pub heading_view : Heading → Said
+heading_view h = record { sender = pair_view h.sender; addressee = pair_view h.addressee; number = h.number; opening = h.opening }
+
+-- a call gave what the desk reads, or refused what it does not read, unless memory ran out
+abbrev pub IsOpening : Result Opening HeaderFault → Option Opening → Type 0
+IsOpening (Ok o) read = read ≡ Some o
+IsOpening (Err (fault.Refused e)) read = (e ≡ Malformed) × (read ≡ None)
+IsOpening (Err fault.Memory) read = Unit {0}
+
+-- a call gave the heading, or the reason of the refusal, unless memory ran out
+abbrev pub IsHeading : Result Heading HeaderFault → Result Said Refusal → Type 0
+IsHeading (Ok h) told = told ≡ Ok (heading_view h)
+IsHeading (Err (fault.Refused e)) told = told ≡ Err e
+IsHeading (Err fault.Memory) told = Unit {0}

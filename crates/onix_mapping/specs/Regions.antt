@@ -1,0 +1,52 @@
+-- The regions that a text names.
+use Rattle.std.specs.Prelude.{◌≡◌, ℕ, ◌+◌, Bool, false, ◌&&◌, ◌||◌, ◌==◌, not, List, [], ◌∷◌, Option, Some, None, if◌then◌else◌, codes, find, filter, position, take, drop}
+use Rattle.std.specs.Borrow.{Bor}
+use Rattle.std.specs.Char.{is_ascii_digit, is_ascii_uppercase}
+use Rattle.std.specs.List.{list_all, list_any}
+use Rattle.std.specs.Str.{bytes_eq}
+use Rattle.xml_text.specs.Grammar.{is_filled}
+use Rattle.onix_terms.specs.Territory.{words_of}
+
+abbrev pub is_world : List ℕ → Bool
+is_world region = bytes_eq region (codes "WORLD")
+
+-- whether WORLD is one of the regions
+abbrev pub names_world : List ℕ → Bool
+names_world text = list_any is_world (words_of text)
+
+-- the regions but WORLD, in order
+abbrev pub other_regions : List ℕ → List (List ℕ)
+other_regions text = filter (λ region. not (is_world region)) (words_of text)
+
+abbrev pub is_capital_or_digit : ℕ → Bool
+is_capital_or_digit b = is_ascii_uppercase b || is_ascii_digit b
+
+-- a part of a country: two letters A to Z, a hyphen, and one or more letters A to Z and digits, as GB-NIR
+abbrev pub is_part_of_country : List ℕ → Bool
+is_part_of_country (a ∷ b ∷ c ∷ rest) =
+    if (is_ascii_uppercase a && is_ascii_uppercase b) && ((c == 45) && is_filled rest) then list_all is_capital_or_digit rest else false
+is_part_of_country other = false
+
+-- the first region that is no part of a country
+abbrev pub region_of_no_country : List ℕ → Option (List ℕ)
+region_of_no_country text = find (λ region. not (is_part_of_country region)) (words_of text)
+
+-- ---- what is read of a text
+
+-- where a text has its first space
+abbrev pub first_space : List ℕ → Option ℕ
+first_space text = position (λ b. b == 32) text
+
+-- what stands before that space, and behind it
+abbrev pub front_to : Option ℕ → List ℕ → List ℕ
+front_to None text = text
+front_to (Some at) text = take at text
+
+abbrev pub rest_from : Option ℕ → List ℕ → List ℕ
+rest_from None text = []
+rest_from (Some at) text = drop (at + 1) text
+
+-- the first word of a text, and what stands behind it; nothing, where the text has none
+abbrev pub IsNextWord : Option (Bor (List ℕ) × Bor (List ℕ)) → List ℕ → Type 0
+IsNextWord None text = words_of text ≡ []
+IsNextWord (Some x) text = words_of text ≡ x.0.now ∷ words_of x.1.now

@@ -1,0 +1,81 @@
+-- Where a Market or a Price holds: what its Territory says, and what of that the desk can hold.
+use Rattle.std.specs.Prelude.{ℕ, Bool, true, false, List, [], ◌∷◌, ◌++◌, Option, Some, None, if◌then◌else◌, codes, map, option_map}
+use Rattle.std.specs.Option.{option_map_or, option_or}
+use Rattle.onix_outline.specs.Nodes.{Nodes}
+use Rattle.onix_records.specs.Supply.{supply_of}
+use Rattle.onix_records.specs.declared.parts.ProductSupply.{ProductSupply}
+use Rattle.onix_terms.specs.Territory.{words_of, world_text}
+use Rattle.onix_mapping.specs.Elements.{Element, Composite, composites, element_view, first, text_or_empty}
+use Rattle.onix_mapping.specs.Notes.{Note, Reason, note, reason}
+use Rattle.onix_mapping.specs.Records.{said}
+use Rattle.onix_mapping.specs.Regions.{names_world, other_regions, region_of_no_country}
+use Rattle.onix_mapping.specs.declared.notes.Why.TheVariants.{RegionIncluded, RegionExcluded, RegionAlone, RegionOfNoCountry}
+use Rattle.onix_mapping.specs.declared.territories.Area.{Area as Lent}
+
+-- the Territory of a Market or a Price, where it has one, and the four texts in it, each empty where it has none
+pub record Area : Type 0 where
+  pub territory : Option Element
+  pub included : List ℕ
+  pub regions_included : List ℕ
+  pub excluded : List ℕ
+  pub regions_excluded : List ℕ
+
+abbrev pub no_territory : Area
+no_territory = record { territory = None; included = []; regions_included = []; excluded = []; regions_excluded = [] }
+
+abbrev pub area_of : Option Composite → Area
+area_of None = no_territory
+area_of (Some c) = record {
+  territory = Some c.element;
+  included = text_or_empty (codes "CountriesIncluded") c.below;
+  regions_included = text_or_empty (codes "RegionsIncluded") c.below;
+  excluded = text_or_empty (codes "CountriesExcluded") c.below;
+  regions_excluded = text_or_empty (codes "RegionsExcluded") c.below;
+}
+
+-- where a Market or a Price with these elements holds: its first Territory says it
+abbrev pub area_in : Nodes → Area
+area_in nodes = area_of (first (composites (codes "Territory") nodes))
+
+-- ---- what the desk cannot hold
+
+abbrev pub is_empty : List ℕ → Bool
+is_empty [] = true
+is_empty (b ∷ text) = false
+
+-- the first of the regions that are included, where neither a country nor the world is: without them the territory would be the world
+abbrev pub region_alone : Area → Option (List ℕ)
+region_alone a =
+    if is_empty a.included then (if names_world a.regions_included then None else first (words_of a.regions_included)) else None
+
+-- why the desk cannot hold a territory, whatever is left out of it: it would be another one, and not only a smaller one or one without whole countries
+abbrev pub unheld : Area → Option Reason
+unheld a = option_or (option_map (reason RegionAlone) (region_alone a)) (option_map (reason RegionOfNoCountry) (region_of_no_country a.regions_excluded))
+
+-- ---- what is written, and what is left out of it
+
+-- CountriesIncluded, RegionsIncluded and CountriesExcluded, as the desk reads them: of the regions WORLD alone
+abbrev pub area_fields : Area → List (List ℕ)
+area_fields a = a.included ∷ world_text (names_world a.regions_included) ∷ a.excluded ∷ []
+
+abbrev pub region_notes : Area → Element → List Note
+region_notes a e = map (note e RegionIncluded) (other_regions a.regions_included) ++ map (note e RegionExcluded) (other_regions a.regions_excluded)
+
+-- a note on each region of a territory that the desk can hold: beside a country or the world one that is included is left out, and one that is excluded is a part of a country
+abbrev pub left_out_regions : Area → List Note
+left_out_regions a = option_map_or (region_notes a) a.territory []
+
+-- the market of a territory, as the desk reads it
+abbrev pub market_of : Area → Option ProductSupply
+market_of a = said supply_of (area_fields a)
+
+-- ---- without where it lies in memory
+
+abbrev pub area_view : Lent → Area
+area_view a = record {
+  territory = option_map (λ l. element_view l.now) a.line;
+  included = a.included.now;
+  regions_included = a.regions_included.now;
+  excluded = a.excluded.now;
+  regions_excluded = a.regions_excluded.now;
+}

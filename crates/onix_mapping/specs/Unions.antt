@@ -1,0 +1,51 @@
+-- Several territories as one.
+use Rattle.std.specs.Prelude.{ℕ, Bool, true, false, ◌&&◌, ◌||◌, not, List, [], ◌∷◌, Option, Some, None, filter, if◌then◌else◌, codes}
+use Rattle.std.specs.List.{filter_map, flat_map, list_any}
+use Rattle.std.specs.Str.{bytes_eq}
+use Rattle.onix_terms.specs.Code.{country_of}
+use Rattle.onix_terms.specs.declared.territory.Territory.{Territory}
+
+-- whether a country lies in a territory: it is not excluded, and the territory is the world or includes it
+abbrev pub lies_in : List ℕ → Territory → Bool
+lies_in country t = not (list_any (bytes_eq country) t.excluded) && (t.world || list_any (bytes_eq country) t.included)
+
+-- whether it lies in one of them
+abbrev pub lies_in_one : List Territory → List ℕ → Bool
+lies_in_one territories country = list_any (lies_in country) territories
+
+unfoldable pub letters : List ℕ
+letters = codes "ABCDEFGHIJKLMNOPQRSTUVWXYZ"
+
+-- the countries whose code begins with the one letter, and goes on with one of the others
+abbrev pub countries_from : List ℕ → ℕ → List (List ℕ)
+countries_from seconds first = filter_map (λ second. country_of (first ∷ second ∷ [])) seconds
+
+-- all countries in order, from AA to ZZ
+unfoldable pub countries : List (List ℕ)
+countries = flat_map (countries_from letters) letters
+
+-- the countries that lie in one of the territories, or those that lie in none
+abbrev pub is_wanted : List Territory → Bool → List ℕ → Bool
+is_wanted territories true country = lies_in_one territories country
+is_wanted territories false country = not (lies_in_one territories country)
+
+abbrev pub wanted : List Territory → Bool → List (List ℕ)
+wanted territories inside = filter (is_wanted territories inside) countries
+
+-- whether one of them is the world, or the world without some countries
+abbrev pub has_world : List Territory → Bool
+has_world territories = list_any (λ t. t.world) territories
+
+abbrev pub world_without : List (List ℕ) → Territory
+world_without outside = record { included = []; world = true; excluded = outside }
+
+-- the territory of these countries; nothing, where there is none, since a territory that includes nothing is the world
+abbrev pub of_countries : List (List ℕ) → Option Territory
+of_countries [] = None
+of_countries (country ∷ inside) = Some (record { included = country ∷ inside; world = false; excluded = [] })
+
+-- The union of territories: the countries that lie in one of them and nothing else, or, where the world is one of them, the world without the countries that lie in none.
+-- Nothing, where no country lies in them.
+abbrev pub union : List Territory → Option Territory
+union territories =
+    if has_world territories then Some (world_without (wanted territories false)) else of_countries (wanted territories true)

@@ -1,0 +1,400 @@
+//! The Header.
+
+ghost use Rattle.std.specs.Prelude.{◌≡◌, ◌+◌, ◌∷◌, ◌<◌, List, ℕ, IsErrOf, OnOk, Some, true, false, codes, decimal, map, option_map};
+ghost use Rattle.std.specs.Option.{ok_or};
+ghost use Rattle.std.specs.Str.{is_utf8};
+ghost use Rattle.std.specs.List.{list_all, list_any};
+ghost use Rattle.onix_mapping.specs.Elements.{composites};
+ghost use Rattle.onix_mapping.specs.Header.{added, addressee_pair, addressee_in, first_number, has_pair, heading_in, is_pair, is_whole, meant, message_fields, named_sender, number_in, number_said, opening_said, sender_below, sender_in};
+ghost use Rattle.onix_mapping.specs.HeaderViews.{choices_view, pair_read, AreLines, IsHeading, IsOpening};
+ghost use Rattle.onix_mapping.specs.PartyViews.{pair_view};
+ghost use Rattle.onix_mapping.specs.Identifiers.{identifiers_in};
+ghost use Rattle.onix_mapping.specs.PriceViews.{text_view};
+ghost use Rattle.onix_mapping.specs.Views.{identifier_view, kind_view};
+ghost use Rattle.onix_outline.specs.Nodes.{Nodes};
+ghost use Rattle.onix_outline.specs.Outline.{outline};
+ghost use Rattle.onix_outline.specs.Views.{line_views};
+
+use crate::details::lines_below;
+use crate::elements::{next_composite, text_or_empty};
+use crate::identifiers::{
+    ADDRESSEE, Identifier, Kind, SENDER, choose_identifier, is_text, next_identifier,
+};
+use crate::parties::{Pair, pair_of};
+use crate::prices::fill_record;
+use crate::records::utf8_text;
+use csv_records::fields::FieldBuffer;
+use itoa::Buffer;
+use onix_outline::{Line, text_in};
+use onix_records::opening::read_opening;
+use onix_records::row::{Opening, RowFault};
+use onix_terms::number::Number;
+use std::alloc::Global;
+
+/// What the caller chooses.
+#[derive(Clone, Copy, Debug)]
+pub struct Choices<'a> {
+    /// In how many parts the message is written.
+    pub parts: u32,
+    /// A number in place of the Header's.
+    pub number: Option<Number>,
+    /// What is added to the number of the Header.
+    pub offset: u32,
+    /// The sender of a Header that names none.
+    pub sender: Option<Pair<'a>>,
+    /// Which of several addressees is meant, by one of its identifiers.
+    pub addressee: Option<Pair<'a>>,
+    /// The type of identifier that is preferred.
+    pub id_type: &'a [u8],
+}
+
+/// Why a message is refused for its Header.
+#[derive(Clone, Copy, Debug, PartialEq, Eq)]
+pub enum Refusal {
+    /// It names no sender, and the caller gives none.
+    NoSender,
+    /// It names several addressees, and the caller picks none.
+    SeveralAddressees,
+    /// None of its addressees is the one that the caller means.
+    NoSuchAddressee,
+    /// It has no MessageNumber, and the caller gives none.
+    NoNumber,
+    /// Its MessageNumber is none from 1 to 999,999,999.
+    WrongNumber,
+    /// With what is added to it its number is above 999,999,999.
+    NumberTooGreat,
+    /// The number of its last part would be above 999,999,999.
+    LastNumberTooGreat,
+    /// The desk would call its record malformed.
+    Malformed,
+}
+
+/// Why there is no heading.
+#[derive(Clone, Copy, Debug)]
+pub enum HeaderFault {
+    /// The message is refused.
+    Refused(Refusal),
+    /// Memory ran out.
+    Memory,
+}
+
+impl From<Refusal> for HeaderFault {
+    ghost use Rattle.onix_mapping.specs.declared.header.HeaderFault.TheVariants.{Refused};
+
+    ghost from_gives = { λ r e. e ≡ Refused r };
+
+    fn from(refusal: Refusal) -> HeaderFault {
+        HeaderFault::Refused(refusal)
+    }
+}
+
+/// What a Header says: who sends the message and to whom, the number of its first part, and what
+/// the record of that part says to the desk.
+#[derive(Drop)]
+pub struct Heading<'a> {
+    pub sender: Pair<'a>,
+    pub addressee: Pair<'a>,
+    pub number: u32,
+    pub opening: Opening,
+}
+
+// Whether one of the identifiers has both a type and a value.
+fn has_whole(kind: Kind, depth: usize, lines: &[Line]) -> bool
+    requires { depth < 1000 }
+    ensures { (nodes : Nodes) → line_views lines.now ≡ outline depth nodes
+        → result ≡ list_any is_whole (identifiers_in (kind_view kind) nodes) }
+{
+    let mut rest = lines;
+    while let Some((found, behind)) = next_identifier(kind, depth, rest) {
+        if found.id_type.is_some() && found.id_value.is_some() {
+            return true;
+        }
+        rest = behind;
+    }
+    false
+}
+
+// The two fields of the identifier that is written.
+fn named_sender<'a>(found: Option<Identifier<'a>>) -> Result<Pair<'a>, Refusal>
+    ensures { pair_read result ≡ named_sender (option_map identifier_view found.entry) }
+{
+    if found.is_none() {
+        return Err(Refusal::NoSender);
+    }
+    match pair_of(found) {
+        Some(pair) => Ok(pair),
+        None => Err(Refusal::Malformed),
+    }
+}
+
+// The type and the value of the sender, by the lines of what stands in Sender.
+fn sender_of<'a>(
+    choices: &Choices<'a>,
+    depth: usize,
+    lines: &'a [Line],
+) -> Result<Pair<'a>, Refusal>
+    requires { depth < 1000 }
+    ensures { (nodes : Nodes) → line_views lines.now ≡ outline depth (sender_below nodes)
+        → pair_read result ≡ sender_in (choices_view choices.now) nodes }
+{
+    if !has_whole(SENDER, depth, lines) {
+        if let Some(given) = choices.sender {
+            return Ok(given);
+        }
+    }
+    named_sender(choose_identifier(SENDER, choices.id_type, depth, lines))
+}
+
+// The type and the value of the sender.
+fn sender_in<'a>(
+    choices: &Choices<'a>,
+    depth: usize,
+    lines: &'a [Line],
+) -> Result<Pair<'a>, Refusal>
+    requires { depth < 999 }
+    ensures { (nodes : Nodes) → line_views lines.now ≡ outline depth nodes
+        → pair_read result ≡ sender_in (choices_view choices.now) nodes }
+{
+    let sender = lines_below(b"Sender", depth, lines);
+    sender_of(choices, depth + 1, sender)
+}
+
+// Whether an identifier has that type and value.
+fn is_pair(pair: Pair<'_>, found: Identifier<'_>) -> bool
+    ensures { result ≡ is_pair (pair_view pair.entry) (identifier_view found.entry) }
+{
+    is_text(pair.id_type, found.id_type) && is_text(pair.id_value, found.id_value)
+}
+
+// Whether one of the identifiers has that type and value.
+fn has_pair(pair: Pair<'_>, depth: usize, lines: &[Line]) -> bool
+    requires { depth < 1000 }
+    ensures { (nodes : Nodes) → line_views lines.now ≡ outline depth nodes
+        → result ≡ has_pair (pair_view pair.entry) nodes }
+{
+    let mut rest = lines;
+    while let Some((found, behind)) = next_identifier(ADDRESSEE, depth, rest) {
+        if is_pair(pair, found) {
+            return true;
+        }
+        rest = behind;
+    }
+    false
+}
+
+// The lines of what stands in the first addressee with such an identifier.
+fn meant<'a>(pair: Pair<'_>, depth: usize, lines: &'a [Line]) -> Result<&'a [Line], Refusal>
+    requires { depth < 999 }
+    ensures { (nodes : Nodes) → line_views lines.now ≡ outline depth nodes
+        → AreLines result (depth + 1)
+        (meant (Some (pair_view pair.entry)) (composites (codes "Addressee") nodes)) }
+{
+    let mut rest = lines;
+    while let Some((found, behind)) = next_composite(b"Addressee", depth, rest) {
+        if has_pair(pair, depth + 1, found.below) {
+            return Ok(found.below);
+        }
+        rest = behind;
+    }
+    Err(Refusal::NoSuchAddressee)
+}
+
+// The lines of what stands in the addressee.
+fn addressee_lines<'a>(
+    pair: Option<Pair<'_>>,
+    depth: usize,
+    lines: &'a [Line],
+) -> Result<&'a [Line], Refusal>
+    requires { depth < 999 }
+    ensures { (nodes : Nodes) → line_views lines.now ≡ outline depth nodes
+        → AreLines result (depth + 1)
+        (addressee_in (option_map pair_view pair.entry) (composites (codes "Addressee") nodes)) }
+{
+    let Some((one, behind)) = next_composite(b"Addressee", depth, lines) else {
+        return Ok(&[]);
+    };
+    match next_composite(b"Addressee", depth, behind) {
+        None => Ok(one.below),
+        Some(_) => match pair {
+            Some(pair) => meant(pair, depth, lines),
+            None => Err(Refusal::SeveralAddressees),
+        },
+    }
+}
+
+// The type and the value of the addressee.
+fn addressee_pair<'a>(
+    choices: &Choices<'a>,
+    depth: usize,
+    lines: &'a [Line],
+) -> Result<Pair<'a>, Refusal>
+    requires { depth < 999 }
+    ensures { (nodes : Nodes) → line_views lines.now ≡ outline depth nodes
+        → pair_read result ≡ addressee_pair (choices_view choices.now) nodes }
+{
+    let addressee = addressee_lines(choices.addressee, depth, lines)?;
+    match pair_of(choose_identifier(ADDRESSEE, choices.id_type, depth + 1, addressee)) {
+        Some(pair) => Ok(pair),
+        None => Err(Refusal::Malformed),
+    }
+}
+
+// The number that a text writes.
+fn read_number(text: &[u8]) -> Result<Number, Refusal>
+    ensures { result ≡ ok_or (number_said text.now) Refusal.WrongNumber }
+{
+    match utf8_text(text) {
+        Some(text) => Number::read(text).ok_or(Refusal::WrongNumber),
+        None => Err(Refusal::WrongNumber),
+    }
+}
+
+// The number of the Header with what is added to it.
+fn added(offset: u32, text: Option<&[u8]>) -> Result<Number, Refusal>
+    ensures { result ≡ added offset (text_view text.entry) }
+{
+    let Some(text) = text else {
+        return Err(Refusal::NoNumber);
+    };
+    let number = read_number(text)?;
+    match number.value().checked_add(offset) {
+        Some(sum) => Number::from_value(sum).ok_or(Refusal::NumberTooGreat),
+        None => Err(Refusal::NumberTooGreat),
+    }
+}
+
+// The number of the first of so many parts.
+fn first_number(parts: u32, number: Number) -> Result<u32, Refusal>
+    ensures { result ≡ first_number parts number }
+{
+    let Some(last) = number.value().checked_mul(parts) else {
+        return Err(Refusal::LastNumberTooGreat);
+    };
+    let last = Number::from_value(last).ok_or(Refusal::LastNumberTooGreat)?;
+    Ok(last.value().saturating_sub(parts) + 1)
+}
+
+// The number of the first part.
+fn number_in(choices: &Choices<'_>, depth: usize, lines: &[Line]) -> Result<u32, Refusal>
+    ensures { (nodes : Nodes) → line_views lines.now ≡ outline depth nodes
+        → result ≡ number_in (choices_view choices.now) nodes }
+{
+    match choices.number {
+        Some(number) => first_number(choices.parts, number),
+        None => {
+            let text = text_in(depth, b"MessageNumber", lines);
+            first_number(choices.parts, added(choices.offset, text)?)
+        }
+    }
+}
+
+// The texts of the record with which a part of this number begins.
+fn message_texts<'a>(
+    sender: Pair<'a>,
+    addressee: Pair<'a>,
+    number: &'a [u8],
+    depth: usize,
+    lines: &'a [Line],
+) -> [&'a [u8]; 10]
+    ensures { (nodes : Nodes) → line_views lines.now ≡ outline depth nodes
+        → map (λ t. t.now) result
+        ≡ message_fields (pair_view sender.entry) (pair_view addressee.entry) number.now nodes }
+{
+    [
+        b"2",
+        sender.id_type,
+        sender.id_value,
+        addressee.id_type,
+        addressee.id_value,
+        number,
+        text_or_empty(depth, b"MessageRepeat", lines),
+        text_or_empty(depth, b"SentDateTime", lines),
+        text_or_empty(depth, b"DefaultPriceType", lines),
+        text_or_empty(depth, b"DefaultCurrencyCode", lines),
+    ]
+}
+
+/// Puts the record with which a part of this number begins in place of what the list held. `Wrong`
+/// exactly where a text is no UTF-8.
+pub fn fill_message(
+    sender: Pair<'_>,
+    addressee: Pair<'_>,
+    number: u32,
+    depth: usize,
+    lines: &[Line],
+    fields: &mut FieldBuffer,
+) -> Result<(), RowFault>
+    ensures record { (nodes : Nodes) → line_views lines.now ≡ outline depth nodes
+        → OnOk result (fields.new ≡ codes "Message"
+        ∷ message_fields (pair_view sender.entry) (pair_view addressee.entry) (decimal number) nodes) }
+    ensures utf8 { (nodes : Nodes) → line_views lines.now ≡ outline depth nodes
+        → OnOk result (list_all is_utf8
+        (message_fields (pair_view sender.entry) (pair_view addressee.entry) (decimal number) nodes) ≡ true) }
+    ensures wrong { (nodes : Nodes) → line_views lines.now ≡ outline depth nodes
+        → IsErrOf result RowFault.Wrong → list_all is_utf8
+        (message_fields (pair_view sender.entry) (pair_view addressee.entry) (decimal number) nodes) ≡ false }
+{
+    let mut buffer = Buffer::new();
+    let number = buffer.format(number).as_bytes();
+    let texts = message_texts(sender, addressee, number, depth, lines);
+    fill_record(fields, "Message", &texts)
+}
+
+// What the desk reads of the record in the list.
+fn read_said(alloc: Global, fields: &FieldBuffer) -> Result<Opening, HeaderFault>
+    ensures { (behind : List (List ℕ)) → fields.now ≡ codes "Message" ∷ behind
+        → list_all is_utf8 behind ≡ true → IsOpening result (opening_said behind) }
+{
+    let mut list = Vec::new(alloc);
+    match read_opening(alloc, &fields.as_record(), &mut list) {
+        Ok(opening) => Ok(opening),
+        Err(RowFault::Wrong) => Err(HeaderFault::Refused(Refusal::Malformed)),
+        Err(RowFault::Memory) => Err(HeaderFault::Memory),
+    }
+}
+
+// What the record of a part of this number says to the desk.
+fn opening_in(
+    alloc: Global,
+    sender: Pair<'_>,
+    addressee: Pair<'_>,
+    number: u32,
+    depth: usize,
+    lines: &[Line],
+    fields: &mut FieldBuffer,
+) -> Result<Opening, HeaderFault>
+    ensures { (nodes : Nodes) → line_views lines.now ≡ outline depth nodes
+        → IsOpening result (opening_said
+        (message_fields (pair_view sender.entry) (pair_view addressee.entry) (decimal number) nodes)) }
+{
+    match fill_message(sender, addressee, number, depth, lines, fields) {
+        Ok(()) => read_said(alloc, fields),
+        Err(RowFault::Wrong) => Err(HeaderFault::Refused(Refusal::Malformed)),
+        Err(RowFault::Memory) => Err(HeaderFault::Memory),
+    }
+}
+
+/// The heading of a Header, by the lines of what stands in it, or why the message is refused. The
+/// list takes the fields of the record with which the first part begins.
+pub fn read_heading<'a>(
+    alloc: Global,
+    choices: &Choices<'a>,
+    depth: usize,
+    lines: &'a [Line],
+    fields: &mut FieldBuffer,
+) -> Result<Heading<'a>, HeaderFault>
+    requires { depth < 999 }
+    ensures { (nodes : Nodes) → line_views lines.now ≡ outline depth nodes
+        → IsHeading result (heading_in (choices_view choices.now) nodes) }
+{
+    let sender = sender_in(choices, depth, lines)?;
+    let addressee = addressee_pair(choices, depth, lines)?;
+    let number = number_in(choices, depth, lines)?;
+    let opening = opening_in(alloc, sender, addressee, number, depth, lines, fields)?;
+    Ok(Heading {
+        sender,
+        addressee,
+        number,
+        opening,
+    })
+}

@@ -1,0 +1,168 @@
+//! Which field of a Price the desk does not take.
+
+ghost use Rattle.std.specs.Prelude.{◌≡◌, [], IfOk, is_some, unwrap_or};
+ghost use Rattle.onix_mapping.specs.DateViews.{days_view};
+ghost use Rattle.onix_mapping.specs.PriceViews.{reason_read, text_view};
+ghost use Rattle.onix_mapping.specs.Prices.{field_reasons, first_some, right_days, term_said, unless, unread};
+ghost use Rattle.onix_mapping.specs.declared.notes.Why.TheVariants.{WrongPriceType, WrongAmount, WrongCurrency, WrongTerritory, WrongDay, WrongQuantity};
+ghost use Rattle.onix_terms.specs.Amount.{amount_of};
+ghost use Rattle.onix_terms.specs.Code.{code2_of, currency_of};
+ghost use Rattle.onix_terms.specs.Day.{day_of};
+ghost use Rattle.onix_terms.specs.Quantity.{quantity_of};
+ghost use Rattle.onix_mapping.specs.Territories.{area_in, area_view, market_of};
+ghost use Rattle.onix_outline.specs.Nodes.{Nodes};
+ghost use Rattle.onix_outline.specs.Outline.{outline};
+ghost use Rattle.onix_outline.specs.Views.{line_views};
+ghost use Rattle.onix_records.specs.Fields.{optional, or_default};
+
+use crate::dates::Days;
+use crate::elements::text_or_empty;
+use crate::notes::{Reason, Why};
+use crate::prices::former;
+use crate::records::utf8_text;
+use crate::territories::{Area, read_market};
+use onix_outline::Line;
+use onix_records::row::{Opening, RowFault};
+use onix_records::term::Term;
+use onix_terms::amount::Amount;
+use onix_terms::code::{Code2, Currency};
+use onix_terms::day::Day;
+use onix_terms::quantity::Quantity;
+use std::alloc::{AllocError, Global};
+
+// Whether a text writes a value.
+fn writes<T: Term>(text: &[u8]) -> Option<T>
+    ensures { result ≡ term_said T.term_of text.now }
+{
+    match utf8_text(text) {
+        Some(text) => T::of_text(text),
+        None => None,
+    }
+}
+
+// Whether a text writes a value, or is empty.
+fn may_write<T: Term>(text: &[u8]) -> Option<Option<T>>
+    ensures { result ≡ optional (term_said T.term_of) text.now }
+{
+    if text.is_empty() {
+        return Some(None);
+    }
+    match writes(text) {
+        Some(value) => Some(Some(value)),
+        None => None,
+    }
+}
+
+// The value that a text writes, or the default where it is empty.
+fn writes_or<T: Term>(default: Option<T>, text: &[u8]) -> Option<T>
+    ensures { result ≡ or_default (term_said T.term_of) default text.now }
+{
+    if text.is_empty() {
+        return default;
+    }
+    writes(text)
+}
+
+// Whether the desk takes a territory.
+fn is_market(alloc: Global, area: &Area<'_>) -> Result<bool, AllocError>
+    ensures { IfOk result (λ is. is ≡ is_some (market_of (area_view area.now))) }
+{
+    match read_market(alloc, area) {
+        Ok(_) => Ok(true),
+        Err(RowFault::Wrong) => Ok(false),
+        Err(RowFault::Memory) => Err(AllocError),
+    }
+}
+
+fn unless<'a>(holds: bool, why: Why, text: &'a [u8]) -> Option<Reason<'a>>
+    ensures { reason_read result ≡ unless holds why text.now }
+{
+    if holds {
+        None
+    } else {
+        Some(Reason { why, text })
+    }
+}
+
+fn type_reason<'a>(default: Option<Code2>, text: &'a [u8]) -> Option<Reason<'a>>
+    ensures { reason_read result
+        ≡ unread (or_default (term_said code2_of) default) WrongPriceType text.now }
+{
+    let read = writes_or(default, text);
+    unless(read.is_some(), Why::WrongPriceType, text)
+}
+
+fn amount_reason<'a>(text: &'a [u8]) -> Option<Reason<'a>>
+    ensures { reason_read result ≡ unread (term_said amount_of) WrongAmount text.now }
+{
+    let read = writes::<Amount>(text);
+    unless(read.is_some(), Why::WrongAmount, text)
+}
+
+fn currency_reason<'a>(default: Option<Currency>, text: &'a [u8]) -> Option<Reason<'a>>
+    ensures { reason_read result
+        ≡ unread (or_default (term_said currency_of) default) WrongCurrency text.now }
+{
+    let read = writes_or(default, text);
+    unless(read.is_some(), Why::WrongCurrency, text)
+}
+
+fn area_reason<'a>(alloc: Global, area: &Area<'a>) -> Result<Option<Reason<'a>>, AllocError>
+    ensures { IfOk result (λ why. reason_read why
+        ≡ unless (is_some (market_of (area_view area.now))) WrongTerritory []) }
+{
+    let is = is_market(alloc, area)?;
+    Ok(unless(is, Why::WrongTerritory, b""))
+}
+
+fn day_reason<'a>(day: Option<&'a [u8]>) -> Option<Reason<'a>>
+    ensures { reason_read result
+        ≡ unread (optional (term_said day_of)) WrongDay (unwrap_or (text_view day.entry) []) }
+{
+    let text = match day {
+        Some(text) => text,
+        None => b"",
+    };
+    let read = may_write::<Day>(text);
+    unless(read.is_some(), Why::WrongDay, text)
+}
+
+fn quantity_reason<'a>(text: &'a [u8]) -> Option<Reason<'a>>
+    ensures { reason_read result ≡ unread (optional (term_said quantity_of)) WrongQuantity text.now }
+{
+    let read = may_write::<Quantity>(text);
+    unless(read.is_some(), Why::WrongQuantity, text)
+}
+
+/// The first field of a Price in this territory and with these days that the desk does not take.
+pub(crate) fn field_reason<'a>(
+    alloc: Global,
+    opening: &Opening,
+    area: &Area<'a>,
+    days: Days<'a>,
+    depth: usize,
+    lines: &'a [Line],
+) -> Result<Option<Reason<'a>>, AllocError>
+    ensures { (nodes : Nodes) → line_views lines.now ≡ outline depth nodes
+        → area_view area.now ≡ area_in nodes → days_view days.entry ≡ right_days nodes
+        → IfOk result (λ why. reason_read why ≡ first_some (field_reasons opening.now nodes)) }
+{
+    let minimum = text_or_empty(depth, b"MinimumOrderQuantity", lines);
+    let until = former(
+        day_reason(days.last),
+        former(quantity_reason(minimum), None),
+    );
+    let held = former(
+        area_reason(alloc, area)?,
+        former(day_reason(days.first), until),
+    );
+    let currency = text_or_empty(depth, b"CurrencyCode", lines);
+    let coded = former(
+        currency_reason(opening.header.default_currency, currency),
+        held,
+    );
+    let amount = text_or_empty(depth, b"PriceAmount", lines);
+    let priced = former(amount_reason(amount), coded);
+    let price_type = text_or_empty(depth, b"PriceType", lines);
+    Ok(former(type_reason(opening.header.default_type, price_type), priced))
+}

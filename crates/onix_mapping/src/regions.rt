@@ -1,0 +1,126 @@
+//! The regions that a text names.
+
+ghost use Rattle.std.specs.Prelude.{◌≡◌, ◌++◌, ◌<◌, ◌∷◌, IfSome, OnOk, length, map, option_map};
+ghost use Rattle.std.specs.List.{list_all};
+ghost use Rattle.onix_mapping.specs.Elements.{element_view};
+ghost use Rattle.onix_mapping.specs.Notes.{note, note_views};
+ghost use Rattle.onix_mapping.specs.Regions.{first_space, front_to, is_capital_or_digit, is_part_of_country, is_world, names_world, other_regions, region_of_no_country, rest_from, IsNextWord};
+
+use crate::notes::{Note, Reason, Why};
+use onix_outline::Line;
+use std::alloc::AllocError;
+
+fn first_space(text: &[u8]) -> Option<usize>
+    ensures { result ≡ first_space text.now }
+{
+    text.iter().position(|b| *b == b' ')
+}
+
+// A text to its first space, and what stands behind that.
+fn cut_at_space(text: &[u8]) -> (&[u8], &[u8])
+    ensures front { result.0.now ≡ front_to (first_space text.now) text.now }
+    ensures rest { result.1.now ≡ rest_from (first_space text.now) text.now }
+{
+    match first_space(text) {
+        None => (text, b""),
+        Some(at) => (&text[..at], &text[at + 1..]),
+    }
+}
+
+/// The first word of a text, and what stands behind it.
+pub(crate) fn next_word(text: &[u8]) -> Option<(&[u8], &[u8])>
+    ensures next { IsNextWord result text.now }
+    ensures shorter { IfSome result (λ x. length x.1.now < length text.now) }
+{
+    let mut rest = text;
+    while !rest.is_empty() {
+        let (word, behind) = cut_at_space(rest);
+        if !word.is_empty() {
+            return Some((word, behind));
+        }
+        rest = behind;
+    }
+    None
+}
+
+fn is_world(region: &[u8]) -> bool
+    ensures { result ≡ is_world region.now }
+{
+    region == b"WORLD".as_slice()
+}
+
+/// Whether WORLD is one of the regions.
+pub(crate) fn names_world(text: &[u8]) -> bool
+    ensures { result ≡ names_world text.now }
+{
+    let mut rest = text;
+    while let Some((region, behind)) = next_word(rest) {
+        if is_world(region) {
+            return true;
+        }
+        rest = behind;
+    }
+    false
+}
+
+fn is_capital_or_digit(byte: u8) -> bool
+    ensures { result ≡ is_capital_or_digit byte }
+{
+    byte.is_ascii_uppercase() || byte.is_ascii_digit()
+}
+
+fn are_capitals_or_digits(bytes: &[u8]) -> bool
+    ensures { result ≡ list_all is_capital_or_digit bytes.now }
+{
+    bytes.iter().all(|byte| is_capital_or_digit(*byte))
+}
+
+// Whether a region is a part of a country.
+fn is_part_of_country(region: &[u8]) -> bool
+    ensures { result ≡ is_part_of_country region.now }
+{
+    let [a, b, c, rest @ ..] = region else {
+        return false;
+    };
+    if a.is_ascii_uppercase() && b.is_ascii_uppercase() && *c == b'-' && !rest.is_empty() {
+        return are_capitals_or_digits(rest);
+    }
+    false
+}
+
+/// The first region that is no part of a country.
+pub(crate) fn region_of_no_country(text: &[u8]) -> Option<&[u8]>
+    ensures { option_map (λ r. r.now) result ≡ region_of_no_country text.now }
+{
+    let mut rest = text;
+    while let Some((region, behind)) = next_word(rest) {
+        if !is_part_of_country(region) {
+            return Some(region);
+        }
+        rest = behind;
+    }
+    None
+}
+
+/// Adds a note on each of the regions but WORLD, as often as it stands there.
+pub(crate) fn push_regions<'a>(
+    notes: &mut Vec<Note<'a>>,
+    line: &'a Line,
+    why: Why,
+    text: &'a [u8],
+) -> Result<(), AllocError>
+    ensures { OnOk result (note_views notes.new.items
+        ≡ note_views notes.old.items ++ map (note (element_view line.now) why) (other_regions text.now)) }
+{
+    let mut rest = text;
+    while let Some((region, behind)) = next_word(rest) {
+        if !is_world(region) {
+            notes.push(Note {
+                line,
+                reason: Reason { why, text: region },
+            })?;
+        }
+        rest = behind;
+    }
+    Ok(())
+}

@@ -35,7 +35,8 @@ use std::alloc::{AllocError, Global};
 pub(crate) fn lines_below<'a>(name: &[u8], depth: usize, lines: &'a [Line]) -> &'a [Line]
     requires { depth < 1000 }
     ensures { (nodes : Nodes) → line_views lines.now ≡ outline depth nodes
-        → line_views result.now ≡ outline (depth + 1) (below_of (first (composites name.now nodes))) }
+        → line_views result.now
+        ≡ outline (depth + 1) (below_of (first (composites name.now nodes))) }
 {
     match first_composite(name, depth, lines) {
         Some(found) => found.below,
@@ -137,7 +138,8 @@ fn check_detail(alloc: Global, fields: &FieldBuffer) -> Result<(), RowFault>
 // Puts the record of these fields in place of what the list held.
 fn fill_texts(alloc: Global, fields: &mut FieldBuffer, texts: &[&[u8]]) -> Result<(), RowFault>
     ensures record { OnOk result (fields.new ≡ codes "SupplyDetail" ∷ map (λ t. t.now) texts.now) }
-    ensures taken { Gives result (option_map (λ d. tt) (said detail_of (map (λ t. t.now) texts.now))) }
+    ensures taken { Gives result
+        (option_map (λ d. tt) (said detail_of (map (λ t. t.now) texts.now))) }
 {
     fill_record(fields, "SupplyDetail", texts)?;
     check_detail(alloc, fields)

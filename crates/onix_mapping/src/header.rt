@@ -326,13 +326,16 @@ pub fn fill_message(
 ) -> Result<(), RowFault>
     ensures record { (nodes : Nodes) → line_views lines.now ≡ outline depth nodes
         → OnOk result (fields.new ≡ codes "Message"
-        ∷ message_fields (pair_view sender.entry) (pair_view addressee.entry) (decimal number) nodes) }
+        ∷ message_fields (pair_view sender.entry) (pair_view addressee.entry)
+        (decimal number) nodes) }
     ensures utf8 { (nodes : Nodes) → line_views lines.now ≡ outline depth nodes
         → OnOk result (list_all is_utf8
-        (message_fields (pair_view sender.entry) (pair_view addressee.entry) (decimal number) nodes) ≡ true) }
+        (message_fields (pair_view sender.entry) (pair_view addressee.entry)
+        (decimal number) nodes) ≡ true) }
     ensures wrong { (nodes : Nodes) → line_views lines.now ≡ outline depth nodes
         → IsErrOf result RowFault.Wrong → list_all is_utf8
-        (message_fields (pair_view sender.entry) (pair_view addressee.entry) (decimal number) nodes) ≡ false }
+        (message_fields (pair_view sender.entry) (pair_view addressee.entry)
+        (decimal number) nodes) ≡ false }
 {
     let mut buffer = Buffer::new();
     let number = buffer.format(number).as_bytes();
@@ -365,7 +368,8 @@ fn opening_in(
 ) -> Result<Opening, HeaderFault>
     ensures { (nodes : Nodes) → line_views lines.now ≡ outline depth nodes
         → IsOpening result (opening_said
-        (message_fields (pair_view sender.entry) (pair_view addressee.entry) (decimal number) nodes)) }
+        (message_fields (pair_view sender.entry) (pair_view addressee.entry)
+        (decimal number) nodes)) }
 {
     match fill_message(sender, addressee, number, depth, lines, fields) {
         Ok(()) => read_said(alloc, fields),

@@ -27,8 +27,8 @@ pub record Date : Type 0 where
 -- the Date of a PriceDate: of several the first one that has a text
 abbrev pub date_in : Nodes → Option Date
 date_in no_nodes = None
-date_in (node n format text below rest) =
-    if bytes_eq n (codes "Date") && is_filled text then Some (record { format = format; text = text }) else date_in rest
+date_in (node n tag text below rest) =
+    if bytes_eq n (codes "Date") && is_filled text then Some (record { format = tag.format; text = text }) else date_in rest
 
 -- the format of a PriceDate: the attribute of its Date, else its DateFormat, else 00
 abbrev pub format_in : Nodes → List ℕ

@@ -1,18 +1,18 @@
 -- The elements of one name in a composite, each with what stands in it.
-use Rattle.std.specs.Prelude.{◌≡◌, ℕ, suc, List, [], ◌∷◌, Option, Some, None, if◌then◌else◌, unwrap_or, option_map}
+use Rattle.std.specs.Prelude.{◌≡◌, ℕ, suc, List, [], ◌∷◌, Option, Some, None, if◌then◌else◌, unwrap_or}
 use Rattle.std.specs.Borrow.{Bor}
 use Rattle.std.specs.Str.{bytes_eq}
 use Rattle.onix_mapping.specs.declared.elements.Composite.{Composite as Lent}
 use Rattle.onix_outline.specs.declared.line.Line.{Line}
 use Rattle.onix_outline.specs.Composites.{text_in}
-use Rattle.onix_outline.specs.Nodes.{Nodes, no_nodes, node}
+use Rattle.onix_outline.specs.Nodes.{Nodes, Tag, no_nodes, node}
 use Rattle.onix_outline.specs.Outline.{outline}
-use Rattle.onix_outline.specs.Views.{line_views}
+use Rattle.onix_outline.specs.Views.{line_views, tag_view}
 
--- an element by itself: its reference name, its attribute `dateformat` and its text
+-- an element by itself: its reference name, its tag, which has its place, and its text
 pub record Element : Type 0 where
   pub name : List ℕ
-  pub format : Option (List ℕ)
+  pub tag : Tag
   pub text : List ℕ
 
 -- an element and what stands in it
@@ -23,9 +23,9 @@ pub record Composite : Type 0 where
 -- the elements of this name, in order
 abbrev pub composites : List ℕ → Nodes → List Composite
 composites name no_nodes = []
-composites name (node n format text below rest) =
+composites name (node n tag text below rest) =
     if bytes_eq n name
-    then record { element = record { name = n; format = format; text = text }; below = below } ∷ composites name rest
+    then record { element = record { name = n; tag = tag; text = text }; below = below } ∷ composites name rest
     else composites name rest
 
 abbrev pub first : {A : Type 0} → List A → Option A
@@ -40,7 +40,7 @@ text_or_empty name nodes = unwrap_or (text_in name nodes) []
 
 -- a line, as the element that it begins
 abbrev pub element_view : Line → Element
-element_view l = record { name = l.name.now; format = option_map (λ f. f.items) l.format; text = l.text.items }
+element_view l = record { name = l.name.now; tag = tag_view l; text = l.text.items }
 
 -- a line, and the lines below it at this depth, tell an element and what stands in it
 pub record Tells (found : Lent) (depth : ℕ) (c : Composite) : Type 0 where

@@ -2,7 +2,7 @@
 
 use crate::header::{Choices, HeaderFault, Refusal, fill_message, read_heading};
 use crate::parties::Pair;
-use crate::price_tests::push;
+use crate::tests::push;
 use csv_records::fields::FieldBuffer;
 use onix_outline::Line;
 use onix_records::row::RowFault;

@@ -5,6 +5,7 @@ use crate::markets::fill_supply;
 use crate::notes::{Note, Why};
 use crate::product_records::add_product;
 use crate::products::fill_product;
+use crate::tests::push;
 use csv_records::buffer::RecordBuffer;
 use csv_records::fields::FieldBuffer;
 use csv_records::writing::write_records;
@@ -13,23 +14,6 @@ use onix_records::opening::read_opening;
 use onix_records::row::{Opening, RowFault};
 use std::alloc::{AllocError, Global};
 use std::process::Abort;
-
-fn push(
-    alloc: Global,
-    lines: &mut Vec<Line>,
-    depth: usize,
-    name: &'static [u8],
-    text: &[u8],
-) -> Result<(), AllocError> {
-    let line = Line {
-        depth,
-        name,
-        format: None,
-        text: Vec::from_slice(alloc, text)?,
-    };
-    lines.push(line)?;
-    Ok(())
-}
 
 /// The texts of a Territory: countries included, regions included, countries excluded, regions
 /// excluded.

@@ -3,6 +3,7 @@
 use crate::dates::{Days, days_in};
 use crate::details::add_detail;
 use crate::notes::{Note, Reason, Why};
+use crate::tests::{push, push_with_format};
 use csv_records::buffer::RecordBuffer;
 use csv_records::fields::FieldBuffer;
 use csv_records::writing::write_records;
@@ -11,24 +12,6 @@ use onix_records::opening::read_opening;
 use onix_records::row::{Opening, RowFault};
 use std::alloc::{AllocError, Global};
 use std::process::Abort;
-
-/// Adds a line.
-pub(crate) fn push(
-    alloc: Global,
-    lines: &mut Vec<Line>,
-    depth: usize,
-    name: &'static [u8],
-    text: &[u8],
-) -> Result<(), AllocError> {
-    let line = Line {
-        depth,
-        name,
-        format: None,
-        text: Vec::from_slice(alloc, text)?,
-    };
-    lines.push(line)?;
-    Ok(())
-}
 
 // A PriceDate, with an attribute `dateformat` where one is given.
 fn push_date(
@@ -47,14 +30,7 @@ fn push_date(
     } else {
         Some(Vec::from_slice(alloc, attribute)?)
     };
-    let line = Line {
-        depth: 2,
-        name: b"Date",
-        format,
-        text: Vec::from_slice(alloc, date)?,
-    };
-    lines.push(line)?;
-    Ok(())
+    push_with_format(alloc, lines, 2, b"Date", format, date)
 }
 
 fn is_days(found: Result<Days<'_>, Reason<'_>>, first: &[u8], last: &[u8]) -> bool {

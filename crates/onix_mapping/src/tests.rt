@@ -6,22 +6,35 @@ use std::alloc::{AllocError, Global};
 use std::process::Abort;
 use xml_text::Position;
 
-fn push(
+/// Adds a line with this attribute `dateformat`.
+pub(crate) fn push_with_format(
     alloc: Global,
     lines: &mut Vec<Line>,
     depth: usize,
     name: &'static [u8],
+    format: Option<Vec<u8>>,
     text: &[u8],
 ) -> Result<(), AllocError> {
     let line = Line {
         depth,
         name,
         place: Position { line: 1, column: 1 },
-        format: None,
+        format,
         text: Vec::from_slice(alloc, text)?,
     };
     lines.push(line)?;
     Ok(())
+}
+
+/// Adds a line.
+pub(crate) fn push(
+    alloc: Global,
+    lines: &mut Vec<Line>,
+    depth: usize,
+    name: &'static [u8],
+    text: &[u8],
+) -> Result<(), AllocError> {
+    push_with_format(alloc, lines, depth, name, None, text)
 }
 
 // An identifier of a supplier.

@@ -10,7 +10,7 @@ use Rattle.desk_terms.specs.declared.faults.StoreFault.{StoreFault}
 use Rattle.series_rules.specs.declared.requests.Request.{Request}
 use Rattle.series_rules.specs.Changes.{changes, is_question}
 use Rattle.series_rules.specs.Views.{Asks, IsFaultOf, Stays, Tells}
-use Rattle.desk_store.specs.Desks.{Answers, AreRowsOf, HoldsRequests, KeepsRequests, OnlyAnswers}
+use Rattle.desk_store.specs.Desks.{Answers, AreRowsOf, Finishes, HoldsRequests, KeepsRequests, OnlyAnswers}
 use Rattle.desk_store.specs.Seen.{in_tables, seen_in}
 use Rattle.desk_store.specs.Stands.{StandsFor}
 
@@ -64,7 +64,7 @@ undone_stays w s0 s1 s2 s3 clean begins kept undone left =
     stays_seen s0 s3 (λ up. (shows.was_open, undone.committed up ∙ kept.committed (undone.was_open up) ∙ shows.committed_is)) left
 
 -- a fault in it undoes it
-pub asked_failed : {A B W : Type 0} (w : W) (r : Request) (answer : List Request → A) (Post : DeskRows → B → DeskRows → Type 0) (s0 s1 s2 s3 : State) (e : StoreFault) → BeginsWork {A = W} {E = StoreFault} s0 s1 (Ok w) → Achieves {A = B} Post s1 s2 (Err e)
+asked_failed : {A B W : Type 0} (w : W) (r : Request) (answer : List Request → A) (Post : DeskRows → B → DeskRows → Type 0) (s0 s1 s2 s3 : State) (e : StoreFault) → BeginsWork {A = W} {E = StoreFault} s0 s1 (Ok w) → Achieves {A = B} Post s1 s2 (Err e)
     → (HasCleanDisk s3 → IsUndone s2 s3) → Survives s2 s3 NoTrees → Asks {A = A} r answer (seen_in s0) (seen_in s3) (Err e)
 asked_failed w r answer Post s0 s1 s2 s3 e begins done undone survives = record {
   premise = λ clean. clean0 (clean1 (clean2 clean));
@@ -120,7 +120,7 @@ module _ {A W : Type 0} (w : W) (r : Request) (plain : is_question r ≡ false) 
       go (inr now) = inr (plain, (s2.now, sym now.1, (stands_now clean2 L keeps).0))
 
   -- it is committed
-  pub asked_done : {B : Type 0} (b : B) → EndsWork {E = StoreFault} s2 s3 spent (Ok b) → (HasCleanDisk s3 → LeavesOnly s3) → Asks r answer (seen_in s0) (seen_in s3) (Ok a)
+  asked_done : {B : Type 0} (b : B) → EndsWork {E = StoreFault} s2 s3 spent (Ok b) → (HasCleanDisk s3 → LeavesOnly s3) → Asks r answer (seen_in s0) (seen_in s3) (Ok a)
   asked_done b ends durable = record {
     premise = λ clean. clean0 (clean1 (clean2 clean));
     ok = λ L keeps clean.
@@ -138,7 +138,7 @@ module _ {A W : Type 0} (w : W) (r : Request) (plain : is_question r ≡ false) 
       clean2 clean = omega (arith, ends.survives.clean)
 
   -- it is not committed
-  pub asked_refused : (e : StoreFault) {B : Type 0} → EndsWork {A = B} s2 s3 spent (Err e) → Asks {A = A} r answer (seen_in s0) (seen_in s3) (Err e)
+  asked_refused : (e : StoreFault) {B : Type 0} → EndsWork {A = B} s2 s3 spent (Err e) → Asks {A = A} r answer (seen_in s0) (seen_in s3) (Err e)
   asked_refused e ends = record {
     premise = λ clean. clean0 (clean1 (clean2 clean));
     ok = λ L keeps clean. tt;
@@ -151,6 +151,16 @@ module _ {A W : Type 0} (w : W) (r : Request) (plain : is_question r ≡ false) 
     where
       clean2 : HasCleanDisk s3 → HasCleanDisk s2
       clean2 clean = omega (arith, ends.survives.clean)
+
+-- a request whose transaction was ended
+pub asked : {A W : Type 0} (w : W) (r : Request) → is_question r ≡ false → (answer : List Request → A) (s0 s1 s2 s3 : State) (spent : Bool) (given result : Result A StoreFault) → BeginsWork {A = W} {E = StoreFault} s0 s1 (Ok w)
+    → Achieves (Answers r answer) s1 s2 given → Finishes s2 s3 spent given result → Asks r answer (seen_in s0) (seen_in s3) result
+asked {A} w r plain answer s0 s1 s2 s3 spent (Err e) result begins done (is, undoes) =
+    subst (λ (x : Result A StoreFault). Asks r answer (seen_in s0) (seen_in s3) x) (sym is) (asked_failed w r answer (Answers r answer) s0 s1 s2 s3 e begins done undoes.undone undoes.survives)
+asked {A} w r plain answer s0 s1 s2 s3 spent (Ok a) result begins done (inl (is, ends)) =
+    subst (λ (x : Result A StoreFault). Asks r answer (seen_in s0) (seen_in s3) x) (sym is) (asked_done w r plain answer s0 s1 s2 s3 a spent begins done tt ends.ends ends.durable)
+asked {A} w r plain answer s0 s1 s2 s3 spent (Ok a) result begins done (inr (e, is, ends)) =
+    subst (λ (x : Result A StoreFault). Asks r answer (seen_in s0) (seen_in s3) x) (sym is) (asked_refused w r plain answer s0 s1 s2 s3 a spent begins done e ends.ends)
 
 -- ---- answered without a transaction
 

@@ -1,9 +1,11 @@
 -- The desk in the tables against a list of requests, and what a crash may leave of it.
-use Rattle.std.specs.Prelude.{◌≡◌, ℕ, false, List, ◌∷◌, Option, IsTrue}
+use Rattle.std.specs.Prelude.{◌≡◌, ◌⊎◌, ℕ, Bool, false, List, ◌∷◌, Option, Result, Ok, Err, IsTrue, ⊤}
 use Rattle.sqlite.specs.Effect.{Database}
 use Rattle.sqlite.specs.State.{State}
 use Rattle.sqlite_trees.specs.Tree.{Trees}
+use Rattle.desk_tables.specs.Calls.{Ends, Undoes}
 use Rattle.desk_tables.specs.Rows.{DeskRows, Holds}
+use Rattle.desk_terms.specs.declared.faults.StoreFault.{StoreFault}
 use Rattle.series_rules.specs.Gaps.{AreHeldFrom, IsGreatest, NoneBelow, report_by}
 use Rattle.series_rules.specs.Series.{IsNext}
 use Rattle.series_rules.specs.declared.answers.GapReport.{GapReport}
@@ -26,6 +28,11 @@ KeepsRequests s L = IsTrue s.is_open → (s.in_transaction ≡ false) × HoldsRe
 -- what a request does in a transaction
 abbrev pub Answers : {A : Type 0} → Request → (List Request → A) → DeskRows → A → DeskRows → Type 0
 Answers r answer rows a now = (L : List Request) → StandsFor rows L → StandsFor now (r ∷ L) × (a ≡ answer L)
+
+-- the end of a transaction in which that was answered: an answer is given once it is committed, and a fault undoes what was done
+abbrev pub Finishes : {A : Type 0} → State → State → Bool → Result A StoreFault → Result A StoreFault → Type 0
+Finishes old new spent (Err fault) result = (result ≡ Err fault) × Undoes old new
+Finishes old new spent (Ok a) result = ((result ≡ Ok a) × Ends {A = ⊤} old new spent (Ok tt)) ⊎ ((fault : StoreFault) × (result ≡ Err fault) × Ends {A = ⊤} old new spent (Err fault))
 
 -- what a question does in a transaction
 abbrev pub OnlyAnswers : {A : Type 0} → (List Request → A) → DeskRows → A → DeskRows → Type 0

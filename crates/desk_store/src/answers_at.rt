@@ -35,20 +35,17 @@ fn stored_at<S: Alter>(
         (λ rows stored now. (now ≡ rows) × IsStored series.now number rows stored)
         work.old work.new result }
 {
-    let applied = match work.applied_at(series, number) {
-        Ok(applied) => applied,
-        Err(fault) => return Err(fault),
-    };
+    let applied = work.applied_at(series, number)?;
     if let Some((text, effect)) = applied {
         return Ok(Some(Stored {
             text,
             effect: Some(effect),
         }));
     }
-    match work.next_held(series, number) {
-        Ok(Some(text)) => Ok(Some(Stored { text, effect: None })),
-        Ok(None) => Ok(None),
-        Err(fault) => Err(fault),
+    let held = work.next_held(series, number)?;
+    match held {
+        Some(text) => Ok(Some(Stored { text, effect: None })),
+        None => Ok(None),
     }
 }
 
@@ -94,10 +91,7 @@ pub(crate) fn deliver_at<S: Alter>(
     let Ok(text) = write_contents(alloc, &contents) else {
         return Err(StoreFault::Memory);
     };
-    let stored = match stored_at(work, series, number) {
-        Ok(stored) => stored,
-        Err(fault) => return Err(fault),
-    };
+    let stored = stored_at(work, series, number)?;
     match stored {
         Some(stored) => Ok(answer_again(series, next, number, &stored, text.as_str())),
         None => {
@@ -119,12 +113,9 @@ pub(crate) fn waive_at<S: Alter>(
     ensures { Does S.Store (WaivesAt series.now next number) work.old work.new result }
 {
     one_standing_text();
-    let stored = match stored_at(work, series, number) {
-        Ok(stored) => stored,
-        Err(fault) => return Err(fault),
-    };
+    let stored = stored_at(work, series, number)?;
     let Some(stored) = stored else {
-        return match put_new(
+        put_new(
             alloc,
             work,
             series,
@@ -132,10 +123,8 @@ pub(crate) fn waive_at<S: Alter>(
             number,
             &Standing::Waived,
             "waived",
-        ) {
-            Ok(_) => Ok(WaiveAnswer::Waived),
-            Err(fault) => Err(fault),
-        };
+        )?;
+        return Ok(WaiveAnswer::Waived);
     };
     if is_waived(stored.text.as_str()) {
         Ok(WaiveAnswer::Waived)

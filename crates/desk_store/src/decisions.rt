@@ -40,28 +40,20 @@ pub(crate) fn agree_in<S: Alter>(
         (Answers (Request.Agree agreement.now) (λ L. agree_answer L agreement.now))
         work.old work.new result }
 {
-    let named = match work.series_by_name(&agreement.name) {
-        Ok(named) => named,
-        Err(fault) => return Err(fault),
-    };
+    let named = work.series_by_name(&agreement.name)?;
     if let Some(row) = &named {
         return Ok(answer_named(&row.agreement, agreement));
     }
     drop(named);
-    let taken = match work.series_by_parties(&agreement.sender, &agreement.addressee) {
-        Ok(taken) => taken,
-        Err(fault) => return Err(fault),
-    };
+    let taken = work.series_by_parties(&agreement.sender, &agreement.addressee)?;
     if let Some(row) = &taken {
         return Ok(AgreeAnswer::SeriesTaken {
             name: row.agreement.name,
         });
     }
     drop(taken);
-    match work.put_series(agreement) {
-        Ok(()) => Ok(AgreeAnswer::Agreed),
-        Err(fault) => Err(fault),
-    }
+    work.put_series(agreement)?;
+    Ok(AgreeAnswer::Agreed)
 }
 
 /// Takes a message with a number.
@@ -78,10 +70,7 @@ pub(crate) fn deliver_in<S: Alter>(
         → Achieves (Answers (Request.Deliver records) (λ L. delivery_answer L records))
         (seen S.Store work.old) (seen S.Store work.new) result }
 {
-    let found = match work.series_by_parties(&header.sender, &header.addressee) {
-        Ok(found) => found,
-        Err(fault) => return Err(fault),
-    };
+    let found = work.series_by_parties(&header.sender, &header.addressee)?;
     let Some(row) = &found else {
         return Ok(DeliveryAnswer::UnknownSeries);
     };
@@ -109,10 +98,7 @@ pub(crate) fn waive_in<S: Alter>(
         (Answers (Request.Waive series.now number) (λ L. waive_answer L series.now number))
         work.old work.new result }
 {
-    let found = match work.series_by_name(series) {
-        Ok(found) => found,
-        Err(fault) => return Err(fault),
-    };
+    let found = work.series_by_name(series)?;
     let Some(row) = &found else {
         return Ok(WaiveAnswer::UnknownSeries);
     };

@@ -16,7 +16,7 @@ ghost use Rattle.series_rules.specs.Views.{LeavesOnly};
 ghost use Rattle.series_rules.specs.declared.requests.Request.{Request};
 
 use crate::committing::{ask_agree, ask_deliver, ask_waive};
-use crate::opening::{OpenFault, prepare};
+use crate::opening::{OpenFault, connect, prepare};
 use crate::questions::{ask_catalogue, ask_gaps, ask_offers};
 use catalogue_rules::catalogue::Catalogue;
 use csv_records::records::Records;
@@ -173,10 +173,11 @@ impl<D: Disk + Drop> DeskStore<FileStore<D>> {
             → KeepsFiles (λ were. were ≡ files) MakesNothing (image_of D.Disk files) e.1) }
     {
         same_trees_hold_the_same_rows();
-        let connection = match Connection::open_files(alloc, files, options) {
+        let connection = match connect(alloc, files, options) {
             Ok(connection) => connection,
-            Err((error, left)) => return Err((OpenFault::Store(fault_of(error)), left)),
+            Err((fault, left)) => return Err((OpenFault::Store(fault), left)),
         };
+        // Handed on arm by arm, since each way out has clauses of its own.
         match DeskStore::over_files(alloc, connection) {
             Ok(desk) => Ok(desk),
             Err(fault) => Err(fault),

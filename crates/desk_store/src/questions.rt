@@ -35,17 +35,12 @@ fn catalogue_in<S: Alter>(
     ensures { Does S.Store (OnlyAnswers (λ L. catalogue_answer L series.now))
         work.old work.new result }
 {
-    let found = match work.series_by_name(series) {
-        Ok(found) => found,
-        Err(fault) => return Err(fault),
-    };
+    let found = work.series_by_name(series)?;
     let Some(_row) = &found else {
         return Ok(None);
     };
-    match read_catalogue(alloc, work, series) {
-        Ok(catalogue) => Ok(Some(catalogue)),
-        Err(fault) => Err(fault),
-    }
+    let catalogue = read_catalogue(alloc, work, series)?;
+    Ok(Some(catalogue))
 }
 
 /// Asks for the catalogue of a series.
@@ -119,21 +114,13 @@ fn gaps_in<S: Alter>(
 ) -> Result<Option<GapReport>, StoreFault>
     ensures { Does S.Store (OnlyAnswers (λ L. gaps_answer L series.now)) work.old work.new result }
 {
-    let found = match work.series_by_name(series) {
-        Ok(found) => found,
-        Err(fault) => return Err(fault),
-    };
+    let found = work.series_by_name(series)?;
     let Some(row) = &found else {
         return Ok(None);
     };
-    let held = match work.gap_rows(series) {
-        Ok(held) => held,
-        Err(fault) => return Err(fault),
-    };
-    match report_of(alloc, *series, row, held.as_slice()) {
-        Ok(report) => Ok(Some(report)),
-        Err(fault) => Err(fault),
-    }
+    let held = work.gap_rows(series)?;
+    let report = report_of(alloc, *series, row, held.as_slice())?;
+    Ok(Some(report))
 }
 
 /// Asks which numbers a series lacks.

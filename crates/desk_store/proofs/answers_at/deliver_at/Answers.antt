@@ -25,7 +25,7 @@ returns-in-Some g c =
     let text = c.as_str.result.now in
     let own = sym c.in-Ok.ensures ∙ sym c.as_str.ensures.value in
     does (search rules)
-    (achieves_as (Finds s n) _ old new c.in-Ok-stored_at.stored c.answer_again.result c.in-Ok-stored_at.ensures.achieves
+    (achieves_as (Finds s n) _ old new c.in_ok-stored.stored c.answer_again.result c.in_ok-stored.ensures.achieves
     (λ rows now h m one. delivers_again s c.args.next n products c.in-Some.stored text rows now c.answer_again.result own one.0 (subst (IsStored s n rows) c.in-Some.is one.1) c.answer_again.ensures))
 
 pub returns-in-None : goal.returns-in-None
@@ -40,5 +40,5 @@ returns-in-None g c =
     let Put : DeskRows → DeliveryAnswer → DeskRows → Type 0 = PutsNew s c.args.next n (Message products) text in
     let own = sym c.in-Ok.ensures ∙ sym c.as_str-in-None.ensures.value in
     does (search rules)
-    (achieves_then (Finds s n) Put _ old mid new c.in-Ok-stored_at.stored c.put_new.result c.in-Ok-stored_at.ensures.achieves c.put_new.ensures.achieves
+    (achieves_then (Finds s n) Put _ old mid new c.in_ok-stored.stored c.put_new.result c.in_ok-stored.ensures.achieves c.put_new.ensures.achieves
     (λ rows between now answer h m k one two. delivers_new s c.args.next n products text rows between now answer own one.0 (subst (IsStored s n rows) c.in-None.is one.1) two))

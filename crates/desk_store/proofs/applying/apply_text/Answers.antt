@@ -4,11 +4,11 @@ use Rattle.catalogue_store.specs.AchievesLemmas.{achieves_as, does}
 use Rattle.desk_store.specs.Changes.{AppliesAt}
 use Rattle.desk_store.proofs.applying.apply_text.Goals as goal
 
-pub returns-in-Ok-apply_at : goal.returns-in-Ok-apply_at
-returns-in-Ok-apply_at g c =
+pub returns : goal.returns
+returns g c =
     let old = state g.S.Store c.args.work.now.tables.now.connection in
     let new = state g.S.Store c.apply_at.new.work.tables.now.connection in
-    let e = c.in-Ok-apply_at.field-0 in
+    let e = c.in_ok-apply_at.field-0 in
     does (search rules)
-    (achieves_as (AppliesAt c.args.series.now c.args.number c.in-Ok.standing c.args.text.now) _ old new e tt c.in-Ok-apply_at.ensures.achieves
-    (λ rows now h n one. (c.in-Ok.standing, c.in-Ok.ensures.0, c.in-Ok.ensures.1, e, one)))
+    (achieves_as (AppliesAt c.args.series.now c.args.number c.in_ok-standing.standing c.args.text.now) _ old new e tt c.in_ok-apply_at.ensures.achieves
+    (λ rows now h n one. (c.in_ok-standing.standing, c.in_ok-standing.ensures.0, c.in_ok-standing.ensures.1, e, one)))

@@ -17,8 +17,8 @@ returns-in_default g c =
     let Found : DeskRows → Option SeriesRow → Type 0 = λ rows row. row ≡ series_at s rows in
     let Asked : DeskRows → Option SeriesRow → DeskRows → Type 0 = λ rows row now. Found rows row × (now ≡ rows) in
     does (search rules)
-    (achieves_as Asked _ old new c.in-Ok.found waiver.UnknownSeries
-    (achieves_call Found (λ rows. rows) old new c.args.work.now.spent c.series_by_name.new.self.spent (Ok c.in-Ok.found) c.in-Ok.ensures.works)
+    (achieves_as Asked _ old new c.in_ok-found.found waiver.UnknownSeries
+    (achieves_call Found (λ rows. rows) old new c.args.work.now.spent c.series_by_name.new.self.spent (Ok c.in_ok-found.found) c.in_ok-found.ensures.works)
     (λ rows now h m one. waives_unknown rows now s c.args.number one.1 (sym c.in_default.is ∙ one.0)))
 
 pub returns-then-value : goal.returns-then-value
@@ -31,8 +31,8 @@ returns-then-value g c =
     let Found : DeskRows → Option SeriesRow → Type 0 = λ rows row. row ≡ series_at s rows in
     let Asked : DeskRows → Option SeriesRow → DeskRows → Type 0 = λ rows row now. Found rows row × (now ≡ rows) in
     does (search rules)
-    (achieves_as Asked _ old new c.in-Ok.found (waiver.BeforeFirst row.agreement.first)
-    (achieves_call Found (λ rows. rows) old new c.args.work.now.spent c.series_by_name.new.self.spent (Ok c.in-Ok.found) c.in-Ok.ensures.works)
+    (achieves_as Asked _ old new c.in_ok-found.found (waiver.BeforeFirst row.agreement.first)
+    (achieves_call Found (λ rows. rows) old new c.args.work.now.spent c.series_by_name.new.self.spent (Ok c.in_ok-found.found) c.in_ok-found.ensures.works)
     (λ rows now h m one. waives_before rows now s c.args.number row one.1 (sym c.in-Some.is ∙ one.0) lt))
 
 pub returns : goal.returns
@@ -49,6 +49,6 @@ returns g c =
     let Asked : DeskRows → Option SeriesRow → DeskRows → Type 0 = λ rows row now. Found rows row × (now ≡ rows) in
     let Waived : DeskRows → WaiveAnswer → DeskRows → Type 0 = WaivesAt s row.next n in
     does (search rules)
-    (achieves_then Asked Waived _ old mid new c.in-Ok.found c.waive_at.result
-    (achieves_call Found (λ rows. rows) old mid c.args.work.now.spent c.series_by_name.new.self.spent (Ok c.in-Ok.found) c.in-Ok.ensures.works) c.waive_at.ensures.achieves
+    (achieves_then Asked Waived _ old mid new c.in_ok-found.found c.waive_at.result
+    (achieves_call Found (λ rows. rows) old mid c.args.work.now.spent c.series_by_name.new.self.spent (Ok c.in_ok-found.found) c.in_ok-found.ensures.works) c.waive_at.ensures.achieves
     (λ rows between now answer h m k one two. waives_named rows between now s n row answer one.1 (sym c.in-Some.is ∙ one.0) le lt two))

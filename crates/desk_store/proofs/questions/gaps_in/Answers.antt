@@ -1,6 +1,6 @@
 use Rattle.std.proofs.Common.{◌≡◌, ℕ, List, Option, Some, None, Ok, Vec, refl, rules, sym, ◌∙◌, subst}
 use Rattle.sqlite.specs.Held.{state}
-use Rattle.catalogue_store.specs.AchievesLemmas.{achieves_as, achieves_call, achieves_call_failed, achieves_calls, achieves_stopped, does}
+use Rattle.catalogue_store.specs.AchievesLemmas.{achieves_as, achieves_call, achieves_call_failed, achieves_calls, achieves_stopped, does, handed_on}
 use Rattle.desk_tables.specs.Rows.{AreHeldNumbers, DeskRows, series_at}
 use Rattle.desk_tables.specs.declared.rows.series.SeriesRow.{SeriesRow}
 use Rattle.series_rules.specs.Gaps.{AreRisingFrom}
@@ -31,37 +31,19 @@ returns-in_default g c =
     let new = state g.S.Store c.series_by_name.new.self.tables.now.connection in
     let s = c.args.series.now in
     does (search rules)
-    (achieves_as (Asked s) _ old new c.in-Ok.found None
-    (achieves_call (Found s) (λ rows. rows) old new c.args.work.now.spent c.series_by_name.new.self.spent (Ok c.in-Ok.found) c.in-Ok.ensures.works)
+    (achieves_as (Asked s) _ old new c.in_ok-found.found None
+    (achieves_call (Found s) (λ rows. rows) old new c.args.work.now.spent c.series_by_name.new.self.spent (Ok c.in_ok-found.found) c.in_ok-found.ensures.works)
     (λ rows now h m one. no_gaps s rows now one.1 (sym c.in_default.is ∙ one.0)))
 
-pub returns-in-Err-gap_rows : goal.returns-in-Err-gap_rows
-returns-in-Err-gap_rows g c =
+pub returns-in_err-held : goal.returns-in_err-held
+returns-in_err-held g c =
     let old = state g.S.Store c.args.work.now.tables.now.connection in
     let mid = state g.S.Store c.series_by_name.new.self.tables.now.connection in
     let new = state g.S.Store c.gap_rows.new.self.tables.now.connection in
     let s = c.args.series.now in
-    does (search rules)
-    (achieves_call_failed (Asked s) (Listed s) (λ rows. rows) _ old mid new c.series_by_name.new.self.spent c.gap_rows.new.self.spent c.in-Ok.found c.in-Err-gap_rows.fault
-    (achieves_call (Found s) (λ rows. rows) old mid c.args.work.now.spent c.series_by_name.new.self.spent (Ok c.in-Ok.found) c.in-Ok.ensures.works) c.in-Err-gap_rows.ensures.works)
-
-pub returns-in-Ok-report_of : goal.returns-in-Ok-report_of
-returns-in-Ok-report_of g c =
-    let old = state g.S.Store c.args.work.now.tables.now.connection in
-    let mid = state g.S.Store c.series_by_name.new.self.tables.now.connection in
-    let new = state g.S.Store c.gap_rows.new.self.tables.now.connection in
-    let s = c.args.series.now in
-    let row = c.in-Ok.found in
-    let first = c.in-Some.row.agreement.first in
-    let next = c.in-Some.row.next in
-    let numbers : c.as_slice.result.now ≡ c.in-Ok-gap_rows.held.items = search rules in
-    does (search rules)
-    (achieves_as (Read s row) _ old new c.in-Ok-gap_rows.held (Some c.in-Ok-report_of.report)
-    (achieves_calls (Asked s) (Listed s) (λ rows. rows) (Read s row) old mid new c.series_by_name.new.self.spent c.gap_rows.new.self.spent row (Ok c.in-Ok-gap_rows.held)
-    (achieves_call (Found s) (λ rows. rows) old mid c.args.work.now.spent c.series_by_name.new.self.spent (Ok row) c.in-Ok.ensures.works) c.in-Ok-gap_rows.ensures.works
-    (λ rows between numbers h m one two. read_is s row rows between numbers one two))
-    (λ rows now h m one. some_gaps s c.in-Some.row c.in-Ok-gap_rows.held.items rows rows now c.in-Ok-report_of.report refl one.2 (sym c.in-Some.is ∙ one.0) one.1
-    (subst (AreRisingFrom next) numbers c.in-Ok-report_of.ensures.0) (subst (λ ns. Reports s first next ns c.in-Ok-report_of.report) numbers c.in-Ok-report_of.ensures.1)))
+    handed_on (search rules) (search rules)
+    (achieves_call_failed (Asked s) (Listed s) (λ rows. rows) _ old mid new c.series_by_name.new.self.spent c.gap_rows.new.self.spent c.in_ok-found.found c.in_err-held.field-0.0
+    (achieves_call (Found s) (λ rows. rows) old mid c.args.work.now.spent c.series_by_name.new.self.spent (Ok c.in_ok-found.found) c.in_ok-found.ensures.works) c.in_err-held.ensures.works)
 
 pub returns : goal.returns
 returns g c =
@@ -69,9 +51,27 @@ returns g c =
     let mid = state g.S.Store c.series_by_name.new.self.tables.now.connection in
     let new = state g.S.Store c.gap_rows.new.self.tables.now.connection in
     let s = c.args.series.now in
-    let row = c.in-Ok.found in
+    let row = c.in_ok-found.found in
+    let first = c.in-Some.row.agreement.first in
+    let next = c.in-Some.row.next in
+    let numbers : c.as_slice.result.now ≡ c.in_ok-held.held.items = search rules in
     does (search rules)
-    (achieves_stopped (Read s row) _ old new (Ok c.in-Ok-gap_rows.held) c.in-Err-report_of.fault
-    (achieves_calls (Asked s) (Listed s) (λ rows. rows) (Read s row) old mid new c.series_by_name.new.self.spent c.gap_rows.new.self.spent row (Ok c.in-Ok-gap_rows.held)
-    (achieves_call (Found s) (λ rows. rows) old mid c.args.work.now.spent c.series_by_name.new.self.spent (Ok row) c.in-Ok.ensures.works) c.in-Ok-gap_rows.ensures.works
+    (achieves_as (Read s row) _ old new c.in_ok-held.held (Some c.in_ok-report.report)
+    (achieves_calls (Asked s) (Listed s) (λ rows. rows) (Read s row) old mid new c.series_by_name.new.self.spent c.gap_rows.new.self.spent row (Ok c.in_ok-held.held)
+    (achieves_call (Found s) (λ rows. rows) old mid c.args.work.now.spent c.series_by_name.new.self.spent (Ok row) c.in_ok-found.ensures.works) c.in_ok-held.ensures.works
+    (λ rows between numbers h m one two. read_is s row rows between numbers one two))
+    (λ rows now h m one. some_gaps s c.in-Some.row c.in_ok-held.held.items rows rows now c.in_ok-report.report refl one.2 (sym c.in-Some.is ∙ one.0) one.1
+    (subst (AreRisingFrom next) numbers c.in_ok-report.ensures.0) (subst (λ ns. Reports s first next ns c.in_ok-report.report) numbers c.in_ok-report.ensures.1)))
+
+pub returns-in_err-report : goal.returns-in_err-report
+returns-in_err-report g c =
+    let old = state g.S.Store c.args.work.now.tables.now.connection in
+    let mid = state g.S.Store c.series_by_name.new.self.tables.now.connection in
+    let new = state g.S.Store c.gap_rows.new.self.tables.now.connection in
+    let s = c.args.series.now in
+    let row = c.in_ok-found.found in
+    handed_on (search rules) (search rules)
+    (achieves_stopped (Read s row) _ old new (Ok c.in_ok-held.held) c.in_err-report.field-0.0
+    (achieves_calls (Asked s) (Listed s) (λ rows. rows) (Read s row) old mid new c.series_by_name.new.self.spent c.gap_rows.new.self.spent row (Ok c.in_ok-held.held)
+    (achieves_call (Found s) (λ rows. rows) old mid c.args.work.now.spent c.series_by_name.new.self.spent (Ok row) c.in_ok-found.ensures.works) c.in_ok-held.ensures.works
     (λ rows between numbers h m one two. read_is s row rows between numbers one two)))

@@ -38,7 +38,10 @@ fn add_listed(
     catalogue: &Catalogue,
     reference: &str,
 ) -> Result<(), AllocError>
-    ensures { OnOk result (offers.new ≡ offers.old ++ offers_there series.now isbn.now reference.now (map.get catalogue.now reference.now)) }
+    ensures { OnOk result
+        (offers.new
+        ≡ offers.old ++ offers_there series.now isbn.now reference.now
+        (map.get catalogue.now reference.now)) }
 {
     if let Some(entry) = catalogue.get(reference) {
         add_record(alloc, offers, series, isbn, reference, entry)?;
@@ -71,7 +74,9 @@ impl ArticleIndex {
     // Lists a reference at the value of an identifier, if that is of type 03 or 15.
     fn list_identifier(&mut self, id: &ProductIdentifier, reference: &str) -> Result<(), AllocError>
         ensures kept { ListsAsBefore self.old.listings self.new.listings }
-        ensures ok { OnOk result (has_article_type id.now ≡ true → is_listed self.new.listings id.now.id_value reference.now ≡ true) }
+        ensures ok { OnOk result
+            (has_article_type id.now ≡ true
+            → is_listed self.new.listings id.now.id_value reference.now ≡ true) }
     {
         if !has_article_type(id) {
             return Ok(());
@@ -82,7 +87,8 @@ impl ArticleIndex {
     // Lists a product at the values of its identifiers of types 03 and 15.
     fn list_product(&mut self, product: &Product) -> Result<(), AllocError>
         ensures kept { ListsAsBefore self.old.listings self.new.listings }
-        ensures ok { OnOk result (ListsArticles self.new.listings product.now.reference product.now.ids) }
+        ensures ok { OnOk result
+            (ListsArticles self.new.listings product.now.reference product.now.ids) }
     {
         for id in product.ids.as_slice() {
             self.list_identifier(id, product.reference.as_str())?;
@@ -93,8 +99,10 @@ impl ArticleIndex {
     /// Lists the products of a message, whatever they ask for, so that an index of a catalogue is one
     /// of the catalogue after the message. Where memory runs out, it stays one of the catalogue.
     pub fn list(&mut self, contents: &Contents) -> Result<(), AllocError>
-        ensures ok { (m : ByReference) → IsIndexOf self.old m → OnOk result (IsIndexOf self.new (after m contents.now)) }
-        ensures err { (m : ByReference) → IsIndexOf self.old m → OnErr result (IsIndexOf self.new m) }
+        ensures ok { (m : ByReference) → IsIndexOf self.old m
+            → OnOk result (IsIndexOf self.new (after m contents.now)) }
+        ensures err { (m : ByReference) → IsIndexOf self.old m
+            → OnErr result (IsIndexOf self.new m) }
     {
         for product in contents.products() {
             self.list_product(product)?;
@@ -110,7 +118,8 @@ impl ArticleIndex {
         series: &SeriesName,
         isbn: &Isbn13,
     ) -> Result<Items<Offer>, AllocError>
-        ensures { IsIndexOf self.now catalogue.now → IfOk result (λ offers. offers ≡ offers_in series.now catalogue.now isbn.now) }
+        ensures { IsIndexOf self.now catalogue.now
+            → IfOk result (λ offers. offers ≡ offers_in series.now catalogue.now isbn.now) }
     {
         let alloc = self.alloc;
         let mut offers = Items::new(alloc);

@@ -108,8 +108,10 @@ impl Catalogue {
 
     // Puts an empty entry at each of these references, as far as memory goes.
     fn put_all(&mut self, alloc: Global, new_references: &[&str]) -> Result<(), AllocError>
-        ensures others { (q : List ℕ) → (Contains (all_bytes new_references.now) q → ⊥) → map.get self.new q ≡ map.get self.old q }
-        ensures there { OnOk result (All (λ k. IsSome (map.get self.new k)) (all_bytes new_references.now)) }
+        ensures others { (q : List ℕ) → (Contains (all_bytes new_references.now) q → ⊥)
+            → map.get self.new q ≡ map.get self.old q }
+        ensures there { OnOk result
+            (All (λ k. IsSome (map.get self.new k)) (all_bytes new_references.now)) }
     {
         for reference in new_references {
             self.put(
@@ -125,7 +127,8 @@ impl Catalogue {
 
     // Takes out what these references had.
     fn remove_all(&mut self, new_references: &[&str])
-        ensures others { (q : List ℕ) → (Contains (all_bytes new_references.now) q → ⊥) → map.get self.new q ≡ map.get self.old q }
+        ensures others { (q : List ℕ) → (Contains (all_bytes new_references.now) q → ⊥)
+            → map.get self.new q ≡ map.get self.old q }
         ensures gone { All (λ k. map.get self.new k ≡ None) (all_bytes new_references.now) }
     {
         for reference in new_references {
@@ -137,8 +140,11 @@ impl Catalogue {
     fn make_room(&mut self, alloc: Global, new_references: &[&str]) -> Result<(), AllocError>
         requires { All (λ k. map.get self.old k ≡ None) (all_bytes new_references.now) }
         ensures err { OnErr result (self.new ≡ self.old) }
-        ensures others { OnOk result ((q : List ℕ) → (Contains (all_bytes new_references.now) q → ⊥) → map.get self.new q ≡ map.get self.old q) }
-        ensures there { OnOk result (All (λ k. IsSome (map.get self.new k)) (all_bytes new_references.now)) }
+        ensures others { OnOk result
+            ((q : List ℕ) → (Contains (all_bytes new_references.now) q → ⊥)
+            → map.get self.new q ≡ map.get self.old q) }
+        ensures there { OnOk result
+            (All (λ k. IsSome (map.get self.new k)) (all_bytes new_references.now)) }
     {
         if let Err(refused) = self.put_all(alloc, new_references) {
             self.remove_all(new_references);
@@ -151,7 +157,8 @@ impl Catalogue {
     fn apply_draft(&mut self, draft: Draft<'_>)
         requires ready { (q : List ℕ) → IsReady (map.get self.old q) (map.get draft q) }
         requires few { EachHas (λ w. IfSome w HasFewDetails) draft }
-        ensures { (q : List ℕ) → map.get self.new q ≡ entry_now (map.get self.old q) (map.get draft.entry q) }
+        ensures { (q : List ℕ)
+            → map.get self.new q ≡ entry_now (map.get self.old q) (map.get draft.entry q) }
     {
         let mut rest = draft;
         while let Some((reference, change)) = rest.pop() {

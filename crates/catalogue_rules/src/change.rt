@@ -40,7 +40,8 @@ impl Change {
 /// The counts with one more product, whose reference had a record or not.
 pub fn counted(effect: Effect, change: Change, is_known: bool) -> Effect
     requires { total effect + 1 < 2 ^ 32 }
-    ensures counts { (was : Option Entry) → is_some was ≡ is_known → result ≡ counted change was effect }
+    ensures counts { (was : Option Entry) → is_some was ≡ is_known
+        → result ≡ counted change was effect }
     ensures one { total result ≡ total effect + 1 }
 {
     let mut counts = effect;

@@ -70,7 +70,8 @@ fn offer(
     market: &Territory,
     detail: &SupplyDetail,
 ) -> Result<Offer, AllocError>
-    ensures { IfOk result (λ o. o ≡ offer_of series.now reference.now (place, (market.now, detail.now))) }
+    ensures { IfOk result
+        (λ o. o ≡ offer_of series.now reference.now (place, (market.now, detail.now))) }
 {
     let (market, detail) = copies(market, detail)?;
     match Text::from_str(alloc, reference) {
@@ -102,7 +103,10 @@ fn add_supply(
     supply: &ProductSupply,
 ) -> Result<u32, AllocError>
     requires { before + length supply.now.details < 2 ^ 32 }
-    ensures offers { OnOk result (offers.new ≡ offers.old ++ offers_from series.now reference.now (before + 1) (supply_details supply.now)) }
+    ensures offers { OnOk result
+        (offers.new
+        ≡ offers.old ++ offers_from series.now reference.now (before + 1)
+        (supply_details supply.now)) }
     ensures count { IfOk result (λ n. n ≡ before + length supply.now.details) }
 {
     let mut place = before;
@@ -122,7 +126,8 @@ fn add_entry(
     entry: &Entry,
 ) -> Result<(), AllocError>
     requires { HasFewDetails entry.now }
-    ensures { OnOk result (offers.new ≡ offers.old ++ entry_offers series.now reference.now entry.now) }
+    ensures { OnOk result
+        (offers.new ≡ offers.old ++ entry_offers series.now reference.now entry.now) }
 {
     let mut count = 0;
     for supply in entry.supplies.as_slice() {
@@ -141,7 +146,8 @@ pub(crate) fn add_record(
     entry: &Entry,
 ) -> Result<(), AllocError>
     requires { HasFewDetails entry.now }
-    ensures { OnOk result (offers.new ≡ offers.old ++ record_offers series.now isbn.now (reference.now, entry.now)) }
+    ensures { OnOk result
+        (offers.new ≡ offers.old ++ record_offers series.now isbn.now (reference.now, entry.now)) }
 {
     if has_article(entry, isbn) {
         add_entry(alloc, offers, series, reference, entry)?;

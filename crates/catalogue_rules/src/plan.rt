@@ -33,7 +33,9 @@ fn change_by(
     product: &Product,
     was: Option<&Entry>,
 ) -> Result<Option<Option<Entry>>, AllocError>
-    ensures { IfOk result (λ now. entry_now (option_copied was.entry) now ≡ entry_after change product.now (option_copied was.entry)) }
+    ensures { IfOk result
+        (λ now. entry_now (option_copied was.entry) now
+        ≡ entry_after change product.now (option_copied was.entry)) }
 {
     match change {
         Change::Replace => Ok(Some(Some(Entry::copy_of(&product.ids, &product.supplies)?))),
@@ -54,7 +56,8 @@ fn change_by(
 impl<'a> Plan<'a> {
     /// A plan that changes nothing.
     fn new(alloc: Global) -> Plan<'a>
-        ensures plan { (base : ByReference) → IsPlan base result.draft (all_bytes result.new_references.items) base }
+        ensures plan { (base : ByReference)
+            → IsPlan base result.draft (all_bytes result.new_references.items) base }
         ensures effect { result.effect ≡ no_effect }
     {
         Plan {
@@ -66,7 +69,9 @@ impl<'a> Plan<'a> {
 
     /// The entry that a reference has after the changes.
     fn entry_of<'e>(&'e self, catalogue: &'e Catalogue, reference: &str) -> Option<&'e Entry>
-        ensures { option_copied result ≡ entry_now (map.get catalogue.now reference.now) (map.get self.now.draft reference.now) }
+        ensures { option_copied result
+            ≡ entry_now (map.get catalogue.now reference.now)
+            (map.get self.now.draft reference.now) }
     {
         match self.draft.get(reference) {
             Some(Some(entry)) => Some(entry),
@@ -77,7 +82,9 @@ impl<'a> Plan<'a> {
 
     /// Whether neither the catalogue nor the changes have a reference.
     fn is_new(&self, catalogue: &Catalogue, reference: &str) -> bool
-        ensures { IsTrue result ↔ ((map.get catalogue.now reference.now ≡ None) × (map.get self.now.draft reference.now ≡ None)) }
+        ensures { IsTrue result
+            ↔ ((map.get catalogue.now reference.now ≡ None)
+            × (map.get self.now.draft reference.now ≡ None)) }
     {
         catalogue.get(reference).is_none() && self.draft.get(reference).is_none()
     }
@@ -89,8 +96,11 @@ impl<'a> Plan<'a> {
         reference: &'a str,
         change: Option<Entry>,
     ) -> Result<(), AllocError>
-        ensures plan { OnOk result ((m : ByReference) → IsPlan catalogue.now self.old.draft (all_bytes self.old.new_references.items) m
-            → IsPlan catalogue.now self.new.draft (all_bytes self.new.new_references.items) (with_entry m reference.now change)) }
+        ensures plan { OnOk result
+            ((m : ByReference)
+            → IsPlan catalogue.now self.old.draft (all_bytes self.old.new_references.items) m
+            → IsPlan catalogue.now self.new.draft (all_bytes self.new.new_references.items)
+            (with_entry m reference.now change)) }
         ensures effect { OnOk result (self.new.effect ≡ self.old.effect) }
     {
         if self.is_new(catalogue, reference) {
@@ -103,10 +113,17 @@ impl<'a> Plan<'a> {
     /// Adds what one product changes.
     fn add(&mut self, catalogue: &Catalogue, product: &'a Product) -> Result<(), AllocError>
         requires { total self.old.effect + 1 < 2 ^ 32 }
-        ensures plan { OnOk result ((m : ByReference) → IsPlan catalogue.now self.old.draft (all_bytes self.old.new_references.items) m
-            → IsPlan catalogue.now self.new.draft (all_bytes self.new.new_references.items) (after_product m product.now)) }
-        ensures effect { OnOk result ((m : ByReference) → IsPlan catalogue.now self.old.draft (all_bytes self.old.new_references.items) m
-            → self.new.effect ≡ counted (change_of product.now.notification) (map.get m product.now.reference) self.old.effect) }
+        ensures plan { OnOk result
+            ((m : ByReference)
+            → IsPlan catalogue.now self.old.draft (all_bytes self.old.new_references.items) m
+            → IsPlan catalogue.now self.new.draft (all_bytes self.new.new_references.items)
+            (after_product m product.now)) }
+        ensures effect { OnOk result
+            ((m : ByReference)
+            → IsPlan catalogue.now self.old.draft (all_bytes self.old.new_references.items) m
+            → self.new.effect
+            ≡ counted (change_of product.now.notification)
+            (map.get m product.now.reference) self.old.effect) }
     {
         let reference = product.reference.as_str();
         let change = Change::of(product.notification);
@@ -126,7 +143,9 @@ impl<'a> Plan<'a> {
         products: &'a [Product],
     ) -> Result<Plan<'a>, AllocError>
         requires { length products.now < 2 ^ 32 }
-        ensures plan { IfOk result (λ p. IsPlan catalogue.now p.draft (all_bytes p.new_references.items) (after catalogue.now products.now)) }
+        ensures plan { IfOk result
+            (λ p. IsPlan catalogue.now p.draft (all_bytes p.new_references.items)
+            (after catalogue.now products.now)) }
         ensures effect { IfOk result (λ p. p.effect ≡ effect_of catalogue.now products.now) }
     {
         let mut plan = Plan::new(alloc);

@@ -18,8 +18,10 @@ fn end_record(
     ends: &mut Vec<usize>,
     start: usize,
 ) -> Result<(), AllocError>
-    ensures ok { OnOk result ((fields.new ≡ fields.old) × (ends.new.items ≡ ends.old.items ++ length fields.old ∷ [])) }
-    ensures err { OnErr result ((fields.new ≡ take start fields.old) × (ends.new.items ≡ ends.old.items)) }
+    ensures ok { OnOk result
+        ((fields.new ≡ fields.old) × (ends.new.items ≡ ends.old.items ++ length fields.old ∷ [])) }
+    ensures err { OnErr result
+        ((fields.new ≡ take start fields.old) × (ends.new.items ≡ ends.old.items)) }
 {
     let Ok(()) = ends.push(fields.len()) else {
         fields.truncate(start);

@@ -31,7 +31,8 @@ pub(crate) fn add_ends(
     start: usize,
 ) -> Result<(), AllocError>
     requires { All (λ e. (first ≤ e) × ((e - first) + start < 2 ^ 64)) added.now }
-    ensures ok { OnOk result (ends.new.items ≡ ends.old.items ++ map (λ e. (e - first) + start) added.now) }
+    ensures ok { OnOk result
+        (ends.new.items ≡ ends.old.items ++ map (λ e. (e - first) + start) added.now) }
     ensures err { OnErr result (ends.new.items ≡ ends.old.items) }
 {
     ends.reserve(added.len())?;

@@ -6,6 +6,9 @@ ghost use Rattle.csv_records.specs.RecordTexts.{AllFilled, records_of, records_t
 
 /// Records that each have a field have one text, which is read as these records.
 pub fn one_text()
-    ensures read { (rows : List (List (List ℕ))) → AllFilled rows → strip_bom (records_text rows) ≡ records_text rows → records_of (records_text rows) ≡ rows }
-    ensures only { (rows others : List (List (List ℕ))) → AllFilled rows → AllFilled others → records_text rows ≡ records_text others → rows ≡ others }
+    ensures read { (rows : List (List (List ℕ))) → AllFilled rows
+        → strip_bom (records_text rows) ≡ records_text rows
+        → records_of (records_text rows) ≡ rows }
+    ensures only { (rows others : List (List (List ℕ))) → AllFilled rows → AllFilled others
+        → records_text rows ≡ records_text others → rows ≡ others }
 {}

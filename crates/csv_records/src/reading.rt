@@ -72,11 +72,15 @@ impl<'a> RecordReader<'a> {
     /// A reader of a text of at most 4,194,304 bytes. `TooLarge` exactly above that, `NotUtf8` exactly
     /// where within it the bytes are no text.
     pub fn new(alloc: Global, bytes: &'a [u8]) -> Result<RecordReader<'a>, RecordFault>
-        ensures records { IfOk result (λ reader. (length bytes.now ≤ limit) × IsUtf8 bytes.now × (reader ≡ records_of bytes.now)) }
+        ensures records { IfOk result
+            (λ reader. (length bytes.now ≤ limit) × IsUtf8 bytes.now
+            × (reader ≡ records_of bytes.now)) }
         ensures too_large { limit < length bytes.now → IsErrOf result RecordFault.TooLarge }
         ensures only_large { IsErrOf result RecordFault.TooLarge → limit < length bytes.now }
-        ensures not_utf8 { length bytes.now ≤ limit → ¬ (IsUtf8 bytes.now) → IsErrOf result RecordFault.NotUtf8 }
-        ensures only_not_utf8 { IsErrOf result RecordFault.NotUtf8 → (length bytes.now ≤ limit) × ¬ (IsUtf8 bytes.now) }
+        ensures not_utf8 { length bytes.now ≤ limit → ¬ (IsUtf8 bytes.now)
+            → IsErrOf result RecordFault.NotUtf8 }
+        ensures only_not_utf8 { IsErrOf result RecordFault.NotUtf8
+            → (length bytes.now ≤ limit) × ¬ (IsUtf8 bytes.now) }
     {
         if bytes.len() > LIMIT {
             return Err(RecordFault::TooLarge);
@@ -90,7 +94,8 @@ impl<'a> RecordReader<'a> {
     /// Reads the next record in place of what `into` held, or tells that there is none. One
     /// `into` serves all records of a text. Without memory the reader has no records left.
     pub fn read(&mut self, into: &mut StringRecord) -> Result<bool, AllocError>
-        ensures found { IfOk result (λ found. found ≡ true → self.old ≡ fields_of into.new ∷ self.new) }
+        ensures found { IfOk result
+            (λ found. found ≡ true → self.old ≡ fields_of into.new ∷ self.new) }
         ensures ended { IfOk result (λ found. found ≡ false → (self.old ≡ []) × (self.new ≡ [])) }
         ensures err { OnErr result (self.new ≡ []) }
     {
@@ -148,11 +153,14 @@ pub fn append_records(
 
 /// The records of a text of at most 4,194,304 bytes.
 pub fn read_records(alloc: Global, bytes: &[u8]) -> Result<RecordBuffer, RecordFault>
-    ensures records { IfOk result (λ rows. (length bytes.now ≤ limit) × IsUtf8 bytes.now × (rows ≡ records_of bytes.now)) }
+    ensures records { IfOk result
+        (λ rows. (length bytes.now ≤ limit) × IsUtf8 bytes.now × (rows ≡ records_of bytes.now)) }
     ensures too_large { limit < length bytes.now → IsErrOf result RecordFault.TooLarge }
     ensures only_large { IsErrOf result RecordFault.TooLarge → limit < length bytes.now }
-    ensures not_utf8 { length bytes.now ≤ limit → ¬ (IsUtf8 bytes.now) → IsErrOf result RecordFault.NotUtf8 }
-    ensures only_not_utf8 { IsErrOf result RecordFault.NotUtf8 → (length bytes.now ≤ limit) × ¬ (IsUtf8 bytes.now) }
+    ensures not_utf8 { length bytes.now ≤ limit → ¬ (IsUtf8 bytes.now)
+        → IsErrOf result RecordFault.NotUtf8 }
+    ensures only_not_utf8 { IsErrOf result RecordFault.NotUtf8
+        → (length bytes.now ≤ limit) × ¬ (IsUtf8 bytes.now) }
 {
     let mut reader = RecordReader::new(alloc, bytes)?;
     let mut buffer = RecordBuffer::new(alloc);

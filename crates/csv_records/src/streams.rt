@@ -36,8 +36,10 @@ pub fn read_input<R: Read>(
     reader: &mut R,
     most: usize,
 ) -> Result<Vec<u8>, InputFault>
-    ensures ok { IfOk result (λ bytes. (length bytes.items ≤ most) × IsTold (R.remaining reader.old) bytes.items) }
-    ensures err { IfErr result (λ f. (text : List ℕ) × IsTold (R.remaining reader.old) text × InputFits most text f) }
+    ensures ok { IfOk result
+        (λ bytes. (length bytes.items ≤ most) × IsTold (R.remaining reader.old) bytes.items) }
+    ensures err { IfErr result
+        (λ f. (text : List ℕ) × IsTold (R.remaining reader.old) text × InputFits most text f) }
     ensures taken { TakesAtMost (most + 1) (R.remaining reader.old) (R.remaining reader.new) }
 {
     let mut bytes = Vec::new(alloc);
@@ -60,7 +62,9 @@ pub fn read_input<R: Read>(
 /// Writes all of the bytes, or, with a fault, a part of them from the first on.
 pub fn write_whole<W: Write>(writer: &mut W, bytes: &[u8]) -> Result<(), WriteFault>
     ensures ok { OnOk result (Appends (W.contents writer.old) (W.contents writer.new) bytes.now) }
-    ensures err { OnErr result ((part rest : List ℕ) × (part ++ rest ≡ bytes.now) × Appends (W.contents writer.old) (W.contents writer.new) part) }
+    ensures err { OnErr result
+        ((part rest : List ℕ) × (part ++ rest ≡ bytes.now)
+        × Appends (W.contents writer.old) (W.contents writer.new) part) }
 {
     let mut at = 0;
     while at < bytes.len() {

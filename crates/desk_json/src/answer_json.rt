@@ -261,8 +261,10 @@ fn answer_json(alloc: Global, answer: &Answer) -> Result<Value, AllocError>
 /// The text of an answer's JSON. Whoever reads it as JSON gets the answer's data. Only want of
 /// memory refuses it.
 pub fn answer_text(alloc: Global, answer: &Answer) -> Result<String, AllocError>
-    ensures text { IfOk result (λ text. string_bytes text ≡ compact_text (json.answer_json answer.now)) }
-    ensures reads { IfOk result (λ text. read (string_bytes text) ≡ Some (json.answer_json answer.now)) }
+    ensures text { IfOk result
+        (λ text. string_bytes text ≡ compact_text (json.answer_json answer.now)) }
+    ensures reads { IfOk result
+        (λ text. read (string_bytes text) ≡ Some (json.answer_json answer.now)) }
 {
     let value = answer_json(alloc, answer)?;
     let text = value.to_string(alloc)?;

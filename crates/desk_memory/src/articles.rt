@@ -33,7 +33,8 @@ pub(crate) struct Articles {
 
 // Lists the articles of one of what stands.
 fn list_standing(index: &mut ArticleIndex, standing: &Standing) -> Result<(), AllocError>
-    ensures ok { (m : ByReference) → IsIndexOf index.old m → OnOk result (IsIndexOf index.new (after_standing m standing.now)) }
+    ensures ok { (m : ByReference) → IsIndexOf index.old m
+        → OnOk result (IsIndexOf index.new (after_standing m standing.now)) }
     ensures err { (m : ByReference) → IsIndexOf index.old m → OnErr result (IsIndexOf index.new m) }
 {
     match standing {
@@ -56,7 +57,8 @@ impl Articles {
     // Lists those of what stands at the next number.
     fn list(&mut self, number: Number, standing: &Standing) -> Result<(), AllocError>
         requires { number ≡ self.old.next }
-        ensures listed { (from : ℕ) (hs : List Standing) → IsListed from hs self.old → slice_get hs (number - from) ≡ Some standing.now → IsListed from hs self.new }
+        ensures listed { (from : ℕ) (hs : List Standing) → IsListed from hs self.old
+            → slice_get hs (number - from) ≡ Some standing.now → IsListed from hs self.new }
         ensures next { OnOk result (self.new.next ≡ number + 1) }
     {
         list_standing(&mut self.index, standing)?;
@@ -66,7 +68,8 @@ impl Articles {
 
     /// Goes on up to that number, as far as memory goes.
     pub(crate) fn go_on(&mut self, numbers: &BTreeMap<Number, Standing>, until: u32)
-        ensures { (from : ℕ) (hs : List Standing) → BeginsWith (get nat_cmp numbers.now) from hs → until ≡ from + length hs → IsListed from hs self.old → IsListed from hs self.new }
+        ensures { (from : ℕ) (hs : List Standing) → BeginsWith (get nat_cmp numbers.now) from hs
+            → until ≡ from + length hs → IsListed from hs self.old → IsListed from hs self.new }
     {
         for next in self.next..until {
             let Some(number) = Number::from_value(next) else {
@@ -90,7 +93,8 @@ impl Articles {
         series: &SeriesName,
         isbn: &Isbn13,
     ) -> Result<Items<Offer>, AllocError>
-        ensures { (from : ℕ) (hs : List Standing) → IsListed from hs self.now → next ≡ from + length hs → catalogue.now ≡ after_all map.empty hs →
+        ensures { (from : ℕ) (hs : List Standing) → IsListed from hs self.now
+            → next ≡ from + length hs → catalogue.now ≡ after_all map.empty hs →
             IfOk result (λ offers. offers ≡ offers_in series.now catalogue.now isbn.now) }
     {
         if self.next == next {

@@ -74,8 +74,10 @@ impl Fold {
     // Applies what stands at the next number.
     fn add(&mut self, number: Number, standing: &Standing) -> Result<(), AllocError>
         requires { number ≡ self.old.next }
-        ensures ok { (from : ℕ) (hs : List Standing) → IsFold from hs self.old → OnOk result (IsFold from (hs ++ standing.now ∷ []) self.new) }
-        ensures err { (from : ℕ) (hs : List Standing) → IsFold from hs self.old → OnErr result (IsFold from hs self.new) }
+        ensures ok { (from : ℕ) (hs : List Standing) → IsFold from hs self.old
+            → OnOk result (IsFold from (hs ++ standing.now ∷ []) self.new) }
+        ensures err { (from : ℕ) (hs : List Standing) → IsFold from hs self.old
+            → OnErr result (IsFold from hs self.new) }
     {
         self.effects.reserve(1)?;
         let effect = apply_standing(&mut self.catalogue, standing)?;
@@ -92,7 +94,8 @@ impl Fold {
     ) -> Result<(), AllocError>
         requires { IsFolded (get nat_cmp numbers.now) from self.old }
         ensures folded { IsFolded (get nat_cmp numbers.now) from self.new }
-        ensures front { (hs : List Standing) → IsFront (get nat_cmp numbers.now) from hs → OnOk result (IsFold from hs self.new) }
+        ensures front { (hs : List Standing) → IsFront (get nat_cmp numbers.now) from hs
+            → OnOk result (IsFold from hs self.new) }
     {
         let start = start_of(self.next, from);
         for (number, standing) in numbers.range(start..) {
@@ -110,7 +113,8 @@ impl Fold {
     /// Whether all is folded up to the first number that has nothing.
     pub(crate) fn is_whole(&self, numbers: &BTreeMap<Number, Standing>, from: Number) -> bool
         requires { IsFolded (get nat_cmp numbers.now) from self.now }
-        ensures { (hs : List Standing) → IsFront (get nat_cmp numbers.now) from hs → IsTrue result → IsFold from hs self.now }
+        ensures { (hs : List Standing) → IsFront (get nat_cmp numbers.now) from hs → IsTrue result
+            → IsFold from hs self.now }
     {
         match Number::from_value(self.next) {
             Some(next) => match numbers.get(&next) {
@@ -123,7 +127,8 @@ impl Fold {
 
     /// Lists the articles of what is folded, as far as memory goes.
     pub(crate) fn list_articles(&mut self, numbers: &BTreeMap<Number, Standing>)
-        ensures { (from : ℕ) → IsFolded (get nat_cmp numbers.now) from self.old → IsFolded (get nat_cmp numbers.now) from self.new }
+        ensures { (from : ℕ) → IsFolded (get nat_cmp numbers.now) from self.old
+            → IsFolded (get nat_cmp numbers.now) from self.new }
     {
         self.articles.go_on(numbers, self.next);
     }
@@ -152,7 +157,8 @@ impl Fold {
     // What a delivery is answered whose contents stand at this number.
     fn answer(&self, series: SeriesName, from: Number, number: Number) -> DeliveryAnswer
         requires { from ≤ number }
-        ensures { (hs : List Standing) → IsFold from hs self.now → result ≡ placed_answer hs series from number }
+        ensures { (hs : List Standing) → IsFold from hs self.now
+            → result ≡ placed_answer hs series from number }
     {
         match self.effect_of(from, number) {
             Some(effect) => DeliveryAnswer::Applied {
@@ -180,7 +186,8 @@ impl Fold {
         requires above { from ≤ number }
         requires folded { IsFolded (get nat_cmp numbers.now) from self.old }
         ensures folded { IsFolded (get nat_cmp numbers.now) from self.new }
-        ensures answer { (hs : List Standing) → IsFront (get nat_cmp numbers.now) from hs → IfOk result (λ a. a ≡ placed_answer hs series from number) }
+        ensures answer { (hs : List Standing) → IsFront (get nat_cmp numbers.now) from hs
+            → IfOk result (λ a. a ≡ placed_answer hs series from number) }
         ensures err { OnErr result (self.new.next ≤ number) }
     {
         match self.go_on(numbers, from) {

@@ -19,7 +19,8 @@ pub(crate) fn held_numbers(
 ) -> Result<(u32, Vec<Number>), AllocError>
     ensures below { IfOk result (λ found. found.0 ≤ 1000000000) }
     ensures next { IfOk result (λ found. IsNext (get nat_cmp numbers.now) first found.0) }
-    ensures held { IfOk result (λ found. AreHeldFrom (get nat_cmp numbers.now) found.0 found.1.items) }
+    ensures held { IfOk result
+        (λ found. AreHeldFrom (get nat_cmp numbers.now) found.0 found.1.items) }
 {
     let mut next = first.value();
     let mut held = Vec::new(alloc);

@@ -50,12 +50,15 @@ impl Model for Series {
 
     ghost view = { λ s. record { agreement = s.agreement; numbers = s.numbers.entries } };
 
-    ghost invariant = { λ s. IsFolded (get nat_cmp s.numbers) s.agreement.first s.fold × NoneBelow (get nat_cmp s.numbers) s.agreement.first };
+    ghost invariant = { λ s. IsFolded (get nat_cmp s.numbers) s.agreement.first s.fold
+        × NoneBelow (get nat_cmp s.numbers) s.agreement.first };
 }
 
 // Takes out what stands at a number.
 fn take_out(numbers: &mut BTreeMap<Number, Standing>, number: Number)
-    ensures { (n : ℕ) → get nat_cmp numbers.new n ≡ (if nat_eq number n then None else get nat_cmp numbers.old n) }
+    ensures { (n : ℕ)
+        → get nat_cmp numbers.new n
+        ≡ (if nat_eq number n then None else get nat_cmp numbers.old n) }
 {
     numbers.remove(&number);
 }
@@ -73,8 +76,12 @@ fn deliver_new(
     requires absent { get nat_cmp numbers.old number ≡ None }
     requires folded { IsFolded (get nat_cmp numbers.old) from fold.old }
     ensures folded { IsFolded (get nat_cmp numbers.new) from fold.new }
-    ensures ok { OnOk result ((n : ℕ) → get nat_cmp numbers.new n ≡ with_standing (get nat_cmp numbers.old) number (Standing.Message contents) n) }
-    ensures answer { (hs : List Standing) → IsFront (get nat_cmp numbers.new) from hs → IfOk result (λ a. a ≡ placed_answer hs series from number) }
+    ensures ok { OnOk result
+        ((n : ℕ)
+        → get nat_cmp numbers.new n
+        ≡ with_standing (get nat_cmp numbers.old) number (Standing.Message contents) n) }
+    ensures answer { (hs : List Standing) → IsFront (get nat_cmp numbers.new) from hs
+        → IfOk result (λ a. a ≡ placed_answer hs series from number) }
     ensures err { OnErr result ((n : ℕ) → get nat_cmp numbers.new n ≡ get nat_cmp numbers.old n) }
 {
     numbers.insert(number, Standing::Message(contents))?;
@@ -99,8 +106,12 @@ fn deliver_at(
     requires above { from ≤ number }
     requires folded { IsFolded (get nat_cmp numbers.old) from fold.old }
     ensures folded { IsFolded (get nat_cmp numbers.new) from fold.new }
-    ensures ok { OnOk result ((n : ℕ) → get nat_cmp numbers.new n ≡ with_standing (get nat_cmp numbers.old) number (Standing.Message contents) n) }
-    ensures answer { (hs : List Standing) → IsFront (get nat_cmp numbers.new) from hs → IfOk result (λ a.
+    ensures ok { OnOk result
+        ((n : ℕ)
+        → get nat_cmp numbers.new n
+        ≡ with_standing (get nat_cmp numbers.old) number (Standing.Message contents) n) }
+    ensures answer { (hs : List Standing) → IsFront (get nat_cmp numbers.new) from hs
+        → IfOk result (λ a.
         a ≡ answer_against hs series from number contents (get nat_cmp numbers.new number)) }
     ensures err { OnErr result ((n : ℕ) → get nat_cmp numbers.new n ≡ get nat_cmp numbers.old n) }
 {
@@ -127,8 +138,12 @@ fn waive_at(
     numbers: &mut BTreeMap<Number, Standing>,
     number: Number,
 ) -> Result<WaiveAnswer, AllocError>
-    ensures folded { (from : ℕ) (fold : Fold) → IsFolded (get nat_cmp numbers.old) from fold → IsFolded (get nat_cmp numbers.new) from fold }
-    ensures ok { OnOk result ((n : ℕ) → get nat_cmp numbers.new n ≡ with_standing (get nat_cmp numbers.old) number Standing.Waived n) }
+    ensures folded { (from : ℕ) (fold : Fold) → IsFolded (get nat_cmp numbers.old) from fold
+        → IsFolded (get nat_cmp numbers.new) from fold }
+    ensures ok { OnOk result
+        ((n : ℕ)
+        → get nat_cmp numbers.new n
+        ≡ with_standing (get nat_cmp numbers.old) number Standing.Waived n) }
     ensures answer { IfOk result (λ a. a ≡ waived_by (get nat_cmp numbers.new number)) }
     ensures err { OnErr result ((n : ℕ) → get nat_cmp numbers.new n ≡ get nat_cmp numbers.old n) }
 {
@@ -170,10 +185,16 @@ impl Series {
     ) -> Result<DeliveryAnswer, AllocError>
         requires { self.old.agreement.first ≤ number }
         ensures agreement { self.new.agreement ≡ self.old.agreement }
-        ensures ok { OnOk result ((n : ℕ) → stands_at self.new.numbers n ≡ with_standing (stands_at self.old.numbers) number (Standing.Message contents) n) }
-        ensures answer { (hs : List Standing) → IsFront (stands_at self.new.numbers) self.old.agreement.first hs → IfOk result (λ a.
-            a ≡ answer_against hs self.old.agreement.name self.old.agreement.first number contents (stands_at self.new.numbers number)) }
-        ensures err { OnErr result ((n : ℕ) → stands_at self.new.numbers n ≡ stands_at self.old.numbers n) }
+        ensures ok { OnOk result
+            ((n : ℕ)
+            → stands_at self.new.numbers n
+            ≡ with_standing (stands_at self.old.numbers) number (Standing.Message contents) n) }
+        ensures answer { (hs : List Standing)
+            → IsFront (stands_at self.new.numbers) self.old.agreement.first hs → IfOk result (λ a.
+            a ≡ answer_against hs self.old.agreement.name self.old.agreement.first number contents
+            (stands_at self.new.numbers number)) }
+        ensures err { OnErr result
+            ((n : ℕ) → stands_at self.new.numbers n ≡ stands_at self.old.numbers n) }
     {
         let name = self.agreement.name;
         let first = self.agreement.first;
@@ -191,9 +212,13 @@ impl Series {
     pub(crate) fn waive(&mut self, number: Number) -> Result<WaiveAnswer, AllocError>
         requires { self.old.agreement.first ≤ number }
         ensures agreement { self.new.agreement ≡ self.old.agreement }
-        ensures ok { OnOk result ((n : ℕ) → stands_at self.new.numbers n ≡ with_standing (stands_at self.old.numbers) number Standing.Waived n) }
+        ensures ok { OnOk result
+            ((n : ℕ)
+            → stands_at self.new.numbers n
+            ≡ with_standing (stands_at self.old.numbers) number Standing.Waived n) }
         ensures answer { IfOk result (λ a. a ≡ waived_by (stands_at self.new.numbers number)) }
-        ensures err { OnErr result ((n : ℕ) → stands_at self.new.numbers n ≡ stands_at self.old.numbers n) }
+        ensures err { OnErr result
+            ((n : ℕ) → stands_at self.new.numbers n ≡ stands_at self.old.numbers n) }
     {
         let answer = waive_at(&mut self.numbers, number)?;
         // Where memory runs out, a later call goes on.
@@ -203,8 +228,14 @@ impl Series {
 
     /// The report on its numbers.
     pub(crate) fn gaps(&self, alloc: Global) -> Result<GapReport, AllocError>
-        ensures { (hs : List Standing) (greatest : Option ℕ) → IsFront (stands_at self.now.numbers) self.now.agreement.first hs → IsGreatest (stands_at self.now.numbers) greatest →
-            IfOk result (λ r. r ≡ report_by self.now.agreement.name (stands_at self.now.numbers) self.now.agreement.first (self.now.agreement.first + length hs) greatest) }
+        ensures { (hs : List Standing) (greatest : Option ℕ)
+            → IsFront (stands_at self.now.numbers) self.now.agreement.first hs
+            → IsGreatest (stands_at self.now.numbers) greatest →
+            IfOk result
+            (λ r. r
+            ≡ report_by self.now.agreement.name
+            (stands_at self.now.numbers) self.now.agreement.first
+            (self.now.agreement.first + length hs) greatest) }
     {
         let first = self.agreement.first;
         let (next, held) = held_numbers(alloc, &self.numbers, first)?;
@@ -213,7 +244,9 @@ impl Series {
 
     // Its catalogue, folded anew.
     fn fold_anew(&self, alloc: Global) -> Result<Catalogue, AllocError>
-        ensures { (hs : List Standing) → IsFront (stands_at self.now.numbers) self.now.agreement.first hs → IfOk result (λ c. c ≡ after_all map.empty hs) }
+        ensures { (hs : List Standing)
+            → IsFront (stands_at self.now.numbers) self.now.agreement.first hs
+            → IfOk result (λ c. c ≡ after_all map.empty hs) }
     {
         let first = self.agreement.first;
         let mut fold = Fold::new(alloc, first);
@@ -223,7 +256,9 @@ impl Series {
 
     /// Its catalogue: a copy of the kept one where nothing is left to fold.
     pub(crate) fn catalogue(&self, alloc: Global) -> Result<Catalogue, AllocError>
-        ensures { (hs : List Standing) → IsFront (stands_at self.now.numbers) self.now.agreement.first hs → IfOk result (λ c. c ≡ after_all map.empty hs) }
+        ensures { (hs : List Standing)
+            → IsFront (stands_at self.now.numbers) self.now.agreement.first hs
+            → IfOk result (λ c. c ≡ after_all map.empty hs) }
     {
         if self.fold.is_whole(&self.numbers, self.agreement.first) {
             return self.fold.catalogue.clone();
@@ -241,7 +276,9 @@ impl Series {
 
     /// The article's offers in its catalogue, in order of reference and place.
     pub(crate) fn offers_of(&self, alloc: Global, isbn: &Isbn13) -> Result<Items<Offer>, AllocError>
-        ensures { (hs : List Standing) → IsFront (stands_at self.now.numbers) self.now.agreement.first hs → IfOk result (λ offers.
+        ensures { (hs : List Standing)
+            → IsFront (stands_at self.now.numbers) self.now.agreement.first hs
+            → IfOk result (λ offers.
             offers ≡ offers_in self.now.agreement.name (after_all map.empty hs) isbn.now) }
     {
         let name = self.agreement.name;

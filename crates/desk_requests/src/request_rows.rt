@@ -31,7 +31,8 @@ fn make_agreement(
     to_value: &str,
     first: &str,
 ) -> Result<Agreement, RowFault>
-    ensures { Gives result (agreement_from name.now sender_type.now sender_value.now to_type.now to_value.now first.now) }
+    ensures { Gives result (agreement_from name.now
+        sender_type.now sender_value.now to_type.now to_value.now first.now) }
 {
     let name = SeriesName::read(name).ok_or(RowFault::Wrong)?;
     let first = Number::read(first).ok_or(RowFault::Wrong)?;

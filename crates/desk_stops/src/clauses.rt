@@ -30,7 +30,8 @@ pub fn traces_are_runs<S: Alter>()
 
 /// What was asked of a desk one after the other, as a batch is, goes on with a run.
 pub fn asked_are_runs<S: Alter>()
-    ensures { (rules : List Rule) → AskedAreRuns S.Store (λ (desk : DeskStore S). desk.tables.connection) rules }
+    ensures { (rules : List Rule)
+        → AskedAreRuns S.Store (λ (desk : DeskStore S). desk.tables.connection) rules }
 {}
 
 /// A desk in two files that is opened, asked, closed and opened again is a run, by the clauses of

@@ -20,7 +20,8 @@ pub struct Effect {
 impl Effect {
     /// The counts of no product.
     pub fn none() -> Effect
-        ensures { result ≡ record { replaced = 0; updated = 0; deleted = 0; unknown = 0; ignored = 0 } }
+        ensures { result
+            ≡ record { replaced = 0; updated = 0; deleted = 0; unknown = 0; ignored = 0 } }
     {
         Effect {
             replaced: 0,

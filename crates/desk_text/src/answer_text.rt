@@ -41,7 +41,8 @@ fn fill_numbered(
     series: &SeriesName,
     number: Number,
 ) -> Result<(), AllocError>
-    ensures { OnOk result (out.new ≡ map (λ w. w.now) words.now ++ (series.now ∷ decimal number ∷ [])) }
+    ensures { OnOk result
+        (out.new ≡ map (λ w. w.now) words.now ++ (series.now ∷ decimal number ∷ [])) }
 {
     fill(out, words)?;
     out.push(series.as_str())?;
@@ -103,7 +104,8 @@ fn fill_applied(
     number: Number,
     effect: &Effect,
 ) -> Result<(), AllocError>
-    ensures { OnOk result (out.new ≡ codes "applied" ∷ series.now ∷ decimal number ∷ effect_fields effect.now) }
+    ensures { OnOk result
+        (out.new ≡ codes "applied" ∷ series.now ∷ decimal number ∷ effect_fields effect.now) }
 {
     fill_numbered(out, &["applied"], series, number)?;
     push_effect(alloc, out, effect)
@@ -116,7 +118,10 @@ fn fill_held(
     number: Number,
     next: u32,
 ) -> Result<(), AllocError>
-    ensures { OnOk result (out.new ≡ codes "held" ∷ series.now ∷ decimal number ∷ (codes "waiting-for=" ++ decimal next) ∷ []) }
+    ensures { OnOk result
+        (out.new
+        ≡ codes "held" ∷ series.now ∷ decimal number ∷ (codes "waiting-for=" ++ decimal next)
+        ∷ []) }
 {
     fill_numbered(out, &["held"], series, number)?;
     push_labelled(alloc, out, &[("waiting-for=", u64::from(next))])

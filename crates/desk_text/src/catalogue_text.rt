@@ -23,7 +23,8 @@ fn fill_entry(
     reference: &str,
     ids: &[ProductIdentifier],
 ) -> Result<(), AllocError>
-    ensures { OnOk result (out.new ≡ codes "record" ∷ reference.now ∷ flat_map identifier_fields ids.now) }
+    ensures { OnOk result
+        (out.new ≡ codes "record" ∷ reference.now ∷ flat_map identifier_fields ids.now) }
 {
     fill(out, &["record", reference])?;
     push_identifiers(out, ids)
@@ -61,7 +62,8 @@ pub(crate) fn push_catalogue(
     series: &SeriesName,
     catalogue: &Catalogue,
 ) -> Result<(), AllocError>
-    ensures { OnOk result (records.new ≡ records.old ++ catalogue_records series.now catalogue.now) }
+    ensures { OnOk result
+        (records.new ≡ records.old ++ catalogue_records series.now catalogue.now) }
 {
     fill_head(out, series, catalogue.len())?;
     records.push(&out.as_record())?;

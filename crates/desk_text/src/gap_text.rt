@@ -16,7 +16,8 @@ fn push_greatest(
     out: &mut FieldBuffer,
     greatest: Option<Number>,
 ) -> Result<(), AllocError>
-    ensures { OnOk result (out.new ≡ out.old ++ (codes "greatest=" ++ optional_decimal greatest) ∷ []) }
+    ensures { OnOk result
+        (out.new ≡ out.old ++ (codes "greatest=" ++ optional_decimal greatest) ∷ []) }
 {
     match greatest {
         None => out.push("greatest="),

@@ -46,7 +46,8 @@ fn fill_body<R: Read>(reader: &mut R, body: &mut Vec<u8>, size: usize) -> Result
         take filled body.new.items ≡ take size (body.old.items ++ more))) }
     ensures filled { IfOk result (λ filled. filled ≤ size) }
     ensures fault { RefusesNothing result }
-    ensures taken { TakesAtMost (size - vec_len body.old) (R.remaining reader.old) (R.remaining reader.new) }
+    ensures taken { TakesAtMost (size - vec_len body.old) (R.remaining reader.old)
+        (R.remaining reader.new) }
 {
     let mut filled = body.len();
     while filled < size {
@@ -73,7 +74,8 @@ fn read_front<R: Read>(
         bytes.items ≡ take size (behind.now ++ more))) }
     ensures size { IfOk result (λ bytes. length bytes.items ≤ size) }
     ensures fault { RefusesNothing result }
-    ensures taken { TakesAtMost (size - length behind.now) (R.remaining reader.old) (R.remaining reader.new) }
+    ensures taken { TakesAtMost (size - length behind.now) (R.remaining reader.old)
+        (R.remaining reader.new) }
 {
     let mut body = Vec::with_capacity(alloc, size.min(FIRST_ROOM))?;
     body.extend_from_slice(&behind[..size.min(behind.len())])?;
@@ -105,7 +107,8 @@ fn read_delivery<R: Read>(
     requires { size ≤ limit }
     ensures gives { IfSome (R.remaining reader.old) (λ more.
         Gives result (records_behind size (behind.now ++ more))) }
-    ensures taken { TakesAtMost (size - length behind.now) (R.remaining reader.old) (R.remaining reader.new) }
+    ensures taken { TakesAtMost (size - length behind.now) (R.remaining reader.old)
+        (R.remaining reader.new) }
 {
     let body = match read_front(alloc, reader, behind, size) {
         Ok(body) => body,
@@ -126,10 +129,12 @@ pub fn read_posted<R: Read>(
     head: &Head,
     behind: &[u8],
 ) -> Result<RecordBuffer, InputFault>
-    ensures gives { (h : RequestHead) → IsHeadOf head.now h → IfSome (R.remaining reader.old) (λ more.
+    ensures gives { (h : RequestHead) → IsHeadOf head.now h
+        → IfSome (R.remaining reader.old) (λ more.
         Gives result (records_posted h (behind.now ++ more))) }
-    ensures taken { (h : RequestHead) → IsHeadOf head.now h →
-        TakesAtMost (most_posted h - length behind.now) (R.remaining reader.old) (R.remaining reader.new) }
+    ensures taken { (h : RequestHead) → IsHeadOf head.now h
+        → TakesAtMost (most_posted h - length behind.now)
+        (R.remaining reader.old) (R.remaining reader.new) }
 {
     match head.body_size() {
         Ok(size) => read_delivery(alloc, reader, behind, size),

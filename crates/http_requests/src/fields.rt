@@ -30,8 +30,11 @@ pub(crate) fn only_value<'b>(
     name: &[u8],
 ) -> Result<Option<&'b [u8]>, Repeated>
     requires { All (IsHeaderWithin (length bytes.now)) spans.now }
-    ensures one { IfOk result (λ found. only_value (values_of name.now (map (header_bytes bytes.now) spans.now)) ≡ Ok (option_map (λ v. v.now) found)) }
-    ensures more { OnErr result (only_value (values_of name.now (map (header_bytes bytes.now) spans.now)) ≡ Err tt) }
+    ensures one { IfOk result
+        (λ found. only_value (values_of name.now (map (header_bytes bytes.now) spans.now))
+        ≡ Ok (option_map (λ v. v.now) found)) }
+    ensures more { OnErr result
+        (only_value (values_of name.now (map (header_bytes bytes.now) spans.now)) ≡ Err tt) }
 {
     let mut found: Option<&'b [u8]> = None;
     let mut rest = spans;
@@ -57,7 +60,9 @@ fn is_numeral(text: &[u8]) -> bool
 // The number that digits write, where it is within the limit of bodies.
 fn value_within(digits: &[u8]) -> Option<usize>
     requires { list_all is_ascii_digit digits.now ≡ true }
-    ensures value { result ≡ (if nat_lt limit (digits_value 10 digits.now) then None else Some (digits_value 10 digits.now)) }
+    ensures value { result
+        ≡ (if nat_lt limit (digits_value 10 digits.now) then None else Some
+        (digits_value 10 digits.now)) }
     ensures most { IfSome result (λ size. size ≤ limit) }
 {
     let mut value = 0;
@@ -86,7 +91,8 @@ fn read_size(text: &[u8]) -> Result<usize, Refusal>
 
 /// How many bytes the body of a POST has, by its Content-Length.
 pub(crate) fn body_size(found: Result<Option<&[u8]>, Repeated>) -> Result<usize, Refusal>
-    ensures one { IfOk found.entry (λ length. result ≡ size_by (Ok (option_map (λ v. v.now) length))) }
+    ensures one { IfOk found.entry
+        (λ length. result ≡ size_by (Ok (option_map (λ v. v.now) length))) }
     ensures more { OnErr found.entry (result ≡ size_by (Err tt)) }
     ensures most { IfOk result (λ size. size ≤ limit) }
 {

@@ -46,7 +46,8 @@ impl Head {
 
     /// The bytes that were read behind the head.
     pub fn behind(&self) -> &[u8]
-        ensures { (h : RequestHead) → IsHeadOf self.now h → head_text self.now ≡ print_request h ++ result.now }
+        ensures { (h : RequestHead) → IsHeadOf self.now h
+            → head_text self.now ≡ print_request h ++ result.now }
     {
         &self.bytes[self.parts.len..self.filled]
     }
@@ -56,7 +57,8 @@ impl Head {
     pub(crate) fn only_field(&self, name: &[u8]) -> Result<Option<&[u8]>, Repeated>
         ensures one { (h : RequestHead) → IsHeadOf self.now h → IfOk result (λ found.
             only_value (field_values name.now h) ≡ Ok (option_map (λ v. v.now) found)) }
-        ensures more { (h : RequestHead) → IsHeadOf self.now h → OnErr result (only_value (field_values name.now h) ≡ Err tt) }
+        ensures more { (h : RequestHead) → IsHeadOf self.now h
+            → OnErr result (only_value (field_values name.now h) ≡ Err tt) }
     {
         only_value(
             &self.bytes[..self.filled],
@@ -75,7 +77,8 @@ impl Head {
 
     /// Whether a field of that name is there.
     pub fn has_field(&self, name: &[u8]) -> bool
-        ensures { (h : RequestHead) → IsHeadOf self.now h → result ≡ nat_lt 0 (length (field_values name.now h)) }
+        ensures { (h : RequestHead) → IsHeadOf self.now h
+            → result ≡ nat_lt 0 (length (field_values name.now h)) }
     {
         match self.only_field(name) {
             Ok(None) => false,
@@ -133,11 +136,14 @@ fn fill_head<R: Read>(
     requires room { length bytes.old ≡ HEAD_LIMIT }
     requires fields { MOST_FIELDS ≤ length spans.old }
     ensures filled { IfOk result (λ found. found.filled ≤ HEAD_LIMIT) }
-    ensures whole { IfOk result (λ found. IsRequestOf (take found.filled bytes.new) spans.new found.parts) }
-    ensures within { IfOk result (λ found. IsRequestWithin (take found.filled bytes.new) spans.new found.parts) }
+    ensures whole { IfOk result
+        (λ found. IsRequestOf (take found.filled bytes.new) spans.new found.parts) }
+    ensures within { IfOk result
+        (λ found. IsRequestWithin (take found.filled bytes.new) spans.new found.parts) }
     ensures read { IfOk result (λ found.
         Consumes (R.remaining reader.old) (R.remaining reader.new) (take found.filled bytes.new)) }
-    ensures refused { IfRefused result (λ why. IfSome (R.remaining reader.old) (λ input. IsRefused input why)) }
+    ensures refused { IfRefused result
+        (λ why. IfSome (R.remaining reader.old) (λ input. IsRefused input why)) }
     ensures taken { TakesAtMost HEAD_LIMIT (R.remaining reader.old) (R.remaining reader.new) }
 {
     let mut filled = 0;
@@ -173,8 +179,10 @@ fn field_spans(alloc: Global) -> Result<Vec<HeaderSpan>, AllocError>
 pub fn read_head<R: Read>(alloc: Global, reader: &mut R) -> Result<Head, InputFault>
     ensures whole { IfOk result (λ head. (h : RequestHead) × IsHeadOf head h) }
     ensures limit { IfOk result (λ head. length (head_text head) ≤ HEAD_LIMIT) }
-    ensures read { IfOk result (λ head. Consumes (R.remaining reader.old) (R.remaining reader.new) (head_text head)) }
-    ensures refused { IfRefused result (λ why. IfSome (R.remaining reader.old) (λ input. IsRefused input why)) }
+    ensures read { IfOk result
+        (λ head. Consumes (R.remaining reader.old) (R.remaining reader.new) (head_text head)) }
+    ensures refused { IfRefused result
+        (λ why. IfSome (R.remaining reader.old) (λ input. IsRefused input why)) }
     ensures taken { TakesAtMost HEAD_LIMIT (R.remaining reader.old) (R.remaining reader.new) }
 {
     let mut bytes = head_buffer(alloc)?;

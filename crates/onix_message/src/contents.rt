@@ -111,7 +111,8 @@ fn has_text(alloc: Global, contents: &Contents, text: &str) -> Result<bool, Allo
 // defaults and the right end.
 fn read_framed(alloc: Global, text: &str) -> Result<Contents, ContentsFault>
     ensures found { IfOk result (λ c. (h : Header) × IsMessage (framed (records_of text.now)) h c) }
-    ensures none { IsErrOf result ContentsFault.NotContents → (h : Header) (c : List Product) → IsMessage (framed (records_of text.now)) h c → ⊥ }
+    ensures none { IsErrOf result ContentsFault.NotContents → (h : Header) (c : List Product)
+        → IsMessage (framed (records_of text.now)) h c → ⊥ }
 {
     let records = framed_records(alloc, text)?;
     match read_message(alloc, &records.as_records()) {
@@ -128,7 +129,8 @@ fn read_framed(alloc: Global, text: &str) -> Result<Contents, ContentsFault>
 /// where memory ran out.
 pub fn read_contents(alloc: Global, text: &str) -> Result<Contents, ContentsFault>
     ensures contents { IfOk result (λ c. IsContents c × (contents_text c ≡ text.now)) }
-    ensures none { IsErrOf result ContentsFault.NotContents → (c : List Product) → IsContents c → contents_text c ≡ text.now → ⊥ }
+    ensures none { IsErrOf result ContentsFault.NotContents → (c : List Product) → IsContents c
+        → contents_text c ≡ text.now → ⊥ }
 {
     one_text();
     let contents = match read_framed(alloc, text) {

@@ -78,9 +78,12 @@ fn close_last(
     last: Option<SupplyDetail>,
 ) -> Result<Product, StepFault>
     requires { SuppliesHaveDetails product }
-    ensures rows { IfOk result (λ p. product_rows p ≡ product_rows product ++ open_rows supply last) }
+    ensures rows { IfOk result
+        (λ p. product_rows p ≡ product_rows product ++ open_rows supply last) }
     ensures details { IfOk result (λ p. SuppliesHaveDetails p) }
-    ensures allowed { IfOk result (λ p. (s : ProductSupply) → allows (InSupply product supply last) (row.ProductSupply s) ≡ true) }
+    ensures allowed { IfOk result
+        (λ p. (s : ProductSupply)
+        → allows (InSupply product supply last) (row.ProductSupply s) ≡ true) }
     ensures refused { IfErr result (λ e. RefusesSupply (InSupply product supply last) e) }
 {
     let Some(detail) = last else {
@@ -100,7 +103,8 @@ fn close_to_product(part: Part) -> Result<Product, StepFault>
     requires { PartHasDetails part }
     ensures rows { IfOk result (λ p. product_rows p ≡ part_rows part) }
     ensures details { IfOk result (λ p. SuppliesHaveDetails p) }
-    ensures allowed { IfOk result (λ p. (s : ProductSupply) → allows part (row.ProductSupply s) ≡ true) }
+    ensures allowed { IfOk result
+        (λ p. (s : ProductSupply) → allows part (row.ProductSupply s) ≡ true) }
     ensures refused { IfErr result (λ e. RefusesSupply part e) }
 {
     match part {
@@ -116,7 +120,9 @@ fn close_to_product(part: Part) -> Result<Product, StepFault>
 fn push_product(products: &mut Items<Product>, product: Product) -> Result<(), AllocError>
     requires before { AllByRecursion SuppliesHaveDetails products.old }
     requires own { SuppliesHaveDetails product }
-    ensures rows { OnOk result (flat_map product_rows products.new ≡ flat_map product_rows products.old ++ product_rows product) }
+    ensures rows { OnOk result
+        (flat_map product_rows products.new
+        ≡ flat_map product_rows products.old ++ product_rows product) }
     ensures details { OnOk result (AllByRecursion SuppliesHaveDetails products.new) }
 {
     products.push(product)
@@ -126,7 +132,9 @@ fn push_product(products: &mut Items<Product>, product: Product) -> Result<(), A
 fn close_to_products(products: &mut Items<Product>, part: Part) -> Result<(), StepFault>
     requires before { AllByRecursion SuppliesHaveDetails products.old }
     requires own { PartHasDetails part }
-    ensures rows { OnOk result (flat_map product_rows products.new ≡ flat_map product_rows products.old ++ part_rows part) }
+    ensures rows { OnOk result
+        (flat_map product_rows products.new
+        ≡ flat_map product_rows products.old ++ part_rows part) }
     ensures details { OnOk result (AllByRecursion SuppliesHaveDetails products.new) }
     ensures allowed { OnOk result (AllowsProduct part) }
     ensures refused { IfErr result (λ e. RefusesProduct part e) }
@@ -181,7 +189,9 @@ fn next_supply(
     supply: ProductSupply,
 ) -> Result<(), AllocError>
     requires { SuppliesHaveDetails product.old }
-    ensures rows { OnOk result (product_rows product.new ≡ product_rows product.old ++ (supply_rows last.old ++ detail_rows detail)) }
+    ensures rows { OnOk result
+        (product_rows product.new
+        ≡ product_rows product.old ++ (supply_rows last.old ++ detail_rows detail)) }
     ensures details { OnOk result (SuppliesHaveDetails product.new) }
     ensures last { OnOk result (last.new ≡ supply) }
 {
@@ -227,7 +237,8 @@ fn next_detail(
     last: &mut Option<SupplyDetail>,
     detail: SupplyDetail,
 ) -> Result<(), AllocError>
-    ensures rows { OnOk result (open_rows supply.new last.new ≡ open_rows supply.old last.old ++ detail_rows detail) }
+    ensures rows { OnOk result
+        (open_rows supply.new last.new ≡ open_rows supply.old last.old ++ detail_rows detail) }
     ensures last { OnOk result (last.new ≡ Some detail) }
 {
     match last {

@@ -17,17 +17,24 @@ use onix_terms::laws::{
 /// no other, and where none is computed they are none. A message is a front, and of the fronts
 /// just those are messages whose last row is an `EndMessage`.
 pub fn messages()
-    ensures computed { (records : List (List (List ℕ))) (h : Header) (c : List Product) → IsMessage records h c → message_of records ≡ Some (h, c) }
-    ensures meant { (records : List (List (List ℕ))) (h : Header) (c : List Product) → message_of records ≡ Some (h, c) → IsMessage records h c }
-    ensures none { (records : List (List (List ℕ))) → ((h : Header) (c : List Product) → IsMessage records h c → ⊥) → message_of records ≡ None }
-    ensures fronts { (records : List (List (List ℕ))) (h : Header) (c : List Product) → IsMessage records h c → IsFront records }
-    ensures ended { (records : List (List (List ℕ))) (b : BeginsMessage records) → EndsMessage b.rows ↔ ((c : List Product) × IsMessage records b.opening.header c) }
+    ensures computed { (records : List (List (List ℕ))) (h : Header) (c : List Product)
+        → IsMessage records h c → message_of records ≡ Some (h, c) }
+    ensures meant { (records : List (List (List ℕ))) (h : Header) (c : List Product)
+        → message_of records ≡ Some (h, c) → IsMessage records h c }
+    ensures none { (records : List (List (List ℕ)))
+        → ((h : Header) (c : List Product) → IsMessage records h c → ⊥)
+        → message_of records ≡ None }
+    ensures fronts { (records : List (List (List ℕ))) (h : Header) (c : List Product)
+        → IsMessage records h c → IsFront records }
+    ensures ended { (records : List (List (List ℕ))) (b : BeginsMessage records)
+        → EndsMessage b.rows ↔ ((c : List Product) × IsMessage records b.opening.header c) }
 {}
 
 /// The row that is computed of records is the one at which they stop being a front, and no
 /// other is.
 pub fn bad_rows()
-    ensures computed { (records : List (List (List ℕ))) (number : ℕ) → IsBadRow records number → number ≡ bad_row records }
+    ensures computed { (records : List (List (List ℕ))) (number : ℕ) → IsBadRow records number
+        → number ≡ bad_row records }
     ensures meant { (records : List (List (List ℕ))) → IsBadRow records (bad_row records) }
 {}
 
@@ -39,7 +46,8 @@ pub fn equal_contents()
 
 /// Two contents with one text are equal.
 pub fn one_contents_text()
-    ensures { (c d : List Product) → IsContents c → IsContents d → contents_text c ≡ contents_text d → c ≡ d }
+    ensures { (c d : List Product) → IsContents c → IsContents d
+        → contents_text c ≡ contents_text d → c ≡ d }
 {
     one_text();
 }
@@ -47,7 +55,8 @@ pub fn one_contents_text()
 /// The contents of a message are contents, so the text that is written of them is read as
 /// these contents.
 pub fn contents_of_messages()
-    ensures { (records : List (List (List ℕ))) (h : Header) (c : List Product) → message_of records ≡ Some (h, c) → IsContents c }
+    ensures { (records : List (List (List ℕ))) (h : Header) (c : List Product)
+        → message_of records ≡ Some (h, c) → IsContents c }
 {
     number_reads_back();
     amount_reads_back();

@@ -46,7 +46,8 @@ fn has_ended(part: &Part) -> bool
 // this row.
 fn close(draft: Draft, row: u32) -> Result<Contents, MessageFault>
     requires { has_ended draft.part ≡ true → IsContents draft.products }
-    ensures ended { IfOk result (λ contents. (has_ended draft.part ≡ true) × (contents ≡ draft.products)) }
+    ensures ended { IfOk result
+        (λ contents. (has_ended draft.part ≡ true) × (contents ≡ draft.products)) }
     ensures fault { IfErr result (λ e. (has_ended draft.part ≡ false) × (e ≡ Malformed row)) }
 {
     let is_whole = has_ended(&draft.part);
@@ -70,7 +71,8 @@ fn read_products<'a>(
     fields: &mut Vec<&'a str>,
 ) -> Result<Contents, MessageFault>
     requires { opening_of first.now ≡ Some opening.now }
-    ensures message { IfOk result (λ contents. IsMessage (first.now ∷ rest.now) opening.now.header contents) }
+    ensures message { IfOk result
+        (λ contents. IsMessage (first.now ∷ rest.now) opening.now.header contents) }
     ensures fault { IfErr result (λ e. Explains (first.now ∷ rest.now) e) }
 {
     let mut draft = Draft {

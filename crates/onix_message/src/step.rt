@@ -33,7 +33,10 @@ fn step_fault(fault: RowFault) -> StepFault
 
 fn add_read_product(alloc: Global, draft: &mut Draft, fields: &[&str]) -> Result<(), StepFault>
     requires { DraftHasDetails draft.old }
-    ensures { (before : ℕ) → Steps result (option_map row.Product (product_of (map (λ f. f.now) fields.now))) draft.old before draft.new }
+    ensures { (before : ℕ)
+        → Steps result
+        (option_map row.Product
+        (product_of (map (λ f. f.now) fields.now))) draft.old before draft.new }
 {
     match read_product(alloc, fields) {
         Ok(product) => add_product(draft, product),
@@ -43,7 +46,10 @@ fn add_read_product(alloc: Global, draft: &mut Draft, fields: &[&str]) -> Result
 
 fn add_read_supply(alloc: Global, draft: &mut Draft, fields: &[&str]) -> Result<(), StepFault>
     requires { DraftHasDetails draft.old }
-    ensures { (before : ℕ) → Steps result (option_map row.ProductSupply (supply_of (map (λ f. f.now) fields.now))) draft.old before draft.new }
+    ensures { (before : ℕ)
+        → Steps result
+        (option_map row.ProductSupply
+        (supply_of (map (λ f. f.now) fields.now))) draft.old before draft.new }
 {
     match read_supply(alloc, fields) {
         Ok(supply) => add_supply(draft, supply),
@@ -53,7 +59,10 @@ fn add_read_supply(alloc: Global, draft: &mut Draft, fields: &[&str]) -> Result<
 
 fn add_read_detail(alloc: Global, draft: &mut Draft, fields: &[&str]) -> Result<(), StepFault>
     requires { DraftHasDetails draft.old }
-    ensures { (before : ℕ) → Steps result (option_map row.SupplyDetail (detail_of (map (λ f. f.now) fields.now))) draft.old before draft.new }
+    ensures { (before : ℕ)
+        → Steps result
+        (option_map row.SupplyDetail
+        (detail_of (map (λ f. f.now) fields.now))) draft.old before draft.new }
 {
     match read_detail(alloc, fields) {
         Ok(detail) => add_detail(draft, detail),
@@ -68,7 +77,10 @@ fn add_read_price(
     fields: &[&str],
 ) -> Result<(), StepFault>
     requires { DraftHasDetails draft.old }
-    ensures { (before : ℕ) → Steps result (option_map row.Price (price_of opening.now (map (λ f. f.now) fields.now))) draft.old before draft.new }
+    ensures { (before : ℕ)
+        → Steps result
+        (option_map row.Price
+        (price_of opening.now (map (λ f. f.now) fields.now))) draft.old before draft.new }
 {
     match read_price(alloc, opening, fields) {
         Ok(price) => add_price(draft, price),
@@ -88,7 +100,9 @@ fn read_end(fields: &[&str]) -> Result<u32, RowFault>
 // An end says how many records come before it.
 fn add_read_end(draft: &mut Draft, fields: &[&str], before: usize) -> Result<(), StepFault>
     requires { DraftHasDetails draft.old }
-    ensures { Steps result (option_map row.EndMessage (end_of (map (λ f. f.now) fields.now))) draft.old before draft.new }
+    ensures { Steps result
+        (option_map row.EndMessage
+        (end_of (map (λ f. f.now) fields.now))) draft.old before draft.new }
 {
     match read_end(fields) {
         Ok(count) => {
@@ -112,7 +126,8 @@ fn add_named(
     before: usize,
 ) -> Result<(), StepFault>
     requires { DraftHasDetails draft.old }
-    ensures { Steps result (named_row opening.now name.now (map (λ f. f.now) fields.now)) draft.old before draft.new }
+    ensures { Steps result
+        (named_row opening.now name.now (map (λ f. f.now) fields.now)) draft.old before draft.new }
 {
     // A message has one header, which is read before this.
     if name == "Message" {

@@ -21,7 +21,8 @@ pub fn number_reads_back()
 
 /// Texts that are values are read as themselves.
 pub fn texts_are_themselves()
-    ensures fixed { (allowed : ℕ → Bool) (size : ℕ) (text code : List ℕ) → fixed_text allowed size text ≡ Some code → text ≡ code }
+    ensures fixed { (allowed : ℕ → Bool) (size : ℕ) (text code : List ℕ)
+        → fixed_text allowed size text ≡ Some code → text ≡ code }
     ensures name { (text name : List ℕ) → series_name_of text ≡ Some name → text ≡ name }
 {}
 
@@ -38,23 +39,29 @@ pub fn day_reads_back()
 
 /// The numbers that texts write are in their ranges.
 pub fn terms_are_in_range()
-    ensures number { (text : List ℕ) (n : ℕ) → number_of text ≡ Some n → (0 < n) × (n < 1_000_000_000) }
-    ensures quantity { (text : List ℕ) (n : ℕ) → quantity_of text ≡ Some n → (0 < n) × (n < 1_000_000) }
+    ensures number { (text : List ℕ) (n : ℕ) → number_of text ≡ Some n
+        → (0 < n) × (n < 1_000_000_000) }
+    ensures quantity { (text : List ℕ) (n : ℕ) → quantity_of text ≡ Some n
+        → (0 < n) × (n < 1_000_000) }
     ensures amount { (text : List ℕ) (n : ℕ) → amount_of text ≡ Some n → n < 1_000_000_000_000 }
     ensures day { (text : List ℕ) (day : ℤ) → day_of text ≡ Some day → IsDayNumber day }
 {}
 
 /// The countries of a territory that was read are in order, each once.
 pub fn territory_is_in_order()
-    ensures included { (included regions excluded : List ℕ) (t : Territory) → territory_of included regions excluded ≡ Some t → IsInOrder t.included }
-    ensures excluded { (included regions excluded : List ℕ) (t : Territory) → territory_of included regions excluded ≡ Some t → IsInOrder t.excluded }
+    ensures included { (included regions excluded : List ℕ) (t : Territory)
+        → territory_of included regions excluded ≡ Some t → IsInOrder t.included }
+    ensures excluded { (included regions excluded : List ℕ) (t : Territory)
+        → territory_of included regions excluded ≡ Some t → IsInOrder t.excluded }
 {}
 
 /// The countries of a territory that was read are exactly the words of its fields.
 pub fn territory_has_named_countries()
-    ensures included { (included regions excluded : List ℕ) (t : Territory) → territory_of included regions excluded ≡ Some t
+    ensures included { (included regions excluded : List ℕ) (t : Territory)
+        → territory_of included regions excluded ≡ Some t
         → (country : List ℕ) → Contains t.included country ↔ Contains (words_of included) country }
-    ensures excluded { (included regions excluded : List ℕ) (t : Territory) → territory_of included regions excluded ≡ Some t
+    ensures excluded { (included regions excluded : List ℕ) (t : Territory)
+        → territory_of included regions excluded ≡ Some t
         → (country : List ℕ) → Contains t.excluded country ↔ Contains (words_of excluded) country }
 {}
 
@@ -62,10 +69,16 @@ pub fn territory_has_named_countries()
 /// them, and from `WORLD` or nothing. These texts of countries are no longer than the fields
 /// that were read, and have letters and spaces alone.
 pub fn territory_reads_back()
-    ensures read { (included regions excluded : List ℕ) (t : Territory) → territory_of included regions excluded ≡ Some t
-        → territory_of (countries_text t.included) (world_text t.world) (countries_text t.excluded) ≡ Some t }
-    ensures short { (included regions excluded : List ℕ) (t : Territory) → territory_of included regions excluded ≡ Some t
-        → (length (countries_text t.included) ≤ length included) × (length (countries_text t.excluded) ≤ length excluded) }
-    ensures letters { (included regions excluded : List ℕ) (t : Territory) → territory_of included regions excluded ≡ Some t
-        → (list_all is_letter_or_space (countries_text t.included) ≡ true) × (list_all is_letter_or_space (countries_text t.excluded) ≡ true) }
+    ensures read { (included regions excluded : List ℕ) (t : Territory)
+        → territory_of included regions excluded ≡ Some t
+        → territory_of (countries_text t.included) (world_text t.world) (countries_text t.excluded)
+        ≡ Some t }
+    ensures short { (included regions excluded : List ℕ) (t : Territory)
+        → territory_of included regions excluded ≡ Some t
+        → (length (countries_text t.included) ≤ length included)
+        × (length (countries_text t.excluded) ≤ length excluded) }
+    ensures letters { (included regions excluded : List ℕ) (t : Territory)
+        → territory_of included regions excluded ≡ Some t
+        → (list_all is_letter_or_space (countries_text t.included) ≡ true)
+        × (list_all is_letter_or_space (countries_text t.excluded) ≡ true) }
 {}

@@ -193,5 +193,6 @@ impl Plain for Territory {
         (λ e. λ i. record { included = e.0 i; world = e.1.0 i; excluded = e.1.1 i })
         (λ e. (ap (λ t. t.included) e, (ap (λ t. t.world) e, ap (λ t. t.excluded) e)))
         (decides-both (pointwise_decides bytes_decides x.included y.included)
-        (decides-both (booleans_Decides x.world y.world) (pointwise_decides bytes_decides x.excluded y.excluded))) };
+        (decides-both (booleans_Decides x.world y.world)
+        (pointwise_decides bytes_decides x.excluded y.excluded))) };
 }

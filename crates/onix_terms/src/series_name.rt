@@ -31,7 +31,8 @@ impl Model for SeriesName {
 
     ghost view = { λ n. take n.len n.bytes };
 
-    ghost invariant = { λ n. (padded (take n.len n.bytes) ≡ n.bytes) × (length (take n.len n.bytes) ≡ n.len) × IsTrue (is_series_name (take n.len n.bytes)) };
+    ghost invariant = { λ n. (padded (take n.len n.bytes) ≡ n.bytes)
+        × (length (take n.len n.bytes) ≡ n.len) × IsTrue (is_series_name (take n.len n.bytes)) };
 
     ghost inverse = { λ name. record { bytes = padded name; len = length name } };
 

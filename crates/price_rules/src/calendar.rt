@@ -153,7 +153,8 @@ pub fn calendar(
 ) -> Result<Items<Span>, CalendarFault>
     ensures meaning { IfOk result (λ spans. IsCalendar offer.now query.now spans) }
     ensures value { IfOk result (λ spans. spans ≡ calendar_spans offer.now query.now) }
-    ensures bad_range { (result ≡ Err CalendarFault.BadRange) ↔ IsBadRange query.now.from query.now.to }
+    ensures bad_range { (result ≡ Err CalendarFault.BadRange)
+        ↔ IsBadRange query.now.from query.now.to }
 {
     let days = break_days(alloc, offer, query.from, query.to)?;
     Ok(spans_of(alloc, offer, query, days.as_slice())?)

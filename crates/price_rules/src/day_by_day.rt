@@ -51,7 +51,8 @@ pub fn calendar_day_by_day(
 ) -> Result<Items<Span>, CalendarFault>
     ensures meaning { IfOk result (λ spans. IsCalendar offer.now query.now spans) }
     ensures value { IfOk result (λ spans. spans ≡ calendar_spans offer.now query.now) }
-    ensures bad_range { (result ≡ Err CalendarFault.BadRange) ↔ IsBadRange query.now.from query.now.to }
+    ensures bad_range { (result ≡ Err CalendarFault.BadRange)
+        ↔ IsBadRange query.now.from query.now.to }
 {
     if is_bad_range(query.from, query.to) {
         return Err(CalendarFault::BadRange);

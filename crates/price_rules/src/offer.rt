@@ -69,7 +69,9 @@ impl PriceQuery {
         price_type: &str,
         quantity: Option<&str>,
     ) -> Option<PriceQuery>
-        ensures { result ≡ price_query day.now country.now currency.now price_type.now (option_map (λ q. q.now) quantity.entry) }
+        ensures { result
+            ≡ price_query day.now country.now currency.now price_type.now
+            (option_map (λ q. q.now) quantity.entry) }
     {
         Some(PriceQuery {
             day: Day::read(day)?,

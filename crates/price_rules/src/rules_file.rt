@@ -42,7 +42,8 @@ fn read_series(text: &str) -> Option<Option<SeriesName>>
 
 // The value at a key of the table.
 fn member<'a>(table: &'a Table, key: &str) -> Option<&'a Value>
-    ensures { option_map (λ value. view value.now) result ≡ get_member key.now (table_view table.now) }
+    ensures { option_map (λ value. view value.now) result
+        ≡ get_member key.now (table_view table.now) }
 {
     table.get(key)
 }
@@ -87,7 +88,8 @@ fn read_codes(alloc: Global, items: &[Value]) -> Result<Option<Items<Code2>>, Al
 
 // The availability codes of a rule.
 fn codes_at(alloc: Global, table: &Table) -> Result<Option<Items<Code2>>, AllocError>
-    ensures { IfOk result (λ found. found ≡ codes_at (get_member (codes "codes") (table_view table.now))) }
+    ensures { IfOk result
+        (λ found. found ≡ codes_at (get_member (codes "codes") (table_view table.now))) }
 {
     let Some(value) = member(table, "codes") else {
         return Ok(None);
@@ -147,7 +149,8 @@ fn read_items(alloc: Global, items: &[Value]) -> Result<Vec<Rule>, PrecedenceFau
 
 // The rules that the top table has.
 fn rules_in(alloc: Global, table: &Table) -> Result<Vec<Rule>, PrecedenceFault>
-    ensures rules { IfOk result (λ rules. rules_of (top_items (table_view table.now)) ≡ Ok rules.items) }
+    ensures rules { IfOk result
+        (λ rules. rules_of (top_items (table_view table.now)) ≡ Ok rules.items) }
     ensures few { IfOk result (λ rules. length rules.items ≤ 1_000) }
     ensures fault { IfErr result (Explains (rules_of (top_items (table_view table.now)))) }
 {

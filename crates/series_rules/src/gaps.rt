@@ -22,7 +22,8 @@ fn number_of(value: u32) -> Number
 // The greatest number that has something.
 fn greatest_number(first: Number, next: u32, held: &[Number]) -> Option<Number>
     requires { next ≤ 1000000000 }
-    ensures { (f : ℕ → Option Standing) → NoneBelow f first → IsNext f first next → AreHeldFrom f next held.now → IsGreatest f result }
+    ensures { (f : ℕ → Option Standing) → NoneBelow f first → IsNext f first next
+        → AreHeldFrom f next held.now → IsGreatest f result }
 {
     if let Some(number) = held.last() {
         return Some(*number);
@@ -55,8 +56,10 @@ fn missing_numbers(
     held: &[Number],
 ) -> Result<Items<(Number, Number)>, AllocError>
     requires { 0 < next }
-    ensures { (f : ℕ → Option Standing) (greatest : Option ℕ) → AreHeldFrom f next held.now → IsGreatest f greatest →
-        IfOk result (λ missing. missing ≡ ranges_of (lacking f next (numbers_up_to next greatest))) }
+    ensures { (f : ℕ → Option Standing) (greatest : Option ℕ) → AreHeldFrom f next held.now
+        → IsGreatest f greatest →
+        IfOk result
+        (λ missing. missing ≡ ranges_of (lacking f next (numbers_up_to next greatest))) }
 {
     let mut missing = Items::new(alloc);
     let mut seen = next;
@@ -79,7 +82,8 @@ pub fn gap_report(
 ) -> Result<GapReport, AllocError>
     requires above { first ≤ next }
     requires below { next ≤ 1000000000 }
-    ensures { (f : ℕ → Option Standing) (greatest : Option ℕ) → NoneBelow f first → IsNext f first next → AreHeldFrom f next held.now → IsGreatest f greatest →
+    ensures { (f : ℕ → Option Standing) (greatest : Option ℕ) → NoneBelow f first
+        → IsNext f first next → AreHeldFrom f next held.now → IsGreatest f greatest →
         IfOk result (λ report. report ≡ report_by series f first next greatest) }
 {
     let missing = missing_numbers(alloc, next, held)?;

@@ -83,11 +83,7 @@ fn reply_of_fault(alloc: Global, fault: &StoreFault) -> Result<ReplyText, AllocE
 }
 
 // Reads what is asked for.
-fn read_wanted<R: Read>(
-    alloc: Global,
-    routes: &Routes,
-    reader: &mut R,
-) -> Result<Wanted, HttpFault>
+fn read_wanted<R: Read>(alloc: Global, routes: &Routes, reader: &mut R) -> Result<Wanted, HttpFault>
     ensures asks { IfOk result (λ wanted. IfSome (R.remaining reader.old) (λ input. AsksFor input wanted)) }
     ensures taken { TakesWanted (R.remaining reader.old) (R.remaining reader.new) }
     ensures write { IfWrite result (λ _. ⊥) }

@@ -169,7 +169,14 @@ fn expect_reply_cut<D: Desk>(alloc: Global, stop: &impl Abort, desk: &mut D, tak
     };
     let rules = Precedence::none(alloc);
     let routes = made(stop, Routes::new(alloc));
-    let served = serve_one(alloc, &routes, desk, &rules, &mut QUESTION.as_bytes(), &mut output);
+    let served = serve_one(
+        alloc,
+        &routes,
+        desk,
+        &rules,
+        &mut QUESTION.as_bytes(),
+        &mut output,
+    );
     let is_write = matches!(&served, Err(HttpFault::Write { status: 404 }));
     expect(stop, is_write, "a client that takes nothing");
     expect_bytes(stop, output.written.as_slice(), taken, "what it took");

@@ -109,7 +109,9 @@ fn serve_at<D: Desk, C: Clients, O: Write, E: Write>(
         C.takes_batches number requests result }
 {
     match print_listening(number, output) {
-        Ok(()) => serve_clients(rt, routes, desk, precedence, clients, requests, output, errors),
+        Ok(()) => serve_clients(
+            rt, routes, desk, precedence, clients, requests, output, errors,
+        ),
         Err(fault) => report(&fault, errors),
     }
 }
@@ -134,7 +136,15 @@ fn serve_opened<D: Desk, C: Clients + Drop, O: Write, E: Write>(
 {
     match opened {
         Ok(mut clients) => serve_at(
-            rt, routes, desk, precedence, &mut clients, number, requests, output, errors,
+            rt,
+            routes,
+            desk,
+            precedence,
+            &mut clients,
+            number,
+            requests,
+            output,
+            errors,
         ),
         Err(fault) => report(&fault, errors),
     }

@@ -109,10 +109,7 @@ impl<'a> Timed<'a> {
         let Ok(other) = stream.try_clone() else {
             return None;
         };
-        Some((
-            Timed::new(rt, stream, limit),
-            Timed::new(rt, other, limit),
-        ))
+        Some((Timed::new(rt, stream, limit), Timed::new(rt, other, limit)))
     }
 
     // Takes what was waited since then from the time that is left. With none left it is zero, which

@@ -6,9 +6,9 @@ use Rattle.csv_records.specs.declared.reading.RecordFault.{RecordFault}
 use Rattle.csv_records.specs.declared.reading.RecordFault.TheVariants as record_fault
 use Rattle.price_rules.specs.declared.precedence.Rule.{Rule}
 use Rattle.series_rules.specs.Answers.{answers, followed_by}
-use Rattle.desk_text.specs.AnswerText.{is_refused, text_of}
-use Rattle.desk_requests.specs.Pieces.{pieces}
-use Rattle.desk_requests.specs.RequestRows.{request_of}
+use Rattle.desk_batch.specs.AnswerText.{is_refused, text_of}
+use Rattle.desk_batch.specs.Pieces.{pieces}
+use Rattle.desk_batch.specs.RequestRows.{request_of}
 use Rattle.series_rules.specs.declared.requests.Request.{Request}
 use Rattle.desk_batch.specs.declared.batch.BatchFault.{BatchFault}
 use Rattle.desk_batch.specs.declared.batch.BatchFault.TheVariants as fault

@@ -2,7 +2,7 @@
 use Rattle.std.specs.Prelude.{◌≡◌, ℕ, Bool, List, [], ◌++◌, ◌∷◌, Result, Ok, Err}
 use Rattle.price_rules.specs.declared.precedence.Rule.{Rule}
 use Rattle.series_rules.specs.Answers.{answer_to}
-use Rattle.desk_text.specs.AnswerText.{is_refused, text_of}
+use Rattle.desk_batch.specs.AnswerText.{is_refused, text_of}
 use Rattle.series_rules.specs.declared.requests.Request.{Request}
 use Rattle.desk_batch.specs.declared.batch.RequestFault.{RequestFault}
 use Rattle.desk_batch.specs.declared.batch.RequestFault.TheVariants as request_fault

@@ -6,7 +6,7 @@ use Rattle.std.proofs.Math.Seq.{take-append_seam}
 use Rattle.price_rules.specs.declared.precedence.Rule.{Rule}
 use Rattle.series_rules.specs.Answers.{answer_to, answers, followed_by}
 use Rattle.desk_batch.specs.Batch.{output, refusals}
-use Rattle.desk_text.specs.AnswerText.{text_of, is_refused}
+use Rattle.desk_batch.specs.AnswerText.{text_of, is_refused}
 use Rattle.series_rules.specs.declared.requests.Request.{Request}
 
 followed_more : (L xs : List Request) (r : Request) → followed_by L (xs ++ r ∷ []) ≡ r ∷ followed_by L xs

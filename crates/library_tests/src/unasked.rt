@@ -4,11 +4,11 @@
 use crate::cases::{expect, expect_bytes, found, made};
 use crate::tables::words::{is_whole, word};
 use csv_records::reading::RecordReader;
+use desk_batch::answer_text::write_answer;
+use desk_batch::request_rows::read_requests;
 use desk_http::reply_of;
 use desk_memory::MemoryDesk;
-use desk_requests::request_rows::read_requests;
 use desk_terms::StoreFault;
-use desk_text::answer_text::write_answer;
 use onix_terms::code::{Code2, Country, Currency};
 use onix_terms::day::Day;
 use onix_terms::isbn13::Isbn13;

@@ -5,7 +5,7 @@ use Rattle.std.specs.Prelude.{if◌then◌else◌}
 use Rattle.std.proofs.lemmas.List.{append_assoc}
 use Rattle.price_rules.specs.declared.precedence.Rule.{Rule}
 use Rattle.series_rules.specs.Answers.{answer_to}
-use Rattle.desk_text.specs.AnswerText.{text_of}
+use Rattle.desk_batch.specs.AnswerText.{text_of}
 use Rattle.desk_batch.specs.Batch.{BatchFits, output, requests_of}
 use Rattle.desk_batch.specs.Leaves.{BatchLeaves}
 use Rattle.onixdesk.specs.Course.{Course}

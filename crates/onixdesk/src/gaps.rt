@@ -9,8 +9,8 @@ ghost use Rattle.onixdesk.specs.TaskEnds.{GapsEnds};
 
 use crate::fault::{Fault, report};
 use csv_records::streams::{WriteFault, write_whole};
+use desk_batch::answer_text::write_answer;
 use desk_batch::{RequestFault, run_request};
-use desk_text::answer_text::write_answer;
 use onix_terms::series_name::SeriesName;
 use price_rules::precedence::Precedence;
 use series_rules::answers::Answer;

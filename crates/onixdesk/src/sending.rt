@@ -15,7 +15,7 @@ use crate::sockets::connect;
 use csv::StringRecord;
 use csv_records::reading::{LIMIT, RecordReader};
 use csv_records::streams::{InputFault, WriteFault, read_input, write_whole};
-use desk_requests::request_rows::read_requests;
+use desk_batch::request_rows::read_requests;
 use std::alloc::{AllocError, Global};
 use std::io::{Read, Write};
 use std::net::Shutdown;

@@ -1,7 +1,7 @@
 use Rattle.std.proofs.Common.{ap, map, ◌∙◌}
 use Rattle.desk_batch.specs.Batch.{requests_of}
-use Rattle.desk_requests.specs.Pieces.{pieces}
-use Rattle.desk_requests.specs.RequestRows.{request_of}
+use Rattle.desk_batch.specs.Pieces.{pieces}
+use Rattle.desk_batch.specs.RequestRows.{request_of}
 use Rattle.desk_batch.proofs.batch.requests_in.Goals as goal
 
 pub returns-in-Ok : goal.returns-in-Ok

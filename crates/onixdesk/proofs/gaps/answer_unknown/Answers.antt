@@ -1,6 +1,6 @@
 use Rattle.std.proofs.Common.{refl, subst, ◌∙◌}
 use Rattle.std.specs.Io.KnownBytes.{Appends}
-use Rattle.desk_text.specs.AnswerText.{is_refused}
+use Rattle.desk_batch.specs.AnswerText.{is_refused}
 use Rattle.onixdesk.proofs.gaps.answer_unknown.Goals as goal
 
 pub returns-in-Ok-write_whole : goal.returns-in-Ok-write_whole

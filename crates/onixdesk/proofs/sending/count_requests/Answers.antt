@@ -1,7 +1,7 @@
 use Rattle.std.proofs.Common.{◌∙◌, ap, length}
 use Rattle.desk_batch.specs.Batch.{requests_of}
-use Rattle.desk_requests.specs.Pieces.{pieces}
-use Rattle.desk_requests.specs.RequestRows.{request_of}
+use Rattle.desk_batch.specs.Pieces.{pieces}
+use Rattle.desk_batch.specs.RequestRows.{request_of}
 use Rattle.std.specs.Prelude.{map}
 use Rattle.onixdesk.proofs.sending.count_requests.Goals as goal
 

@@ -1,4 +1,0 @@
-pub mod GapText
-pub mod PriceText
-pub mod CatalogueText
-pub mod AnswerText

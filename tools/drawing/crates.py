@@ -10,7 +10,7 @@ from tools.root import ROOT
 LAYERS = {
     "Ways in": (
         "batches, HTTP, program",
-        ["desk_batch", "desk_json", "http_requests", "desk_http", "onixdesk", "library_tests"],
+        ["desk_batch", "http_requests", "desk_http", "onixdesk", "library_tests"],
     ),
     "Tables": ("a desk in a file", ["desk_tables", "catalogue_store", "desk_store", "desk_stops"]),
     "Rules": ("what is answered", ["desk_terms", "price_rules", "catalogue_rules", "series_rules", "desk_memory"]),

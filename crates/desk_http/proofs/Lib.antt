@@ -1,3 +1,11 @@
+pub mod AnswerDepths
+pub mod AnswerFloats
+pub mod CatalogueDepths
+pub mod CatalogueFloats
+pub mod Depths
+pub mod NoFloats
+pub mod OfferDepths
+pub mod OfferFloats
 pub mod AskLemmas
 pub mod AsksLaws
 pub mod ExchangeLemmas

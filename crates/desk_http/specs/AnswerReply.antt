@@ -11,7 +11,7 @@ use Rattle.series_rules.specs.declared.answers.WaiveAnswer.{WaiveAnswer}
 use Rattle.series_rules.specs.declared.answers.WaiveAnswer.TheVariants as waiver
 use Rattle.series_rules.specs.declared.answers.Answer.{Answer}
 use Rattle.series_rules.specs.declared.answers.Answer.TheVariants as answer
-use Rattle.desk_json.specs.AnswerJson.{answer_json}
+use Rattle.desk_http.specs.AnswerJson.{answer_json}
 use Rattle.desk_http.specs.Reply.{Reply, fault_reply}
 
 -- an agreement stands, or clashes with one that stands

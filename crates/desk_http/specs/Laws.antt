@@ -4,7 +4,7 @@ use Rattle.std.specs.Str.{bytes_eq}
 use Rattle.serde_json.specs.Data.{Data, member, object, string}
 use Rattle.series_rules.specs.declared.answers.Answer.{Answer}
 use Rattle.desk_http.specs.declared.exchange.Wanted.{Wanted}
-use Rattle.desk_json.specs.AnswerJson.{answer_json}
+use Rattle.desk_http.specs.AnswerJson.{answer_json}
 use Rattle.desk_http.specs.AnswerReply.{status_of}
 use Rattle.csv_records.specs.RecordTexts.{limit}
 use Rattle.http_requests.specs.Head.{head_limit}

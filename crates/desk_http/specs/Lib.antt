@@ -1,3 +1,7 @@
+pub mod AnswerJson
+pub mod CatalogueJson
+pub mod Json
+pub mod OfferJson
 pub mod AnswerReply
 pub mod Asks
 pub mod Exchange
@@ -14,3 +18,4 @@ pub mod Keys
 pub mod Place
 pub mod Table
 pub mod Exchanged
+pub mod private

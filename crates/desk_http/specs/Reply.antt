@@ -1,7 +1,7 @@
 -- A reply over HTTP/1.1, and its text.
 use Rattle.std.specs.Prelude.{ℕ, ◌==◌, if◌then◌else◌, List, [], ◌∷◌, ◌++◌, length, Option, Some, None, codes, decimal}
 use Rattle.serde_json.specs.Written.{compact_text}
-use Rattle.desk_json.specs.Json.{fault, refused}
+use Rattle.desk_http.specs.Json.{fault, refused}
 
 -- a status, the method that the path takes where another was asked, and the body, which is JSON
 pub record Reply : Type 0 where

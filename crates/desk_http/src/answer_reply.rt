@@ -3,10 +3,10 @@
 ghost use Rattle.std.specs.Prelude.{◌≡◌, IfOk, Some};
 ghost use Rattle.std.specs.String.{string_bytes};
 ghost use Rattle.serde_json.specs.Read.{read};
-ghost use Rattle.desk_json.specs.AnswerJson.{answer_json};
+ghost use Rattle.desk_http.specs.AnswerJson.{answer_json};
 ghost use Rattle.desk_http.specs.AnswerReply.{agree_status, delivery_status, fault_kind, reply_of_answer, status_of, waiver_status};
 
-use desk_json::answer_json::answer_text;
+use crate::answer_json::answer_text;
 use desk_terms::StoreFault;
 use series_rules::answers::{AgreeAnswer, Answer, DeliveryAnswer, WaiveAnswer};
 use std::alloc::{AllocError, Global};

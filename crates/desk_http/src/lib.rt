@@ -9,13 +9,23 @@
 //! replied, and `Reply` has the text of a reply. `Exchange` puts both together for a list that a desk
 //! stands for, and `Serves` for the desk itself. `laws` has what these definitions come to.
 //!
+//! The body of a reply is JSON: `answer_json::answer_text` writes that of an answer, `bodies` those of
+//! what is refused before a desk is asked and of faults of storage. `AnswerJson` says which JSON an
+//! answer is, over `CatalogueJson`, `OfferJson` and `Json` (the values that all of it is made of).
+//!
 //! It stands beside `desk_batch` over the same desks. The bytes of a reply are written by
-//! `csv_records`; the JSON of a reply is that of `desk_json`.
+//! `csv_records`.
 #![tactic(auto)]
 
+pub mod answer_json;
 pub mod answer_reply;
+pub mod bodies;
+mod catalogue_json;
 pub mod exchange;
 pub mod laws;
+mod member;
+mod members;
+mod offer_json;
 mod query;
 mod questions;
 pub mod reply;
@@ -23,6 +33,8 @@ mod request;
 pub mod routes;
 mod routing;
 pub mod serve;
+mod to_json;
+mod values;
 
 pub use answer_reply::reply_of;
 pub use exchange::HttpFault;

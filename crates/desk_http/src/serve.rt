@@ -3,7 +3,7 @@
 ghost use Rattle.std.specs.Prelude.{◌≡◌, [], IfOk, IfSome, OnOk, false, option_map};
 ghost use Rattle.std.specs.Io.KnownBytes.{Appends};
 ghost use Rattle.serde_json.specs.Written.{compact_text};
-ghost use Rattle.desk_json.specs.Json.{refused};
+ghost use Rattle.desk_http.specs.Json.{refused};
 ghost use Rattle.desk_http.specs.Asks.{AsksFor};
 ghost use Rattle.desk_http.specs.ExchangeSteps.{AsksWanted, IfMemory, IfWrite, OnRead, reply_view};
 ghost use Rattle.desk_http.specs.AnswerReply.{reply_of_fault};
@@ -14,13 +14,13 @@ ghost use Rattle.desk_http.specs.Writing.{WritesFront};
 ghost use Rattle.desk_http.specs.declared.exchange.Wanted.TheVariants.{Asked};
 
 use crate::answer_reply::{fault_kind, reply_of};
+use crate::bodies::{fault_body, refused_body};
 use crate::exchange::{HttpFault, ReplyText, Wanted};
 use crate::reply::reply_text;
 use crate::request::read_request;
 use crate::routes::Routes;
 use crate::routing::method_name;
 use csv_records::streams::{WriteFault, write_whole};
-use desk_json::bodies::{fault_body, refused_body};
 use desk_terms::StoreFault;
 use http_requests::fault::InputFault;
 use http_requests::refusal::Refusal;

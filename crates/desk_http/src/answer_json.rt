@@ -1,0 +1,272 @@
+//! The JSON of answers.
+
+ghost use Rattle.std.specs.Prelude.{◌≡◌, IfOk, Some};
+ghost use Rattle.std.specs.String.{string_bytes};
+ghost use Rattle.serde_json.specs.Read.{read};
+ghost use Rattle.serde_json.specs.View.{view};
+ghost use Rattle.serde_json.specs.Written.{compact_text};
+ghost use Rattle.desk_http.specs.AnswerJson as json;
+
+use crate::bodies::refused_json;
+use crate::catalogue_json::catalogue_json;
+use crate::member::Member;
+use crate::members::{object_of, object_with};
+use crate::offer_json::{calendar_json, choice_json, price_json};
+use crate::to_json::{ToJson, array_of};
+use desk_terms::Effect;
+use onix_terms::number::Number;
+use onix_terms::series_name::SeriesName;
+use serde_json::{Value, json};
+use series_rules::answers::{AgreeAnswer, Answer, DeliveryAnswer, GapReport, WaiveAnswer};
+use std::alloc::{AllocError, Global};
+
+fn malformed_json(alloc: Global, row: u32) -> Result<Value, AllocError>
+    ensures { IfOk result (λ v. view v ≡ json.malformed row) }
+{
+    let members = [
+        Member::Text("answer", "refused"),
+        Member::Text("reason", "malformed"),
+        Member::Number("row", row),
+    ];
+    object_of(alloc, &members)
+}
+
+fn before_first_json(
+    alloc: Global,
+    series: &SeriesName,
+    number: Number,
+    first: Number,
+) -> Result<Value, AllocError>
+    ensures { IfOk result (λ v. view v ≡ json.before_first series.now number first) }
+{
+    let members = [
+        Member::Text("answer", "refused"),
+        Member::Number("first", first.value()),
+        Member::Number("number", number.value()),
+        Member::Text("reason", "before-first"),
+        Member::Text("series", series.as_str()),
+    ];
+    object_of(alloc, &members)
+}
+
+// The two texts have one lifetime, since a `Member` has one.
+fn not_agreed_json<'a>(
+    alloc: Global,
+    reason: &'a str,
+    series: &'a SeriesName,
+) -> Result<Value, AllocError>
+    ensures { IfOk result (λ v. view v ≡ json.not_agreed reason.now series.now) }
+{
+    let members = [
+        Member::Text("answer", "refused"),
+        Member::Text("reason", reason),
+        Member::Text("series", series.as_str()),
+    ];
+    object_of(alloc, &members)
+}
+
+// The two texts have one lifetime, since a `Member` has one.
+fn number_refused_json<'a>(
+    alloc: Global,
+    reason: &'a str,
+    series: &'a SeriesName,
+    number: Number,
+) -> Result<Value, AllocError>
+    ensures { IfOk result (λ v. view v ≡ json.number_refused reason.now series.now number) }
+{
+    let members = [
+        Member::Text("answer", "refused"),
+        Member::Number("number", number.value()),
+        Member::Text("reason", reason),
+        Member::Text("series", series.as_str()),
+    ];
+    object_of(alloc, &members)
+}
+
+fn agreed_json(alloc: Global, series: &SeriesName, first: Number) -> Result<Value, AllocError>
+    ensures { IfOk result (λ v. view v ≡ json.agreed series.now first) }
+{
+    let members = [
+        Member::Text("answer", "agreed"),
+        Member::Number("first", first.value()),
+        Member::Text("series", series.as_str()),
+    ];
+    object_of(alloc, &members)
+}
+
+fn agreement_json(
+    alloc: Global,
+    name: &SeriesName,
+    first: Number,
+    answer: &AgreeAnswer,
+) -> Result<Value, AllocError>
+    ensures { IfOk result (λ v. view v ≡ json.agreement name.now first answer.now) }
+{
+    match answer {
+        AgreeAnswer::Agreed => agreed_json(alloc, name, first),
+        AgreeAnswer::NameTaken => not_agreed_json(alloc, "name-taken", name),
+        AgreeAnswer::SeriesTaken { name: holder } => not_agreed_json(alloc, "series-taken", holder),
+    }
+}
+
+fn applied_json(
+    alloc: Global,
+    series: &SeriesName,
+    number: Number,
+    effect: &Effect,
+) -> Result<Value, AllocError>
+    ensures { IfOk result (λ v. view v ≡ json.applied series.now number effect.now) }
+{
+    let members = [
+        Member::Text("answer", "applied"),
+        Member::Number("deleted", effect.deleted),
+        Member::Number("ignored", effect.ignored),
+        Member::Number("number", number.value()),
+        Member::Number("replaced", effect.replaced),
+        Member::Text("series", series.as_str()),
+        Member::Number("unknown", effect.unknown),
+        Member::Number("updated", effect.updated),
+    ];
+    object_of(alloc, &members)
+}
+
+fn held_json(
+    alloc: Global,
+    series: &SeriesName,
+    number: Number,
+    next: u32,
+) -> Result<Value, AllocError>
+    ensures { IfOk result (λ v. view v ≡ json.held series.now number next) }
+{
+    let members = [
+        Member::Text("answer", "held"),
+        Member::Number("number", number.value()),
+        Member::Text("series", series.as_str()),
+        Member::Number("waiting_for", next),
+    ];
+    object_of(alloc, &members)
+}
+
+fn delivered_json(alloc: Global, answer: &DeliveryAnswer) -> Result<Value, AllocError>
+    ensures { IfOk result (λ v. view v ≡ json.delivered answer.now) }
+{
+    match answer {
+        DeliveryAnswer::Malformed { row } => malformed_json(alloc, *row),
+        DeliveryAnswer::Unnumbered => refused_json(alloc, "unnumbered"),
+        DeliveryAnswer::UnknownSeries => refused_json(alloc, "unknown-series"),
+        DeliveryAnswer::BeforeFirst {
+            series,
+            number,
+            first,
+        } => before_first_json(alloc, series, *number, *first),
+        DeliveryAnswer::Waived { series, number } => number_refused_json(
+            alloc, "waived", series, *number,
+        ),
+        DeliveryAnswer::OtherContents { series, number } => number_refused_json(
+            alloc,
+            "other-contents",
+            series,
+            *number,
+        ),
+        DeliveryAnswer::Applied {
+            series,
+            number,
+            effect,
+        } => applied_json(alloc, series, *number, effect),
+        DeliveryAnswer::Held {
+            series,
+            number,
+            waiting_for,
+        } => held_json(alloc, series, *number, *waiting_for),
+    }
+}
+
+fn waived_json(alloc: Global, series: &SeriesName, number: Number) -> Result<Value, AllocError>
+    ensures { IfOk result (λ v. view v ≡ json.waived series.now number) }
+{
+    let members = [
+        Member::Text("answer", "waived"),
+        Member::Number("number", number.value()),
+        Member::Text("series", series.as_str()),
+    ];
+    object_of(alloc, &members)
+}
+
+fn waiver_json(
+    alloc: Global,
+    series: &SeriesName,
+    number: Number,
+    answer: &WaiveAnswer,
+) -> Result<Value, AllocError>
+    ensures { IfOk result (λ v. view v ≡ json.waiver_answer series.now number answer.now) }
+{
+    match answer {
+        WaiveAnswer::UnknownSeries => refused_json(alloc, "unknown-series"),
+        WaiveAnswer::BeforeFirst { first } => before_first_json(alloc, series, number, *first),
+        WaiveAnswer::HasMessage => number_refused_json(alloc, "had", series, number),
+        WaiveAnswer::Waived => waived_json(alloc, series, number),
+    }
+}
+
+// The first and the last of numbers that have nothing.
+impl ToJson for (Number, Number) {
+    ghost json_of = { json.missing };
+
+    fn to_json(&self, alloc: Global) -> Result<Value, AllocError> {
+        json!(in alloc; [self.0.value(), self.1.value()])
+    }
+}
+
+fn gaps_json(alloc: Global, report: &GapReport) -> Result<Value, AllocError>
+    ensures { IfOk result (λ v. view v ≡ json.gaps report.now) }
+{
+    let missing = array_of(alloc, report.missing.as_slice())?;
+    let members = [
+        Member::Text("answer", "gaps"),
+        Member::Number("first", report.first.value()),
+        Member::OptionalNumber("greatest", &report.greatest),
+        Member::Count("held", report.held),
+        Member::Number("next", report.next),
+        Member::Text("series", report.series.as_str()),
+    ];
+    object_with(alloc, &members, "missing", missing)
+}
+
+fn answer_json(alloc: Global, answer: &Answer) -> Result<Value, AllocError>
+    ensures { IfOk result (λ v. view v ≡ json.answer_json answer.now) }
+{
+    match answer {
+        Answer::Agreement {
+            name,
+            first,
+            answer,
+        } => agreement_json(alloc, name, *first, answer),
+        Answer::Delivery(answer) => delivered_json(alloc, answer),
+        Answer::Waiver {
+            series,
+            number,
+            answer,
+        } => waiver_json(alloc, series, *number, answer),
+        Answer::Price { isbn, offers } => price_json(alloc, isbn, offers.as_slice()),
+        Answer::Choice { isbn, choice } => choice_json(alloc, isbn, choice),
+        Answer::Calendar { isbn, offers } => calendar_json(alloc, isbn, offers.as_slice()),
+        Answer::BadRange => refused_json(alloc, "bad-range"),
+        Answer::Gaps(report) => gaps_json(alloc, report),
+        Answer::Catalogue { series, catalogue } => catalogue_json(alloc, series, catalogue),
+        Answer::UnknownSeries => refused_json(alloc, "unknown-series"),
+        Answer::Malformed { row } => malformed_json(alloc, *row),
+    }
+}
+
+/// The text of an answer's JSON. Whoever reads it as JSON gets the answer's data. Only want of
+/// memory refuses it.
+pub fn answer_text(alloc: Global, answer: &Answer) -> Result<String, AllocError>
+    ensures text { IfOk result
+        (λ text. string_bytes text ≡ compact_text (json.answer_json answer.now)) }
+    ensures reads { IfOk result
+        (λ text. read (string_bytes text) ≡ Some (json.answer_json answer.now)) }
+{
+    let value = answer_json(alloc, answer)?;
+    let text = value.to_string(alloc)?;
+    Ok(text)
+}

@@ -1,8 +1,0 @@
-use Rattle.std.proofs.Common.{◌≡◌, ◌++◌, map}
-use Rattle.serde_json.specs.View.{view}
-use Rattle.catalogue_rules.specs.Records.{by_bytes, records_of}
-use Rattle.desk_json.specs.CatalogueJson.{entry}
-use Rattle.desk_json.proofs.catalogue_json.entry_list.Given as goal
-
-abbrev pub invariant-loop-reference : goal.invariant-loop-reference
-invariant-loop-reference l = map view l.list.items ++ map entry (by_bytes l.reference-iterator) ≡ map entry (records_of l.catalogue)

@@ -79,13 +79,13 @@ def a_run(room: Room) -> Iterator[Outcome]:
 
 # Files that a check keeps, and how long after the one before each was written.
 KEPT = [
-    ("Rattle-desk_terms-specs.Effects.oantt", 0),
-    ("Rattle-desk_terms.below.std.proofs.net.oantt", 20),
-    ("Rattle-desk_terms-proofs.effect.Effect.none.Lts.oantt", 1.5),
-    ("Rattle-desk_terms-proofs.effect.Effect.none.Answers.oantt", 2),
-    ("Rattle-desk_terms-proofs.Sums.oantt", 0.5),
-    ("Rattle-desk_terms-proofs.faults.fault_of.Lts.oantt", 4),
-    ("Rattle-desk_terms-proofs.faults.fault_of.Facts.decls.oantt", 3),
+    ("Rattle-onix_message-specs.Effects.oantt", 0),
+    ("Rattle-onix_message.below.std.proofs.net.oantt", 20),
+    ("Rattle-onix_message-proofs.effect.Effect.none.Lts.oantt", 1.5),
+    ("Rattle-onix_message-proofs.effect.Effect.none.Answers.oantt", 2),
+    ("Rattle-onix_message-proofs.Sums.oantt", 0.5),
+    ("Rattle-onix_message-proofs.faults.fault_of.Lts.oantt", 4),
+    ("Rattle-onix_message-proofs.faults.fault_of.Facts.decls.oantt", 3),
 ]
 
 PROFILE = """whole: 31 s, of which certificates 6 s

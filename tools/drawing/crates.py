@@ -13,8 +13,8 @@ LAYERS = {
         ["desk_batch", "http_requests", "desk_http", "onixdesk", "library_tests"],
     ),
     "Tables": ("a desk in a file", ["desk_tables", "catalogue_store", "desk_store", "desk_stops"]),
-    "Rules": ("what is answered", ["desk_terms", "price_rules", "catalogue_rules", "series_rules", "desk_memory"]),
-    "Words": ("what a message says", ["xml_text", "xml_verdicts", "onix_outline", "outline_verdicts", "onix_mapping", "csv_records", "onix_terms", "onix_records", "onix_message"]),
+    "Rules": ("what is answered", ["price_rules", "catalogue_rules", "series_rules", "desk_memory"]),
+    "Words": ("what a message says", ["xml_text", "xml_verdicts", "onix_outline", "outline_verdicts", "onix_mapping", "csv_records", "onix_terms", "onix_message"]),
 }
 
 

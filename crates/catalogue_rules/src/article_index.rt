@@ -11,7 +11,7 @@ use crate::catalogue::Catalogue;
 use crate::listing::Listing;
 use crate::offers::{add_record, has_article_type};
 use onix_message::contents::Contents;
-use onix_records::parts::{Product, ProductIdentifier};
+use onix_message::parts::{Product, ProductIdentifier};
 use onix_terms::isbn13::Isbn13;
 use onix_terms::items::Items;
 use onix_terms::series_name::SeriesName;

@@ -12,7 +12,7 @@ use crate::draft::Draft;
 use crate::entry::Entry;
 use crate::offers::add_record;
 use crate::plan::Plan;
-use desk_terms::Effect;
+use onix_message::Effect;
 use onix_message::contents::Contents;
 use onix_terms::isbn13::Isbn13;
 use onix_terms::items::Items;

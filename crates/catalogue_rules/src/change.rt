@@ -5,7 +5,7 @@ ghost use Rattle.catalogue_rules.specs.Effects.{counted};
 ghost use Rattle.catalogue_rules.specs.Plans.{total};
 ghost use Rattle.catalogue_rules.specs.declared.entry.Entry.{Entry};
 
-use desk_terms::Effect;
+use onix_message::Effect;
 use onix_terms::code::Code2;
 
 /// What a product asks for, by its NotificationType of code list 1.

@@ -2,7 +2,7 @@
 
 ghost use Rattle.std.specs.Prelude.{◌≡◌, IfOk};
 
-use onix_records::parts::{ProductIdentifier, ProductSupply};
+use onix_message::parts::{ProductIdentifier, ProductSupply};
 use onix_terms::items::Items;
 use onix_terms::plain::Plain;
 use std::alloc::AllocError;

@@ -6,7 +6,7 @@ ghost use Rattle.catalogue_rules.specs.Records.{HasFewDetails};
 ghost use Rattle.catalogue_rules.specs.Offers.{entry_offers, has_article, has_article_type, is_article, offer_of, offers_from, record_offers, supply_details};
 
 use crate::entry::Entry;
-use onix_records::parts::{ProductIdentifier, ProductSupply, SupplyDetail};
+use onix_message::parts::{ProductIdentifier, ProductSupply, SupplyDetail};
 use onix_terms::isbn13::Isbn13;
 use onix_terms::items::Items;
 use onix_terms::plain::Plain;

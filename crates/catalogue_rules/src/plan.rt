@@ -11,8 +11,8 @@ use crate::catalogue::Catalogue;
 use crate::change::{Change, counted};
 use crate::draft::Draft;
 use crate::entry::Entry;
-use desk_terms::Effect;
-use onix_records::parts::Product;
+use onix_message::Effect;
+use onix_message::parts::Product;
 use std::alloc::{AllocError, Global};
 
 /// What products are to change of a catalogue, which stays as it is while the plan is made. The

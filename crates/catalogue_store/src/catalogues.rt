@@ -8,7 +8,7 @@ use crate::reading::read_record;
 use catalogue_rules::catalogue::Catalogue;
 use desk_tables::rows::row_types::RecordRow;
 use desk_tables::work::Work;
-use desk_terms::StoreFault;
+use onix_message::StoreFault;
 use onix_terms::series_name::SeriesName;
 use sqlite::Alter;
 use std::alloc::Global;

@@ -7,8 +7,8 @@ ghost use Rattle.catalogue_store.specs.WrittenRows.{with_identified, with_suppli
 use crate::build::{article_rows, detail_rows, price_rows};
 use desk_tables::rows::row_types::RecordRow;
 use desk_tables::work::Work;
-use desk_terms::StoreFault;
-use onix_records::parts::{ProductIdentifier, ProductSupply};
+use onix_message::StoreFault;
+use onix_message::parts::{ProductIdentifier, ProductSupply};
 use sqlite::Alter;
 use std::alloc::Global;
 

@@ -1,6 +1,6 @@
 -- One more step of a run of requests.
 use Rattle.std.proofs.Common.{◌≡◌, ◌+◌, List, [], ◌∷◌, ◌++◌, Result, Ok, Err, map, take, refl, sym, ap, ◌∙◌, subst}
-use Rattle.desk_terms.specs.declared.faults.StoreFault.{StoreFault}
+use Rattle.onix_message.specs.declared.faults.StoreFault.{StoreFault}
 use Rattle.price_rules.specs.declared.precedence.Rule.{Rule}
 use Rattle.series_rules.proofs.TraceLemmas.{trace_more}
 use Rattle.series_rules.specs.Answers.{answer_to}

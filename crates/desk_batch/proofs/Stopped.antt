@@ -2,7 +2,7 @@
 use Rattle.std.proofs.Common.{◌≡◌, ◌+◌, ◌-◌, ◌≤◌, ◌++◌, ◌∷◌, ◌⊎◌, ℕ, Bool, List, [], Option, Result, Ok, Err, IfErr, length, map, take, refl, sym, ap, ◌∙◌, subst, arith, append-nil}
 use Rattle.std.specs.Io.KnownBytes.{Appends}
 use Rattle.std.proofs.KnownBytes.{Appends-trans}
-use Rattle.desk_terms.specs.declared.faults.StoreFault.{StoreFault}
+use Rattle.onix_message.specs.declared.faults.StoreFault.{StoreFault}
 use Rattle.price_rules.specs.declared.precedence.Rule.{Rule}
 use Rattle.series_rules.specs.Answers.{answer_to, followed_by}
 use Rattle.series_rules.specs.Traces.{Trace}

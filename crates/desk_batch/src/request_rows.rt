@@ -2,16 +2,16 @@
 
 ghost use Rattle.std.specs.Prelude.{◌≡◌, [], IfOk, OnOk, map};
 ghost use Rattle.desk_batch.specs.Pieces.{pieces};
-ghost use Rattle.onix_records.specs.Gives.{Gives};
+ghost use Rattle.onix_message.specs.Gives.{Gives};
 ghost use Rattle.desk_batch.specs.RequestRows.{agreement_from, agreement_of, begins_message, calendar_question_of, named_request, price_question_of, prices_on, question_of, request_of, row_request, series_of, waiver_of};
 
 use crate::pieces::read_pieces;
 use csv_records::buffer::RecordBuffer;
 use csv_records::reading::RecordReader;
 use csv_records::record::Record;
-use desk_terms::Agreement;
-use onix_records::fields::{read_fields, read_optional_party, read_party};
-use onix_records::row::RowFault;
+use onix_message::Agreement;
+use onix_message::fields::{read_fields, read_optional_party, read_party};
+use onix_message::row::RowFault;
 use onix_terms::day::Day;
 use onix_terms::isbn13::Isbn13;
 use onix_terms::items::Items;

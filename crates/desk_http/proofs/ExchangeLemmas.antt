@@ -1,7 +1,7 @@
 -- What the steps of an exchange come to.
 use Rattle.std.proofs.Common.{◌≡◌, ◌∷◌, ℕ, Bool, true, false, List, [], None, Option, Result, Ok, Err, inl, inr, refl, sym, subst, ap, arith, length}
 use Rattle.std.specs.Prelude.{IfSome}
-use Rattle.desk_terms.specs.declared.faults.StoreFault.{StoreFault}
+use Rattle.onix_message.specs.declared.faults.StoreFault.{StoreFault}
 use Rattle.price_rules.specs.declared.precedence.Rule.{Rule}
 use Rattle.series_rules.proofs.TraceLemmas.{trace_premise}
 use Rattle.series_rules.proofs.ViewLemmas.{alone, either}

@@ -1,7 +1,7 @@
 -- What follows of a connection that was served, for each list that the desk stood for.
 use Rattle.std.proofs.Common.{◌≡◌, ◌∷◌, ℕ, Bool, true, false, List, [], Option, None, Some, Result, Ok, Err, IfOk, ◌⊎◌, inl, inr, sym, subst, arith, append-nil, ◌∙◌}
 use Rattle.std.specs.Io.KnownBytes.{Appends, Keeps}
-use Rattle.desk_terms.specs.declared.faults.StoreFault.{StoreFault}
+use Rattle.onix_message.specs.declared.faults.StoreFault.{StoreFault}
 use Rattle.price_rules.specs.declared.precedence.Rule.{Rule}
 use Rattle.series_rules.proofs.ViewLemmas.{either}
 use Rattle.series_rules.specs.Answers.{answer_to}

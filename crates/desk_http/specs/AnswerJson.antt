@@ -2,7 +2,7 @@
 use Rattle.std.specs.Prelude.{ℕ, List, [], ◌∷◌, codes}
 use Rattle.serde_json.specs.Data.{Data, array, member, no_members, object, string}
 use Rattle.serde_json.specs.View.{items_of}
-use Rattle.desk_terms.specs.declared.effects.Effect.{Effect}
+use Rattle.onix_message.specs.declared.effects.Effect.{Effect}
 use Rattle.series_rules.specs.declared.answers.AgreeAnswer.{AgreeAnswer}
 use Rattle.series_rules.specs.declared.answers.AgreeAnswer.TheVariants as agree
 use Rattle.series_rules.specs.declared.answers.DeliveryAnswer.{DeliveryAnswer}

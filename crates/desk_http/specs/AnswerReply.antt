@@ -1,8 +1,8 @@
 -- The reply to each answer of a desk, and to its faults.
 use Rattle.std.specs.Prelude.{ℕ, List, None, codes}
 use Rattle.serde_json.specs.Written.{compact_text}
-use Rattle.desk_terms.specs.declared.faults.StoreFault.{StoreFault}
-use Rattle.desk_terms.specs.declared.faults.StoreFault.TheVariants as store
+use Rattle.onix_message.specs.declared.faults.StoreFault.{StoreFault}
+use Rattle.onix_message.specs.declared.faults.StoreFault.TheVariants as store
 use Rattle.series_rules.specs.declared.answers.AgreeAnswer.{AgreeAnswer}
 use Rattle.series_rules.specs.declared.answers.AgreeAnswer.TheVariants as agree
 use Rattle.series_rules.specs.declared.answers.DeliveryAnswer.{DeliveryAnswer}

@@ -6,10 +6,10 @@ use Rattle.onix_terms.specs.Amount.{amount_text}
 use Rattle.onix_terms.specs.Day.{day_text}
 use Rattle.onix_terms.specs.declared.party.Party.{Party}
 use Rattle.onix_terms.specs.declared.territory.Territory.{Territory}
-use Rattle.onix_records.specs.declared.parts.Price.{Price}
-use Rattle.onix_records.specs.declared.parts.ProductIdentifier.{ProductIdentifier}
-use Rattle.onix_records.specs.declared.parts.ProductSupply.{ProductSupply}
-use Rattle.onix_records.specs.declared.parts.SupplyDetail.{SupplyDetail}
+use Rattle.onix_message.specs.declared.parts.Price.{Price}
+use Rattle.onix_message.specs.declared.parts.ProductIdentifier.{ProductIdentifier}
+use Rattle.onix_message.specs.declared.parts.ProductSupply.{ProductSupply}
+use Rattle.onix_message.specs.declared.parts.SupplyDetail.{SupplyDetail}
 use Rattle.catalogue_rules.specs.Records.{ByReference, records_of}
 use Rattle.catalogue_rules.specs.declared.entry.Entry.{Entry}
 use Rattle.desk_http.specs.Json.{count, list_of, text_or_null}

@@ -1,7 +1,7 @@
 -- The steps of an exchange: what was asked of the desk, and the reply to that.
 use Rattle.std.specs.Prelude.{◌≡◌, ◌⊎◌, ℕ, Bool, true, false, List, [], ◌∷◌, Option, IfSome, Result, Ok, Err, ⊤, option_map}
 use Rattle.std.specs.String.{string_bytes}
-use Rattle.desk_terms.specs.declared.faults.StoreFault.{StoreFault}
+use Rattle.onix_message.specs.declared.faults.StoreFault.{StoreFault}
 use Rattle.price_rules.specs.declared.precedence.Rule.{Rule}
 use Rattle.series_rules.specs.Traces.{Trace}
 use Rattle.series_rules.specs.Views.{DeskKind, View}

@@ -1,6 +1,6 @@
 -- An exchange that was served: what its client sent and was sent, and what the desk did with its request.
 use Rattle.std.specs.Prelude.{◌≡◌, ◌⊎◌, ◌++◌, ℕ, Bool, true, false, List, [], ◌∷◌, Option, IfSome, Result, Ok, Err}
-use Rattle.desk_terms.specs.declared.faults.StoreFault.{StoreFault}
+use Rattle.onix_message.specs.declared.faults.StoreFault.{StoreFault}
 use Rattle.http_requests.specs.declared.refusal.Refusal.{Refusal}
 use Rattle.price_rules.specs.declared.precedence.Rule.{Rule}
 use Rattle.series_rules.specs.Answers.{answer_to}

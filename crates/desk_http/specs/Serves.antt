@@ -2,7 +2,7 @@
 use Rattle.std.specs.Prelude.{◌⊎◌, ◌≤◌, ℕ, List, length, Option, Result}
 use Rattle.std.specs.Io.KnownBytes.{Consumes}
 use Rattle.httparse.specs.Grammar.{RequestHead}
-use Rattle.desk_terms.specs.declared.faults.StoreFault.{StoreFault}
+use Rattle.onix_message.specs.declared.faults.StoreFault.{StoreFault}
 use Rattle.price_rules.specs.declared.precedence.Rule.{Rule}
 use Rattle.series_rules.specs.Traces.{Trace}
 use Rattle.series_rules.specs.Views.{DeskKind, View}

@@ -13,7 +13,7 @@ use crate::member::Member;
 use crate::members::{object_of, object_with};
 use crate::offer_json::{calendar_json, choice_json, price_json};
 use crate::to_json::{ToJson, array_of};
-use desk_terms::Effect;
+use onix_message::Effect;
 use onix_terms::number::Number;
 use onix_terms::series_name::SeriesName;
 use serde_json::{Value, json};

@@ -9,7 +9,7 @@ ghost use Rattle.desk_http.specs.CatalogueJson.{identifier, party_or_null as par
 ghost use Rattle.desk_http.specs.Json as json;
 
 use crate::to_json::ToJson;
-use onix_records::parts::ProductIdentifier;
+use onix_message::parts::ProductIdentifier;
 use onix_terms::amount::Amount;
 use onix_terms::code::{Code2, Country};
 use onix_terms::day::Day;

@@ -12,7 +12,7 @@ ghost use Rattle.series_rules.specs.Series.{IsFront, after_all, after_standing, 
 
 use crate::articles::Articles;
 use catalogue_rules::catalogue::Catalogue;
-use desk_terms::Effect;
+use onix_message::Effect;
 use onix_terms::isbn13::Isbn13;
 use onix_terms::items::Items;
 use onix_terms::number::Number;

@@ -16,7 +16,7 @@ ghost use Rattle.series_rules.specs.Series.{IsFront, after_all};
 use crate::fold::Fold;
 use crate::gaps::held_numbers;
 use catalogue_rules::catalogue::Catalogue;
-use desk_terms::Agreement;
+use onix_message::Agreement;
 use onix_message::contents::Contents;
 use onix_terms::isbn13::Isbn13;
 use onix_terms::items::Items;

@@ -14,7 +14,7 @@ use Rattle.sqlite_trees.specs.Tree.{Trees}
 use Rattle.sqlite_trees.specs.declared.store.Store.{Ghosts}
 use Rattle.sqlite_wal.specs.Reads.{AreClean}
 use Rattle.sqlite_wal.specs.Recovery.{Image}
-use Rattle.desk_terms.specs.declared.faults.StoreFault.{StoreFault}
+use Rattle.onix_message.specs.declared.faults.StoreFault.{StoreFault}
 use Rattle.price_rules.specs.declared.precedence.Rule.{Rule}
 use Rattle.series_rules.specs.Answers.{agree_answer, answer_to, catalogue_answer, catalogue_or_unknown, delivery_answer, gaps_answer, gaps_or_unknown, waive_answer}
 use Rattle.series_rules.specs.Changes.{is_question}
@@ -31,7 +31,7 @@ use Rattle.desk_stops.specs.Connections.{storage}
 use Rattle.desk_stops.specs.Events.{Event, Answered, Faulted, Stop, Open, Closed}
 use Rattle.desk_stops.specs.Runs.{Answers, Closes, Faults, IsFoundFor, KeepsFound, Opens, Runs, Steps}
 use Rattle.catalogue_rules.specs.Records.{ByReference}
-use Rattle.desk_terms.specs.declared.agreements.Agreement.{Agreement}
+use Rattle.onix_message.specs.declared.agreements.Agreement.{Agreement}
 use Rattle.price_rules.specs.declared.offer.CalendarQuery.{CalendarQuery}
 use Rattle.price_rules.specs.declared.offer.Offer.{Offer}
 use Rattle.price_rules.specs.declared.offer.PriceQuery.{PriceQuery}

@@ -6,7 +6,7 @@ use Rattle.sqlite_trees.specs.Tree.{Trees}
 use Rattle.catalogue_store.specs.Achieves.{Achieves}
 use Rattle.desk_tables.specs.Rows.{DeskRows, Holds}
 use Rattle.desk_tables.specs.Transactions.{BeginsWork, EndsWork, IsUndone, LeavesOnly, NoTrees}
-use Rattle.desk_terms.specs.declared.faults.StoreFault.{StoreFault}
+use Rattle.onix_message.specs.declared.faults.StoreFault.{StoreFault}
 use Rattle.series_rules.specs.declared.requests.Request.{Request}
 use Rattle.series_rules.specs.Changes.{changes, is_question}
 use Rattle.series_rules.specs.Views.{Asks, IsFaultOf, Stays, Tells}

@@ -5,7 +5,7 @@ use Rattle.sqlite.specs.State.{State}
 use Rattle.sqlite_trees.specs.Tree.{Trees}
 use Rattle.desk_tables.specs.Calls.{Ends, Undoes}
 use Rattle.desk_tables.specs.Rows.{DeskRows, Holds}
-use Rattle.desk_terms.specs.declared.faults.StoreFault.{StoreFault}
+use Rattle.onix_message.specs.declared.faults.StoreFault.{StoreFault}
 use Rattle.series_rules.specs.Gaps.{AreHeldFrom, IsGreatest, NoneBelow, report_by}
 use Rattle.series_rules.specs.Series.{IsNext}
 use Rattle.series_rules.specs.declared.answers.GapReport.{GapReport}

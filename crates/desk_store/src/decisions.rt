@@ -10,9 +10,9 @@ ghost use Rattle.series_rules.specs.declared.requests.Request.{Request};
 
 use crate::answers_at::{deliver_at, waive_at};
 use desk_tables::work::Work;
-use desk_terms::{Agreement, StoreFault};
 use onix_message::contents::Contents;
-use onix_records::parts::Header;
+use onix_message::parts::Header;
+use onix_message::{Agreement, StoreFault};
 use onix_terms::number::Number;
 use onix_terms::series_name::SeriesName;
 use series_rules::answers::{AgreeAnswer, DeliveryAnswer, WaiveAnswer};

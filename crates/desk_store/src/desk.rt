@@ -23,7 +23,7 @@ use csv_records::records::Records;
 use desk_tables::rows::fault::fault_of;
 use desk_tables::rows::laws::same_trees_hold_the_same_rows;
 use desk_tables::tables::Tables;
-use desk_terms::{Agreement, StoreFault};
+use onix_message::{Agreement, StoreFault};
 use onix_terms::isbn13::Isbn13;
 use onix_terms::items::Items;
 use onix_terms::number::Number;

@@ -15,7 +15,7 @@ use catalogue_store::catalogues::read_catalogue;
 use desk_tables::rows::series::SeriesRow;
 use desk_tables::tables::Tables;
 use desk_tables::work::Work;
-use desk_terms::StoreFault;
+use onix_message::StoreFault;
 use onix_terms::isbn13::Isbn13;
 use onix_terms::items::Items;
 use onix_terms::number::Number;

@@ -20,7 +20,7 @@ use crate::rows::values::{
 };
 use crate::rows::written::territory_texts;
 use crate::work::Work;
-use desk_terms::StoreFault;
+use onix_message::StoreFault;
 use onix_terms::series_name::SeriesName;
 use sqlite::{Alter, params};
 

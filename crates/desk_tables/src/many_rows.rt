@@ -6,7 +6,7 @@ ghost use Rattle.sqlite.specs.Values.{bound};
 ghost use Rattle.desk_tables.specs.ManyRows.{many_of, text_of, width_of, RunsEach, RunsRows, RunsValues};
 
 use crate::work::Work;
-use desk_terms::StoreFault;
+use onix_message::StoreFault;
 use sqlite::Alter;
 use sqlite::types::ValueRef;
 use std::alloc::AllocError;

@@ -7,7 +7,7 @@ use desk_batch::{BatchFault, run_batch};
 use desk_http::{HttpFault, Routes, serve_one};
 use desk_memory::MemoryDesk;
 use desk_store::DeskStore;
-use desk_terms::StoreFault;
+use onix_message::StoreFault;
 use price_rules::precedence::Precedence;
 use series_rules::desk::Desk;
 use sqlite::Alter;

@@ -11,7 +11,7 @@ use crate::tables::transcripts::answer_of;
 use desk_store::{DeskStore, OpenFault, migrate_files};
 use desk_tables::rows::fault::fault_of;
 use desk_tables::tables::Tables;
-use desk_terms::StoreFault;
+use onix_message::StoreFault;
 use price_rules::precedence::Precedence;
 use sqlite::{Alter, Connection, FileStore, Files};
 use sqlite_disk::Disk;

@@ -8,7 +8,7 @@ use desk_batch::answer_text::write_answer;
 use desk_batch::request_rows::read_requests;
 use desk_http::reply_of;
 use desk_memory::MemoryDesk;
-use desk_terms::StoreFault;
+use onix_message::StoreFault;
 use onix_terms::code::{Code2, Country, Currency};
 use onix_terms::day::Day;
 use onix_terms::isbn13::Isbn13;

@@ -11,8 +11,8 @@ use Rattle.onix_mapping.specs.Territories.{Area}
 use Rattle.onix_mapping.specs.declared.elements.Composite.{Composite as Lent}
 use Rattle.onix_outline.specs.Nodes.{Nodes}
 use Rattle.onix_outline.specs.declared.line.Line.{Line}
-use Rattle.onix_records.specs.declared.row.RowFault.{RowFault}
-use Rattle.onix_records.specs.declared.row.RowFault.TheVariants as fault
+use Rattle.onix_message.specs.declared.row.RowFault.{RowFault}
+use Rattle.onix_message.specs.declared.row.RowFault.TheVariants as fault
 
 joined-step : (found new : List Territory) (t : Option Territory) (o : Option (Option Territory)) (more all : Option (List Territory)) → o ≡ Some t → new ≡ found ++ option_to_list t
     → option_map (λ ts. found ++ ts) (o >>= (λ first. more >>= (λ ts. Some (option_to_list first ++ ts)))) ≡ all → option_map (λ ts. new ++ ts) more ≡ all

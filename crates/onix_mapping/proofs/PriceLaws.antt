@@ -4,7 +4,7 @@ use Rattle.std.specs.Prelude.{Result, Ok, Err, OnOk, codes}
 use Rattle.std.specs.List.{flat_map}
 use Rattle.std.specs.Option.{option_or}
 use Rattle.onix_outline.specs.Nodes.{Nodes}
-use Rattle.onix_records.specs.declared.row.Opening.{Opening}
+use Rattle.onix_message.specs.declared.row.Opening.{Opening}
 use Rattle.onix_mapping.specs.Elements.{Composite, composites}
 use Rattle.onix_mapping.specs.Notes.{Reason}
 use Rattle.onix_mapping.specs.Prices.{early_reasons, first_some, left_out, outcome_of, reasons_against, refusal}

@@ -5,8 +5,8 @@ use Rattle.std.specs.Option.{option_or, unwrap_or}
 use Rattle.onix_outline.specs.Composites.{text_in}
 use Rattle.onix_outline.specs.Nodes.{Nodes, no_nodes}
 use Rattle.onix_terms.specs.Options.{◌>>=◌}
-use Rattle.onix_records.specs.Detail.{detail_of}
-use Rattle.onix_records.specs.declared.row.Opening.{Opening}
+use Rattle.onix_message.specs.Detail.{detail_of}
+use Rattle.onix_message.specs.declared.row.Opening.{Opening}
 use Rattle.onix_mapping.specs.Elements.{Composite, composites, first, text_or_empty}
 use Rattle.onix_mapping.specs.Identifiers.{chosen, identifiers_in}
 use Rattle.onix_mapping.specs.Notes.{Note}

@@ -5,8 +5,8 @@ use Rattle.std.specs.Option.{ok_or}
 use Rattle.std.specs.Str.{is_utf8}
 use Rattle.onix_outline.specs.Composites.{text_in}
 use Rattle.onix_outline.specs.Nodes.{Nodes, no_nodes}
-use Rattle.onix_records.specs.Opening.{opening_of}
-use Rattle.onix_records.specs.declared.row.Opening.{Opening}
+use Rattle.onix_message.specs.Opening.{opening_of}
+use Rattle.onix_message.specs.declared.row.Opening.{Opening}
 use Rattle.onix_terms.specs.Number.{number_from, number_of}
 use Rattle.onix_mapping.specs.Details.{below_of}
 use Rattle.onix_mapping.specs.Elements.{Composite, composites, first, text_or_empty}

@@ -16,7 +16,7 @@ use Rattle.onix_mapping.specs.declared.header.HeaderFault.TheVariants as fault
 use Rattle.onix_mapping.specs.declared.parties.Pair.{Pair}
 use Rattle.onix_mapping.specs.declared.header.Refusal.{Refusal}
 use Rattle.onix_mapping.specs.declared.header.Refusal.TheVariants.{Malformed}
-use Rattle.onix_records.specs.declared.row.Opening.{Opening}
+use Rattle.onix_message.specs.declared.row.Opening.{Opening}
 
 abbrev pub choices_view : Choices → Chosen
 choices_view c = record {

@@ -2,8 +2,8 @@
 use Rattle.std.specs.Prelude.{ℕ, List, [], ◌∷◌, ◌++◌, ◌==◌, length, Option, Some, None, if◌then◌else◌, codes, option_map, option_to_list}
 use Rattle.std.specs.List.{flat_map}
 use Rattle.onix_outline.specs.Nodes.{Nodes}
-use Rattle.onix_records.specs.Fields.{territory_fields}
-use Rattle.onix_records.specs.Supply.{supply_of}
+use Rattle.onix_message.specs.Fields.{territory_fields}
+use Rattle.onix_message.specs.Supply.{supply_of}
 use Rattle.onix_terms.specs.Options.{◌>>=◌}
 use Rattle.onix_terms.specs.declared.territory.Territory.{Territory}
 use Rattle.onix_mapping.specs.Elements.{Composite, composites}

@@ -7,13 +7,13 @@ use Rattle.std.specs.Result.{result_err, result_unwrap_or}
 use Rattle.std.specs.Str.{bytes_eq, is_utf8}
 use Rattle.onix_outline.specs.Composites.{text_in}
 use Rattle.onix_outline.specs.Nodes.{Nodes}
-use Rattle.onix_records.specs.Fields.{optional, or_default}
-use Rattle.onix_records.specs.Price.{price_of}
+use Rattle.onix_message.specs.Fields.{optional, or_default}
+use Rattle.onix_message.specs.Price.{price_of}
 use Rattle.onix_terms.specs.Amount.{amount_of}
 use Rattle.onix_terms.specs.Code.{code2_of, currency_of}
 use Rattle.onix_terms.specs.Day.{day_of}
 use Rattle.onix_terms.specs.Quantity.{quantity_of}
-use Rattle.onix_records.specs.declared.row.Opening.{Opening}
+use Rattle.onix_message.specs.declared.row.Opening.{Opening}
 use Rattle.onix_mapping.specs.Dates.{Days, days, days_in}
 use Rattle.onix_mapping.specs.Elements.{Composite, Element, composites, first, text_or_empty}
 use Rattle.onix_mapping.specs.Identifiers.{is_text}

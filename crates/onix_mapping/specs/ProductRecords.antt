@@ -3,7 +3,7 @@ use Rattle.std.specs.Prelude.{ℕ, Bool, true, false, ◌||◌, List, [], ◌∷
 use Rattle.std.specs.Str.{bytes_eq}
 use Rattle.onix_outline.specs.Nodes.{Nodes}
 use Rattle.onix_terms.specs.Options.{◌>>=◌}
-use Rattle.onix_records.specs.declared.row.Opening.{Opening}
+use Rattle.onix_message.specs.declared.row.Opening.{Opening}
 use Rattle.onix_mapping.specs.Elements.{Composite, Element}
 use Rattle.onix_mapping.specs.Notes.{Note, note}
 use Rattle.onix_mapping.specs.Products.{is_deletion, notification_in, product_notes, product_record}

@@ -3,7 +3,7 @@ use Rattle.std.specs.Prelude.{ℕ, Bool, List, [], ◌∷◌, Option, if◌then�
 use Rattle.std.specs.List.{flat_map}
 use Rattle.std.specs.Str.{bytes_eq}
 use Rattle.onix_outline.specs.Nodes.{Nodes}
-use Rattle.onix_records.specs.Product.{product_of}
+use Rattle.onix_message.specs.Product.{product_of}
 use Rattle.onix_mapping.specs.Elements.{Composite, composites, text_or_empty}
 use Rattle.onix_mapping.specs.Notes.{Note, note}
 use Rattle.onix_mapping.specs.Records.{said}

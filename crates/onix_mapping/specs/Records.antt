@@ -2,9 +2,9 @@
 use Rattle.std.specs.Prelude.{◌≡◌, ℕ, Bool, true, false, List, Option, Some, None, Result, Ok, Err, if◌then◌else◌}
 use Rattle.std.specs.List.{list_all}
 use Rattle.std.specs.Str.{is_utf8}
-use Rattle.onix_records.specs.Fields.{is_clean}
-use Rattle.onix_records.specs.declared.row.RowFault.{RowFault}
-use Rattle.onix_records.specs.declared.row.RowFault.TheVariants as fault
+use Rattle.onix_message.specs.Fields.{is_clean}
+use Rattle.onix_message.specs.declared.row.RowFault.{RowFault}
+use Rattle.onix_message.specs.declared.row.RowFault.TheVariants as fault
 
 -- what is read of the fields of a record; nothing, where one of them is too long or has a control character
 abbrev pub clean : {A : Type 0} → (List (List ℕ) → Option A) → List (List ℕ) → Option A

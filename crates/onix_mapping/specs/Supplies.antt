@@ -3,7 +3,7 @@ use Rattle.std.specs.Prelude.{ℕ, List, [], ◌∷◌, ◌++◌, Option, Some, 
 use Rattle.std.specs.List.{flat_map}
 use Rattle.onix_outline.specs.Nodes.{Nodes}
 use Rattle.onix_terms.specs.Options.{◌>>=◌}
-use Rattle.onix_records.specs.declared.row.Opening.{Opening}
+use Rattle.onix_message.specs.declared.row.Opening.{Opening}
 use Rattle.onix_mapping.specs.Details.{detail_records, prices_notes}
 use Rattle.onix_mapping.specs.Elements.{Composite, composites}
 use Rattle.onix_mapping.specs.Markets.{market_notes_in, record_in}

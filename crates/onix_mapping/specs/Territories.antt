@@ -2,8 +2,8 @@
 use Rattle.std.specs.Prelude.{ℕ, Bool, true, false, List, [], ◌∷◌, ◌++◌, Option, Some, None, if◌then◌else◌, codes, map, option_map}
 use Rattle.std.specs.Option.{option_map_or, option_or}
 use Rattle.onix_outline.specs.Nodes.{Nodes}
-use Rattle.onix_records.specs.Supply.{supply_of}
-use Rattle.onix_records.specs.declared.parts.ProductSupply.{ProductSupply}
+use Rattle.onix_message.specs.Supply.{supply_of}
+use Rattle.onix_message.specs.declared.parts.ProductSupply.{ProductSupply}
 use Rattle.onix_terms.specs.Territory.{words_of, world_text}
 use Rattle.onix_mapping.specs.Elements.{Element, Composite, composites, element_view, first, text_or_empty}
 use Rattle.onix_mapping.specs.Notes.{Note, Reason, note, reason}

@@ -10,11 +10,11 @@ ghost use Rattle.onix_mapping.specs.PartyViews.{pair_view};
 ghost use Rattle.onix_mapping.specs.PriceViews.{text_view};
 ghost use Rattle.onix_mapping.specs.Prices.{first_some};
 ghost use Rattle.onix_mapping.specs.Records.{said};
+ghost use Rattle.onix_message.specs.Detail.{detail_of};
+ghost use Rattle.onix_message.specs.Gives.{Gives};
 ghost use Rattle.onix_outline.specs.Nodes.{Nodes};
 ghost use Rattle.onix_outline.specs.Outline.{outline};
 ghost use Rattle.onix_outline.specs.Views.{line_views};
-ghost use Rattle.onix_records.specs.Detail.{detail_of};
-ghost use Rattle.onix_records.specs.Gives.{Gives};
 
 use crate::elements::{first_composite, next_composite, text_or_empty};
 use crate::identifiers::{SUPPLIER, choose_identifier};
@@ -24,11 +24,11 @@ use crate::prices::{add_price, fill_record};
 use csv_records::buffer::RecordBuffer;
 use csv_records::fields::FieldBuffer;
 use csv_records::record::Record;
+use onix_message::detail::read_detail;
+use onix_message::fields::read_fields;
+use onix_message::parts::SupplyDetail;
+use onix_message::row::{Opening, RowFault};
 use onix_outline::{Line, text_in};
-use onix_records::detail::read_detail;
-use onix_records::fields::read_fields;
-use onix_records::parts::SupplyDetail;
-use onix_records::row::{Opening, RowFault};
 use std::alloc::{AllocError, Global};
 
 /// The lines of what stands in the first element of this name, none where there is none.

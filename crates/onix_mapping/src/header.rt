@@ -25,9 +25,9 @@ use crate::prices::fill_record;
 use crate::records::utf8_text;
 use csv_records::fields::FieldBuffer;
 use itoa::Buffer;
+use onix_message::opening::read_opening;
+use onix_message::row::{Opening, RowFault};
 use onix_outline::{Line, text_in};
-use onix_records::opening::read_opening;
-use onix_records::row::{Opening, RowFault};
 use onix_terms::number::Number;
 use std::alloc::Global;
 

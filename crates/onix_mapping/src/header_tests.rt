@@ -4,8 +4,8 @@ use crate::header::{Choices, HeaderFault, Refusal, fill_message, read_heading};
 use crate::parties::Pair;
 use crate::tests::push;
 use csv_records::fields::FieldBuffer;
+use onix_message::row::RowFault;
 use onix_outline::Line;
-use onix_records::row::RowFault;
 use std::alloc::{AllocError, Global};
 use std::process::Abort;
 

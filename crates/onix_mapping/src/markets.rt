@@ -6,10 +6,10 @@ ghost use Rattle.onix_mapping.specs.Markets.{first_held, market_notes, market_no
 ghost use Rattle.onix_mapping.specs.Notes.{note_views};
 ghost use Rattle.onix_mapping.specs.Records.{Fills, MayFill, marked};
 ghost use Rattle.onix_mapping.specs.Territories.{area_view};
+ghost use Rattle.onix_message.specs.Gives.{Gives};
 ghost use Rattle.onix_outline.specs.Nodes.{Nodes};
 ghost use Rattle.onix_outline.specs.Outline.{outline};
 ghost use Rattle.onix_outline.specs.Views.{line_views};
-ghost use Rattle.onix_records.specs.Gives.{Gives};
 
 use crate::elements::{Composite, next_composite};
 use crate::notes::{Note, push_note};
@@ -18,8 +18,8 @@ use crate::territories::{
 };
 use crate::unions::union;
 use csv_records::fields::FieldBuffer;
+use onix_message::row::RowFault;
 use onix_outline::Line;
-use onix_records::row::RowFault;
 use onix_terms::items::Items;
 use onix_terms::territory::Territory;
 use std::alloc::{AllocError, Global};

@@ -7,9 +7,9 @@ use crate::tests::{push, push_with_format};
 use csv_records::buffer::RecordBuffer;
 use csv_records::fields::FieldBuffer;
 use csv_records::writing::write_records;
+use onix_message::opening::read_opening;
+use onix_message::row::{Opening, RowFault};
 use onix_outline::Line;
-use onix_records::opening::read_opening;
-use onix_records::row::{Opening, RowFault};
 use std::alloc::{AllocError, Global};
 use std::process::Abort;
 

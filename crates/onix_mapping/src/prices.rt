@@ -17,8 +17,8 @@ ghost use Rattle.onix_mapping.specs.Territories.{area_in, area_view};
 ghost use Rattle.onix_outline.specs.Nodes.{Nodes};
 ghost use Rattle.onix_outline.specs.Outline.{outline};
 ghost use Rattle.onix_outline.specs.Views.{line_views};
-ghost use Rattle.onix_records.specs.Gives.{Gives};
-ghost use Rattle.onix_records.specs.Price.{price_of};
+ghost use Rattle.onix_message.specs.Gives.{Gives};
+ghost use Rattle.onix_message.specs.Price.{price_of};
 
 use crate::dates::{Days, days_in};
 use crate::elements::{Composite, first_composite, next_composite, text_or_empty};
@@ -30,11 +30,11 @@ use crate::territories::{Area, area_fields, area_in, push_left_out_regions, unhe
 use csv_records::buffer::RecordBuffer;
 use csv_records::fields::FieldBuffer;
 use csv_records::record::Record;
+use onix_message::fields::read_fields;
+use onix_message::parts::Price;
+use onix_message::price::read_price;
+use onix_message::row::{Opening, RowFault};
 use onix_outline::{Line, text_in};
-use onix_records::fields::read_fields;
-use onix_records::parts::Price;
-use onix_records::price::read_price;
-use onix_records::row::{Opening, RowFault};
 use onix_terms::ascii::are_digits;
 use std::alloc::{AllocError, Global};
 

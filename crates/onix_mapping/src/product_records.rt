@@ -16,8 +16,8 @@ use crate::products::fill_product;
 use crate::supplies::add_supplies;
 use csv_records::buffer::RecordBuffer;
 use csv_records::fields::FieldBuffer;
+use onix_message::row::{Opening, RowFault};
 use onix_outline::Line;
-use onix_records::row::{Opening, RowFault};
 use std::alloc::{AllocError, Global};
 
 // Whether a product of this type replaces all that the desk has of it.

@@ -5,21 +5,21 @@ ghost use Rattle.onix_mapping.specs.Elements.{Composite as Told, Tells};
 ghost use Rattle.onix_mapping.specs.Notes.{note_views};
 ghost use Rattle.onix_mapping.specs.Products.{identifiers_in, identifier_notes, is_deletion, or_reference, pair_of, pairs_in, product_fields, product_notes, product_record, right_pair, right_pairs, wrong_identifiers};
 ghost use Rattle.onix_mapping.specs.Records.{said, Fills};
+ghost use Rattle.onix_message.specs.Gives.{Gives};
+ghost use Rattle.onix_message.specs.Product.{product_of};
 ghost use Rattle.onix_outline.specs.Nodes.{Nodes};
 ghost use Rattle.onix_outline.specs.Outline.{outline};
 ghost use Rattle.onix_outline.specs.Views.{line_views};
-ghost use Rattle.onix_records.specs.Gives.{Gives};
-ghost use Rattle.onix_records.specs.Product.{product_of};
 
 use crate::elements::{Composite, next_composite, text_or_empty};
 use crate::notes::{Note, Reason, Why, push_note};
 use crate::records::push_texts;
 use csv_records::fields::FieldBuffer;
+use onix_message::fields::read_fields;
+use onix_message::parts::Product;
+use onix_message::product::read_product;
+use onix_message::row::RowFault;
 use onix_outline::Line;
-use onix_records::fields::read_fields;
-use onix_records::parts::Product;
-use onix_records::product::read_product;
-use onix_records::row::RowFault;
 use std::alloc::{AllocError, Global};
 
 // The product that texts say as the fields of a record, as the desk reads them.

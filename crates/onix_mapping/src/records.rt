@@ -5,7 +5,7 @@ ghost use Rattle.std.specs.List.{list_all};
 ghost use Rattle.std.specs.Str.{is_utf8};
 
 use csv_records::fields::FieldBuffer;
-use onix_records::row::RowFault;
+use onix_message::row::RowFault;
 
 /// The text of bytes, where they are UTF-8.
 pub(crate) fn utf8_text(bytes: &[u8]) -> Option<&str>

@@ -16,8 +16,8 @@ use crate::markets::fill_supply;
 use crate::notes::{Note, Reason, Why, push_note};
 use csv_records::buffer::RecordBuffer;
 use csv_records::fields::FieldBuffer;
+use onix_message::row::{Opening, RowFault};
 use onix_outline::Line;
-use onix_records::row::{Opening, RowFault};
 use std::alloc::{AllocError, Global};
 
 // Adds the records of the SupplyDetails that lines of this depth tell, and of their Prices, and

@@ -8,20 +8,20 @@ ghost use Rattle.onix_mapping.specs.Territories.{area_fields, area_in, area_view
 ghost use Rattle.onix_outline.specs.Nodes.{Nodes};
 ghost use Rattle.onix_outline.specs.Outline.{outline};
 ghost use Rattle.onix_outline.specs.Views.{line_views};
-ghost use Rattle.onix_records.specs.Fields.{territory_fields};
-ghost use Rattle.onix_records.specs.Gives.{Gives};
-ghost use Rattle.onix_records.specs.Supply.{supply_of};
+ghost use Rattle.onix_message.specs.Fields.{territory_fields};
+ghost use Rattle.onix_message.specs.Gives.{Gives};
+ghost use Rattle.onix_message.specs.Supply.{supply_of};
 
 use crate::elements::{first_composite, text_or_empty};
 use crate::notes::{Note, Reason, Why};
 use crate::records::push_texts;
 use crate::regions::{names_world, next_word, push_regions, region_of_no_country};
 use csv_records::fields::FieldBuffer;
+use onix_message::fields::read_fields;
+use onix_message::parts::ProductSupply;
+use onix_message::row::RowFault;
+use onix_message::supply::read_supply;
 use onix_outline::Line;
-use onix_records::fields::read_fields;
-use onix_records::parts::ProductSupply;
-use onix_records::row::RowFault;
-use onix_records::supply::read_supply;
 use onix_terms::countries::countries_text;
 use onix_terms::territory::Territory;
 use std::alloc::{AllocError, Global};

@@ -4,20 +4,20 @@ use Rattle.std.specs.Prelude.{⊤, if◌then◌else◌, option_map, codes}
 use Rattle.std.specs.List.{list_all}
 use Rattle.std.specs.Str.{bytes_eq}
 use Rattle.std.proofs.lemmas.Option.{same_Some}
-use Rattle.onix_records.specs.Fields.{is_clean, optional, optional_party}
-use Rattle.onix_records.specs.Opening.{opening_fields}
-use Rattle.onix_records.specs.Price.{price_of}
-use Rattle.onix_records.specs.Product.{pairs_of, product_of}
-use Rattle.onix_records.specs.Row.{end_of, message_row, named_row, row_of}
+use Rattle.onix_message.specs.Fields.{is_clean, optional, optional_party}
+use Rattle.onix_message.specs.Opening.{opening_fields}
+use Rattle.onix_message.specs.Price.{price_of}
+use Rattle.onix_message.specs.Product.{pairs_of, product_of}
+use Rattle.onix_message.specs.Row.{end_of, message_row, named_row, row_of}
 use Rattle.onix_message.specs.private.Draft.{IsBare}
-use Rattle.onix_records.specs.Detail.{detail_of, supplier_name}
-use Rattle.onix_records.specs.Supply.{supply_of}
-use Rattle.onix_records.specs.declared.parts.Product.{Product}
-use Rattle.onix_records.specs.declared.parts.ProductSupply.{ProductSupply}
-use Rattle.onix_records.specs.declared.parts.SupplyDetail.{SupplyDetail}
-use Rattle.onix_records.specs.declared.row.Opening.{Opening}
-use Rattle.onix_records.specs.declared.row.Row.{Row}
-use Rattle.onix_records.specs.declared.row.Row.TheVariants as row
+use Rattle.onix_message.specs.Detail.{detail_of, supplier_name}
+use Rattle.onix_message.specs.Supply.{supply_of}
+use Rattle.onix_message.specs.declared.parts.Product.{Product}
+use Rattle.onix_message.specs.declared.parts.ProductSupply.{ProductSupply}
+use Rattle.onix_message.specs.declared.parts.SupplyDetail.{SupplyDetail}
+use Rattle.onix_message.specs.declared.row.Opening.{Opening}
+use Rattle.onix_message.specs.declared.row.Row.{Row}
+use Rattle.onix_message.specs.declared.row.Row.TheVariants as row
 use Rattle.onix_message.proofs.FrontRows.{bind-some}
 use Rattle.onix_message.proofs.Fronts.{cons-parts}
 use Rattle.onix_terms.specs.Code.{code2_of}

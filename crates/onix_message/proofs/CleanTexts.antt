@@ -16,7 +16,7 @@ use Rattle.onix_terms.specs.Day.{day_at, day_of, day_text}
 use Rattle.onix_terms.specs.Digits.{digits_of}
 use Rattle.onix_terms.specs.Options.{◌>>=◌}
 use Rattle.onix_terms.specs.Territory.{is_letter_or_space}
-use Rattle.onix_records.specs.Fields.{is_clean, is_control}
+use Rattle.onix_message.specs.Fields.{is_clean, is_control}
 use Rattle.onix_message.proofs.FrontRows.{bind-some}
 
 -- no control character

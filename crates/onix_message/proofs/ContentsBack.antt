@@ -6,17 +6,17 @@ use Rattle.onix_message.specs.ContentsText.{IsContents, end_record, framed, plai
 use Rattle.onix_message.specs.Grammar.{IsMessage}
 use Rattle.onix_message.specs.Message.{message_of}
 use Rattle.onix_message.specs.PartRows.{SuppliesHaveDetails, content_rows, detail_rows, product_rows, rows_after, supply_rows}
-use Rattle.onix_records.specs.Row.{row_of}
-use Rattle.onix_records.specs.Product.{content_records}
-use Rattle.onix_records.specs.declared.parts.Header.{Header}
-use Rattle.onix_records.specs.declared.parts.Price.{Price}
-use Rattle.onix_records.specs.declared.parts.Product.{Product}
-use Rattle.onix_records.specs.declared.parts.ProductSupply.{ProductSupply}
-use Rattle.onix_records.specs.declared.parts.SupplyDetail.{SupplyDetail}
-use Rattle.onix_records.specs.declared.row.Form.TheVariants as form
-use Rattle.onix_records.specs.declared.row.Opening.{Opening}
-use Rattle.onix_records.specs.declared.row.Row.{Row}
-use Rattle.onix_records.specs.declared.row.Row.TheVariants as row
+use Rattle.onix_message.specs.Row.{row_of}
+use Rattle.onix_message.specs.Product.{content_records}
+use Rattle.onix_message.specs.declared.parts.Header.{Header}
+use Rattle.onix_message.specs.declared.parts.Price.{Price}
+use Rattle.onix_message.specs.declared.parts.Product.{Product}
+use Rattle.onix_message.specs.declared.parts.ProductSupply.{ProductSupply}
+use Rattle.onix_message.specs.declared.parts.SupplyDetail.{SupplyDetail}
+use Rattle.onix_message.specs.declared.row.Form.TheVariants as form
+use Rattle.onix_message.specs.declared.row.Opening.{Opening}
+use Rattle.onix_message.specs.declared.row.Row.{Row}
+use Rattle.onix_message.specs.declared.row.Row.TheVariants as row
 use Rattle.onix_message.proofs.Fronts.{cons-parts, reads-length}
 use Rattle.onix_message.proofs.RowParts.{message-meant}
 use Rattle.onix_message.proofs.OneText.{content-record-rows, record_of}

@@ -5,11 +5,11 @@ use Rattle.std.proofs.lemmas.Option.{same_Some}
 use Rattle.onix_message.specs.Grammar.{BeginsMessage, EndsMessage, IsMessage}
 use Rattle.onix_message.specs.Message.{parts_of}
 use Rattle.onix_message.specs.PartRows.{content_rows, rows_after}
-use Rattle.onix_records.specs.Opening.{opening_of}
-use Rattle.onix_records.specs.Row.{message_row, row_of}
-use Rattle.onix_records.specs.declared.parts.Product.{Product}
-use Rattle.onix_records.specs.declared.row.Row.{Row}
-use Rattle.onix_records.specs.declared.row.Row.TheVariants as row
+use Rattle.onix_message.specs.Opening.{opening_of}
+use Rattle.onix_message.specs.Row.{message_row, row_of}
+use Rattle.onix_message.specs.declared.parts.Product.{Product}
+use Rattle.onix_message.specs.declared.row.Row.{Row}
+use Rattle.onix_message.specs.declared.row.Row.TheVariants as row
 use Rattle.onix_message.proofs.Bare.{all-bare}
 use Rattle.onix_message.proofs.Fronts.{Reads, cons-parts, is-message, same-map}
 use Rattle.onix_message.proofs.RowParts.{rows-rebuilt}

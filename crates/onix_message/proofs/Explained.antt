@@ -2,8 +2,8 @@
 use Rattle.std.proofs.Common.{◌≡◌, ℕ, List, Option, Some, None, refl}
 use Rattle.onix_message.specs.Grammar.{IsMessage}
 use Rattle.onix_message.specs.Message.{message_of}
-use Rattle.onix_records.specs.declared.parts.Header.{Header}
-use Rattle.onix_records.specs.declared.parts.Product.{Product}
+use Rattle.onix_message.specs.declared.parts.Header.{Header}
+use Rattle.onix_message.specs.declared.parts.Product.{Product}
 use Rattle.onix_message.proofs.RowParts.{message-meant}
 
 none-computed : (m : Option (Header × List Product)) → ((h : Header) (c : List Product) → m ≡ Some (h, c) → ⊥) → m ≡ None

@@ -7,10 +7,10 @@ use Rattle.std.proofs.lemmas.List.{length-take-le}
 use Rattle.std.proofs.lemmas.Option.{cond_some}
 use Rattle.onix_message.specs.Grammar.{CountsAfter, IsBadRow, IsFront, KeepsOrder, is_counted, may_follow}
 use Rattle.onix_message.specs.Message.{bad_row, front_rows, next_row}
-use Rattle.onix_records.specs.Opening.{opening_of}
-use Rattle.onix_records.specs.Row.{message_row, row_of}
-use Rattle.onix_records.specs.declared.row.Opening.{Opening}
-use Rattle.onix_records.specs.declared.row.Row.{Row}
+use Rattle.onix_message.specs.Opening.{opening_of}
+use Rattle.onix_message.specs.Row.{message_row, row_of}
+use Rattle.onix_message.specs.declared.row.Opening.{Opening}
+use Rattle.onix_message.specs.declared.row.Row.{Row}
 use Rattle.onix_message.proofs.Fronts.{Reads, begun-reads, cons-parts, reads-begun, reads-length}
 use Rattle.onix_terms.specs.Options.{◌>>=◌}
 

@@ -8,17 +8,17 @@ use Rattle.std.proofs.lemmas.Option.{same_Some}
 use Rattle.onix_message.specs.private.Draft.{DraftHasDetails, Stops, Takes, allows, draft_rows, has_ended, part_rows}
 use Rattle.onix_message.specs.Grammar.{BeginsMessage, CountsAfter, IsBadRow, IsFront, IsMessage, KeepsOrder, is_counted, may_follow}
 use Rattle.onix_message.specs.PartRows.{SuppliesHaveDetails, content_rows, product_rows, rows_after}
-use Rattle.onix_records.specs.Opening.{opening_of}
-use Rattle.onix_records.specs.Row.{message_row, row_of}
+use Rattle.onix_message.specs.Opening.{opening_of}
+use Rattle.onix_message.specs.Row.{message_row, row_of}
 use Rattle.onix_message.specs.declared.draft.Draft.{Draft}
 use Rattle.onix_message.specs.declared.draft.Part.{Part}
 use Rattle.onix_message.specs.declared.draft.Part.TheVariants as part
 use Rattle.onix_message.specs.declared.draft.StepFault.TheVariants as steps
-use Rattle.onix_records.specs.declared.parts.Header.{Header}
-use Rattle.onix_records.specs.declared.parts.Product.{Product}
-use Rattle.onix_records.specs.declared.row.Opening.{Opening}
-use Rattle.onix_records.specs.declared.row.Row.{Row}
-use Rattle.onix_records.specs.declared.row.Row.TheVariants as row
+use Rattle.onix_message.specs.declared.parts.Header.{Header}
+use Rattle.onix_message.specs.declared.parts.Product.{Product}
+use Rattle.onix_message.specs.declared.row.Opening.{Opening}
+use Rattle.onix_message.specs.declared.row.Row.{Row}
+use Rattle.onix_message.specs.declared.row.Row.TheVariants as row
 use Rattle.onix_message.proofs.Orders.{counts-at, counts-push, last-push, last_of, message-counts, message-order, order-at, order-push}
 
 abbrev Record : Type 0

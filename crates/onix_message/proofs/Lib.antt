@@ -1,3 +1,7 @@
+pub mod CleanFields
+pub mod Pairs
+pub mod PriceFields
+pub mod TenFields
 pub mod RowLists
 pub mod Orders
 pub mod Fronts

@@ -11,17 +11,17 @@ use Rattle.onix_message.specs.ContentsText.{IsContents, contents_text, end_recor
 use Rattle.onix_message.specs.Grammar.{IsMessage}
 use Rattle.onix_message.specs.PartRows.{content_rows, detail_rows, product_rows, supply_rows}
 use Rattle.csv_records.specs.RecordTexts.{AllFilled, records_of, records_text}
-use Rattle.onix_records.specs.Detail.{detail_record, detail_records}
-use Rattle.onix_records.specs.Price.{price_record}
-use Rattle.onix_records.specs.Product.{content_records, product_record, product_records}
-use Rattle.onix_records.specs.Supply.{supplies_records, supply_record, supply_records}
-use Rattle.onix_records.specs.declared.parts.Header.{Header}
-use Rattle.onix_records.specs.declared.parts.Price.{Price}
-use Rattle.onix_records.specs.declared.parts.Product.{Product}
-use Rattle.onix_records.specs.declared.parts.ProductSupply.{ProductSupply}
-use Rattle.onix_records.specs.declared.parts.SupplyDetail.{SupplyDetail}
-use Rattle.onix_records.specs.declared.row.Row.{Row}
-use Rattle.onix_records.specs.declared.row.Row.TheVariants as row
+use Rattle.onix_message.specs.Detail.{detail_record, detail_records}
+use Rattle.onix_message.specs.Price.{price_record}
+use Rattle.onix_message.specs.Product.{content_records, product_record, product_records}
+use Rattle.onix_message.specs.Supply.{supplies_records, supply_record, supply_records}
+use Rattle.onix_message.specs.declared.parts.Header.{Header}
+use Rattle.onix_message.specs.declared.parts.Price.{Price}
+use Rattle.onix_message.specs.declared.parts.Product.{Product}
+use Rattle.onix_message.specs.declared.parts.ProductSupply.{ProductSupply}
+use Rattle.onix_message.specs.declared.parts.SupplyDetail.{SupplyDetail}
+use Rattle.onix_message.specs.declared.row.Row.{Row}
+use Rattle.onix_message.specs.declared.row.Row.TheVariants as row
 use Rattle.onix_message.proofs.RowParts.{message-computed}
 
 -- what the law of one text of records says

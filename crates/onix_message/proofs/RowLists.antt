@@ -5,9 +5,9 @@ use Rattle.onix_message.specs.PartRows.{product_rows, supply_rows}
 use Rattle.onix_message.specs.private.Draft.{allows}
 use Rattle.onix_message.specs.declared.draft.Part.{Part}
 use Rattle.onix_message.specs.declared.draft.Part.TheVariants as part
-use Rattle.onix_records.specs.declared.parts.Header.{Header}
-use Rattle.onix_records.specs.declared.parts.Product.{Product}
-use Rattle.onix_records.specs.declared.row.Row.TheVariants as row
+use Rattle.onix_message.specs.declared.parts.Header.{Header}
+use Rattle.onix_message.specs.declared.parts.Product.{Product}
+use Rattle.onix_message.specs.declared.row.Row.TheVariants as row
 
 -- each product has a row of its own
 pub length-products : (ps : List Product) → length ps ≤ length (flat_map product_rows ps)

@@ -8,16 +8,16 @@ use Rattle.std.proofs.lemmas.Option.{cond_some}
 use Rattle.onix_message.specs.Grammar.{IsMessage, KeepsOrder, may_follow}
 use Rattle.onix_message.specs.Message.{PartLists, ends, front_rows, message_after, message_of, parts_of, with_detail, with_price, with_product, with_supply}
 use Rattle.onix_message.specs.PartRows.{HasDetails, SuppliesHaveDetails, content_rows, detail_rows, product_rows, rows_after, supply_rows}
-use Rattle.onix_records.specs.Opening.{opening_of}
-use Rattle.onix_records.specs.Row.{message_row}
-use Rattle.onix_records.specs.declared.parts.Header.{Header}
-use Rattle.onix_records.specs.declared.parts.Price.{Price}
-use Rattle.onix_records.specs.declared.parts.Product.{Product}
-use Rattle.onix_records.specs.declared.parts.ProductSupply.{ProductSupply}
-use Rattle.onix_records.specs.declared.parts.SupplyDetail.{SupplyDetail}
-use Rattle.onix_records.specs.declared.row.Opening.{Opening}
-use Rattle.onix_records.specs.declared.row.Row.{Row}
-use Rattle.onix_records.specs.declared.row.Row.TheVariants as row
+use Rattle.onix_message.specs.Opening.{opening_of}
+use Rattle.onix_message.specs.Row.{message_row}
+use Rattle.onix_message.specs.declared.parts.Header.{Header}
+use Rattle.onix_message.specs.declared.parts.Price.{Price}
+use Rattle.onix_message.specs.declared.parts.Product.{Product}
+use Rattle.onix_message.specs.declared.parts.ProductSupply.{ProductSupply}
+use Rattle.onix_message.specs.declared.parts.SupplyDetail.{SupplyDetail}
+use Rattle.onix_message.specs.declared.row.Opening.{Opening}
+use Rattle.onix_message.specs.declared.row.Row.{Row}
+use Rattle.onix_message.specs.declared.row.Row.TheVariants as row
 use Rattle.onix_message.proofs.FrontRows.{bind-some, computed-reads, reads-computed}
 use Rattle.onix_message.proofs.Fronts.{is-message, message-reads, reads-length}
 use Rattle.onix_message.proofs.Orders.{last-push, last_of}

@@ -18,29 +18,29 @@ use Rattle.onix_terms.specs.Territory.{countries_text, territory_of, world_text}
 use Rattle.onix_terms.specs.declared.party.Party.{Party}
 use Rattle.onix_terms.specs.declared.territory.Territory.{Territory}
 use Rattle.onix_message.specs.ContentsText.{end_record, plain_opening}
-use Rattle.onix_records.specs.Fields.{is_clean, optional, optional_party, party_of, or_default}
-use Rattle.onix_records.specs.Opening.{form_of, opening_fields, opening_from, opening_of}
-use Rattle.onix_records.specs.Price.{minimum_of, price_from, price_of, quantity_or_one}
-use Rattle.onix_records.specs.Product.{identifier_of, pairs_of, product_of}
-use Rattle.onix_records.specs.Row.{end_of, message_row, named_row, row_of}
-use Rattle.onix_records.specs.Detail.{detail_record}
-use Rattle.onix_records.specs.Fields.{party_fields, territory_fields}
-use Rattle.onix_records.specs.Price.{day_field, minimum_fields, price_record}
-use Rattle.onix_records.specs.Product.{identifier_fields, product_record}
-use Rattle.onix_records.specs.Supply.{supply_record}
-use Rattle.onix_records.specs.Detail.{detail_of, supplier_name}
-use Rattle.onix_records.specs.Supply.{supply_of}
-use Rattle.onix_records.specs.declared.parts.Header.{Header}
-use Rattle.onix_records.specs.declared.parts.Price.{Price}
-use Rattle.onix_records.specs.declared.parts.Product.{Product}
-use Rattle.onix_records.specs.declared.parts.ProductIdentifier.{ProductIdentifier}
-use Rattle.onix_records.specs.declared.parts.ProductSupply.{ProductSupply}
-use Rattle.onix_records.specs.declared.parts.SupplyDetail.{SupplyDetail}
-use Rattle.onix_records.specs.declared.row.Form.{Form}
-use Rattle.onix_records.specs.declared.row.Form.TheVariants as form
-use Rattle.onix_records.specs.declared.row.Opening.{Opening}
-use Rattle.onix_records.specs.declared.row.Row.{Row}
-use Rattle.onix_records.specs.declared.row.Row.TheVariants as row
+use Rattle.onix_message.specs.Fields.{is_clean, optional, optional_party, party_of, or_default}
+use Rattle.onix_message.specs.Opening.{form_of, opening_fields, opening_from, opening_of}
+use Rattle.onix_message.specs.Price.{minimum_of, price_from, price_of, quantity_or_one}
+use Rattle.onix_message.specs.Product.{identifier_of, pairs_of, product_of}
+use Rattle.onix_message.specs.Row.{end_of, message_row, named_row, row_of}
+use Rattle.onix_message.specs.Detail.{detail_record}
+use Rattle.onix_message.specs.Fields.{party_fields, territory_fields}
+use Rattle.onix_message.specs.Price.{day_field, minimum_fields, price_record}
+use Rattle.onix_message.specs.Product.{identifier_fields, product_record}
+use Rattle.onix_message.specs.Supply.{supply_record}
+use Rattle.onix_message.specs.Detail.{detail_of, supplier_name}
+use Rattle.onix_message.specs.Supply.{supply_of}
+use Rattle.onix_message.specs.declared.parts.Header.{Header}
+use Rattle.onix_message.specs.declared.parts.Price.{Price}
+use Rattle.onix_message.specs.declared.parts.Product.{Product}
+use Rattle.onix_message.specs.declared.parts.ProductIdentifier.{ProductIdentifier}
+use Rattle.onix_message.specs.declared.parts.ProductSupply.{ProductSupply}
+use Rattle.onix_message.specs.declared.parts.SupplyDetail.{SupplyDetail}
+use Rattle.onix_message.specs.declared.row.Form.{Form}
+use Rattle.onix_message.specs.declared.row.Form.TheVariants as form
+use Rattle.onix_message.specs.declared.row.Opening.{Opening}
+use Rattle.onix_message.specs.declared.row.Row.{Row}
+use Rattle.onix_message.specs.declared.row.Row.TheVariants as row
 use Rattle.onix_message.proofs.CleanTexts.{amount-clean, code2-clean, currency-clean, day-clean, digits-clean, letters-clean}
 use Rattle.onix_message.proofs.FrontRows.{bind-some}
 use Rattle.onix_message.proofs.OneText.{record_of}

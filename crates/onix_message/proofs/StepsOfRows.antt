@@ -2,17 +2,17 @@
 use Rattle.std.proofs.Common.{◌≡◌, ℕ, true, false, refl}
 use Rattle.std.specs.Prelude.{Option, Some, None, Result, Ok, Err, IfErr, OnOk, option_map}
 use Rattle.std.proofs.lemmas.Option.{same_Some}
-use Rattle.onix_records.specs.Gives.{Gives}
+use Rattle.onix_message.specs.Gives.{Gives}
 use Rattle.onix_message.specs.Grammar.{is_counted}
 use Rattle.onix_message.specs.private.Draft.{Adds, Refuses, Steps, step_fault}
 use Rattle.onix_message.specs.declared.draft.Draft.{Draft}
 use Rattle.onix_message.specs.declared.draft.StepFault.{StepFault}
 use Rattle.onix_message.specs.declared.draft.StepFault.TheVariants as steps
-use Rattle.onix_records.specs.declared.row.Row.{Row}
-use Rattle.onix_records.specs.declared.row.RowFault.{RowFault}
-use Rattle.onix_records.specs.declared.row.RowFault.TheVariants as fault
-use Rattle.onix_records.specs.Row.{message_row}
-use Rattle.onix_records.specs.declared.row.Opening.{Opening}
+use Rattle.onix_message.specs.declared.row.Row.{Row}
+use Rattle.onix_message.specs.declared.row.RowFault.{RowFault}
+use Rattle.onix_message.specs.declared.row.RowFault.TheVariants as fault
+use Rattle.onix_message.specs.Row.{message_row}
+use Rattle.onix_message.specs.declared.row.Opening.{Opening}
 use Rattle.onix_message.proofs.RowLists.{no-header}
 
 -- a row that was made and added, or refused

@@ -2,9 +2,9 @@
 use Rattle.std.specs.Prelude.{ℕ, List, [], ◌∷◌, ◌++◌, codes, decimal, length}
 use Rattle.csv_records.specs.RecordTexts.{records_text}
 use Rattle.onix_message.specs.Grammar.{IsMessage}
-use Rattle.onix_records.specs.Product.{content_records}
-use Rattle.onix_records.specs.declared.parts.Header.{Header}
-use Rattle.onix_records.specs.declared.parts.Product.{Product}
+use Rattle.onix_message.specs.Product.{content_records}
+use Rattle.onix_message.specs.declared.parts.Header.{Header}
+use Rattle.onix_message.specs.declared.parts.Product.{Product}
 
 -- the text of the records of contents: a Price has its minimum as a tenth field only where that is above 1
 unfoldable pub contents_text : List Product → List ℕ

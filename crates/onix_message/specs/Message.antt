@@ -3,18 +3,18 @@ use Rattle.std.specs.Prelude.{ℕ, List, [], ◌∷◌, ◌+◌, ◌==◌, ◌&&
 use Rattle.std.specs.Option.{option_map_or}
 use Rattle.onix_terms.specs.Options.{◌>>=◌}
 use Rattle.onix_message.specs.Grammar.{IsBadRow, IsMessage, is_counted, may_follow, most_records}
-use Rattle.onix_records.specs.Opening.{opening_of}
-use Rattle.onix_records.specs.Row.{message_row, row_of}
+use Rattle.onix_message.specs.Opening.{opening_of}
+use Rattle.onix_message.specs.Row.{message_row, row_of}
 use Rattle.onix_message.specs.declared.message.MessageFault.{MessageFault}
 use Rattle.onix_message.specs.declared.message.MessageFault.TheVariants as fault
-use Rattle.onix_records.specs.declared.parts.Header.{Header}
-use Rattle.onix_records.specs.declared.parts.Price.{Price}
-use Rattle.onix_records.specs.declared.parts.Product.{Product}
-use Rattle.onix_records.specs.declared.parts.ProductSupply.{ProductSupply}
-use Rattle.onix_records.specs.declared.parts.SupplyDetail.{SupplyDetail}
-use Rattle.onix_records.specs.declared.row.Opening.{Opening}
-use Rattle.onix_records.specs.declared.row.Row.{Row}
-use Rattle.onix_records.specs.declared.row.Row.TheVariants as row
+use Rattle.onix_message.specs.declared.parts.Header.{Header}
+use Rattle.onix_message.specs.declared.parts.Price.{Price}
+use Rattle.onix_message.specs.declared.parts.Product.{Product}
+use Rattle.onix_message.specs.declared.parts.ProductSupply.{ProductSupply}
+use Rattle.onix_message.specs.declared.parts.SupplyDetail.{SupplyDetail}
+use Rattle.onix_message.specs.declared.row.Opening.{Opening}
+use Rattle.onix_message.specs.declared.row.Row.{Row}
+use Rattle.onix_message.specs.declared.row.Row.TheVariants as row
 
 -- the row of a record, if it may come after the last one and so many records
 abbrev pub next_row : Opening → Row → ℕ → List (List ℕ) → Option Row

@@ -5,9 +5,9 @@ use Rattle.std.specs.Cmp.Lexicographic.{pointwise}
 use Rattle.onix_terms.specs.contracts.party.PartyPartialEq.TheImpl as parties
 use Rattle.onix_terms.specs.contracts.plain.PartyPlain.TheImpl.Laws as party_laws
 use Rattle.onix_terms.specs.declared.party.Party.{Party}
-use Rattle.onix_records.specs.contracts.parts.ProductPartialEq.TheImpl as products
-use Rattle.onix_records.specs.contracts.plain.ProductPlain.TheImpl.Laws as product_laws
-use Rattle.onix_records.specs.declared.parts.Product.{Product}
+use Rattle.onix_message.specs.contracts.parts.ProductPartialEq.TheImpl as products
+use Rattle.onix_message.specs.contracts.plain.ProductPlain.TheImpl.Laws as product_laws
+use Rattle.onix_message.specs.declared.parts.Product.{Product}
 
 -- the same type and value
 abbrev pub same_party : Party → Party → Bool

@@ -6,20 +6,20 @@ ghost use Rattle.std.specs.String.{string_bytes};
 ghost use Rattle.csv_records.specs.RecordTexts.{records_of};
 ghost use Rattle.onix_message.specs.ContentsText.{IsContents, contents_text, framed};
 ghost use Rattle.onix_message.specs.Grammar.{IsMessage};
-ghost use Rattle.onix_records.specs.Product.{content_records};
-ghost use Rattle.onix_records.specs.declared.parts.Header.{Header};
-ghost use Rattle.onix_records.specs.declared.parts.Product.{Product};
+ghost use Rattle.onix_message.specs.Product.{content_records};
+ghost use Rattle.onix_message.specs.declared.parts.Header.{Header};
+ghost use Rattle.onix_message.specs.declared.parts.Product.{Product};
 
 use crate::laws::equal_contents;
 use crate::message::{MessageFault, read_message};
+use crate::parts::Product;
+use crate::product::append_product;
 use csv_records::buffer::RecordBuffer;
 use csv_records::fields::FieldBuffer;
 use csv_records::laws::one_text;
 use csv_records::reading::{RecordReader, append_records};
 use csv_records::writing::write_records;
 use itoa::Buffer;
-use onix_records::parts::Product;
-use onix_records::product::append_product;
 use onix_terms::items::Items;
 use std::alloc::{AllocError, Global};
 use std::marker::Model;
@@ -46,7 +46,7 @@ impl From<AllocError> for ContentsFault {
     }
 }
 
-#[tactic(auto, unfolding(onix_records::specs::Product::content_records))]
+#[tactic(auto, unfolding(crate::specs::Product::content_records))]
 fn records_of_contents(alloc: Global, products: &[Product]) -> Result<RecordBuffer, AllocError>
     ensures { IfOk result (λ records. records ≡ content_records products.now) }
 {
@@ -157,7 +157,7 @@ pub struct Contents {
 impl Model for Contents {
     ghost use Rattle.std.specs.Prelude.{List};
     ghost use Rattle.onix_message.specs.ContentsText.{IsContents};
-    ghost use Rattle.onix_records.specs.declared.parts.Product.{Product};
+    ghost use Rattle.onix_message.specs.declared.parts.Product.{Product};
 
     ghost Value = { List Product };
 

@@ -5,11 +5,11 @@ ghost use Rattle.std.specs.Prelude.{◌≡◌, ◌≢◌, ◌++◌, [], IfOk, If
 ghost use Rattle.std.specs.List.{AllByRecursion, flat_map};
 ghost use Rattle.onix_message.specs.private.Draft.{Adds, AllowsProduct, DraftHasDetails, PartHasDetails, Refuses, RefusesProduct, RefusesSupply, allows, open_rows, part_rows};
 ghost use Rattle.onix_message.specs.PartRows.{SuppliesHaveDetails, detail_rows, product_rows, supply_rows};
-ghost use Rattle.onix_records.specs.declared.parts.ProductSupply.{ProductSupply};
+ghost use Rattle.onix_message.specs.declared.parts.ProductSupply.{ProductSupply};
 ghost use Rattle.onix_message.specs.declared.draft.Part.TheVariants.{InSupply};
-ghost use Rattle.onix_records.specs.declared.row.Row.TheVariants as row;
+ghost use Rattle.onix_message.specs.declared.row.Row.TheVariants as row;
 
-use onix_records::parts::{Price, Product, ProductSupply, SupplyDetail};
+use crate::parts::{Price, Product, ProductSupply, SupplyDetail};
 use onix_terms::items::Items;
 use std::alloc::AllocError;
 use std::mem;

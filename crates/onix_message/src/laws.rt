@@ -5,8 +5,8 @@ ghost use Rattle.onix_message.specs.ContentsText.{IsContents, contents_text};
 ghost use Rattle.onix_message.specs.Grammar.{BeginsMessage, EndsMessage, IsBadRow, IsFront, IsMessage};
 ghost use Rattle.onix_message.specs.Message.{bad_row, message_of};
 ghost use Rattle.onix_message.specs.SameContents.{same_contents};
-ghost use Rattle.onix_records.specs.declared.parts.Header.{Header};
-ghost use Rattle.onix_records.specs.declared.parts.Product.{Product};
+ghost use Rattle.onix_message.specs.declared.parts.Header.{Header};
+ghost use Rattle.onix_message.specs.declared.parts.Product.{Product};
 
 use csv_records::laws::one_text;
 use onix_terms::laws::{

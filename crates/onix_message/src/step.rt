@@ -2,24 +2,24 @@
 //! added where it is read, since a value that may be of any kind is large.
 
 ghost use Rattle.std.specs.Prelude.{◌≡◌, ℕ, map, option_map};
+ghost use Rattle.onix_message.specs.Detail.{detail_of};
+ghost use Rattle.onix_message.specs.Gives.{Gives};
+ghost use Rattle.onix_message.specs.Price.{price_of};
+ghost use Rattle.onix_message.specs.Product.{product_of};
+ghost use Rattle.onix_message.specs.Row.{end_of, named_row, row_of};
+ghost use Rattle.onix_message.specs.Supply.{supply_of};
+ghost use Rattle.onix_message.specs.declared.row.Row.TheVariants as row;
 ghost use Rattle.onix_message.specs.private.Draft.{DraftHasDetails, Steps, step_fault};
-ghost use Rattle.onix_records.specs.Detail.{detail_of};
-ghost use Rattle.onix_records.specs.Gives.{Gives};
-ghost use Rattle.onix_records.specs.Price.{price_of};
-ghost use Rattle.onix_records.specs.Product.{product_of};
-ghost use Rattle.onix_records.specs.Row.{end_of, named_row, row_of};
-ghost use Rattle.onix_records.specs.Supply.{supply_of};
-ghost use Rattle.onix_records.specs.declared.row.Row.TheVariants as row;
 
+use crate::detail::read_detail;
 use crate::draft::{Draft, StepFault, add_detail, add_end, add_price, add_product, add_supply};
+use crate::fields::read_fields;
+use crate::price::read_price;
+use crate::product::read_product;
+use crate::row::{Opening, RowFault};
+use crate::supply::read_supply;
+use crate::term::read_term;
 use csv_records::record::Record;
-use onix_records::detail::read_detail;
-use onix_records::fields::read_fields;
-use onix_records::price::read_price;
-use onix_records::product::read_product;
-use onix_records::row::{Opening, RowFault};
-use onix_records::supply::read_supply;
-use onix_records::term::read_term;
 use std::alloc::Global;
 
 fn step_fault(fault: RowFault) -> StepFault
@@ -152,7 +152,7 @@ fn add_named(
 }
 
 // Adds the row that a record is, where it may come next. The list takes the record's fields.
-#[tactic(auto, unfolding(onix_records::specs::Row::row_of))]
+#[tactic(auto, unfolding(crate::specs::Row::row_of))]
 pub(crate) fn read_next<'a>(
     alloc: Global,
     opening: &Opening,

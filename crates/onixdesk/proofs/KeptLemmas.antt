@@ -1,7 +1,7 @@
 -- What is kept behind requests that were asked of a desk, and what is doubted.
 use Rattle.std.proofs.Common.{◌≡◌, ◌+◌, ◌++◌, ◌∷◌, ◌⊎◌, ℕ, zero, suc, Bool, true, false, List, [], Result, Ok, Err, inl, inr, refl, sym, subst, ap, arith, cond, drop, map, take}
 use Rattle.std.specs.Prelude.{Contains}
-use Rattle.desk_terms.specs.declared.faults.StoreFault.{StoreFault}
+use Rattle.onix_message.specs.declared.faults.StoreFault.{StoreFault}
 use Rattle.price_rules.specs.declared.precedence.Rule.{Rule}
 use Rattle.series_rules.proofs.LawProofs.{by_content_alone}
 use Rattle.series_rules.proofs.Questions.{unchanged}

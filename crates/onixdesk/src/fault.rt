@@ -5,7 +5,7 @@ ghost use Rattle.std.specs.Prelude.{◌≡◌};
 use csv_records::reading::RecordFault;
 use desk_batch::RequestFault;
 use desk_store::OpenFault;
-use desk_terms::StoreFault;
+use onix_message::StoreFault;
 use std::io::Write;
 use thiserror::Error;
 

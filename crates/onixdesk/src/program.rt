@@ -15,7 +15,7 @@ use crate::rules::{RulesFault, open_table, report_rules};
 use crate::{batch, deliver, gaps, migrate, sending, serve};
 use desk_memory::MemoryDesk;
 use desk_store::DeskStore;
-use desk_terms::StoreFault;
+use onix_message::StoreFault;
 use price_rules::precedence::Precedence;
 use series_rules::desk::Desk;
 use sqlite::{FileFrom, FileStore, Start};

@@ -3,7 +3,7 @@ use Rattle.std.specs.Prelude.{◌≡◌, ◌≢◌, AllPairs, Bool, ◌||◌, �
 use Rattle.std.specs.Option.{option_eq}
 use Rattle.onix_terms.specs.declared.party.Party.{Party}
 use Rattle.onix_message.specs.SameContents.{same_party}
-use Rattle.desk_terms.specs.declared.agreements.Agreement.{Agreement}
+use Rattle.onix_message.specs.declared.agreements.Agreement.{Agreement}
 use Rattle.series_rules.specs.declared.requests.Request.{Request}
 use Rattle.series_rules.specs.declared.requests.Request.TheVariants.{Agree}
 

@@ -1,7 +1,7 @@
 //! The answers of a desk.
 
 use catalogue_rules::catalogue::Catalogue;
-use desk_terms::Effect;
+use onix_message::Effect;
 use onix_terms::amount::Amount;
 use onix_terms::code::Code2;
 use onix_terms::isbn13::Isbn13;

@@ -8,7 +8,7 @@ use csv_records::records::Records;
 use onix_message::contents::Contents;
 use onix_message::laws::{bad_rows, messages};
 use onix_message::message::{MessageFault, read_message};
-use onix_records::parts::Header;
+use onix_message::parts::Header;
 use std::alloc::Global;
 
 /// Reads a delivery: the message that its answer is by, or the row that its answer names.

@@ -1,7 +1,7 @@
 //! Requests, and what stands at the numbers of a series.
 
 use csv_records::buffer::RecordBuffer;
-use desk_terms::Agreement;
+use onix_message::Agreement;
 use onix_message::contents::Contents;
 use onix_terms::isbn13::Isbn13;
 use onix_terms::number::Number;

@@ -3,8 +3,8 @@
 use crate::tables::words::{is_whole, word};
 use desk_tables::rows::row_types::{ArticleRow, OfferRow, PriceRow, RecordRow};
 use desk_tables::rows::series::SeriesRow;
-use desk_terms::{Agreement, Effect, StoreFault};
-use onix_records::parts::{Price, Supplier};
+use onix_message::parts::{Price, Supplier};
+use onix_message::{Agreement, Effect, StoreFault};
 use onix_terms::items::Items;
 use onix_terms::number::Number;
 use onix_terms::party::Party;

@@ -3,7 +3,7 @@
 use crate::tables::sample::{agreement, article, effect, offer, price_row};
 use crate::tables::words::{name, number, whole, word};
 use desk_tables::work::Work;
-use desk_terms::StoreFault;
+use onix_message::StoreFault;
 use sqlite::Alter;
 use std::alloc::Global;
 

@@ -4,7 +4,7 @@ use crate::tables::answers::{are_all, are_items, is_found};
 use crate::tables::sample::{offer, party, record};
 use crate::tables::words::{is_whole, isbn, name, number, word};
 use desk_tables::work::Work;
-use desk_terms::StoreFault;
+use onix_message::StoreFault;
 use onix_terms::series_name::SeriesName;
 use sqlite::Alter;
 use std::alloc::Global;

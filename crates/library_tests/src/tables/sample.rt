@@ -3,8 +3,8 @@
 
 use crate::tables::words::{code, name, number, term, whole, word};
 use desk_tables::rows::row_types::{ArticleRow, OfferRow, PriceRow, RecordRow};
-use desk_terms::{Agreement, Effect, StoreFault};
-use onix_records::parts::{Price, Supplier};
+use onix_message::parts::{Price, Supplier};
+use onix_message::{Agreement, Effect, StoreFault};
 use onix_terms::amount::Amount;
 use onix_terms::code::Currency;
 use onix_terms::party::Party;

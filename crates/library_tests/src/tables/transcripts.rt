@@ -7,7 +7,7 @@ use crate::tables::queries::ask;
 use crate::tables::words::name;
 use desk_tables::tables::Tables;
 use desk_tables::work::Work;
-use desk_terms::StoreFault;
+use onix_message::StoreFault;
 use sqlite::Alter;
 use std::alloc::Global;
 

@@ -1,6 +1,6 @@
 //! The words of a line, and the terms that they are.
 
-use desk_terms::StoreFault;
+use onix_message::StoreFault;
 use onix_terms::code::Code2;
 use onix_terms::isbn13::Isbn13;
 use onix_terms::number::Number;

@@ -8,13 +8,13 @@ use Rattle.onix_message.specs.declared.draft.Part.{Part}
 use Rattle.onix_message.specs.declared.draft.Part.TheVariants as part
 use Rattle.onix_message.specs.declared.draft.StepFault.{StepFault}
 use Rattle.onix_message.specs.declared.draft.StepFault.TheVariants as fault
-use Rattle.onix_records.specs.declared.parts.Product.{Product}
-use Rattle.onix_records.specs.declared.parts.ProductSupply.{ProductSupply}
-use Rattle.onix_records.specs.declared.parts.SupplyDetail.{SupplyDetail}
-use Rattle.onix_records.specs.declared.row.Row.{Row}
-use Rattle.onix_records.specs.declared.row.Row.TheVariants as row
-use Rattle.onix_records.specs.declared.row.RowFault.{RowFault}
-use Rattle.onix_records.specs.declared.row.RowFault.TheVariants as read
+use Rattle.onix_message.specs.declared.parts.Product.{Product}
+use Rattle.onix_message.specs.declared.parts.ProductSupply.{ProductSupply}
+use Rattle.onix_message.specs.declared.parts.SupplyDetail.{SupplyDetail}
+use Rattle.onix_message.specs.declared.row.Row.{Row}
+use Rattle.onix_message.specs.declared.row.Row.TheVariants as row
+use Rattle.onix_message.specs.declared.row.RowFault.{RowFault}
+use Rattle.onix_message.specs.declared.row.RowFault.TheVariants as read
 
 -- the rows of a supply that stands open, with the detail that stands open in it
 abbrev pub open_rows : ProductSupply → Option SupplyDetail → List Row

@@ -1,5 +1,5 @@
 use Rattle.std.proofs.Common.{◌≡◌, ◌<◌, ◌+◌, ◌++◌, ◌∷◌, [], ℕ, List, subst, append_assoc, ap, arith, length, length-take, map, sym, take, ◌∙◌}
-use Rattle.onix_records.specs.declared.parts.SupplyDetail.{SupplyDetail}
+use Rattle.onix_message.specs.declared.parts.SupplyDetail.{SupplyDetail}
 use Rattle.catalogue_rules.specs.Offers.{offer_of, offers_from}
 use Rattle.price_rules.specs.declared.offer.Offer.{Offer}
 use Rattle.catalogue_rules.proofs.Places.{offers-push, take-next}

@@ -1,6 +1,6 @@
 use Rattle.std.proofs.Common.{◌≡◌, List, ℕ, Bool, true, false, ◌&&◌, ◌||◌, codes, refl, sym, ap, ◌∙◌}
 use Rattle.std.specs.Str.{bytes_eq}
-use Rattle.onix_records.specs.declared.parts.ProductIdentifier.{ProductIdentifier}
+use Rattle.onix_message.specs.declared.parts.ProductIdentifier.{ProductIdentifier}
 use Rattle.catalogue_rules.specs.Offers.{is_article}
 use Rattle.catalogue_rules.proofs.offers.is_article.Goals as goal
 use Rattle.catalogue_rules.proofs.offers.is_article.Goals.{then-eq, else-eq}

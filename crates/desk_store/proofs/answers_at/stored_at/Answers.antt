@@ -2,7 +2,7 @@ use Rattle.std.proofs.Common.{◌≡◌, ℕ, List, Option, None, Some, Ok, sym,
 use Rattle.sqlite.specs.Held.{state}
 use Rattle.catalogue_store.specs.AchievesLemmas.{achieves_as, achieves_call, achieves_call_failed, achieves_then, does, handed_on}
 use Rattle.desk_tables.specs.Rows.{DeskRows, applied_at, held_at}
-use Rattle.desk_terms.specs.declared.effects.Effect.{Effect}
+use Rattle.onix_message.specs.declared.effects.Effect.{Effect}
 use Rattle.desk_store.specs.declared.answers_at.Stored.{Stored}
 use Rattle.desk_store.proofs.Answered.{stored_applied, stored_held}
 use Rattle.desk_store.proofs.answers_at.stored_at.Goals as goal

@@ -4,7 +4,7 @@ use Rattle.catalogue_store.specs.AchievesLemmas.{achieves_as, achieves_call_fail
 use Rattle.desk_tables.specs.Rows.{DeskRows, AppliedRow, with_applied, with_next}
 use Rattle.desk_tables.specs.Transactions.{NoAnswer}
 use Rattle.desk_store.specs.Changes.{Applies, AppliesAt}
-use Rattle.desk_terms.specs.declared.effects.Effect.{Effect}
+use Rattle.onix_message.specs.declared.effects.Effect.{Effect}
 use Rattle.series_rules.specs.declared.requests.Standing.{Standing}
 use Rattle.desk_store.proofs.applying.apply_at.Goals as goal
 

@@ -1,11 +1,11 @@
 use Rattle.std.proofs.Common.{List, rules}
 use Rattle.sqlite.specs.Held.{state}
 use Rattle.catalogue_rules.specs.Records.{ByReference}
-use Rattle.desk_terms.specs.declared.effects.Effect.{Effect}
+use Rattle.onix_message.specs.declared.effects.Effect.{Effect}
 use Rattle.catalogue_store.specs.Holding.{HoldsCatalogue, IsApplied}
 use Rattle.catalogue_store.specs.AchievesLemmas.{achieves_also, does}
 use Rattle.desk_tables.specs.Rows.{DeskRows}
-use Rattle.onix_records.specs.declared.parts.Product.{Product}
+use Rattle.onix_message.specs.declared.parts.Product.{Product}
 use Rattle.desk_store.proofs.Applied.{message_applied}
 use Rattle.desk_store.proofs.applying.apply_standing.Goals as goal
 

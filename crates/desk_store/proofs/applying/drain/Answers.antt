@@ -2,7 +2,7 @@ use Rattle.std.proofs.Common.{◌≡◌, ◌+◌, Bool, Ok, true, false, arith, 
 use Rattle.sqlite.specs.Held.{state}
 use Rattle.catalogue_store.specs.AchievesLemmas.{achieves_as, achieves_failed, achieves_nothing, achieves_stopped, achieves_then, does, handed_on}
 use Rattle.desk_tables.specs.Rows.{DeskRows}
-use Rattle.desk_terms.specs.declared.faults.StoreFault.TheVariants.{Unusable}
+use Rattle.onix_message.specs.declared.faults.StoreFault.TheVariants.{Unusable}
 use Rattle.desk_store.specs.Changes.{Drains, DrainsOne}
 use Rattle.desk_store.proofs.Applied.{DrainsTo, drained_all, drained_more, drained_up, step_at}
 use Rattle.desk_store.proofs.NumberValues.{number_is}

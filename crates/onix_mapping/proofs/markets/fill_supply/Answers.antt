@@ -1,6 +1,6 @@
 use Rattle.std.proofs.Common.{Some, List, Option, Result, Bool, ℕ, option_map, ap, sym, subst, ◌∙◌}
 use Rattle.std.specs.Prelude.{codes, not}
-use Rattle.onix_records.specs.declared.row.RowFault.{RowFault}
+use Rattle.onix_message.specs.declared.row.RowFault.{RowFault}
 use Rattle.onix_mapping.specs.Elements.{composites}
 use Rattle.onix_mapping.specs.Markets.{record_of}
 use Rattle.onix_mapping.specs.Records.{MayFill}

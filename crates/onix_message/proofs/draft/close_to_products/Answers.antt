@@ -6,9 +6,9 @@ use Rattle.onix_message.specs.declared.draft.Part.{Part}
 use Rattle.onix_message.specs.declared.draft.Part.TheVariants as part
 use Rattle.onix_message.specs.declared.draft.StepFault.{StepFault}
 use Rattle.onix_message.specs.declared.draft.StepFault.TheVariants as fault
-use Rattle.onix_records.specs.declared.parts.ProductSupply.{ProductSupply}
-use Rattle.onix_records.specs.declared.row.Row.{Row}
-use Rattle.onix_records.specs.declared.row.Row.TheVariants as row
+use Rattle.onix_message.specs.declared.parts.ProductSupply.{ProductSupply}
+use Rattle.onix_message.specs.declared.row.Row.{Row}
+use Rattle.onix_message.specs.declared.row.Row.TheVariants as row
 use Rattle.onix_message.proofs.draft.close_to_products.Goals as goal
 
 some-supply : ProductSupply

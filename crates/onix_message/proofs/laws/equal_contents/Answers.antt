@@ -1,7 +1,7 @@
 use Rattle.std.proofs.Common.{List}
 use Rattle.std.specs.Cmp.Lexicographic.{pointwise_decides}
 use Rattle.onix_message.specs.SameContents.{same_contents, same_product-Decides}
-use Rattle.onix_records.specs.declared.parts.Product.{Product}
+use Rattle.onix_message.specs.declared.parts.Product.{Product}
 use Rattle.onix_message.proofs.laws.equal_contents.Goals as goal
 
 pub returns : goal.returns

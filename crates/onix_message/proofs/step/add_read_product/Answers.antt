@@ -1,5 +1,5 @@
 use Rattle.std.proofs.Common.{refl}
-use Rattle.onix_records.specs.declared.row.Row.TheVariants as row
+use Rattle.onix_message.specs.declared.row.Row.TheVariants as row
 use Rattle.onix_message.proofs.Bare.{product-bare}
 use Rattle.onix_message.proofs.StepsOfRows.{failed-steps, made-steps}
 use Rattle.onix_message.proofs.step.add_read_product.Goals as goal

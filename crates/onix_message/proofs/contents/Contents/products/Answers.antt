@@ -5,7 +5,7 @@ use Rattle.onix_message.proofs.OneText.{contents-few}
 use Rattle.onix_message.proofs.RowLists.{length-products}
 use Rattle.onix_message.specs.DetailCount.{detail_count}
 use Rattle.onix_message.specs.PartRows.{content_rows}
-use Rattle.onix_records.specs.declared.parts.Product.{Product}
+use Rattle.onix_message.specs.declared.parts.Product.{Product}
 use Rattle.onix_message.proofs.contents.Contents.products.Goals as goal
 
 pub returns-clause-few : goal.returns-clause-few

@@ -1,0 +1,17 @@
+use Rattle.std.proofs.Common.{refl, arith}
+use Rattle.std.proofs.lemmas.Grind.{common_steps}
+use Rattle.onix_message.specs.Opening.{opening_from}
+use Rattle.onix_message.proofs.opening.make_opening.Goals as goal
+
+pub returns-in_err-default_type : goal.returns-in_err-default_type
+unfolding opening_from
+returns-in_err-default_type c = grind (arith, common_steps)
+
+pub returns-in_err-default_currency : goal.returns-in_err-default_currency
+unfolding opening_from
+returns-in_err-default_currency c = grind (arith, common_steps)
+
+pub returns : goal.returns
+unfolding opening_from
+returns c =
+    rw (c.in_ok-form.ensures, c.in_ok-sender.ensures, c.in_ok-addressee.ensures, c.in_ok-number.ensures, c.in_ok-repeat.ensures, c.in_ok-default_type.ensures, c.in_ok-default_currency.ensures, c.in_ok-sent.ensures.text) refl

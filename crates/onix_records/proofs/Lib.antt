@@ -1,4 +1,0 @@
-pub mod CleanFields
-pub mod Pairs
-pub mod PriceFields
-pub mod TenFields

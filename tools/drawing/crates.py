@@ -12,7 +12,7 @@ LAYERS = {
         "batches, HTTP, program",
         ["desk_batch", "http_requests", "desk_http", "onixdesk", "library_tests"],
     ),
-    "Tables": ("a desk in a file", ["desk_tables", "catalogue_store", "desk_store", "desk_stops"]),
+    "Tables": ("a desk in a file", ["desk_tables", "catalogue_store", "desk_store"]),
     "Rules": ("what is answered", ["price_rules", "catalogue_rules", "series_rules", "desk_memory"]),
     "Words": ("what a message says", ["xml_text", "xml_verdicts", "onix_outline", "outline_verdicts", "onix_mapping", "csv_records", "onix_terms", "onix_message"]),
 }

@@ -1,3 +1,9 @@
+pub mod RunLemmas
+pub mod WholeLists
+pub mod ConnectionLaws
+pub mod ClauseLemmas
+pub mod FileLemmas
+mod SessionLemmas
 mod Transactions
 mod Alone
 mod FoundTables

@@ -1,6 +1,0 @@
-pub mod RunLemmas
-pub mod WholeLists
-pub mod ConnectionLaws
-pub mod ClauseLemmas
-pub mod FileLemmas
-mod SessionLemmas

@@ -8,8 +8,8 @@ ghost use Rattle.catalogue_rules.specs.Effects.{after, effect_of};
 ghost use Rattle.catalogue_rules.specs.Offers.{offers_in};
 ghost use Rattle.catalogue_rules.specs.Plans.{IsReady, all_bytes, entry_now};
 
-use crate::draft::Draft;
 use crate::entry::Entry;
+use crate::entry_changes::EntryChanges;
 use crate::offers::add_record;
 use crate::plan::Plan;
 use onix_message::Effect;
@@ -154,7 +154,7 @@ impl Catalogue {
     }
 
     // Carries out the changes, which takes no memory where each new reference has its place.
-    fn apply_draft(&mut self, draft: Draft<'_>)
+    fn apply_draft(&mut self, draft: EntryChanges<'_>)
         requires ready { (q : List ℕ) → IsReady (map.get self.old q) (map.get draft q) }
         requires few { EachHas (λ w. IfSome w HasFewDetails) draft }
         ensures { (q : List ℕ)

@@ -10,8 +10,8 @@
 pub mod article_index;
 pub mod catalogue;
 pub mod change;
-mod draft;
 pub mod entry;
+mod entry_changes;
 mod listing;
 mod offers;
 mod plan;

@@ -9,8 +9,8 @@ ghost use Rattle.catalogue_rules.specs.Plans.{IsPlan, all_bytes, entry_now, tota
 
 use crate::catalogue::Catalogue;
 use crate::change::{Change, counted};
-use crate::draft::Draft;
 use crate::entry::Entry;
+use crate::entry_changes::EntryChanges;
 use onix_message::Effect;
 use onix_message::parts::Product;
 use std::alloc::{AllocError, Global};
@@ -20,7 +20,7 @@ use std::alloc::{AllocError, Global};
 #[derive(Drop)]
 pub struct Plan<'a> {
     /// The changes.
-    pub draft: Draft<'a>,
+    pub draft: EntryChanges<'a>,
     /// Those of their references that the catalogue lacks, each once.
     pub new_references: Vec<&'a str>,
     /// What the products did.
@@ -61,7 +61,7 @@ impl<'a> Plan<'a> {
         ensures effect { result.effect ≡ no_effect }
     {
         Plan {
-            draft: Draft::new(alloc),
+            draft: EntryChanges::new(alloc),
             new_references: Vec::new(alloc),
             effect: Effect::none(),
         }

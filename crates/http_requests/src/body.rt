@@ -98,7 +98,7 @@ fn records_in(alloc: Global, body: &[u8]) -> Result<RecordBuffer, InputFault>
 }
 
 // The records of the body of so many bytes. What follows the body is left out.
-fn read_delivery<R: Read>(
+fn read_body_records<R: Read>(
     alloc: Global,
     reader: &mut R,
     behind: &[u8],
@@ -137,7 +137,7 @@ pub fn read_posted<R: Read>(
         (R.remaining reader.old) (R.remaining reader.new) }
 {
     match head.body_size() {
-        Ok(size) => read_delivery(alloc, reader, behind, size),
+        Ok(size) => read_body_records(alloc, reader, behind, size),
         Err(why) => Err(InputFault::Refused(why)),
     }
 }

@@ -7,9 +7,9 @@ use Rattle.http_requests.proofs.body.read_posted.Goals as goal
 pub returns-in-Ok-clause-gives : goal.returns-in-Ok-clause-gives
 unfolding records_posted
 returns-in-Ok-clause-gives g c h is =
-    IfSome-map (g.R.Read.remaining c.args.reader.now) (λ more. Gives c.read_delivery.result (records_behind c.in-Ok.size (c.args.behind.now ++ more))) _
-    (λ more gives. gives_next (size_asked h) c.in-Ok.size (λ size. records_behind size (c.args.behind.now ++ more)) c.read_delivery.result (sym (c.in-Ok.ensures.size h is)) gives)
-    c.read_delivery.ensures.gives
+    IfSome-map (g.R.Read.remaining c.args.reader.now) (λ more. Gives c.read_body_records.result (records_behind c.in-Ok.size (c.args.behind.now ++ more))) _
+    (λ more gives. gives_next (size_asked h) c.in-Ok.size (λ size. records_behind size (c.args.behind.now ++ more)) c.read_body_records.result (sym (c.in-Ok.ensures.size h is)) gives)
+    c.read_body_records.ensures.gives
 
 pub returns-in-Err-clause-gives : goal.returns-in-Err-clause-gives
 unfolding records_posted
@@ -19,4 +19,4 @@ returns-in-Err-clause-gives g c h is =
 
 pub returns-in-Ok-clause-taken : goal.returns-in-Ok-clause-taken
 unfolding most_posted
-returns-in-Ok-clause-taken g c h is = rw (← c.in-Ok.ensures.size h is) c.read_delivery.ensures.taken
+returns-in-Ok-clause-taken g c h is = rw (← c.in-Ok.ensures.size h is) c.read_body_records.ensures.taken

@@ -3,7 +3,7 @@ use Rattle.http_requests.specs.Posted.{body_of, records_behind, records_in}
 use Rattle.http_requests.specs.Steps.{Gives}
 use Rattle.http_requests.specs.KnownLemmas.{IfSome-all, IfSome-map, fault_gives, gives_next}
 use Rattle.http_requests.proofs.PostedLemmas.{body_short, body_there}
-use Rattle.http_requests.proofs.body.read_delivery.Goals as goal
+use Rattle.http_requests.proofs.body.read_body_records.Goals as goal
 
 pub returns-in-Err-clause-gives : goal.returns-in-Err-clause-gives
 returns-in-Err-clause-gives g c =

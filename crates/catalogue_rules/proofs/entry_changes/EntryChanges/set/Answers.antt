@@ -2,7 +2,7 @@ use Rattle.std.proofs.Common.{ap, ◌∙◌}
 use Rattle.std.specs.FinMap as map
 use Rattle.catalogue_rules.specs.Plans.{str_bytes}
 use Rattle.catalogue_rules.proofs.Lookups.{insert-map_by}
-use Rattle.catalogue_rules.proofs.draft.Draft.set.Goals as goal
+use Rattle.catalogue_rules.proofs.entry_changes.EntryChanges.set.Goals as goal
 
 pub returns : goal.returns
 returns c =

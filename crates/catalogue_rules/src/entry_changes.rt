@@ -12,11 +12,11 @@ use std::marker::Model;
 /// What is to become of some references: the entry that each then has, or none. The products lend
 /// the references, so that none is copied.
 #[derive(Drop)]
-pub struct Draft<'a> {
+pub struct EntryChanges<'a> {
     changes: BTreeMap<&'a str, Option<Entry>>,
 }
 
-impl<'a> Model for Draft<'a> {
+impl<'a> Model for EntryChanges<'a> {
     ghost use Rattle.std.specs.Prelude.{ℕ};
     ghost use Rattle.std.specs.FinMap as map;
     ghost use Rattle.std.specs.Coded.{coded_ℕ, coded_list, coded_option};
@@ -31,12 +31,12 @@ impl<'a> Model for Draft<'a> {
     ghost view = { λ d. map_by str_bytes d.changes.entries };
 }
 
-impl<'a> Draft<'a> {
+impl<'a> EntryChanges<'a> {
     /// No change. It takes no memory.
-    pub fn new(alloc: Global) -> Draft<'a>
+    pub fn new(alloc: Global) -> EntryChanges<'a>
         ensures { result ≡ map.empty }
     {
-        Draft {
+        EntryChanges {
             changes: BTreeMap::new(alloc),
         }
     }

@@ -2,7 +2,7 @@ use Rattle.std.proofs.Common.{sym, ap, ◌∙◌}
 use Rattle.std.specs.FinMap as map
 use Rattle.catalogue_rules.specs.Plans.{str_bytes}
 use Rattle.catalogue_rules.proofs.Lookups.{get-map_by}
-use Rattle.catalogue_rules.proofs.draft.Draft.get.Goals as goal
+use Rattle.catalogue_rules.proofs.entry_changes.EntryChanges.get.Goals as goal
 
 pub returns : goal.returns
 returns c =

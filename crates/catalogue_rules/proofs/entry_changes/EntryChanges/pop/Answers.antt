@@ -3,7 +3,7 @@ use Rattle.std.specs.FinMap as map
 use Rattle.std.proofs.lemmas.Bool.{cases_lt}
 use Rattle.catalogue_rules.specs.Plans.{str_bytes}
 use Rattle.catalogue_rules.proofs.Lookups.{get-map_by, remove-map_by, none_from_empty, fewer_after}
-use Rattle.catalogue_rules.proofs.draft.Draft.pop.Goals as goal
+use Rattle.catalogue_rules.proofs.entry_changes.EntryChanges.pop.Goals as goal
 
 no_more : (n : ℕ) → (0 < n → false ≡ true) → n ≡ 0
 no_more n f = ⊎_elim (λ lt. let wrong = f lt in cc) (λ ge. omega arith) (cases_lt 0 n)

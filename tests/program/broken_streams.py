@@ -40,7 +40,7 @@ BATCH = b"".join(part for part, _ in PARTS)
 ANSWERS = PARTS[-1][1]
 
 AGREEMENT = BATCH.splitlines(keepends=True)[0]
-OTHER_AGREEMENT = AGREEMENT.replace(b"north", b"south")
+OTHER_AGREEMENT = AGREEMENT.replace(b"north,06,4012345000009", b"south,06,5000000000005")
 
 ASK_GAPS = b"AskGaps,north\n"
 NOT_AGREED = Ran(1, b"refused,unknown-series\n")

@@ -1,7 +1,7 @@
 //! The database file, looked at before it is opened.
 
 ghost use Rattle.std.specs.Prelude.{◌≡◌, ◌↔◌, IfErr, IsErrAnd, IsTrue, OnOk};
-ghost use Rattle.std_io.specs.IoError.{error_kind};
+ghost use Rattle.std.specs.IoError.{error_kind};
 ghost use Rattle.onixdesk.specs.declared.fault.Fault.{Fault};
 
 use crate::command_line::Database;

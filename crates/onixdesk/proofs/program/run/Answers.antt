@@ -7,7 +7,7 @@ pub returns-in-Run-clause-end : goal.returns-in-Run-clause-end
 returns-in-Run-clause-end g c = (reading.Run c.in-Run.invocation, c.run_invocation.ensures.end)
 
 pub returns-in-Help-clause-end : goal.returns-in-Help-clause-end
-returns-in-Help-clause-end g c = (reading.Help c.in-Help.text, (c.print_help.ensures, refl))
+returns-in-Help-clause-end g c = (reading.Help c.in-Help.text, (rw c.as_str.ensures.value at c.print_help.ensures, refl))
 
 pub returns-in-Wrong-clause-end : goal.returns-in-Wrong-clause-end
 returns-in-Wrong-clause-end g c = (reading.Wrong c.in-Wrong.text, (c.print_wrong.ensures, Appends-nil (g.W.Write.contents c.args.output.now), refl))

@@ -13,5 +13,6 @@ texts_of territory = record { included = countries_text territory.included; excl
 abbrev pub AreOfferTexts : List typed.OfferRow → List TerritoryTexts → Type 0
 AreOfferTexts rows texts = texts ≡ map (λ r. texts_of r.market) rows
 
+-- the texts of the territories of prices, row by row
 abbrev pub ArePriceTexts : List typed_price.PriceRow → List TerritoryTexts → Type 0
 ArePriceTexts rows texts = texts ≡ map (λ r. texts_of r.price.territory) rows

@@ -12,10 +12,6 @@ use Rattle.onix_mapping.specs.Notes.{Reason}
 abbrev pub days_after : Days → Result Days Reason → Result Days Reason
 days_after d r = result_map_both (or_days d) (λ e. e) r
 
-pub after_none : (r : Result Days Reason) → days_after (days None None) r ≡ r
-after_none (Ok d) = refl
-after_none (Err e) = refl
-
 or_or : (a b c : Option (List ℕ)) → option_or (option_or a b) c ≡ option_or a (option_or b c)
 or_or None b c = refl
 or_or (Some a) b c = refl

@@ -53,7 +53,3 @@ one_more f old new all left others c split made before =
     ∙ append_assoc old (f c) (flat_map f (composites (codes "Price") others))
     ∙ ap (λ (cs : List Composite). old ++ flat_map f cs) (sym split)
     ∙ before
-
--- the records of a SupplyDetail: its own, and then those of its Prices
-pub detail_before : {A : Type 0} (old own new prices : List A) (detail : A) → own ≡ old ++ detail ∷ [] → new ≡ own ++ prices → old ++ (detail ∷ prices) ≡ new
-detail_before old own new prices detail first all = sym (all ∙ ap (λ n. n ++ prices) first ∙ append_assoc old (detail ∷ []) prices)

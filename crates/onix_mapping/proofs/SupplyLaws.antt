@@ -19,20 +19,3 @@ pub records-step : (made : Composite → Option (List (List (List ℕ)))) (old n
     → option_map (λ more. new ++ more) (all_records made others) ≡ all
 records-step made old new all c whole others parts added before =
     step old new (made c) (all_records made others) all added (ap (λ k. option_map (λ more. old ++ more) (all_records made k)) (sym parts) ∙ before)
-
-nothing-before : {A : Type 0} (first : List A) (all : Option (List A)) → None ≡ option_map (λ more. first ++ more) all → all ≡ None
-nothing-before first None is = refl
-nothing-before first (Some more) is = cc
-
--- where one element is wrong, there are no records of all
-pub records-wrong : (made : Composite → Option (List (List (List ℕ)))) (first old : List (List (List ℕ))) (all : Option (List (List (List ℕ)))) (c : Composite) (whole others : List Composite)
-    → whole ≡ c ∷ others → made c ≡ None → option_map (λ more. old ++ more) (all_records made whole) ≡ option_map (λ more. first ++ more) all → all ≡ None
-records-wrong made first old all c whole others parts wrong before =
-    nothing-before first all (ap (λ k. option_map (λ more. old ++ more) (k >>= (λ records. all_records made others >>= (λ more. Some (records ++ more))))) (sym wrong)
-    ∙ ap (λ k. option_map (λ more. old ++ more) (all_records made k)) (sym parts) ∙ before)
-
--- behind the last element all records were added
-pub records-end : (made : Composite → Option (List (List (List ℕ)))) (old : List (List (List ℕ))) (all : Option (List (List (List ℕ)))) (whole : List Composite)
-    → whole ≡ [] → option_map (λ more. old ++ more) (all_records made whole) ≡ all → all ≡ Some old
-records-end made old all whole none before =
-    sym before ∙ ap (λ k. option_map (λ more. old ++ more) (all_records made k)) none ∙ ap Some (append-nil old)

@@ -28,6 +28,7 @@ composites name (node n tag text below rest) =
     then record { element = record { name = n; tag = tag; text = text }; below = below } ∷ composites name rest
     else composites name rest
 
+-- the first of a list, where it has one
 abbrev pub first : {A : Type 0} → List A → Option A
 first [] = None
 first (x ∷ xs) = Some x

@@ -18,6 +18,7 @@ use Rattle.onix_mapping.specs.declared.header.Refusal.{Refusal}
 use Rattle.onix_mapping.specs.declared.header.Refusal.TheVariants.{Malformed}
 use Rattle.onix_message.specs.declared.row.Opening.{Opening}
 
+-- what the caller chooses, as its texts and numbers
 abbrev pub choices_view : Choices → Chosen
 choices_view c = record {
   parts = c.parts;

@@ -88,5 +88,6 @@ record_from (m ∷ markets) = territories_of (m ∷ markets) >>= record_by (firs
 abbrev pub record_in : Nodes → Option (Option (List (List ℕ)))
 record_in nodes = record_from (composites (codes "Market") nodes)
 
+-- the notes on what is left out of the Markets of a ProductSupply
 abbrev pub market_notes_in : Nodes → List Note
 market_notes_in nodes = markets_notes (composites (codes "Market") nodes)

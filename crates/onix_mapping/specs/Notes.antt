@@ -15,6 +15,7 @@ pub record Note : Type 0 where
   pub element : Element
   pub reason : Reason
 
+-- a reason with the text that it is about
 abbrev pub reason : Why → List ℕ → Reason
 reason why text = record { why = why; text = text }
 
@@ -23,11 +24,13 @@ note element why text = record { element = element; reason = reason why text }
 
 -- ---- without where they lie in memory
 
+-- a reason, as its kind and its text
 abbrev pub reason_view : LentReason → Reason
 reason_view r = reason r.why r.text.now
 
 abbrev pub note_view : Lent → Note
 note_view n = record { element = element_view n.line.now; reason = reason_view n.reason }
 
+-- notes, as what they speak of and why
 abbrev pub note_views : List Lent → List Note
 note_views notes = map note_view notes

@@ -8,6 +8,7 @@ pub record Pair : Type 0 where
   pub id_type : List ℕ
   pub id_value : List ℕ
 
+-- an identifier of this type and value
 abbrev pub pair : List ℕ → List ℕ → Pair
 pair id_type id_value = record { id_type = id_type; id_value = id_value }
 

@@ -57,6 +57,7 @@ wrong_identifiers reference notification identifiers = flat_map (identifier_note
 
 -- ---- the record
 
+-- a Product that deletes a record has NotificationType 05
 abbrev pub is_deletion : Nodes → Bool
 is_deletion nodes = bytes_eq (notification_in nodes) (codes "05")
 

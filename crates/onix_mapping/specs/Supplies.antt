@@ -63,8 +63,10 @@ supply_notes o supply =
 abbrev pub supplies_in : Nodes → List Composite
 supplies_in nodes = composites (codes "ProductSupply") nodes
 
+-- the records of each ProductSupply of a Product, where the desk would take them all
 abbrev pub supplies_records : Opening → List ℕ → Nodes → Option (List (List (List ℕ)))
 supplies_records o preferred nodes = all_records (supply_records o preferred) (supplies_in nodes)
 
+-- the notes on what is left out of each ProductSupply
 abbrev pub supplies_notes : Opening → Nodes → List Note
 supplies_notes o nodes = flat_map (supply_notes o) (supplies_in nodes)

@@ -71,6 +71,7 @@ market_of a = said supply_of (area_fields a)
 
 -- ---- without where it lies in memory
 
+-- a Territory, as its line and its four texts
 abbrev pub area_view : Lent → Area
 area_view a = record {
   territory = option_map (λ l. element_view l.now) a.line;

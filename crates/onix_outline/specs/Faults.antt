@@ -43,6 +43,7 @@ Explains bytes Reference = RefusesText bytes Reference
 abbrev pub IsBehind : Option (List ℕ) → Position → Type 0
 IsBehind bytes place = (tokens : List Token) × OfText (BeginsAt first_place tokens) bytes × (place ≡ position_past first_position tokens)
 
+-- the place of a fault: that behind the tokens at which reading stopped; of an unknown encoding, a failed read and want of memory nothing is said
 abbrev pub IsAt : Option (List ℕ) → Fault → Position → Type 0
 IsAt bytes (Document UnknownEncoding) place = Unit {0}
 IsAt bytes (Document Read) place = Unit {0}

@@ -89,6 +89,7 @@ takes_more_with None known = true
 takes_more_with (Some (Err wrong)) known = false
 takes_more_with (Some (Ok d)) known = known
 
+-- a message goes on while its root may be one and each reference stands for something
 abbrev pub takes_more : {T : Type 0} → Feed T → Bool
 takes_more f = takes_more_with f.root f.known
 

@@ -50,11 +50,6 @@ client_of seen rules old new sent held holds batches coming left written result 
   line = it.line;
 }
 
--- where batches are taken, a client may come by each protocol
-pub may_come : (p : Protocol) → MayCome true p
-may_come protocol.Exchange = tt
-may_come protocol.Batch = refl
-
 -- ---- which clients they were
 
 -- the connections are those of the first clients, and those that are still to come are the others

@@ -12,9 +12,11 @@ abbrev pub format_shown : List ℕ → Option (List ℕ) → List ℕ
 format_shown shown None = shown
 format_shown shown (Some format) = (shown ++ 64 ∷ []) ++ format
 
+-- the last decimal digit of a number, as its character
 abbrev pub digit : ℕ → ℕ
 digit n = 48 + n % 10
 
+-- a place is printed as a number sign, the last digit of its line, a point and the last three of its column
 abbrev pub place_shown : List ℕ → Position → List ℕ
 place_shown shown p = (((((shown ++ 35 ∷ []) ++ digit p.line ∷ []) ++ 46 ∷ []) ++ digit (p.column / 100) ∷ []) ++ digit (p.column / 10) ∷ []) ++ digit p.column ∷ []
 

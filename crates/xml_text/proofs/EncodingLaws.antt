@@ -73,10 +73,6 @@ read_end e h k (Some x) (Some y) bytes is none c last =
     ap (decoded_from e h) (c ∙ ap (λ (l : List ℕ). l ++ y) none ∙ last) ∙ decoded-end e h
     ∙ ap (λ (j : Held). ending e h ++ decoded_from e j []) (sym is) ∙ ap (λ (l : List ℕ). ending e h ++ decoded_from e k l) (sym last)
 
-pub end_left : (e : Encoding) (k : Held) (b : Option (List ℕ)) → k ≡ Nothing → IsAtEnd b → IsAtEnd (decoded_rest e k b)
-end_left e k None is last = tt
-end_left e k (Some y) is last = ap (λ (j : Held). decoded_from e j y) is ∙ ap (decoded_from e Nothing) last ∙ none_left e
-
 -- what was read before comes first
 pub begun : (e : Encoding) (h k : Held) (head : List ℕ) (a : Option (List ℕ)) → h ≡ Nothing → k ≡ held_behind e h head
     → Consumes (text_left e head a) (decoded_rest e k a) (text_from e h head)

@@ -14,12 +14,6 @@ enough None b head c long = tt
 enough (Some x) None head c long = absurd c
 enough (Some x) (Some y) head c long = ap (take 1024) c ∙ take-append-le 1024 head y long
 
--- all was read
-pub all_read : (a b : Option (List ℕ)) (head : List ℕ) → Consumes a b head → IsAtEnd b → IfSome a (λ bytes. take 1024 bytes ≡ take 1024 head)
-all_read None b head c last = tt
-all_read (Some x) None head c last = absurd c
-all_read (Some x) (Some y) head c last = ap (take 1024) (c ∙ ap (λ (l : List ℕ). head ++ l) last ∙ append-nil head)
-
 -- the text of all bytes is that behind the mark
 whole_text : (x y head : List ℕ) (e : Encoding) (n : ℕ) → x ≡ head ++ y → take 1024 x ≡ take 1024 head → encoding_at (take 1024 head) ≡ Some (e, n) → n ≤ length head
     → text_of x ≡ Some (decoded e (drop n head ++ y))
@@ -39,12 +33,6 @@ pub is_text_of : (a b : Option (List ℕ)) (head text : List ℕ) (e : Encoding)
 is_text_of None b head text e n c front found within told = tt
 is_text_of (Some x) None head text e n c front found within told = absurd c
 is_text_of (Some x) (Some y) head text e n c front found within told = whole_text x y head e n c front found within ∙ ap (λ (l : List ℕ). Some l) told
-
-pub is_unknown : (a : Option (List ℕ)) (head : List ℕ) → IfSome a (λ bytes. take 1024 bytes ≡ take 1024 head) → encoding_at (take 1024 head) ≡ None → IfSome a IsOfUnknown
-is_unknown None head front none = tt
-is_unknown (Some x) head front none =
-    ap (λ (l : List ℕ). option_map (λ (f : Encoding × ℕ). decoded f.0 (drop f.1 x)) (encoding_at l)) front
-    ∙ ap (option_map (λ (f : Encoding × ℕ). decoded f.0 (drop f.1 x))) none
 
 -- the mark is within the head
 pub mark_within : (n : ℕ) (front shown other head : List ℕ) → front ≡ take 1024 shown → shown ≡ head → other ≡ head → n ≤ length front → n ≤ length other

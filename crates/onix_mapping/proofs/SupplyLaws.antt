@@ -1,6 +1,5 @@
 -- The records of one element more.
 use Rattle.std.proofs.Common.{◌≡◌, ℕ, List, [], ◌∷◌, ◌++◌, Option, Some, None, option_map, refl, sym, ap, ◌∙◌, append_assoc}
-use Rattle.std.proofs.lemmas.List.{append-nil}
 use Rattle.std.proofs.lemmas.Option.{same_Some}
 use Rattle.onix_terms.specs.Options.{◌>>=◌}
 use Rattle.onix_mapping.specs.Elements.{Composite}

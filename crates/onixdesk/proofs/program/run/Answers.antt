@@ -1,5 +1,8 @@
-use Rattle.std.proofs.Common.{inl, inr, refl, subst, sym}
+use Rattle.std.proofs.Common.{◌≡◌, refl, rules, subst}
 use Rattle.std.proofs.KnownBytes.{Appends-nil}
+use Rattle.std.specs.Io.KnownBytes.{Appends}
+use Rattle.std.specs.String.{string_bytes}
+use Rattle.onixdesk.specs.FileEnds.{HelpEnds}
 use Rattle.onixdesk.specs.declared.command_line.Reading.TheVariants as reading
 use Rattle.onixdesk.proofs.program.run.Goals as goal
 
@@ -7,7 +10,11 @@ pub returns-in-Run-clause-end : goal.returns-in-Run-clause-end
 returns-in-Run-clause-end g c = (reading.Run c.in-Run.invocation, c.run_invocation.ensures.end)
 
 pub returns-in-Help-clause-end : goal.returns-in-Help-clause-end
-returns-in-Help-clause-end g c = (reading.Help c.in-Help.text, (rw c.as_str.ensures.value at c.print_help.ensures, refl))
+returns-in-Help-clause-end g c =
+    let same : c.as_str.result.now ≡ string_bytes c.in-Help.text = search rules in (
+      reading.Help c.in-Help.text,
+      (subst (λ text. HelpEnds (Appends (g.W.Write.contents c.args.output.now) (g.W.Write.contents c.print_help.new.output)) text c.print_help.result) same c.print_help.ensures, refl),
+    )
 
 pub returns-in-Wrong-clause-end : goal.returns-in-Wrong-clause-end
 returns-in-Wrong-clause-end g c = (reading.Wrong c.in-Wrong.text, (c.print_wrong.ensures, Appends-nil (g.W.Write.contents c.args.output.now), refl))

@@ -1,8 +1,7 @@
-use Rattle.std.proofs.Common.{arith, inr}
+use Rattle.std.proofs.Common.{inr}
 use Rattle.std.proofs.KnownBytes.{Appends-trans}
 use Rattle.onixdesk.proofs.LineLemmas.{lines_behind}
 use Rattle.onixdesk.proofs.ServingLemmas.{unserved_ends}
-use Rattle.onixdesk.specs.Course.{course}
 use Rattle.onixdesk.specs.Serving.{listening_line}
 use Rattle.onixdesk.proofs.serve.serve_at.Goals as goal
 

@@ -2,7 +2,7 @@
 
 use crate::header::{Choices, HeaderFault, Refusal, fill_message, read_heading};
 use crate::parties::Pair;
-use crate::tests::push;
+use crate::tests::{push, shown};
 use csv_records::fields::FieldBuffer;
 use onix_message::row::RowFault;
 use onix_outline::Line;
@@ -35,24 +35,20 @@ fn push_addressee(alloc: Global, lines: &mut Vec<Line>, value: &[u8]) -> Result<
     push(alloc, lines, 3, b"IDValue", value)
 }
 
-// Whether the record of the first part has these fields, with commas between them.
-fn is_record(alloc: Global, choices: &Choices<'_>, lines: &[Line], wanted: &str) -> bool {
+// Whether the record of the first part has these fields, each with a bar behind it.
+fn is_record(alloc: Global, choices: &Choices<'_>, lines: &[Line], wanted: &[u8]) -> bool {
     let mut fields = FieldBuffer::new(alloc);
     match read_heading(alloc, choices, 1, lines, &mut fields) {
-        Ok(_) => is_joined(&fields, wanted),
+        Ok(_) => is_shown(alloc, &fields, wanted),
         Err(_) => false,
     }
 }
 
-fn is_joined(fields: &FieldBuffer, wanted: &str) -> bool {
-    let mut at = 0;
-    for part in wanted.split(',') {
-        if fields.get(at) != Some(part) {
-            return false;
-        }
-        at += 1;
+fn is_shown(alloc: Global, fields: &FieldBuffer, wanted: &[u8]) -> bool {
+    match shown(alloc, fields) {
+        Ok(text) => text.as_slice() == wanted,
+        Err(_) => false,
     }
-    fields.len() == at
 }
 
 fn is_refused(alloc: Global, choices: &Choices<'_>, lines: &[Line], why: Refusal) -> bool {
@@ -84,7 +80,7 @@ fn a_header_is_written_as_it_stands(rt: HostRuntime) -> Result<(), AllocError> {
             alloc,
             &plain(),
             &lines,
-            "Message,2,01,S,01,A,7,2,20250303T0615Z,02,GBP",
+            b"Message|2|01|S|01|A|7|2|20250303T0615Z|02|GBP|",
         ),
         "all fields",
     );
@@ -97,7 +93,7 @@ fn a_header_is_written_as_it_stands(rt: HostRuntime) -> Result<(), AllocError> {
             alloc,
             &choices,
             &lines,
-            "Message,2,01,S,01,A,49,2,20250303T0615Z,02,GBP",
+            b"Message|2|01|S|01|A|49|2|20250303T0615Z|02|GBP|",
         ),
         "the first of three parts of message 17",
     );
@@ -113,7 +109,7 @@ fn a_header_is_written_as_it_stands(rt: HostRuntime) -> Result<(), AllocError> {
             alloc,
             &choices,
             &lines,
-            "Message,2,01,S,01,B,49,2,20250303T0615Z,02,GBP",
+            b"Message|2|01|S|01|B|49|2|20250303T0615Z|02|GBP|",
         ),
         "the second addressee, and the first type",
     );

@@ -5,7 +5,7 @@ use crate::markets::fill_supply;
 use crate::notes::{Note, Why};
 use crate::product_records::add_product;
 use crate::products::fill_product;
-use crate::tests::push;
+use crate::tests::{push, shown};
 use csv_records::buffer::RecordBuffer;
 use csv_records::fields::FieldBuffer;
 use csv_records::writing::write_records;
@@ -41,19 +41,6 @@ fn push_identifier(
     push(alloc, lines, 2, b"IDValue", value)
 }
 
-// The fields of a record, each with a bar behind it.
-fn shown(alloc: Global, fields: &FieldBuffer) -> Result<Vec<u8>, AllocError> {
-    let record = fields.as_record();
-    let mut list = Vec::new(alloc);
-    record.fill(&mut list)?;
-    let mut shown = Vec::new(alloc);
-    for field in &list {
-        shown.extend_from_slice(field.as_bytes())?;
-        shown.extend_from_slice(b"|")?;
-    }
-    Ok(shown)
-}
-
 fn expect(stop: &impl Abort, found: &[u8], wanted: &[u8]) {
     assert_eq!(stop; found, wanted);
 }
@@ -65,7 +52,27 @@ fn expect_notes(stop: &impl Abort, notes: &[Note<'_>], wanted: &[Why]) {
     }
 }
 
-// What comes of these Markets: a record, or `left out` or `wrong`; and the notes.
+// What comes of the Markets of these lines: a record, or `left out` or `wrong`; and the notes.
+fn expect_supply<'a>(
+    stop: &impl Abort,
+    alloc: Global,
+    lines: &'a [Line],
+    wanted: &[u8],
+    reasons: &[Why],
+) -> Result<(), AllocError> {
+    let mut fields = FieldBuffer::new(alloc);
+    let mut notes: Vec<Note<'a>> = Vec::new(alloc);
+    match fill_supply(alloc, &mut fields, 2, lines, &mut notes) {
+        Ok(true) => expect(stop, &shown(alloc, &fields)?, wanted),
+        Ok(false) => expect(stop, b"left out", wanted),
+        Err(RowFault::Wrong) => expect(stop, b"wrong", wanted),
+        Err(RowFault::Memory) => return Err(AllocError),
+    }
+    expect_notes(stop, &notes, reasons);
+    Ok(())
+}
+
+// What comes of these Markets.
 fn expect_market(
     stop: &impl Abort,
     alloc: Global,
@@ -77,16 +84,7 @@ fn expect_market(
     for texts in markets {
         push_market(alloc, &mut lines, texts)?;
     }
-    let mut fields = FieldBuffer::new(alloc);
-    let mut notes = Vec::new(alloc);
-    match fill_supply(alloc, &mut fields, 2, &lines, &mut notes) {
-        Ok(true) => expect(stop, &shown(alloc, &fields)?, wanted),
-        Ok(false) => expect(stop, b"left out", wanted),
-        Err(RowFault::Wrong) => expect(stop, b"wrong", wanted),
-        Err(RowFault::Memory) => return Err(AllocError),
-    }
-    expect_notes(stop, &notes, reasons);
-    Ok(())
+    expect_supply(stop, alloc, &lines, wanted, reasons)
 }
 
 // One Market stands as it is, of regions WORLD alone; without a Market it is the world.
@@ -164,12 +162,21 @@ fn deletions_keep_right_identifiers(rt: HostRuntime) -> Result<(), AllocError> {
     push(alloc, &mut lines, 1, b"RecordReference", b"R1")?;
     push(alloc, &mut lines, 1, b"NotificationType", b"05")?;
     push_identifier(alloc, &mut lines, b"ISBN", b"9")?;
+    expect_deletion(&rt, alloc, &lines)
+}
+
+// The record of a deletion without a right identifier.
+fn expect_deletion<'a>(
+    stop: &impl Abort,
+    alloc: Global,
+    lines: &'a [Line],
+) -> Result<(), AllocError> {
     let mut fields = FieldBuffer::new(alloc);
-    let mut notes = Vec::new(alloc);
-    let done = fill_product(alloc, &mut fields, 1, &lines, &mut notes);
-    assert!(&rt; done.is_ok());
-    expect(&rt, &shown(alloc, &fields)?, b"Product|R1|05|01|R1|");
-    expect_notes(&rt, &notes, &[Why::WrongIdentifier]);
+    let mut notes: Vec<Note<'a>> = Vec::new(alloc);
+    let done = fill_product(alloc, &mut fields, 1, lines, &mut notes);
+    assert!(stop; done.is_ok());
+    expect(stop, &shown(alloc, &fields)?, b"Product|R1|05|01|R1|");
+    expect_notes(stop, &notes, &[Why::WrongIdentifier]);
     Ok(())
 }
 
@@ -229,14 +236,14 @@ fn records_of<'a>(
 }
 
 // What comes of a Product: its records, or `wrong`; and the notes.
-fn expect_product(
+fn expect_product<'a>(
     stop: &impl Abort,
     alloc: Global,
-    lines: &[Line],
+    lines: &'a [Line],
     wanted: &[u8],
     reasons: &[Why],
 ) -> Result<(), AllocError> {
-    let mut notes = Vec::new(alloc);
+    let mut notes: Vec<Note<'a>> = Vec::new(alloc);
     match records_of(alloc, lines, &mut notes) {
         Ok(text) => expect(stop, text.as_bytes(), wanted),
         Err(RowFault::Wrong) => return Ok(expect(stop, b"wrong", wanted)),

@@ -1,6 +1,7 @@
 //! Tests of the mapping.
 
 use crate::identifiers::{Identifier, SUPPLIER, choose_identifier};
+use csv_records::fields::FieldBuffer;
 use onix_outline::Line;
 use std::alloc::{AllocError, Global};
 use std::process::Abort;
@@ -35,6 +36,19 @@ pub(crate) fn push(
     text: &[u8],
 ) -> Result<(), AllocError> {
     push_with_format(alloc, lines, depth, name, None, text)
+}
+
+/// The fields of a record, each with a bar behind it.
+pub(crate) fn shown(alloc: Global, fields: &FieldBuffer) -> Result<Vec<u8>, AllocError> {
+    let record = fields.as_record();
+    let mut list = Vec::new(alloc);
+    record.fill(&mut list)?;
+    let mut shown = Vec::new(alloc);
+    for field in &list {
+        shown.extend_from_slice(field.as_bytes())?;
+        shown.extend_from_slice(b"|")?;
+    }
+    Ok(shown)
 }
 
 // An identifier of a supplier.

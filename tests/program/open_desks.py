@@ -238,8 +238,9 @@ def killed_amid_a_batch(room: Room) -> Iterator[Outcome]:
         words: list[Word] = [room.program, "--batches", SOCKET, "batch"]
         room.write("many.csv", b"".join(bare(number) for number in range(1, MANY + 1)))
         with open(room.path("many.csv"), "rb") as many:
+            # Without a buffer, since `communicate` would lose what that holds beyond the lines that were read.
             client = subprocess.Popen(
-                words, cwd=room.folder, stdin=many, stdout=subprocess.PIPE, stderr=subprocess.PIPE
+                words, 0, cwd=room.folder, stdin=many, stdout=subprocess.PIPE, stderr=subprocess.PIPE
             )
         assert client.stdout
         come = b"".join(client.stdout.readline() for _ in range(COME))

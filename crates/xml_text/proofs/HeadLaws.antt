@@ -1,11 +1,11 @@
 -- The bytes that tell the encoding, and the text behind them.
-use Rattle.std.proofs.Common.{◌≡◌, ℕ, ◌≤◌, ◌<◌, List, [], ◌++◌, length, take, drop, Option, Some, None, refl, sym, ap, subst, ◌∙◌, append-nil, arith}
+use Rattle.std.proofs.Common.{◌≡◌, ℕ, ◌≤◌, List, ◌++◌, length, take, drop, Option, Some, None, ap, ◌∙◌, arith}
 use Rattle.std.specs.Prelude.{IfSome, option_map}
-use Rattle.std.specs.Io.KnownBytes.{Consumes, IsAtEnd}
+use Rattle.std.specs.Io.KnownBytes.{Consumes}
 use Rattle.std.proofs.lemmas.List.{take-append-le, drop-append-le, length-take}
 use Rattle.xml_text.specs.declared.encodings.Encoding.{Encoding}
 use Rattle.xml_text.specs.Documents.{IsTold}
-use Rattle.xml_text.specs.EncodingNames.{encoding_at, text_of, IsTextOf, OfText, IsOfUnknown}
+use Rattle.xml_text.specs.EncodingNames.{encoding_at, text_of, IsTextOf, OfText}
 use Rattle.xml_text.specs.Encodings.{decoded, text_left}
 
 -- enough was read

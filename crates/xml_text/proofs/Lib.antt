@@ -17,3 +17,4 @@ pub mod TreeLaws
 pub mod EncodingLaws
 pub mod ReadingLaws
 pub mod HeadLaws
+pub mod ValueLaws

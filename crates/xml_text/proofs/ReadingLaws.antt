@@ -1,6 +1,6 @@
 -- Where the reading of a document stands.
-use Rattle.std.proofs.Common.{◌≡◌, ℕ, ◌+◌, ◌-◌, ◌≤◌, Bool, true, false, List, [], ◌∷◌, ◌++◌, length, take, drop, Option, Some, None, Result, Ok, Err, refl, sym, ap, subst, ◌∙◌, append_assoc, append-nil, take-append-drop, take-add, take_at, drop_at, arith}
-use Rattle.std.specs.Prelude.{IfSome, IfErr, IsErrOf, option_and_then}
+use Rattle.std.proofs.Common.{◌≡◌, ℕ, ◌+◌, ◌-◌, true, false, List, [], ◌++◌, length, take, drop, Option, Some, None, Result, Ok, Err, refl, sym, ap, subst, ◌∙◌, append_assoc, take-append-drop, take-add, take_at, drop_at}
+use Rattle.std.specs.Prelude.{IfSome, IfErr, option_and_then}
 use Rattle.std.specs.Io.KnownBytes.{Consumes, IsAtEnd, prepend_known}
 use Rattle.std.proofs.KnownBytes.{Consumes-trans, prepend_known-nil}
 use Rattle.xml_text.specs.declared.fault.Fault.{Fault}
@@ -10,15 +10,15 @@ use Rattle.xml_text.specs.declared.texts.Part.{Part}
 use Rattle.xml_text.specs.declared.texts.Part.TheVariants.{Whole}
 use Rattle.xml_text.specs.Documents.{Advances, BeginsAt, Grows, IsEnding, IsTold, is_whole}
 use Rattle.xml_text.specs.Faults.{AtFault}
-use Rattle.xml_text.specs.Grammar.{Token, spelling}
+use Rattle.xml_text.specs.Grammar.{Token}
 use Rattle.xml_text.specs.Limits.{Meets, IsLong}
 use Rattle.xml_text.specs.Pieces.{HasNoToken}
 use Rattle.xml_text.specs.Places.{Completes, IsDocument, IsNoDocument, first_place}
 use Rattle.xml_text.specs.Texts.{follow, IsSmall}
 use Rattle.xml_text.proofs.Runs.{rest_is}
-use Rattle.xml_text.proofs.DocumentLaws.{at_start, advance_further, advance_longer, a_round, a_none, known_malformed, known_told, known_cut, known_garbled, nothing_read, whole_document}
+use Rattle.xml_text.proofs.DocumentLaws.{at_start, advance_further, advance_longer, a_round, known_malformed, known_told, known_cut, known_garbled, nothing_read, whole_document}
 use Rattle.xml_text.proofs.EncodingLaws.{ends_clean}
-use Rattle.xml_text.proofs.LimitLaws.{Lasts, known_limit, long_lasts, long_window}
+use Rattle.xml_text.proofs.LimitLaws.{Lasts, known_limit, long_lasts}
 use Rattle.xml_text.proofs.TextLaws.{follow-append}
 
 -- all that was read is a text up to here; or it is none, by the bytes behind it

@@ -14,7 +14,8 @@ pub mod Limits
 pub mod Distinct
 pub mod Skims
 pub mod References
-pub mod EntityView
+pub mod HtmlNames
+pub mod Values
 pub mod Tree
 pub mod Trees
 pub mod private

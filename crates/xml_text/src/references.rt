@@ -1,25 +1,16 @@
 //! References, and what they stand for.
 
-ghost use Rattle.std.specs.Prelude.{◌≡◌, ◌&&◌, ◌∷◌, [], ◌++◌, true, false, IfOk, Some, None, option_map, encode_utf8};
+ghost use Rattle.std.specs.Prelude.{◌≡◌, ◌&&◌, ◌∷◌, [], ◌++◌, true, IfOk, OnOk, is_some, unwrap_or};
 ghost use Rattle.xml_text.specs.Characters.{is_char, number_code};
-ghost use Rattle.xml_text.specs.EntityView.{entity_views};
 ghost use Rattle.xml_text.specs.Grammar.{begins, is_number, is_reference, begins_reference, refers};
-ghost use Rattle.xml_text.specs.References.{char_text, entity_text, standing_text, reference_text};
+ghost use Rattle.xml_text.specs.References.{char_text, standing_text, reference_text};
 
 use crate::characters::is_char;
 use crate::classes::{Kind, is_name};
+use crate::entities::named_text;
 use crate::numbers::{is_number, number_code};
 use crate::scan::run;
 use std::alloc::AllocError;
-
-/// An entity.
-#[derive(Clone, Copy, Debug)]
-pub struct Entity<'a> {
-    /// The name.
-    pub name: &'a [u8],
-    /// What stands for it.
-    pub text: &'a [u8],
-}
 
 // Whether this is the number of a character that a document may have.
 fn is_char_number(number: &[u8]) -> bool
@@ -81,10 +72,9 @@ pub(crate) fn refers(value: &[u8]) -> bool
 
 // Adds a character, and tells whether there is one of that code.
 fn push_char(out: &mut Vec<u8>, code: u32) -> Result<bool, AllocError>
-    ensures known { IfOk result (λ known. known ≡ true → (is_char code ≡ true)
-        × (out.new.items ≡ out.old.items ++ encode_utf8 code)) }
-    ensures kept { IfOk result (λ known. known ≡ false → out.new.items ≡ out.old.items) }
-    ensures unknown { IfOk result (λ known. known ≡ false → is_char code ≡ false) }
+    ensures text { OnOk result (out.new.items
+        ≡ out.old.items ++ unwrap_or (char_text code) []) }
+    ensures known { IfOk result (λ known. known ≡ is_some (char_text code)) }
 {
     if is_char(code) {
         if let Some(c) = char::from_u32(code) {
@@ -96,36 +86,20 @@ fn push_char(out: &mut Vec<u8>, code: u32) -> Result<bool, AllocError>
     Ok(false)
 }
 
-// What the table has for a name.
-fn find_entity<'a>(table: &'a [Entity<'a>], name: &[u8]) -> Option<&'a [u8]>
-    ensures { option_map (λ t. t.now) result ≡ entity_text (entity_views table.now) name.now }
-{
-    let mut rest = table;
-    while let [first, tail @ ..] = rest {
-        if first.name == name {
-            return Some(first.text);
-        }
-        rest = tail;
-    }
-    None
-}
-
 // The same of what may stand between `&` and `;`.
-fn push_standing(out: &mut Vec<u8>, table: &[Entity<'_>], body: &[u8]) -> Result<bool, AllocError>
+fn push_standing(out: &mut Vec<u8>, body: &[u8]) -> Result<bool, AllocError>
     requires { is_reference body.now ≡ true }
-    ensures known { IfOk result (λ known. known ≡ true
-        → option_map (λ text. out.old.items ++ text) (standing_text
-        (entity_views table.now) body.now) ≡ Some out.new.items) }
-    ensures kept { IfOk result (λ known. known ≡ false → out.new.items ≡ out.old.items) }
-    ensures unknown { IfOk result (λ known. known ≡ false
-        → standing_text (entity_views table.now) body.now ≡ None) }
+    ensures text { OnOk result (out.new.items
+        ≡ out.old.items ++ unwrap_or (standing_text body.now) []) }
+    ensures known { IfOk result (λ known. known ≡ is_some (standing_text body.now)) }
 {
     match body {
+        [] => Ok(false),
         [b'#', number @ ..] => match number_code(number) {
             None => Ok(false),
             Some(code) => push_char(out, code),
         },
-        _ => match find_entity(table, body) {
+        [_first, ..] => match named_text(body) {
             None => Ok(false),
             Some(text) => {
                 out.extend_from_slice(text)?;
@@ -135,22 +109,15 @@ fn push_standing(out: &mut Vec<u8>, table: &[Entity<'_>], body: &[u8]) -> Result
     }
 }
 
-/// Adds what stands for the body of a reference, by the number of a character or the table, and tells whether anything
-/// does.
-pub fn push_reference(
-    out: &mut Vec<u8>,
-    table: &[Entity<'_>],
-    body: &[u8],
-) -> Result<bool, AllocError>
-    ensures known { IfOk result (λ known. known ≡ true
-        → option_map (λ text. out.old.items ++ text) (reference_text
-        (entity_views table.now) body.now) ≡ Some out.new.items) }
-    ensures kept { IfOk result (λ known. known ≡ false → out.new.items ≡ out.old.items) }
-    ensures unknown { IfOk result (λ known. known ≡ false
-        → reference_text (entity_views table.now) body.now ≡ None) }
+/// Adds what stands for the body of a reference, the character of a number or those that HTML gives a name, and tells
+/// whether anything does.
+pub fn push_reference(out: &mut Vec<u8>, body: &[u8]) -> Result<bool, AllocError>
+    ensures text { OnOk result (out.new.items
+        ≡ out.old.items ++ unwrap_or (reference_text body.now) []) }
+    ensures known { IfOk result (λ known. known ≡ is_some (reference_text body.now)) }
 {
     if is_reference(body) {
-        push_standing(out, table, body)
+        push_standing(out, body)
     } else {
         Ok(false)
     }

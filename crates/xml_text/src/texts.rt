@@ -21,7 +21,7 @@ fn begin(b: u8) -> Option<Part>
     ensures small { IfSome result IsSmall }
 {
     if b < 128 {
-        if is_char(u32::from(b)) {
+        if b >= 32 || is_char(u32::from(b)) {
             Some(Part::Whole)
         } else {
             None

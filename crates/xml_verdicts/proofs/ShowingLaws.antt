@@ -1,15 +1,12 @@
 -- What is shown grows by each token.
-use Rattle.std.proofs.Common.{◌≡◌, ℕ, List, [], ◌∷◌, ◌++◌, map, fold, Option, Some, None, Result, Ok, Err, refl, sym, ap, ◌∙◌, append_assoc, append-nil}
-use Rattle.std.specs.Prelude.{option_map, OnOk}
+use Rattle.std.proofs.Common.{◌≡◌, ℕ, List, [], ◌∷◌, ◌++◌, map, fold, Option, Some, None, false, Result, Ok, Err, sym, ap, ◌∙◌, append_assoc, append-nil}
+use Rattle.std.specs.Prelude.{codes, is_some, unwrap_or, OnOk}
 use Rattle.xml_text.specs.Grammar.{raw}
 use Rattle.xml_verdicts.specs.Showing.{after, or_mark}
 
-some_is : (x y : List ℕ) → Some x ≡ Some y → x ≡ y
-some_is x y e = cc
-
-pub known_shown : (o : Option (List ℕ)) (old new : List ℕ) → option_map (λ text. old ++ text) o ≡ Some new → new ≡ old ++ or_mark o
-known_shown (Some text) old new e = sym (some_is (old ++ text) new e)
-known_shown None old new e = absurd cc
+pub unknown_shown : (o : Option (List ℕ)) (old new : List ℕ) → new ≡ old ++ unwrap_or o [] → is_some o ≡ false → new ++ codes "?" ≡ old ++ or_mark o
+unknown_shown (Some text) old new e k = absurd cc
+unknown_shown None old new e k = ap (λ (l : List ℕ). l ++ codes "?") (e ∙ append-nil old)
 
 pub text_shown : (s run : List ℕ) → s ++ run ≡ fold after s (map raw run)
 text_shown s [] = append-nil s

@@ -4,16 +4,13 @@ use Rattle.xml_text.specs.Grammar.{Attribute, Token, raw, reference, cdata, comm
 use Rattle.xml_text.specs.Distinct.{value_of}
 use Rattle.xml_text.specs.References.{reference_text}
 
-abbrev pub two_names : List (List ℕ × List ℕ)
-two_names = (codes "amp", codes "&") ∷ (codes "lt", codes "<") ∷ []
-
 abbrev pub or_mark : Option (List ℕ) → List ℕ
 or_mark (Some text) = text
 or_mark None = codes "?"
 
 -- what a reference stands for, and a question mark where it stands for nothing
 abbrev pub reference_shown : List ℕ → List ℕ
-reference_shown body = or_mark (reference_text two_names body)
+reference_shown body = or_mark (reference_text body)
 
 -- behind a space, the name of the first attribute
 abbrev pub first_shown : List Attribute → List ℕ

@@ -6,7 +6,7 @@ ghost use Rattle.xml_verdicts.specs.Showing.{after, shown, first_shown, id_shown
 
 use std::alloc::{AllocError, Global};
 use std::marker::Model;
-use xml_text::{Attributes, Entity, Piece, Sink, Token, push_reference};
+use xml_text::{Attributes, Piece, Sink, Token, push_reference};
 
 /// What was shown so far. Contracts see its bytes.
 #[derive(Drop)]
@@ -50,17 +50,7 @@ impl Shown {
     fn push_reference(&mut self, body: &[u8]) -> Result<(), AllocError>
         ensures { OnOk result (self.new ≡ self.old ++ reference_shown body.now) }
     {
-        let table = [
-            Entity {
-                name: "amp".as_bytes(),
-                text: "&".as_bytes(),
-            },
-            Entity {
-                name: "lt".as_bytes(),
-                text: "<".as_bytes(),
-            },
-        ];
-        if push_reference(&mut self.bytes, &table, body)? {
+        if push_reference(&mut self.bytes, body)? {
             Ok(())
         } else {
             self.push("?".as_bytes())

@@ -1,5 +1,5 @@
 -- What is left of the characters of a name.
-use Rattle.std.specs.Prelude.{ℕ, Bool, true, false, not, ◌&&◌, List, [], ◌∷◌}
+use Rattle.std.specs.Prelude.{ℕ, Bool, true, false, not, nat_lt, ◌&&◌, List, [], ◌∷◌}
 use Rattle.std.specs.Str.{continuation_len, lead_bits, chars_after}
 use Rattle.xml_text.specs.Characters.{starts_name_char, is_name_char}
 
@@ -16,3 +16,7 @@ are_left first (c ∷ cs) = passes first c && are_left false cs
 abbrev pub are_named : List ℕ → Bool
 are_named [] = false
 are_named (b ∷ bytes) = are_left true (chars_after (continuation_len b) (lead_bits b) bytes)
+
+-- a byte that is a character by itself
+abbrev pub is_ascii : ℕ → Bool
+is_ascii b = nat_lt b 128

@@ -1,0 +1,63 @@
+"""The named characters of HTML, as crates/xml_text/src/html_names.rt has them."""
+
+import unicodedata
+from collections.abc import Iterator
+from html.entities import html5, name2codepoint
+
+from tools.root import ROOT
+
+LISTS = ROOT / "crates/xml_text/src/html_names.rt"
+
+# XML has names with their semicolon alone.
+NAMES = {name.removesuffix(";"): characters for name, characters in html5.items() if name.endswith(";")}
+
+# What XML itself declares.
+OF_XML = ("amp", "lt", "gt", "quot", "apos")
+
+# The most columns of a line of the source.
+WIDTH = 100
+
+HEAD = """\
+//! The names that HTML gives to characters, by their first letter: behind `&name;` stand the characters, up to the
+//! next space. Written by `tools/html-names`.
+"""
+
+
+def rank(name: str) -> tuple[bool, bool, str]:
+    """Where a name stands in its list: what feeds have most comes first, those of XML and then those of HTML 4."""
+    return name not in OF_XML, name not in name2codepoint, name
+
+
+def written(character: str) -> str:
+    """A character in a text of the source; by its number where it would not be seen by itself."""
+    if character in '"\\':
+        return f"\\{character}"
+    if unicodedata.category(character)[0] in "CMZ":
+        return f"\\u{{{ord(character):x}}}"
+    return character
+
+
+def entry(name: str) -> str:
+    return f"&{name};{''.join(map(written, NAMES[name]))} "
+
+
+def lines(names: list[str]) -> Iterator[str]:
+    """The lines of a list, each with the mark that it goes on."""
+    indent = " " * 4
+    line = indent
+    for name in names:
+        if len(line + entry(name)) >= WIDTH:
+            yield line + "\\"
+            line = indent
+        line += entry(name)
+    yield line
+
+
+def constant(letter: str) -> str:
+    kind = "CAPITAL" if letter.isupper() else "SMALL"
+    text = "\n".join(lines(sorted((name for name in NAMES if name[0] == letter), key=rank)))
+    return f'pub(crate) const {kind}_{letter.upper()}: &str = "\\\n{text}";\n'
+
+
+def source() -> str:
+    return "\n".join([HEAD, *map(constant, sorted({name[0] for name in NAMES}))])

@@ -1,9 +1,11 @@
--- Lines in a vector, and the outline that they tell.
-use Rattle.std.proofs.Common.{◌≡◌, ℕ, zero, suc, ◌<◌, ◌≤◌, List, [], ◌∷◌, length, get_or, refl, ap, arith, slice_set}
+-- Lines in a vector, the outline that they tell, and its size.
+use Rattle.std.proofs.Common.{◌≡◌, ℕ, zero, suc, ◌+◌, ◌<◌, ◌≤◌, List, [], ◌∷◌, ◌++◌, length, get_or, refl, ap, arith, slice_set}
 use Rattle.onix_outline.specs.declared.line.Line.{Line}
+use Rattle.onix_outline.specs.Nodes.{Tag}
 use Rattle.onix_outline.specs.Outline.{Line as Told}
 use Rattle.onix_outline.specs.Growing.{change}
-use Rattle.onix_outline.specs.Views.{line_view, line_views}
+use Rattle.onix_outline.specs.Sizes.{element_size, format_size, lines_size}
+use Rattle.onix_outline.specs.Views.{line_view, line_views, tag_view}
 
 pub past_lines : (f : Told → Told) (at : ℕ) (lines : List Line) → length lines ≤ at → line_views lines ≡ change f at (line_views lines)
 past_lines f at [] le = refl
@@ -15,3 +17,15 @@ pub set_line : (f : Told → Told) (lines : List Line) (at : ℕ) (new d : Line)
 set_line f [] at new d lt is = absurd (omega (arith, lt))
 set_line f (l ∷ lines) zero new d lt is = ap (λ (k : Told). k ∷ line_views lines) is
 set_line f (l ∷ lines) (suc at) new d lt is = ap (λ (ls : List Told). line_view l ∷ ls) (set_line f lines at new d (omega (arith, lt)) is)
+
+-- another text of one line
+pub set_size : (lines : List Line) (at : ℕ) (new d : Line) → at < length lines → tag_view new ≡ tag_view (get_or lines at d)
+    → lines_size (line_views (slice_set lines at new)) + length (get_or lines at d).text.items ≡ lines_size (line_views lines) + length new.text.items
+set_size [] at new d lt is = absurd (omega (arith, lt))
+set_size (l ∷ lines) zero new d lt is = omega (arith, ap (λ (t : Tag). format_size t.format) is)
+set_size (l ∷ lines) (suc at) new d lt is = omega (arith, set_size lines at new d (omega (arith, lt)) is)
+
+-- one more line
+pub pushed_size : (lines : List Line) (l : Line) → lines_size (line_views (lines ++ l ∷ [])) ≡ lines_size (line_views lines) + element_size (tag_view l) l.text.items
+pushed_size [] l = omega arith
+pushed_size (k ∷ lines) l = omega (arith, pushed_size lines l)

@@ -1,5 +1,11 @@
 pub mod GrowerLaws
 pub mod ChangeLaws
+pub mod InsideLaws
 pub mod FeedLaws
+pub mod RefusalLaws
+pub mod LargeLaws
+pub mod TreeLaws
+pub mod KnownLaws
 pub mod MessageLaws
 pub mod CompositeLaws
+pub mod OutlineLaws

@@ -1,29 +1,33 @@
 -- What comes of the tokens of a document.
-use Rattle.std.proofs.Common.{◌≡◌, ℕ, Bool, true, false, List, [], Option, Some, None, Result, Ok, Err, refl, sym, ap, ◌∙◌, append-nil, fold}
-use Rattle.std.specs.Prelude.{IfOk, IfErr, IfSome, IsErrOf}
-use Rattle.std.specs.List.{flat_map}
+use Rattle.std.proofs.Common.{◌≡◌, ℕ, Bool, true, false, List, [], Option, Some, None, Result, Ok, Err, refl, sym, ap, ◌∙◌, append-nil, fold, subst}
+use Rattle.std.specs.Prelude.{IfOk, IfErr}
+use Rattle.std.specs.List.{flat_map, list_all}
 use Rattle.xml_text.specs.declared.fault.Fault.{Fault as DocumentFault}
 use Rattle.xml_text.specs.declared.fault.Fault.TheVariants.{Malformed, TooDeep, TooLong, LargeTag, Refused, UnknownEncoding, Read, Memory}
 use Rattle.xml_text.specs.declared.position.Position.{Position}
 use Rattle.xml_text.specs.Grammar.{Token, spelling}
 use Rattle.xml_text.specs.Faults.{AtFault}
-use Rattle.xml_text.specs.Places.{IsDocument, IsNoDocument, first_place, last_place}
+use Rattle.xml_text.specs.Places.{IsDocument, first_place, last_place}
 use Rattle.xml_text.specs.Positions.{first_position, position_past}
 use Rattle.xml_text.specs.Documents.{BeginsAt}
-use Rattle.xml_text.specs.EncodingNames.{IsTextOf, OfText, IsOfUnknown}
-use Rattle.xml_text.specs.Limits.{Meets, IsDeep, IsLarge, IsLong}
+use Rattle.xml_text.specs.EncodingNames.{IsTextOf, OfText}
 use Rattle.xml_text.specs.Tree.{Content}
 use Rattle.xml_text.specs.Trees.{IsTree}
 use Rattle.onix_outline.specs.declared.dialect.Wrong.{Wrong}
 use Rattle.onix_outline.specs.declared.reading.Fault.TheVariants.{Document}
 use Rattle.onix_outline.specs.declared.reading.Stopped.{Stopped}
 use Rattle.onix_outline.specs.Dialect.{Dialect}
-use Rattle.onix_outline.specs.Nodes.{nodes_in}
+use Rattle.onix_outline.specs.Nodes.{is_known, nodes_in}
 use Rattle.onix_outline.specs.Outline.{Line, parts_of}
-use Rattle.onix_outline.specs.Feed.{Feed, feed, first_feed, root_of, root_place, takes_more, takes_more_with}
-use Rattle.onix_outline.specs.Faults.{Explains, IsAt, IsBehind, finished_with, stopped, stopped_at}
+use Rattle.onix_outline.specs.Sizes.{first_large}
+use Rattle.onix_outline.specs.Feed.{Feed, feed, first_feed, fits, is_sound, is_sound_with, root_of, root_place, takes_more, takes_more_with}
+use Rattle.onix_outline.specs.Faults.{Explains, IsAt, IsBehind, IsPlaceOf, IsUnknown, finished, finished_with, first_place_of, is_of_text}
 use Rattle.onix_outline.specs.Message.{IsMessage}
-use Rattle.onix_outline.proofs.FeedLaws.{knows, outcome, tree_feeds, has_root, knows_all, roots, unknown, places}
+use Rattle.onix_outline.proofs.FeedLaws.{tree_feeds}
+use Rattle.onix_outline.proofs.KnownLaws.{has_root, known_tree, unknown_among}
+use Rattle.onix_outline.proofs.LargeLaws.{is_stuck, stuck_large}
+use Rattle.onix_outline.proofs.RefusalLaws.{Finds, finds_root, finds_unknown, places, roots}
+use Rattle.onix_outline.proofs.TreeLaws.{is_large, tree_kept}
 
 -- a message was read
 abbrev pub Reads : {T : Type 0} → (T → List Line → T) → T → Option (List ℕ) → T → Type 0
@@ -31,7 +35,7 @@ Reads after taker bytes taken =
     (text : List ℕ) × (d : Dialect) × (place : Position) × (inside : Content) × IsTextOf bytes text × IsMessage text d place inside × (taken ≡ fold after taker (parts_of (nodes_in d place inside)))
 
 -- what a call gave is one of the two
-pub record Comes {T : Type 0} (after : T → List Line → T) (taker : T) (bytes : Option (List ℕ)) (result : Result T Stopped) : Type 0 where
+pub record Comes {T : Type 0} (after : T → List Line → T) (taker : T) (bytes : Option (List ℕ)) (result : Result T (Stopped T)) : Type 0 where
   pub ok : IfOk result (Reads after taker bytes)
   pub err : IfErr result (λ s. Explains bytes s.fault)
   pub at : IfErr result (λ s. IsAt bytes s.fault s.place)
@@ -42,83 +46,131 @@ all_tokens None text tokens is document = tt
 all_tokens (Some b) text tokens is document =
     (text, is, ([], last_place, record { spelled = document.spelled ∙ sym (append-nil (flat_map spelling tokens)); each = document.each; leads = document.ends }))
 
-pub comes : {T : Type 0} (after : T → List Line → T) (taker : T) (bytes : Option (List ℕ)) (text : List ℕ) (tokens : List Token) (name : List ℕ) (inside : Content)
-    → IsTextOf bytes text → IsDocument text tokens → IsTree tokens name inside → Comes after taker bytes (stopped (fold (feed after) (first_feed taker) tokens))
-comes after taker bytes text tokens name inside is document tree = rw (tree_feeds after taker tokens name inside tree) (go (root_of tokens) refl (knows true tokens) refl)
-  where
-    go : (o : Option (Result Dialect Wrong)) → root_of tokens ≡ o → (k : Bool) → knows true tokens ≡ k
-        → Comes after taker bytes (stopped (outcome after taker inside k (root_place first_position tokens) (position_past first_position tokens) o))
-    go None e k known = absurd (has_root tokens name inside tree e)
-    go (Some (Err w)) e k known = record { ok = tt; err = (tokens, all_tokens bytes text tokens is document, e); at = (tokens, all_tokens bytes text tokens is document, refl) }
-    go (Some (Ok d)) e true known = record {
-      ok = (
-        text,
-        d,
-        root_place first_position tokens,
-        inside,
-        is,
-        record { tokens = tokens; name = name; document = document; tree = tree; root = e; begins = refl; known = sym (knows_all tokens) ∙ known },
-        refl,
-      );
-      err = tt;
-      at = tt;
-    }
-    go (Some (Ok d)) e false known = record {
-      ok = tt;
-      err = (tokens, all_tokens bytes text tokens is document, sym (knows_all tokens) ∙ known);
-      at = (tokens, all_tokens bytes text tokens is document, refl);
-    }
+-- ---- tokens that are refused
 
--- tokens that are refused
-pub refuses : {T : Type 0} (after : T → List Line → T) (taker : T) (bytes : Option (List ℕ)) (tokens : List Token) (f : Feed T) → f ≡ fold (feed after) (first_feed taker) tokens
-    → OfText (BeginsAt first_place tokens) bytes → takes_more f ≡ false → Comes after taker bytes (stopped f)
-refuses after taker bytes tokens f is begins refused = go f.root refl f.known refl refused
+place_of : (P : List Token → Token → Type 0) (bytes : Option (List ℕ)) (tokens : List Token) (place : Position) → OfText (BeginsAt first_place tokens) bytes → Finds P first_position tokens place
+    → IsPlaceOf P bytes place
+place_of P bytes tokens place begins h = (h.before, h.token, h.behind, rw (sym h.parts) begins, h.holds, h.at)
+
+pub refuses : {T : Type 0} (after : T → List Line → T) (taker : T) (bytes : Option (List ℕ)) (tokens : List Token) → OfText (BeginsAt first_place tokens) bytes
+    → takes_more (fold (feed after) (first_feed taker) tokens) ≡ false → Comes after taker bytes (finished (fold (feed after) (first_feed taker) tokens))
+refuses {T = T} after taker bytes tokens begins refused = go f.root refl f.known refl (fits f.child) refl refused
   where
-    place_is : f.place ≡ position_past first_position tokens
-    place_is = ap (λ h. h.place) is ∙ places after (first_feed taker) tokens
+    f : Feed T
+    f = fold (feed after) (first_feed taker) tokens
 
     root_is : f.root ≡ root_of tokens
-    root_is = ap (λ h. h.root) is ∙ roots after (first_feed taker) tokens
+    root_is = roots after (first_feed taker) tokens
 
-    go : (o : Option (Result Dialect Wrong)) → f.root ≡ o → (k : Bool) → f.known ≡ k → takes_more_with o k ≡ false → Comes after taker bytes (stopped_at (finished_with o k f.taker) f.place)
-    go None e k known r = absurd cc
-    go (Some (Err w)) e k known r = record { ok = tt; err = (tokens, begins, sym root_is ∙ e); at = (tokens, begins, place_is) }
-    go (Some (Ok d)) e true known r = absurd cc
-    go (Some (Ok d)) e false known r = record {
+    go : (o : Option (Result Dialect Wrong)) → f.root ≡ o → (k : Bool) → f.known ≡ k → (small : Bool) → fits f.child ≡ small → takes_more_with o k small ≡ false
+        → Comes after taker bytes (finished_with o k small f)
+    go None e k known small size r = absurd cc
+    go (Some (Err w)) e k known small size r = record {
       ok = tt;
-      err = (tokens, begins, unknown after (first_feed taker) tokens refl (ap (λ h. h.known) (sym is) ∙ known));
-      at = (tokens, begins, place_is);
+      err = (tokens, begins, sym root_is ∙ e);
+      at = place_of _ bytes tokens f.place begins (finds_root after (first_feed taker) tokens w refl e);
     }
+    go (Some (Ok d)) e true known true size r = absurd cc
+    go (Some (Ok d)) e true known false size r =
+        let place = first_place_of f.child.lines f.place in
+        let large = is_large after taker d tokens place (sym root_is ∙ e) (is_stuck f.child f.place size) in
+        record { ok = tt; err = (tokens, begins, (place, large)); at = (tokens, begins, large) }
+    go (Some (Ok d)) e false known small size r =
+        let unsound : is_sound f ≡ false = ap (λ o. is_sound_with o f.known) e ∙ known in
+        let h = finds_unknown after (first_feed taker) tokens refl known unsound (λ w x. absurd (cc (sym e ∙ x))) in
+        record {
+          ok = tt;
+          err = (tokens, begins, ap (list_all is_known) h.parts ∙ unknown_among h.before h.token h.behind h.holds);
+          at = place_of IsUnknown bytes tokens f.place begins h;
+        }
 
--- a document that was not read to its end
-pub document_at : {T : Type 0} (after : T → List Line → T) (bytes : Option (List ℕ)) (taker : T) (start f : Feed T) (fault : DocumentFault) → start ≡ first_feed taker
-    → AtFault ((tokens : List Token) × OfText (BeginsAt first_place tokens) bytes × (f ≡ fold (feed after) start tokens)) fault → IsAt bytes (Document fault) f.place
-document_at after bytes taker start f fault starts h = go fault h
+-- ---- a document
+
+takes_is : {T : Type 0} (f : Feed T) (o : Option (Result Dialect Wrong)) (k small : Bool) → f.root ≡ o → f.known ≡ k → fits f.child ≡ small → takes_more f ≡ takes_more_with o k small
+takes_is f o k small e known size =
+    ap (λ r. takes_more_with r f.known (fits f.child)) e ∙ ap (λ b. takes_more_with o b (fits f.child)) known ∙ ap (λ b. takes_more_with o k b) size
+
+finished_is : {T : Type 0} (f : Feed T) (o : Option (Result Dialect Wrong)) (k small : Bool) → f.root ≡ o → f.known ≡ k → fits f.child ≡ small → finished f ≡ finished_with o k small f
+finished_is f o k small e known size =
+    ap (λ r. finished_with r f.known (fits f.child) f) e ∙ ap (λ b. finished_with o b (fits f.child) f) known ∙ ap (λ b. finished_with o k b f) size
+
+pub comes : {T : Type 0} (after : T → List Line → T) (taker : T) (bytes : Option (List ℕ)) (text : List ℕ) (tokens : List Token) (name : List ℕ) (inside : Content)
+    → IsTextOf bytes text → IsDocument text tokens → IsTree tokens name inside → Comes after taker bytes (finished (fold (feed after) (first_feed taker) tokens))
+comes {T = T} after taker bytes text tokens name inside is document tree = go f.root refl f.known refl (fits f.child) refl (refuses after taker bytes tokens (all_tokens bytes text tokens is document))
   where
-    behind : (tokens : List Token) → OfText (BeginsAt first_place tokens) bytes → f ≡ fold (feed after) start tokens → IsBehind bytes f.place
-    behind tokens begins is = (tokens, begins, ap (λ h. h.place) is ∙ places after start tokens ∙ ap (λ h. position_past h.place tokens) starts)
+    f : Feed T
+    f = fold (feed after) (first_feed taker) tokens
 
-    go : (e : DocumentFault) → AtFault ((tokens : List Token) × OfText (BeginsAt first_place tokens) bytes × (f ≡ fold (feed after) start tokens)) e → IsAt bytes (Document e) f.place
-    go Malformed w = behind w.0 w.1 w.2
-    go TooDeep w = behind w.0 w.1 w.2
-    go TooLong w = behind w.0 w.1 w.2
-    go LargeTag w = behind w.0 w.1 w.2
-    go Refused w = behind w.0 w.1 w.2
-    go UnknownEncoding w = tt
-    go Read w = tt
-    go Memory w = tt
+    place : Position
+    place = root_place first_position tokens
 
-abbrev failed : DocumentFault → Result (Unit {0}) DocumentFault
-failed fault = Err fault
+    root_is : f.root ≡ root_of tokens
+    root_is = roots after (first_feed taker) tokens
 
-pub document_explained : (bytes : Option (List ℕ)) (fault : DocumentFault) → (IsErrOf (failed fault) Malformed → OfText IsNoDocument bytes)
-    → (IsErrOf (failed fault) TooDeep → OfText (Meets IsDeep first_place) bytes) → (IsErrOf (failed fault) LargeTag → OfText (Meets IsLarge first_place) bytes)
-    → (IsErrOf (failed fault) TooLong → OfText (Meets IsLong first_place) bytes) → (IsErrOf (failed fault) UnknownEncoding → IfSome bytes IsOfUnknown) → Explains bytes (Document fault)
-document_explained bytes Malformed malformed deep large long none = malformed refl
-document_explained bytes TooDeep malformed deep large long none = deep refl
-document_explained bytes TooLong malformed deep large long none = long refl
-document_explained bytes LargeTag malformed deep large long none = large refl
-document_explained bytes Refused malformed deep large long none = tt
-document_explained bytes UnknownEncoding malformed deep large long none = none refl
-document_explained bytes Read malformed deep large long none = tt
-document_explained bytes Memory malformed deep large long none = tt
+    taken : (d : Dialect) → root_of tokens ≡ Some (Ok d) → list_all is_known tokens ≡ true → fits f.child ≡ true → (o : Option Position) → first_large (nodes_in d place inside) ≡ o
+        → Reads after taker bytes f.taker
+    taken d e known size None small = (
+      text,
+      d,
+      place,
+      inside,
+      is,
+      record { tokens = tokens; name = name; document = document; tree = tree; root = e; begins = refl; known = known; fits = small },
+      ap (λ g. g.taker) (tree_feeds after taker d tokens name inside tree e known small),
+    )
+    taken d e known size (Some q) large =
+        absurd (cc (sym size ∙ stuck_large q f.child (tree_kept after taker d tokens name inside q tree e known large)))
+
+    by_refusal : (o : Option (Result Dialect Wrong)) → f.root ≡ o → (k : Bool) → f.known ≡ k → (small : Bool) → fits f.child ≡ small → takes_more_with o k small ≡ false
+        → (takes_more f ≡ false → Comes after taker bytes (finished f)) → Comes after taker bytes (finished_with o k small f)
+    by_refusal o e k known small size r refused =
+        subst (Comes after taker bytes) (finished_is f o k small e known size) (refused (takes_is f o k small e known size ∙ r))
+
+    go : (o : Option (Result Dialect Wrong)) → f.root ≡ o → (k : Bool) → f.known ≡ k → (small : Bool) → fits f.child ≡ small
+        → (takes_more f ≡ false → Comes after taker bytes (finished f)) → Comes after taker bytes (finished_with o k small f)
+    go None e k known small size refused = absurd (has_root tokens name inside tree (sym root_is ∙ e))
+    go (Some (Err w)) e k known small size refused = by_refusal (Some (Err w)) e k known small size refl refused
+    go (Some (Ok d)) e true known true size refused =
+        let root = sym root_is ∙ e in
+        record { ok = taken d root (known_tree after taker d tokens name inside tree root known) size (first_large (nodes_in d place inside)) refl; err = tt; at = tt }
+    go (Some (Ok d)) e true known false size refused = by_refusal (Some (Ok d)) e true known false size refl refused
+    go (Some (Ok d)) e false known small size refused = by_refusal (Some (Ok d)) e false known small size refl refused
+
+-- ---- a document that was not read to its end
+
+pub at_text : (P : Type 0) (fault : DocumentFault) → is_of_text fault ≡ true → AtFault P fault → P
+at_text P Malformed e h = h
+at_text P TooDeep e h = h
+at_text P TooLong e h = h
+at_text P LargeTag e h = h
+at_text P Refused e h = h
+at_text P UnknownEncoding e h = absurd cc
+at_text P Read e h = absurd cc
+at_text P Memory e h = absurd cc
+
+pub takes_sound : {T : Type 0} (f : Feed T) → takes_more f ≡ true → is_sound f ≡ true
+takes_sound f h = go f.root f.known (fits f.child) h
+  where
+    go : (o : Option (Result Dialect Wrong)) (k small : Bool) → takes_more_with o k small ≡ true → is_sound_with o k ≡ true
+    go None k small h = refl
+    go (Some (Err w)) k small h = h
+    go (Some (Ok d)) true small h = refl
+    go (Some (Ok d)) false small h = h
+
+pub document_at : {T : Type 0} (after : T → List Line → T) (bytes : Option (List ℕ)) (taker : T) (start f : Feed T) (fault : DocumentFault) → start ≡ first_feed taker → (is_of_text fault ≡ true → is_sound f ≡ true)
+    → AtFault ((tokens : List Token) × OfText (BeginsAt first_place tokens) bytes × (f ≡ fold (feed after) start tokens)) fault → IsAt bytes (Document fault) f.place
+document_at after bytes taker start f fault starts sound h = go fault sound h
+  where
+    behind : is_sound f ≡ true → (tokens : List Token) → OfText (BeginsAt first_place tokens) bytes → f ≡ fold (feed after) start tokens → IsBehind bytes f.place
+    behind s tokens begins is =
+        (tokens, begins, ap (λ h. h.place) is ∙ places after start tokens (ap is_sound (sym is) ∙ s) ∙ ap (λ h. position_past h.place tokens) starts)
+
+    go : (e : DocumentFault) → (is_of_text e ≡ true → is_sound f ≡ true) → AtFault ((tokens : List Token) × OfText (BeginsAt first_place tokens) bytes × (f ≡ fold (feed after) start tokens)) e → IsAt bytes (Document e) f.place
+    go Malformed s w = behind (s refl) w.0 w.1 w.2
+    go TooDeep s w = behind (s refl) w.0 w.1 w.2
+    go TooLong s w = behind (s refl) w.0 w.1 w.2
+    go LargeTag s w = behind (s refl) w.0 w.1 w.2
+    go Refused s w = behind (s refl) w.0 w.1 w.2
+    go UnknownEncoding s w = tt
+    go Read s w = tt
+    go Memory s w = tt

@@ -2,7 +2,7 @@
 use Rattle.std.specs.Prelude.{ℕ, suc, Bool, false, ◌&&◌, ◌||◌, ◌==◌, List, [], ◌∷◌, ◌++◌, Option, Some, None, Result, Ok, Err, if◌then◌else◌, codes, take, drop, position, unwrap_or, option_and_then}
 use Rattle.std.specs.Str.{bytes_eq}
 use Rattle.xml_text.specs.Grammar.{Attribute}
-use Rattle.xml_text.specs.Distinct.{value_of}
+use Rattle.xml_text.specs.Values.{normalized_value_of}
 use Rattle.onix_outline.specs.declared.names.Naming.{Naming}
 use Rattle.onix_outline.specs.declared.dialect.Wrong.{Wrong}
 use Rattle.onix_outline.specs.declared.dialect.Wrong.TheVariants.{Root, Release}
@@ -47,7 +47,7 @@ pub record Dialect : Type 0 where
 
 -- the namespace that a tag gives a prefix, where the elements around it give it this one
 abbrev pub address_in : List ℕ → List ℕ → List Attribute → List ℕ
-address_in declaration outer attributes = unwrap_or (value_of declaration attributes) outer
+address_in declaration outer attributes = unwrap_or (normalized_value_of declaration attributes) outer
 
 abbrev pub is_release : Option (List ℕ) → Bool
 is_release None = false
@@ -64,7 +64,7 @@ dialect_of_prefix naming prefix attributes = record {
 abbrev pub with_naming : Option Naming → List ℕ → List Attribute → Result Dialect Wrong
 with_naming None prefix attributes = Err Root
 with_naming (Some naming) prefix attributes =
-    if is_release (value_of (codes "release") attributes) then Ok (dialect_of_prefix naming prefix attributes) else Err Release
+    if is_release (normalized_value_of (codes "release") attributes) then Ok (dialect_of_prefix naming prefix attributes) else Err Release
 
 -- how a message is written whose root has this tag, or why it is none that is read
 abbrev pub dialect_of : List ℕ → List Attribute → Result Dialect Wrong
@@ -81,4 +81,4 @@ counted d name attributes =
 
 -- the attribute `dateformat` of an element, where it has a text
 abbrev pub format_of : List Attribute → Option (List ℕ)
-format_of attributes = option_and_then (λ value. filled (collapsed value)) (value_of (codes "dateformat") attributes)
+format_of attributes = option_and_then (λ text. filled (collapsed text)) (normalized_value_of (codes "dateformat") attributes)

@@ -8,6 +8,7 @@ use Rattle.onix_outline.specs.Dialect.{Dialect, dialect_of, counted}
 use Rattle.onix_outline.specs.Nodes.{token_text, is_known, tag_of}
 use Rattle.onix_outline.specs.Outline.{Line, is_part}
 use Rattle.onix_outline.specs.Growing.{Growing, no_lines, opened, closed, texted, is_idle}
+use Rattle.onix_outline.specs.Sizes.{is_small, lines_size}
 
 -- who takes the outlines, what the root told once it was begun, the child of it that grows, whether each reference so far stands for something, and where the next token stands
 pub record Feed (T : Type 0) : Type 0 where
@@ -25,10 +26,14 @@ abbrev pub handed : {T : Type 0} → (T → List Line → T) → T → List Line
 handed after taker [] = taker
 handed after taker (l ∷ lines) = if is_part l.name then after taker (l ∷ lines) else taker
 
--- behind the end of an element, which may be that of a child of the root
+-- a child of the root is not too large so far
+abbrev pub fits : Growing → Bool
+fits g = is_small (lines_size g.lines)
+
+-- behind the end of an element, which may be that of a child of the root; one that is too large is kept
 abbrev pub settled : {T : Type 0} → (T → List Line → T) → Feed T → Growing → Feed T
 settled after f g =
-    if is_idle g
+    if is_idle g && fits g
     then feeding (handed after f.taker g.lines) f.root no_lines f.known f.place
     else feeding f.taker f.root g f.known f.place
 
@@ -61,9 +66,18 @@ told after f (empty name attributes space) = emptied after f.root name attribute
 told after f (end name space) = ended after f.root f
 told after f token = spoken f.root (token_text token) (is_known token) f
 
--- behind so many bytes
+-- the root is that of a message, as far as it was read, and each reference stands for something
+abbrev pub is_sound_with : Option (Result Dialect Wrong) → Bool → Bool
+is_sound_with None known = true
+is_sound_with (Some (Err wrong)) known = false
+is_sound_with (Some (Ok d)) known = known
+
+abbrev pub is_sound : {T : Type 0} → Feed T → Bool
+is_sound f = is_sound_with f.root f.known
+
+-- behind so many bytes, unless what they told is refused
 abbrev pub moved : {T : Type 0} → List ℕ → Feed T → Feed T
-moved bytes f = feeding f.taker f.root f.child f.known (position_after f.place bytes)
+moved bytes f = if is_sound f then feeding f.taker f.root f.child f.known (position_after f.place bytes) else f
 
 -- what a token makes of what was taken of a message so far
 abbrev pub feed : {T : Type 0} → (T → List Line → T) → Feed T → Token → Feed T
@@ -83,15 +97,15 @@ root_place p (start name attributes space ∷ tokens) = position_after p (spelli
 root_place p (empty name attributes space ∷ tokens) = position_after p (spelling (empty name attributes space))
 root_place p (token ∷ tokens) = root_place (position_after p (spelling token)) tokens
 
--- no more tokens are taken once the root is none of a message, or a reference stands for nothing
-abbrev pub takes_more_with : Option (Result Dialect Wrong) → Bool → Bool
-takes_more_with None known = true
-takes_more_with (Some (Err wrong)) known = false
-takes_more_with (Some (Ok d)) known = known
+-- no more tokens are taken once the root is none of a message, a reference stands for nothing or a child of the root is too large
+abbrev pub takes_more_with : Option (Result Dialect Wrong) → Bool → Bool → Bool
+takes_more_with None known small = true
+takes_more_with (Some (Err wrong)) known small = false
+takes_more_with (Some (Ok d)) known small = known && small
 
--- a message goes on while its root may be one and each reference stands for something
+-- a message goes on while its root may be one, each reference stands for something and no child of the root is too large
 abbrev pub takes_more : {T : Type 0} → Feed T → Bool
-takes_more f = takes_more_with f.root f.known
+takes_more f = takes_more_with f.root f.known (fits f.child)
 
 -- what the first tag tells, which is that of the root
 abbrev pub root_of : List Token → Option (Result Dialect Wrong)

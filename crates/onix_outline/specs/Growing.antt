@@ -1,17 +1,23 @@
 -- The outline of one child of the root, as it grows from token to token.
-use Rattle.std.specs.Prelude.{ℕ, zero, suc, Bool, true, false, List, [], ◌∷◌, ◌++◌, length, Option, Some, None}
+use Rattle.std.specs.Prelude.{ℕ, zero, suc, Bool, true, false, List, [], ◌∷◌, ◌++◌, length, Option, Some, None, fold}
+use Rattle.xml_text.specs.Grammar.{is_filled, is_space}
+use Rattle.onix_outline.specs.declared.grower.Open.{Open}
 use Rattle.onix_outline.specs.Nodes.{Tag}
 use Rattle.onix_outline.specs.Outline.{Line, line}
-use Rattle.onix_outline.specs.Spaces.{collapsed}
+use Rattle.onix_outline.specs.Spaces.{words}
 
--- the lines so far, the places of those whose elements are open, the innermost first, and how many elements are open from the one on that is passed over
+-- the lines so far, those whose elements are open, the innermost first, and how many elements are open from the one on that is passed over
 pub record Growing : Type 0 where
   pub lines : List Line
-  pub open_at : List ℕ
+  pub opens : List Open
   pub passed : ℕ
 
-abbrev pub growing : List Line → List ℕ → ℕ → Growing
-growing lines open_at passed = record { lines = lines; open_at = open_at; passed = passed }
+abbrev pub growing : List Line → List Open → ℕ → Growing
+growing lines opens passed = record { lines = lines; opens = opens; passed = passed }
+
+-- an open element: where its line is, and whether white space stands at the end of its text so far
+abbrev pub open_at : ℕ → Bool → Open
+open_at at waits = record { at = at; waits = waits }
 
 abbrev pub no_lines : Growing
 no_lines = growing [] [] 0
@@ -21,44 +27,49 @@ change f at [] = []
 change f zero (l ∷ lines) = f l ∷ lines
 change f (suc at) (l ∷ lines) = l ∷ change f at lines
 
-abbrev pub longer : List ℕ → Line → Line
-longer text l = line l.depth l.name l.tag (l.text ++ text)
+-- a text with more of it, behind white space or not: each run of white space in it becomes one space, and none stands at the ends
+abbrev pub grown : List ℕ → Bool → List ℕ → List ℕ
+grown text waits more = text ++ words (is_filled text) waits more
 
-abbrev pub tidied : Line → Line
-tidied l = line l.depth l.name l.tag (collapsed l.text)
+-- whether white space stands at the end
+abbrev pub waits_behind : Bool → List ℕ → Bool
+waits_behind waits text = fold (λ w b. is_space b) waits text
 
-abbrev pub change_innermost : (Line → Line) → List ℕ → List Line → List Line
-change_innermost f [] lines = lines
-change_innermost f (at ∷ more) lines = change f at lines
+abbrev pub longer : Bool → List ℕ → Line → Line
+longer waits text l = line l.depth l.name l.tag (grown l.text waits text)
 
-abbrev pub outer : List ℕ → List ℕ
+abbrev pub outer : List Open → List Open
 outer [] = []
-outer (at ∷ more) = more
+outer (o ∷ more) = more
 
 -- an element begins, with this name where it counts
 abbrev pub opened : ℕ → Option (List ℕ) → Tag → Growing → Growing
-opened (suc passed) name tag g = growing g.lines g.open_at (suc (suc passed))
-opened zero None tag g = growing g.lines g.open_at 1
-opened zero (Some name) tag g = growing (g.lines ++ line (length g.open_at) name tag [] ∷ []) (length g.lines ∷ g.open_at) 0
+opened (suc passed) name tag g = growing g.lines g.opens (suc (suc passed))
+opened zero None tag g = growing g.lines g.opens 1
+opened zero (Some name) tag g = growing (g.lines ++ line (length g.opens) name tag [] ∷ []) (open_at (length g.lines) false ∷ g.opens) 0
 
 -- the innermost element ends
 abbrev pub closed : ℕ → Growing → Growing
-closed (suc passed) g = growing g.lines g.open_at passed
-closed zero g = growing (change_innermost tidied g.open_at g.lines) (outer g.open_at) 0
+closed (suc passed) g = growing g.lines g.opens passed
+closed zero g = growing g.lines (outer g.opens) 0
+
+abbrev pub innermost_texted : List Open → List ℕ → Growing → Growing
+innermost_texted [] text g = growing g.lines [] 0
+innermost_texted (o ∷ more) text g = growing (change (longer o.waits text) o.at g.lines) (open_at o.at (waits_behind o.waits text) ∷ more) 0
 
 -- text comes
 abbrev pub texted : ℕ → List ℕ → Growing → Growing
 texted (suc passed) text g = g
-texted zero text g = growing (change_innermost (longer text) g.open_at g.lines) g.open_at 0
+texted zero text g = innermost_texted g.opens text g
 
-abbrev pub is_nothing : List ℕ → Bool
+abbrev pub is_nothing : List Open → Bool
 is_nothing [] = true
-is_nothing (at ∷ more) = false
+is_nothing (o ∷ more) = false
 
-abbrev pub is_idle_at : ℕ → List ℕ → Bool
-is_idle_at (suc passed) open_at = false
-is_idle_at zero open_at = is_nothing open_at
+abbrev pub is_idle_at : ℕ → List Open → Bool
+is_idle_at (suc passed) opens = false
+is_idle_at zero opens = is_nothing opens
 
 -- no element is open
 abbrev pub is_idle : Growing → Bool
-is_idle g = is_idle_at g.passed g.open_at
+is_idle g = is_idle_at g.passed g.opens

@@ -5,7 +5,9 @@ pub mod Nodes
 pub mod Outline
 pub mod Views
 pub mod Growing
+pub mod Sizes
 pub mod Feed
 pub mod Message
 pub mod Faults
 pub mod Composites
+pub mod Outlined

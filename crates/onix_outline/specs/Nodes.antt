@@ -1,5 +1,5 @@
 -- The elements of a message that count, as a tree.
-use Rattle.std.specs.Prelude.{ℕ, List, [], ◌∷◌, ◌++◌, Option, Some, None, codes, unwrap_or, Bool, true, is_some}
+use Rattle.std.specs.Prelude.{ℕ, List, [], ◌∷◌, ◌++◌, Option, Some, None, unwrap_or, Bool, true, is_some}
 use Rattle.xml_text.specs.declared.position.Position.{Position}
 use Rattle.xml_text.specs.Grammar.{Attribute, Token, raw, reference, cdata, start, empty, end, spelling}
 use Rattle.xml_text.specs.Positions.{position_after, position_past}
@@ -25,26 +25,16 @@ pub data Nodes : Type 0 where
   -- the reference name of an element, its tag, its text, the elements in it, and those that follow it
   node : List ℕ → Tag → List ℕ → Nodes → Nodes → Nodes
 
--- the characters that have a name, without a declaration
-abbrev pub named_characters : List (List ℕ × List ℕ)
-named_characters =
-    (codes "amp", codes "&")
-    ∷ (codes "lt", codes "<")
-    ∷ (codes "gt", codes ">")
-    ∷ (codes "apos", codes "'")
-    ∷ (codes "quot", codes "\"")
-    ∷ []
-
 -- the characters that a token stands for
 abbrev pub token_text : Token → List ℕ
 token_text (raw b) = b ∷ []
 token_text (cdata body) = body
-token_text (reference body) = unwrap_or (reference_text named_characters body) []
+token_text (reference body) = unwrap_or (reference_text body) []
 token_text other = []
 
 -- each reference stands for something
 abbrev pub is_known : Token → Bool
-is_known (reference body) = is_some (reference_text named_characters body)
+is_known (reference body) = is_some (reference_text body)
 is_known other = true
 
 -- the characters directly in an element: comments cut nothing, and those of elements in it are none of its own

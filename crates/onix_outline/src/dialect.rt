@@ -1,6 +1,7 @@
 //! How a message is written.
 
 ghost use Rattle.std.specs.Prelude.{◌≡◌, IfOk, option_map};
+ghost use Rattle.std.specs.Str.{bytes_eq};
 ghost use Rattle.onix_outline.specs.Dialect.{colon, prefix_of, local_of, declaration_of, address_in, is_release, dialect_of, counted, format_of};
 
 use crate::names::{Naming, name_of, naming_of_root};
@@ -70,23 +71,15 @@ fn declaration_of(alloc: Global, prefix: &[u8]) -> Result<Vec<u8>, AllocError>
     Ok(name)
 }
 
-// The namespace that a tag gives a prefix.
-fn address_in<'a>(declaration: &[u8], outer: &'a [u8], attributes: &Attributes<'a>) -> &'a [u8]
-    ensures { result.now ≡ address_in declaration.now outer.now attributes.now }
-{
-    match attributes.value_of(declaration) {
-        None => outer,
-        Some(address) => address,
-    }
-}
-
 // Whether the release is one that is read.
-fn is_release(release: Option<&[u8]>) -> bool
-    ensures { result ≡ is_release (option_map (λ r. r.now) release.entry) }
+fn is_release(release: &Option<Vec<u8>>) -> bool
+    ensures { result ≡ is_release (option_map (λ r. r.items) release.now) }
 {
     match release {
         None => false,
-        Some(release) => release == b"3.0".as_slice() || release == b"3.1".as_slice(),
+        Some(release) => {
+            release.as_slice() == b"3.0".as_slice() || release.as_slice() == b"3.1".as_slice()
+        }
     }
 }
 
@@ -103,13 +96,13 @@ impl Dialect {
         let Some(naming) = naming_of_root(local) else {
             return Ok(Err(Wrong::Root));
         };
-        if !is_release(attributes.value_of(b"release")) {
+        if !is_release(&attributes.normalized_value_of(alloc, b"release")?) {
             return Ok(Err(Wrong::Release));
         }
         let declaration = declaration_of(alloc, prefix)?;
-        let address = match attributes.value_of(&declaration) {
+        let address = match attributes.normalized_value_of(alloc, &declaration)? {
             None => Vec::new(alloc),
-            Some(address) => Vec::from_slice(alloc, address)?,
+            Some(address) => address,
         };
         Ok(Ok(Dialect {
             naming,
@@ -119,17 +112,36 @@ impl Dialect {
         }))
     }
 
+    // Whether a tag gives the prefix the namespace of the root.
+    fn is_in_namespace(
+        &self,
+        alloc: Global,
+        attributes: &Attributes<'_>,
+    ) -> Result<bool, AllocError>
+        ensures { IfOk result (λ is. is ≡ bytes_eq
+            (address_in self.now.declaration self.now.address attributes.now) self.now.address) }
+    {
+        match attributes.normalized_value_of(alloc, &self.declaration)? {
+            None => Ok(true),
+            Some(address) => Ok(address.as_slice() == self.address.as_slice()),
+        }
+    }
+
     /// The reference name of an element that has this tag, where it counts.
-    pub(crate) fn counted(&self, name: &[u8], attributes: &Attributes<'_>) -> Option<&'static [u8]>
-        ensures { option_map (λ n. n.now) result ≡ counted self.now name.now attributes.now }
+    pub(crate) fn counted(
+        &self,
+        alloc: Global,
+        name: &[u8],
+        attributes: &Attributes<'_>,
+    ) -> Result<Option<&'static [u8]>, AllocError>
+        ensures { IfOk result (λ found. option_map (λ n. n.now) found
+            ≡ counted self.now name.now attributes.now) }
     {
         let (prefix, local) = split_name(name);
-        if prefix == self.prefix.as_slice()
-            && address_in(&self.declaration, &self.address, attributes) == self.address.as_slice()
-        {
-            name_of(self.naming, local)
+        if prefix == self.prefix.as_slice() && self.is_in_namespace(alloc, attributes)? {
+            Ok(name_of(self.naming, local))
         } else {
-            None
+            Ok(None)
         }
     }
 }
@@ -141,8 +153,8 @@ pub(crate) fn format_of(
 ) -> Result<Option<Vec<u8>>, AllocError>
     ensures { IfOk result (λ found. option_map (λ f. f.items) found ≡ format_of attributes.now) }
 {
-    match attributes.value_of(b"dateformat") {
+    match attributes.normalized_value_of(alloc, b"dateformat")? {
         None => Ok(None),
-        Some(value) => fill(alloc, value),
+        Some(text) => fill(alloc, &text),
     }
 }

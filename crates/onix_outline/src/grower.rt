@@ -1,60 +1,100 @@
 //! An outline that grows from token to token.
 
-ghost use Rattle.std.specs.Prelude.{◌≡◌, OnOk, Some, option_map};
-ghost use Rattle.onix_outline.specs.Growing.{no_lines, change, longer, tidied, opened, closed, texted, is_idle};
+ghost use Rattle.std.specs.Prelude.{◌≡◌, ◌+◌, [], IfOk, OnOk, Some, option_map};
+ghost use Rattle.onix_outline.specs.Feed.{fits};
+ghost use Rattle.onix_outline.specs.Growing.{no_lines, change, longer, opened, closed, texted, is_idle};
 ghost use Rattle.onix_outline.specs.Nodes.{tagged};
+ghost use Rattle.onix_outline.specs.Sizes.{element_size, format_size, lines_size};
 ghost use Rattle.onix_outline.specs.Views.{line_views};
 
 use crate::line::Line;
-use crate::spaces::collapse;
+use crate::spaces::{push_words, waits_behind};
 use std::alloc::{AllocError, Global};
 use std::marker::Model;
 use xml_text::Position;
 
-/// The most lines of an outline. One that has more is refused as want of memory is.
-const MOST_LINES: usize = 65_536;
+/// The largest Header or Product that is taken.
+const MOST_BYTES: usize = 4_194_304;
 
-/// The lines of the elements that were begun, and which of them are open.
+/// What an element adds to the size of its Header or Product, beside its text and its format.
+const ELEMENT_BYTES: usize = 64;
+
+/// An open element: where its line is, and whether white space stands at the end of its text.
+#[derive(Clone, Copy)]
+pub(crate) struct Open {
+    pub(crate) at: usize,
+    pub(crate) waits: bool,
+}
+
+/// The lines of the elements that were begun with their size, and which of them are open.
 #[derive(Drop)]
 pub(crate) struct Grower {
     alloc: Global,
     lines: Vec<Line>,
-    open_at: Vec<usize>,
+    size: usize,
+    opens: Vec<Open>,
     passed: usize,
 }
 
 impl Model for Grower {
-    ghost use Rattle.std.specs.Prelude.{reverse};
+    ghost use Rattle.std.specs.Prelude.{◌≡◌, reverse};
     ghost use Rattle.onix_outline.specs.Growing.{Growing, growing};
-    ghost use Rattle.onix_outline.specs.Nodes.{tagged};
+    ghost use Rattle.onix_outline.specs.Sizes.{lines_size};
     ghost use Rattle.onix_outline.specs.Views.{line_views};
 
     ghost Value = { Growing };
 
-    ghost view = { λ g. growing (line_views g.lines.items) (reverse g.open_at.items) g.passed };
+    ghost view = { λ g. growing (line_views g.lines.items) (reverse g.opens.items) g.passed };
+
+    ghost invariant = { λ g. g.size ≡ lines_size (line_views g.lines.items) };
 }
 
-// Adds text to a line.
-fn append_at(lines: &mut Vec<Line>, at: usize, text: &[u8]) -> Result<(), AllocError>
-    ensures { OnOk result (line_views lines.new.items
-        ≡ change (longer text.now) at (line_views lines.old.items)) }
+// The bytes of a format.
+fn format_size(format: &Option<Vec<u8>>) -> usize
+    ensures { result ≡ format_size (option_map (λ f. f.items) format.now) }
 {
-    if at < lines.len() {
-        let line = &mut lines[at];
-        line.text.extend_from_slice(text)?;
+    match format {
+        None => 0,
+        Some(format) => format.len(),
     }
-    Ok(())
 }
 
-// Makes the white space of a line single.
-fn tidy_at(alloc: Global, lines: &mut Vec<Line>, at: usize) -> Result<(), AllocError>
-    ensures { OnOk result (line_views lines.new.items ≡ change tidied at (line_views lines.old.items)) }
+// The size of lines with one more, which has no text.
+fn size_with(size: usize, place: Position, format: &Option<Vec<u8>>) -> Result<usize, AllocError>
+    ensures { IfOk result (λ n. n ≡ size
+        + element_size (tagged place (option_map (λ f. f.items) format.now)) []) }
 {
-    if at < lines.len() {
-        let line = &mut lines[at];
-        line.text = collapse(alloc, &line.text)?;
+    match size.checked_add(ELEMENT_BYTES) {
+        None => Err(AllocError),
+        Some(size) => match size.checked_add(format_size(format)) {
+            None => Err(AllocError),
+            Some(size) => Ok(size),
+        },
     }
-    Ok(())
+}
+
+// Adds text to the line of an open element, and gives the size of all lines.
+fn append(
+    lines: &mut Vec<Line>,
+    size: usize,
+    element: Open,
+    text: &[u8],
+) -> Result<usize, AllocError>
+    requires { size ≡ lines_size (line_views lines.old.items) }
+    ensures lines { OnOk result (line_views lines.new.items
+        ≡ change (longer element.waits text.now) element.at (line_views lines.old.items)) }
+    ensures size { IfOk result (λ n. n ≡ lines_size (line_views lines.new.items)) }
+{
+    if element.at >= lines.len() {
+        return Ok(size);
+    }
+    let line = &mut lines[element.at];
+    let before = line.text.len();
+    push_words(&mut line.text, element.waits, text)?;
+    match size.checked_add(line.text.len() - before) {
+        None => Err(AllocError),
+        Some(size) => Ok(size),
+    }
 }
 
 impl Grower {
@@ -65,7 +105,8 @@ impl Grower {
         Grower {
             alloc,
             lines: Vec::new(alloc),
-            open_at: Vec::new(alloc),
+            size: 0,
+            opens: Vec::new(alloc),
             passed: 0,
         }
     }
@@ -74,7 +115,14 @@ impl Grower {
     pub(crate) fn is_idle(&self) -> bool
         ensures { result ≡ is_idle self.now }
     {
-        self.passed == 0 && self.open_at.is_empty()
+        self.passed == 0 && self.opens.is_empty()
+    }
+
+    /// Whether it is not too large.
+    pub(crate) fn fits(&self) -> bool
+        ensures { result ≡ fits self.now }
+    {
+        self.size <= MOST_BYTES
     }
 
     /// The lines.
@@ -89,7 +137,8 @@ impl Grower {
         ensures { self.new ≡ no_lines }
     {
         self.lines.clear();
-        self.open_at.clear();
+        self.size = 0;
+        self.opens.clear();
         self.passed = 0;
     }
 
@@ -130,33 +179,29 @@ impl Grower {
         ensures { OnOk result (self.new ≡ opened 0 (Some name.now)
             (tagged place (option_map (λ f. f.items) format)) self.old) }
     {
+        let size = size_with(self.size, place, &format)?;
         let at = self.lines.len();
-        if at >= MOST_LINES {
-            return Err(AllocError);
-        }
         let line = Line {
-            depth: self.open_at.len(),
+            depth: self.opens.len(),
             name,
             place,
             format,
             text: Vec::new(self.alloc),
         };
+        self.opens.push(Open { at, waits: false })?;
         self.lines.push(line)?;
-        self.open_at.push(at)?;
+        self.size = size;
         Ok(())
     }
 
     /// Ends the innermost element.
-    pub(crate) fn close(&mut self) -> Result<(), AllocError>
-        ensures { OnOk result (self.new ≡ closed self.old.passed self.old) }
+    pub(crate) fn close(&mut self)
+        ensures { self.new ≡ closed self.old.passed self.old }
     {
         if self.passed > 0 {
             self.passed -= 1;
-            return Ok(());
-        }
-        match self.open_at.pop() {
-            None => Ok(()),
-            Some(at) => tidy_at(self.alloc, &mut self.lines, at),
+        } else {
+            let _ = self.opens.pop();
         }
     }
 
@@ -167,9 +212,24 @@ impl Grower {
         if self.passed > 0 {
             return Ok(());
         }
-        match self.open_at.last() {
-            None => Ok(()),
-            Some(at) => append_at(&mut self.lines, *at, text),
+        let Some(element) = self.opens.pop() else {
+            return Ok(());
+        };
+        match append(&mut self.lines, self.size, element, text) {
+            Ok(size) => {
+                self.size = size;
+                let waits = waits_behind(element.waits, text);
+                self.opens.push(Open {
+                    at: element.at,
+                    waits,
+                })?;
+                Ok(())
+            }
+            Err(error) => {
+                self.lines.clear();
+                self.size = 0;
+                Err(error)
+            }
         }
     }
 }

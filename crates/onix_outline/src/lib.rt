@@ -5,15 +5,19 @@
 pub mod composites;
 pub mod dialect;
 mod grower;
+pub mod laws;
 pub mod line;
 pub mod names;
 pub mod outliner;
+pub mod outlines;
 pub mod reading;
 mod spaces;
 
 pub use composites::{Node, first_node, text_in};
 pub use dialect::{Dialect, Wrong};
+pub use laws::outlines_tell;
 pub use line::Line;
 pub use names::{Naming, Word};
 pub use outliner::{Outliner, Taker};
+pub use outlines::{is_outline, outlined};
 pub use reading::{Fault, Stopped, read_message};

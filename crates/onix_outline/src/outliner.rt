@@ -1,23 +1,21 @@
 //! The tokens of a message, of which each Header and Product becomes an outline.
 
 ghost use Rattle.std.specs.Prelude.{◌≡◌, [], IfOk, OnOk, true, unwrap_or, is_some};
-ghost use Rattle.xml_text.specs.EntityView.{entity_views};
 ghost use Rattle.xml_text.specs.References.{reference_text};
 ghost use Rattle.xml_text.specs.View.{token_view};
-ghost use Rattle.onix_outline.specs.Feed.{feeding, first_feed, begun, ended, emptied, spoken, handed, settled, told, moved, takes_more};
-ghost use Rattle.onix_outline.specs.Faults.{finished};
+ghost use Rattle.onix_outline.specs.Feed.{feeding, first_feed, begun, ended, emptied, spoken, handed, settled, told, moved, is_sound, takes_more};
+ghost use Rattle.onix_outline.specs.Faults.{finished, first_place_of, stopped};
 ghost use Rattle.onix_outline.specs.Growing.{closed};
-ghost use Rattle.onix_outline.specs.Nodes.{named_characters};
 ghost use Rattle.onix_outline.specs.Outline.{is_part};
 ghost use Rattle.onix_outline.specs.Views.{line_views};
 
 use crate::dialect::{Dialect, Wrong, format_of};
 use crate::grower::Grower;
 use crate::line::Line;
-use crate::reading::Fault;
+use crate::reading::{Fault, Stopped};
 use std::alloc::{AllocError, Global};
 use std::marker::Model;
-use xml_text::{Attributes, Entity, Piece, Position, Sink, Token, push_reference};
+use xml_text::{Attributes, Piece, Position, Sink, Token, push_reference};
 
 /// What takes the outlines of a message: that of its Header and of each of its Products, in order.
 pub trait Taker {
@@ -51,47 +49,23 @@ impl<T> Model for Outliner<T> {
     ghost view = { λ o. feeding o.taker o.root o.child o.known o.place };
 }
 
-static NAMED_CHARACTERS: [Entity<'static>; 5] = [
-    Entity {
-        name: b"amp",
-        text: b"&",
-    },
-    Entity {
-        name: b"lt",
-        text: b"<",
-    },
-    Entity {
-        name: b"gt",
-        text: b">",
-    },
-    Entity {
-        name: b"apos",
-        text: b"'",
-    },
-    Entity {
-        name: b"quot",
-        text: b"\"",
-    },
-];
-
-// The characters that have a name.
-fn named_characters() -> &'static [Entity<'static>]
-    ensures { entity_views result.now ≡ named_characters }
-{
-    &NAMED_CHARACTERS
-}
-
 // What a reference stands for, and whether it stands for anything.
 fn reference_text(alloc: Global, body: &[u8]) -> Result<(Vec<u8>, bool), AllocError>
-    ensures text { IfOk result (λ x. x.0.items
-        ≡ unwrap_or (reference_text named_characters body.now) []) }
-    ensures known { IfOk result (λ x. x.1 ≡ is_some (reference_text named_characters body.now)) }
+    ensures text { IfOk result (λ x. x.0.items ≡ unwrap_or (reference_text body.now) []) }
+    ensures known { IfOk result (λ x. x.1 ≡ is_some (reference_text body.now)) }
 {
     let mut text = Vec::new(alloc);
-    if push_reference(&mut text, named_characters(), body)? {
-        Ok((text, true))
-    } else {
-        Ok((Vec::new(alloc), false))
+    let known = push_reference(&mut text, body)?;
+    Ok((text, known))
+}
+
+// Where the first of the lines stands.
+fn first_place_of(lines: &[Line], place: Position) -> Position
+    ensures { result ≡ first_place_of (line_views lines.now) place }
+{
+    match lines {
+        [] => place,
+        [first, ..] => first.place,
     }
 }
 
@@ -118,27 +92,53 @@ impl<T: Taker + Drop> Outliner<T> {
     }
 
     /// What comes of the message at its end.
-    pub(crate) fn finish(self) -> Result<T, Fault>
+    pub(crate) fn finish(self) -> Result<T, Stopped<T>>
         ensures { result ≡ finished self }
+    {
+        let place = self.place;
+        match &self.root {
+            None => Err(self.stop(Fault::Message(Wrong::Root), place)),
+            Some(Err(wrong)) => {
+                let wrong = *wrong;
+                Err(self.stop(Fault::Message(wrong), place))
+            }
+            Some(Ok(_)) => {
+                if !self.known {
+                    return Err(self.stop(Fault::Reference, place));
+                }
+                if self.child.fits() {
+                    Ok(self.into_taker())
+                } else {
+                    let place = first_place_of(self.child.lines(), place);
+                    Err(self.stop(Fault::TooLarge, place))
+                }
+            }
+        }
+    }
+
+    // What took the outlines.
+    fn into_taker(self) -> T
+        ensures { result ≡ self.taker }
     {
         let Outliner {
             alloc: _,
             taker,
-            root,
+            root: _,
             child: _,
-            known,
+            known: _,
             place: _,
         } = self;
-        match root {
-            None => Err(Fault::Message(Wrong::Root)),
-            Some(Err(wrong)) => Err(Fault::Message(wrong)),
-            Some(Ok(_)) => {
-                if known {
-                    Ok(taker)
-                } else {
-                    Err(Fault::Reference)
-                }
-            }
+        taker
+    }
+
+    /// No message was read, for this reason, at this place.
+    pub(crate) fn stop(self, fault: Fault, place: Position) -> Stopped<T>
+        ensures { result ≡ stopped fault place self }
+    {
+        Stopped {
+            fault,
+            place,
+            taker: self.into_taker(),
         }
     }
 
@@ -163,8 +163,8 @@ impl<T: Taker + Drop> Outliner<T> {
     fn settle(&mut self) -> Result<(), AllocError>
         ensures { OnOk result (self.new ≡ settled T.after self.old (closed self.old.child.passed self.old.child)) }
     {
-        self.child.close()?;
-        if self.child.is_idle() {
+        self.child.close();
+        if self.child.is_idle() && self.child.fits() {
             self.hand_on()?;
             self.child.clear();
         }
@@ -182,7 +182,7 @@ impl<T: Taker + Drop> Outliner<T> {
             }
             Some(Err(_)) => Ok(()),
             Some(Ok(dialect)) => {
-                let name = dialect.counted(name, attributes);
+                let name = dialect.counted(self.alloc, name, attributes)?;
                 let format = format_of(self.alloc, attributes)?;
                 self.child.open(name, self.place, format)
             }
@@ -227,8 +227,8 @@ impl<T: Taker + Drop> Outliner<T> {
     // Takes a reference.
     fn refer(&mut self, body: &[u8]) -> Result<(), AllocError>
         ensures { OnOk result (self.new ≡ spoken self.old.root
-            (unwrap_or (reference_text named_characters body.now) [])
-            (is_some (reference_text named_characters body.now)) self.old) }
+            (unwrap_or (reference_text body.now) [])
+            (is_some (reference_text body.now)) self.old) }
     {
         let (text, known) = reference_text(self.alloc, body)?;
         self.speak(&text, known)
@@ -251,9 +251,9 @@ impl<T: Taker + Drop> Outliner<T> {
         }
     }
 
-    // Whether more tokens are taken.
-    fn takes_more(&self) -> bool
-        ensures { result ≡ takes_more self.now }
+    // Whether the root may be that of a message, and each reference stands for something.
+    fn is_sound(&self) -> bool
+        ensures { result ≡ is_sound self.now }
     {
         match &self.root {
             None => true,
@@ -262,15 +262,28 @@ impl<T: Taker + Drop> Outliner<T> {
         }
     }
 
-    // Goes behind what was read, and tells whether more is taken.
+    /// Whether more tokens are taken.
+    pub(crate) fn takes_more(&self) -> bool
+        ensures { result ≡ takes_more self.now }
+    {
+        match &self.root {
+            None => true,
+            Some(Err(_)) => false,
+            Some(Ok(_)) => self.known && self.child.fits(),
+        }
+    }
+
+    // Goes behind what was read, unless it is refused, and tells whether more is taken.
     fn move_on(&mut self, spelled: &[u8]) -> Result<bool, AllocError>
         ensures moved { OnOk result (self.new ≡ moved spelled.now self.old) }
         ensures more { IfOk result (λ more. more ≡ takes_more self.new) }
     {
-        let Some(place) = self.place.after(spelled) else {
-            return Err(AllocError);
-        };
-        self.place = place;
+        if self.is_sound() {
+            let Some(place) = self.place.after(spelled) else {
+                return Err(AllocError);
+            };
+            self.place = place;
+        }
         Ok(self.takes_more())
     }
 

@@ -4,7 +4,7 @@ ghost use Rattle.std.specs.Prelude.{◌≡◌, ℕ, List, IfOk, IfErr, fold};
 ghost use Rattle.xml_text.specs.EncodingNames.{IsTextOf};
 ghost use Rattle.xml_text.specs.Tree.{Content};
 ghost use Rattle.onix_outline.specs.Dialect.{Dialect};
-ghost use Rattle.onix_outline.specs.Faults.{Explains, IsAt, stopped};
+ghost use Rattle.onix_outline.specs.Faults.{Explains, IsAt, is_of_text};
 ghost use Rattle.onix_outline.specs.Message.{IsMessage};
 ghost use Rattle.onix_outline.specs.Nodes.{nodes_in};
 ghost use Rattle.onix_outline.specs.Outline.{parts_of};
@@ -24,24 +24,31 @@ pub enum Fault {
     Message(Wrong),
     /// A reference stands for nothing.
     Reference,
+    /// A Header or a Product is larger than 4,194,304 bytes: those of the texts and of the attributes `dateformat` of
+    /// its elements that count, and 64 for each of them.
+    TooLarge,
 }
 
-/// Why no message was read, and where reading stopped: behind the last token that was taken. The place tells nothing
-/// where the encoding is none that is known, a read failed or memory ran out.
+/// Why no message was read, where, and what took the Header and Products until then. The place is that of the tag of a
+/// root that is refused, of a reference that stands for nothing, of the tag of a Header or Product that is too large,
+/// else behind the last token that was taken; it tells nothing where the encoding is none that is known, a read failed
+/// or memory ran out.
 #[derive(Debug, Drop)]
-pub struct Stopped {
+pub struct Stopped<T> {
     pub fault: Fault,
     pub place: Position,
+    pub taker: T,
 }
 
-// What comes of a message at its end.
-fn finish<T: Taker + Drop>(outliner: Outliner<T>) -> Result<T, Stopped>
-    ensures { result ≡ stopped outliner }
+// Whether a fault has a place.
+fn is_of_text(fault: &xml_text::Fault) -> bool
+    ensures { result ≡ is_of_text fault.now }
 {
-    let place = outliner.place();
-    match outliner.finish() {
-        Ok(taker) => Ok(taker),
-        Err(fault) => Err(Stopped { fault, place }),
+    match fault {
+        xml_text::Fault::UnknownEncoding => false,
+        xml_text::Fault::Read => false,
+        xml_text::Fault::Memory => false,
+        _ => true,
     }
 }
 
@@ -51,7 +58,7 @@ pub fn read_message<R: Read, T: Taker + Drop>(
     alloc: Global,
     reader: &mut R,
     taker: T,
-) -> Result<T, Stopped>
+) -> Result<T, Stopped<T>>
     ensures message { IfOk result (λ taken. (text : List ℕ) × (d : Dialect) × (place : Position)
         × (inside : Content) × IsTextOf (R.remaining reader.old) text
         × IsMessage text d place inside
@@ -63,14 +70,13 @@ pub fn read_message<R: Read, T: Taker + Drop>(
     documents_are_trees();
     let mut outliner = Outliner::new(alloc, taker);
     match read_document(alloc, reader, &mut outliner) {
-        Ok(()) => finish(outliner),
-        Err(xml_text::Fault::Refused) => finish(outliner),
+        Ok(()) => outliner.finish(),
         Err(fault) => {
+            if is_of_text(&fault) && !outliner.takes_more() {
+                return outliner.finish();
+            }
             let place = outliner.place();
-            Err(Stopped {
-                fault: Fault::Document(fault),
-                place,
-            })
+            Err(outliner.stop(Fault::Document(fault), place))
         }
     }
 }

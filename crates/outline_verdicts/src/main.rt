@@ -16,6 +16,7 @@ fn verdict(fault: &Fault) -> &'static str {
         Fault::Message(Wrong::Root) => "another root",
         Fault::Message(Wrong::Release) => "another release",
         Fault::Reference => "an unknown reference",
+        Fault::TooLarge => "too large",
     }
 }
 
@@ -29,7 +30,7 @@ fn tell(rt: HostRuntime, line: &[u8]) -> io::Result<()> {
             let text = shown.as_text();
             println!(rt; "message {text}")
         }
-        Err(Stopped { fault, place }) => {
+        Err(Stopped { fault, place, .. }) => {
             let told = verdict(&fault);
             let (line, column) = (place.line, place.column);
             println!(rt; "{told} {line}:{column}")

@@ -1,7 +1,8 @@
-use Rattle.std.proofs.Common.{◌∙◌, ap, fold, refl}
-use Rattle.onix_outline.specs.Feed.{feed}
-use Rattle.onix_outline.specs.Faults.{stopped}
-use Rattle.onix_outline.proofs.MessageLaws.{comes, refuses, document_at, document_explained}
+use Rattle.std.proofs.Common.{◌≡◌, ◌∙◌, true, false, ap, fold, sym}
+use Rattle.onix_outline.specs.Feed.{feed, is_sound, takes_more}
+use Rattle.onix_outline.specs.Faults.{finished, is_of_text}
+use Rattle.onix_outline.proofs.MessageLaws.{at_text, comes, refuses, takes_sound, document_at}
+use Rattle.onix_outline.proofs.reading.read_message.Goals.{else-is_of_text-via-then-is_of_text+else-not-takes_more, else-is_of_text-via-else-is_of_text}
 use Rattle.onix_outline.proofs.reading.read_message.Goals as goal
 
 pub returns-in-Ok-clause-message : goal.returns-in-Ok-clause-message
@@ -9,7 +10,7 @@ returns-in-Ok-clause-message g c =
     let d = c.in-Ok.ensures.document in
     let t = c.documents_are_trees.ensures.trees d.0 d.1 d.3 in
     let after = g.T.Taker.after in
-    rw (c.finish.ensures ∙ ap stopped (d.4 ∙ ap (λ f. fold (feed after) f d.1) c.new-outliner.ensures))
+    rw (c.finish.ensures ∙ ap finished (d.4 ∙ ap (λ f. fold (feed after) f d.1) c.new-outliner.ensures))
     (comes after c.args.taker (g.R.Read.remaining c.args.reader.now) d.0 d.1 t.0 t.1 d.2 d.3 t.2).ok
 
 pub returns-in-Ok-clause-refused : goal.returns-in-Ok-clause-refused
@@ -17,7 +18,7 @@ returns-in-Ok-clause-refused g c =
     let d = c.in-Ok.ensures.document in
     let t = c.documents_are_trees.ensures.trees d.0 d.1 d.3 in
     let after = g.T.Taker.after in
-    rw (c.finish.ensures ∙ ap stopped (d.4 ∙ ap (λ f. fold (feed after) f d.1) c.new-outliner.ensures))
+    rw (c.finish.ensures ∙ ap finished (d.4 ∙ ap (λ f. fold (feed after) f d.1) c.new-outliner.ensures))
     (comes after c.args.taker (g.R.Read.remaining c.args.reader.now) d.0 d.1 t.0 t.1 d.2 d.3 t.2).err
 
 pub returns-in-Ok-clause-place : goal.returns-in-Ok-clause-place
@@ -25,32 +26,35 @@ returns-in-Ok-clause-place g c =
     let d = c.in-Ok.ensures.document in
     let t = c.documents_are_trees.ensures.trees d.0 d.1 d.3 in
     let after = g.T.Taker.after in
-    rw (c.finish.ensures ∙ ap stopped (d.4 ∙ ap (λ f. fold (feed after) f d.1) c.new-outliner.ensures))
+    rw (c.finish.ensures ∙ ap finished (d.4 ∙ ap (λ f. fold (feed after) f d.1) c.new-outliner.ensures))
     (comes after c.args.taker (g.R.Read.remaining c.args.reader.now) d.0 d.1 t.0 t.1 d.2 d.3 t.2).at
 
-pub returns-in-Err-Refused-clause-refused : goal.returns-in-Err-Refused-clause-refused
-returns-in-Err-Refused-clause-refused g c =
+pub returns-then-not-takes_more-clause-refused : goal.returns-then-not-takes_more-clause-refused
+returns-then-not-takes_more-clause-refused g c =
     let after = g.T.Taker.after in
-    let w = rw c.in-Err-Refused.field-0-is at c.in-Err-Refused.ensures.stopped in
-    let r = rw c.in-Err-Refused.field-0-is at c.in-Err-Refused.ensures.refused in
+    let w = at_text _ c.in-Err.fault (sym c.is_of_text.ensures ∙ c.if-is_of_text.true) c.in-Err.ensures.stopped in
     let is = w.2 ∙ ap (λ f. fold (feed after) f w.0) c.new-outliner.ensures in
-    rw c.finish-in-Err-Refused.ensures (refuses after c.args.taker (g.R.Read.remaining c.args.reader.now) w.0 c.read_document.new.sink is w.1 (r refl)).err
+    let last : takes_more c.read_document.new.sink ≡ false = sym c.takes_more.ensures ∙ c.if-not-takes_more.true in
+    rw (c.finish-then-not-takes_more.ensures ∙ ap finished is)
+    (refuses after c.args.taker (g.R.Read.remaining c.args.reader.now) w.0 w.1 (ap takes_more (sym is) ∙ last)).err
 
-pub returns-in-Err-Refused-clause-place : goal.returns-in-Err-Refused-clause-place
-returns-in-Err-Refused-clause-place g c =
+pub returns-then-not-takes_more-clause-place : goal.returns-then-not-takes_more-clause-place
+returns-then-not-takes_more-clause-place g c =
     let after = g.T.Taker.after in
-    let w = rw c.in-Err-Refused.field-0-is at c.in-Err-Refused.ensures.stopped in
-    let r = rw c.in-Err-Refused.field-0-is at c.in-Err-Refused.ensures.refused in
+    let w = at_text _ c.in-Err.fault (sym c.is_of_text.ensures ∙ c.if-is_of_text.true) c.in-Err.ensures.stopped in
     let is = w.2 ∙ ap (λ f. fold (feed after) f w.0) c.new-outliner.ensures in
-    rw c.finish-in-Err-Refused.ensures (refuses after c.args.taker (g.R.Read.remaining c.args.reader.now) w.0 c.read_document.new.sink is w.1 (r refl)).at
+    let last : takes_more c.read_document.new.sink ≡ false = sym c.takes_more.ensures ∙ c.if-not-takes_more.true in
+    rw (c.finish-then-not-takes_more.ensures ∙ ap finished is)
+    (refuses after c.args.taker (g.R.Read.remaining c.args.reader.now) w.0 w.1 (ap takes_more (sym is) ∙ last)).at
 
-pub returns-in-Err : goal.returns-in-Err
-returns-in-Err g c =
+pub returns-else-is_of_text-clause-place : goal.returns-else-is_of_text-clause-place
+returns-else-is_of_text-clause-place g c =
     let after = g.T.Taker.after in
-    let bytes = g.R.Read.remaining c.args.reader.now in
-    let at = document_at after bytes c.args.taker c.new-outliner.result c.read_document.new.sink c.in-Err.fault c.new-outliner.ensures c.in-Err.ensures.stopped in
-    record {
-      message = tt;
-      refused = document_explained bytes c.in-Err.fault c.in-Err.ensures.malformed c.in-Err.ensures.deep c.in-Err.ensures.large c.in-Err.ensures.long c.in-Err.ensures.unknown;
-      place = rw c.place-place.ensures at;
-    }
+    let sink = c.read_document.new.sink in
+    let sound : is_of_text c.in-Err.fault ≡ true → is_sound sink ≡ true = λ e.
+    elim c.else-is_of_text.branch [
+      | else-is_of_text-via-then-is_of_text+else-not-takes_more w ↦ takes_sound sink (sym w.takes_more.ensures ∙ w.if-not-takes_more.false)
+      | else-is_of_text-via-else-is_of_text w ↦ absurd (cc (sym e ∙ sym c.is_of_text.ensures ∙ w.if-is_of_text.false))
+    ] in
+    rw (c.stop.ensures, c.place-place.ensures)
+    (document_at after (g.R.Read.remaining c.args.reader.now) c.args.taker c.new-outliner.result sink c.in-Err.fault c.new-outliner.ensures sound c.in-Err.ensures.stopped)

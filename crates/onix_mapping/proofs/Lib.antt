@@ -7,3 +7,6 @@ pub mod UnionLaws
 pub mod MarketLaws
 pub mod ElementLaws
 pub mod SupplyLaws
+pub mod RowLaws
+pub mod OpeningLaws
+pub mod PartLaws

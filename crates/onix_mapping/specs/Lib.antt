@@ -20,3 +20,4 @@ pub mod Markets
 pub mod Products
 pub mod Supplies
 pub mod ProductRecords
+pub mod Rows

@@ -19,6 +19,7 @@ pub record Note : Type 0 where
 abbrev pub reason : Why → List ℕ → Reason
 reason why text = record { why = why; text = text }
 
+-- a note on an element, by its reason and the text that this is about
 abbrev pub note : Element → Why → List ℕ → Note
 note element why text = record { element = element; reason = reason why text }
 
@@ -28,6 +29,7 @@ note element why text = record { element = element; reason = reason why text }
 abbrev pub reason_view : LentReason → Reason
 reason_view r = reason r.why r.text.now
 
+-- a note, as what it speaks of and why
 abbrev pub note_view : Lent → Note
 note_view n = record { element = element_view n.line.now; reason = reason_view n.reason }
 

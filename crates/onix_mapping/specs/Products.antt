@@ -9,6 +9,7 @@ use Rattle.onix_mapping.specs.Notes.{Note, note}
 use Rattle.onix_mapping.specs.Records.{said}
 use Rattle.onix_mapping.specs.declared.notes.Why.TheVariants.{WrongIdentifier}
 
+-- the RecordReference, empty where there is none
 abbrev pub reference_in : Nodes → List ℕ
 reference_in nodes = text_or_empty (codes "RecordReference") nodes
 

@@ -1,11 +1,23 @@
 //! What the definitions of the mapping come to. Each law is the contract of a function that does
 //! nothing.
 
-ghost use Rattle.std.specs.Prelude.{◌≡◌, ◌↔◌, ℕ, List, Any, None, Some};
+ghost use Rattle.std.specs.Prelude.{◌≡◌, ◌↔◌, ◌+◌, ◌<◌, ◌≤◌, ◌∷◌, ◌++◌, [], ℕ, List, Any, None, Ok, Some, length};
+ghost use Rattle.onix_mapping.specs.Header.{Choices, Heading, heading_in};
+ghost use Rattle.onix_mapping.specs.ProductRecords.{product_records};
+ghost use Rattle.onix_mapping.specs.Products.{reference_in};
+ghost use Rattle.onix_mapping.specs.Rows.{AreProducts, message_records, numbered, part_record};
 ghost use Rattle.onix_mapping.specs.Unions.{union};
+ghost use Rattle.onix_message.specs.Grammar.{IsMessage, most_records};
+ghost use Rattle.onix_message.specs.Opening.{opening_of};
+ghost use Rattle.onix_message.specs.Row.{row_of};
+ghost use Rattle.onix_message.specs.declared.parts.Product.{Product};
+ghost use Rattle.onix_message.specs.declared.row.Opening.{Opening};
+ghost use Rattle.onix_outline.specs.Nodes.{Nodes};
 ghost use Rattle.onix_terms.specs.Code.{country_of};
 ghost use Rattle.onix_terms.specs.Territory.{IsIn};
 ghost use Rattle.onix_terms.specs.declared.territory.Territory.{Territory};
+
+use onix_terms::laws::number_reads_back;
 
 /// A country lies in the union of territories exactly where it lies in one of them; without a union
 /// none does.
@@ -17,3 +29,33 @@ pub fn unions_have_the_countries_of_all()
         → (country : List ℕ) → country_of country ≡ Some country
         → Any (IsIn country) territories → ⊥ }
 {}
+
+/// The record of each part says what that of the first says, but for its number, and records are
+/// read behind it as behind that.
+pub fn parts_say_the_same()
+    ensures opening { (c : Choices) (header : Nodes) (h : Heading) → heading_in c header ≡ Ok h
+        → (before : ℕ) → before < c.parts → opening_of (part_record h header before)
+        ≡ Some (numbered (h.number + before) h.opening) }
+    ensures rows { (n : ℕ) (o : Opening) (fields : List (List ℕ))
+        → row_of (numbered n o) fields ≡ row_of o fields }
+{
+    number_reads_back();
+}
+
+/// The records that are made of a Product are the rows of a product of its reference, and so are
+/// those of several, one after the other. With a first record and an end they are a message, if
+/// they are not too many.
+pub fn records_are_products()
+    ensures one { (o : Opening) (preferred : List ℕ) (nodes : Nodes) (records : List (List (List ℕ)))
+        → product_records o preferred nodes ≡ Some records
+        → (p : Product) × (p.reference ≡ reference_in nodes) × AreProducts o records (p ∷ []) }
+    ensures none { (o : Opening) → AreProducts o [] [] }
+    ensures joined { (o : Opening) (a b : List (List (List ℕ))) (c d : List Product)
+        → AreProducts o a c → AreProducts o b d → AreProducts o (a ++ b) (c ++ d) }
+    ensures message { (o : Opening) (first : List (List ℕ)) (records : List (List (List ℕ)))
+        (products : List Product) → opening_of first ≡ Some o → AreProducts o records products
+        → length (message_records first records) ≤ most_records
+        → IsMessage (message_records first records) o.header products }
+{
+    number_reads_back();
+}

@@ -5,17 +5,11 @@ pub mod dates;
 pub mod details;
 pub mod elements;
 pub mod header;
-#[cfg(test)]
-mod header_tests;
 pub mod identifiers;
 pub mod laws;
-#[cfg(test)]
-mod market_tests;
 pub mod markets;
 pub mod notes;
 pub mod parties;
-#[cfg(test)]
-mod price_tests;
 pub mod prices;
 pub mod product_records;
 pub mod products;
@@ -24,8 +18,6 @@ mod refusals;
 mod regions;
 pub mod supplies;
 pub mod territories;
-#[cfg(test)]
-mod tests;
 pub mod unions;
 
 pub use dates::{Days, days_in};

@@ -38,8 +38,7 @@ fn read_territory<'a>(
 {
     let area = area_in(depth, market.below);
     if let Some(reason) = unheld(&area) {
-        let line = market.line;
-        push_note(notes, Note { line, reason })?;
+        push_note(notes, market.line, reason)?;
         return Ok(None);
     }
     let supply = read_market(alloc, &area)?;

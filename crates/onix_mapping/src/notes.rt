@@ -1,7 +1,8 @@
 //! Notes on what of a message is left out.
 
 ghost use Rattle.std.specs.Prelude.{◌≡◌, ◌++◌, ◌∷◌, [], OnOk};
-ghost use Rattle.onix_mapping.specs.Notes.{note_view, note_views};
+ghost use Rattle.onix_mapping.specs.Elements.{element_view};
+ghost use Rattle.onix_mapping.specs.Notes.{note, note_views};
 
 use onix_outline::Line;
 use std::alloc::AllocError;
@@ -56,6 +57,11 @@ pub enum Why {
     NoSupplyDetail,
     /// An identifier of a deletion that is wrong.
     WrongIdentifier,
+    /// A Product that is wrong: the desk would not take one of its records, or all its supplies
+    /// are left out and it does not replace those that the desk has.
+    WrongProduct,
+    /// A Product that alone is too large for a message.
+    ProductTooLarge,
     /// All supplies of a Product that replaces those that the desk has.
     NoSupplyLeft,
 }
@@ -74,11 +80,27 @@ pub struct Note<'a> {
     pub reason: Reason<'a>,
 }
 
-/// Adds a note.
-pub(crate) fn push_note<'a>(notes: &mut Vec<Note<'a>>, note: Note<'a>) -> Result<(), AllocError>
-    ensures { OnOk result (note_views notes.new.items
-        ≡ note_views notes.old.items ++ note_view note.entry ∷ []) }
+/// Adds a note on the element of a line.
+pub(crate) fn push_note<'a>(
+    notes: &mut Vec<Note<'a>>,
+    line: &'a Line,
+    reason: Reason<'a>,
+) -> Result<(), AllocError>
+    ensures { OnOk result (note_views notes.new.items ≡ note_views notes.old.items
+        ++ note (element_view line.now) reason.entry.why reason.entry.text.now ∷ []) }
 {
-    notes.push(note)?;
+    notes.push(Note { line, reason })?;
     Ok(())
+}
+
+/// Adds a note whose reason has no text.
+pub(crate) fn push_why<'a>(
+    notes: &mut Vec<Note<'a>>,
+    line: &'a Line,
+    why: Why,
+) -> Result<(), AllocError>
+    ensures { OnOk result (note_views notes.new.items
+        ≡ note_views notes.old.items ++ note (element_view line.now) why [] ∷ []) }
+{
+    push_note(notes, line, Reason { why, text: b"" })
 }

@@ -23,7 +23,7 @@ ghost use Rattle.onix_message.specs.Price.{price_of};
 use crate::dates::{Days, days_in};
 use crate::elements::{Composite, first_composite, next_composite, text_or_empty};
 use crate::identifiers::is_text;
-use crate::notes::{Note, Reason, Why};
+use crate::notes::{Note, Reason, Why, push_note};
 use crate::records::push_texts;
 use crate::refusals::field_reason;
 use crate::territories::{Area, area_fields, area_in, push_left_out_regions, unheld};
@@ -370,19 +370,6 @@ fn write_price<'a>(
     }
     let field = field_reason(alloc, opening, area, days, depth, lines)?;
     Ok(Some(or_refused(field)))
-}
-
-// Adds a note on the element of a line.
-fn push_note<'a>(
-    notes: &mut Vec<Note<'a>>,
-    line: &'a Line,
-    reason: Reason<'a>,
-) -> Result<(), AllocError>
-    ensures { OnOk result (note_views notes.new.items ≡ note_views notes.old.items
-        ++ note_of (element_view line.now) (reason_view reason.entry) ∷ []) }
-{
-    notes.push(Note { line, reason })?;
-    Ok(())
 }
 
 // Adds what comes of a Price that is none other than the desk knows.

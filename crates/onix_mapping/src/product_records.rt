@@ -1,9 +1,9 @@
 //! The records of a Product and of its supplies.
 
 ghost use Rattle.std.specs.Prelude.{◌≡◌, ◌++◌, ◌<◌, None, Some, IfOk, IsErrOf, OnOk, option_map, true};
-ghost use Rattle.onix_mapping.specs.Elements.{Composite as Told, Tells, element_view};
+ghost use Rattle.onix_mapping.specs.Elements.{Composite as Told, Tells};
 ghost use Rattle.onix_mapping.specs.Notes.{note_views};
-ghost use Rattle.onix_mapping.specs.ProductRecords.{all_notes, bare_note, has_none_left, kept_supplies, notes_below, product_records, replaces};
+ghost use Rattle.onix_mapping.specs.ProductRecords.{all_notes, has_none_left, kept_supplies, notes_below, product_records, replaces};
 ghost use Rattle.onix_mapping.specs.Products.{is_deletion};
 ghost use Rattle.onix_mapping.specs.Supplies.{supplies_in, supplies_notes, supplies_records};
 ghost use Rattle.onix_outline.specs.Nodes.{Nodes};
@@ -11,7 +11,7 @@ ghost use Rattle.onix_outline.specs.Outline.{outline};
 ghost use Rattle.onix_outline.specs.Views.{line_views};
 
 use crate::elements::{Composite, next_composite, text_or_empty};
-use crate::notes::{Note, Reason, Why, push_note};
+use crate::notes::{Note, Why, push_why};
 use crate::products::fill_product;
 use crate::supplies::add_supplies;
 use csv_records::buffer::RecordBuffer;
@@ -81,18 +81,6 @@ fn is_deletion(depth: usize, lines: &[Line]) -> bool
     text_or_empty(depth, b"NotificationType", lines) == b"05".as_slice()
 }
 
-// Adds a note that all supplies of a Product are left out.
-fn push_bare<'a>(notes: &mut Vec<Note<'a>>, line: &'a Line) -> Result<(), AllocError>
-    ensures { OnOk result (note_views notes.new.items
-        ≡ note_views notes.old.items ++ bare_note true (element_view line.now)) }
-{
-    let reason = Reason {
-        why: Why::NoSupplyLeft,
-        text: b"",
-    };
-    push_note(notes, Note { line, reason })
-}
-
 // Adds the records below a Product that is no deletion, and notes on what is left out of it.
 fn add_below<'a>(
     alloc: Global,
@@ -118,7 +106,7 @@ fn add_below<'a>(
     if add_kept(
         alloc, opening, preferred, depth, lines, fields, records, notes,
     )? {
-        return Ok(push_bare(notes, product.line)?);
+        return Ok(push_why(notes, product.line, Why::NoSupplyLeft)?);
     }
     Ok(())
 }

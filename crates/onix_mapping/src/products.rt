@@ -12,7 +12,7 @@ ghost use Rattle.onix_outline.specs.Outline.{outline};
 ghost use Rattle.onix_outline.specs.Views.{line_views};
 
 use crate::elements::{Composite, next_composite, text_or_empty};
-use crate::notes::{Note, Reason, Why, push_note};
+use crate::notes::{Note, Why, push_why};
 use crate::records::push_texts;
 use csv_records::fields::FieldBuffer;
 use onix_message::fields::read_fields;
@@ -119,12 +119,7 @@ fn push_right_pair<'a>(
     if would_take(alloc, &[reference, notification, kind, value])? {
         return push_pair(texts, [kind, value]);
     }
-    let line = identifier.line;
-    let reason = Reason {
-        why: Why::WrongIdentifier,
-        text: b"",
-    };
-    push_note(notes, Note { line, reason })
+    push_why(notes, identifier.line, Why::WrongIdentifier)
 }
 
 // Adds the types and values of the identifiers of a deletion that are right, and notes on the others.

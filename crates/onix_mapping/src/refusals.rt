@@ -13,7 +13,7 @@ ghost use Rattle.onix_mapping.specs.Territories.{area_in, area_view, market_of};
 ghost use Rattle.onix_outline.specs.Nodes.{Nodes};
 ghost use Rattle.onix_outline.specs.Outline.{outline};
 ghost use Rattle.onix_outline.specs.Views.{line_views};
-ghost use Rattle.onix_message.specs.Fields.{optional, or_default};
+ghost use Rattle.onix_message.specs.Fields.{optional, or_default, unless_empty, value_or_default};
 
 use crate::dates::Days;
 use crate::elements::text_or_empty;
@@ -22,7 +22,6 @@ use crate::prices::former;
 use crate::records::utf8_text;
 use crate::territories::{Area, read_market};
 use onix_message::row::{Opening, RowFault};
-use onix_message::term::Term;
 use onix_outline::Line;
 use onix_terms::amount::Amount;
 use onix_terms::code::{Code2, Currency};
@@ -30,37 +29,48 @@ use onix_terms::day::Day;
 use onix_terms::quantity::Quantity;
 use std::alloc::{AllocError, Global};
 
-// Whether a text writes a value.
-fn writes<T: Term>(text: &[u8]) -> Option<T>
-    ensures { result ≡ term_said T.term_of text.now }
+fn code_said(text: &[u8]) -> Option<Code2>
+    ensures { result ≡ term_said code2_of text.now }
 {
-    match utf8_text(text) {
-        Some(text) => T::of_text(text),
-        None => None,
-    }
+    utf8_text(text)?.parse().ok()
 }
 
-// Whether a text writes a value, or is empty.
-fn may_write<T: Term>(text: &[u8]) -> Option<Option<T>>
-    ensures { result ≡ optional (term_said T.term_of) text.now }
+fn amount_said(text: &[u8]) -> Option<Amount>
+    ensures { result ≡ term_said amount_of text.now }
 {
-    if text.is_empty() {
-        return Some(None);
-    }
-    match writes(text) {
-        Some(value) => Some(Some(value)),
-        None => None,
-    }
+    utf8_text(text)?.parse().ok()
 }
 
-// The value that a text writes, or the default where it is empty.
-fn writes_or<T: Term>(default: Option<T>, text: &[u8]) -> Option<T>
-    ensures { result ≡ or_default (term_said T.term_of) default text.now }
+fn currency_said(text: &[u8]) -> Option<Currency>
+    ensures { result ≡ term_said currency_of text.now }
 {
-    if text.is_empty() {
-        return default;
-    }
-    writes(text)
+    utf8_text(text)?.parse().ok()
+}
+
+fn day_said(text: &[u8]) -> Option<Day>
+    ensures { result ≡ term_said day_of text.now }
+{
+    utf8_text(text)?.parse().ok()
+}
+
+fn quantity_said(text: &[u8]) -> Option<Quantity>
+    ensures { result ≡ term_said quantity_of text.now }
+{
+    utf8_text(text)?.parse().ok()
+}
+
+// Whether a text is empty, or its value is there.
+fn may_be_empty<T: Drop>(text: &[u8], value: Option<T>) -> bool
+    ensures { result ≡ is_some (unless_empty text.now value) }
+{
+    text.is_empty() || value.is_some()
+}
+
+// The value of a text, or the default where it is empty.
+fn value_or_default<T: Drop>(default: Option<T>, text: &[u8], value: Option<T>) -> Option<T>
+    ensures { result ≡ value_or_default default text.now value }
+{
+    if text.is_empty() { default } else { value }
 }
 
 // Whether the desk takes a territory.
@@ -88,22 +98,21 @@ fn type_reason<'a>(default: Option<Code2>, text: &'a [u8]) -> Option<Reason<'a>>
     ensures { reason_read result
         ≡ unread (or_default (term_said code2_of) default) WrongPriceType text.now }
 {
-    let read = writes_or(default, text);
+    let read = value_or_default(default, text, code_said(text));
     unless(read.is_some(), Why::WrongPriceType, text)
 }
 
 fn amount_reason<'a>(text: &'a [u8]) -> Option<Reason<'a>>
     ensures { reason_read result ≡ unread (term_said amount_of) WrongAmount text.now }
 {
-    let read = writes::<Amount>(text);
-    unless(read.is_some(), Why::WrongAmount, text)
+    unless(amount_said(text).is_some(), Why::WrongAmount, text)
 }
 
 fn currency_reason<'a>(default: Option<Currency>, text: &'a [u8]) -> Option<Reason<'a>>
     ensures { reason_read result
         ≡ unread (or_default (term_said currency_of) default) WrongCurrency text.now }
 {
-    let read = writes_or(default, text);
+    let read = value_or_default(default, text, currency_said(text));
     unless(read.is_some(), Why::WrongCurrency, text)
 }
 
@@ -123,15 +132,17 @@ fn day_reason<'a>(day: Option<&'a [u8]>) -> Option<Reason<'a>>
         Some(text) => text,
         None => b"",
     };
-    let read = may_write::<Day>(text);
-    unless(read.is_some(), Why::WrongDay, text)
+    unless(may_be_empty(text, day_said(text)), Why::WrongDay, text)
 }
 
 fn quantity_reason<'a>(text: &'a [u8]) -> Option<Reason<'a>>
     ensures { reason_read result ≡ unread (optional (term_said quantity_of)) WrongQuantity text.now }
 {
-    let read = may_write::<Quantity>(text);
-    unless(read.is_some(), Why::WrongQuantity, text)
+    unless(
+        may_be_empty(text, quantity_said(text)),
+        Why::WrongQuantity,
+        text,
+    )
 }
 
 /// The first field of a Price in this territory and with these days that the desk does not take.

@@ -1,11 +1,10 @@
 //! The supplies of a Product.
 
 ghost use Rattle.std.specs.Prelude.{◌≡◌, ◌++◌, ◌∷◌, ◌<◌, [], None, Some, IsErrOf, OnOk, option_map};
-ghost use Rattle.onix_mapping.specs.Elements.{Composite as Told, Tells, element_view};
+ghost use Rattle.onix_mapping.specs.Elements.{Composite as Told, Tells};
 ghost use Rattle.onix_mapping.specs.Markets.{market_notes_in, record_in};
-ghost use Rattle.onix_mapping.specs.Notes.{note, note_views};
+ghost use Rattle.onix_mapping.specs.Notes.{note_views};
 ghost use Rattle.onix_mapping.specs.Supplies.{details_notes, details_records, supplies_notes, supplies_records, supply_notes, supply_records, with_details, with_notes};
-ghost use Rattle.onix_mapping.specs.declared.notes.Why.TheVariants.{NoSupplyDetail};
 ghost use Rattle.onix_outline.specs.Nodes.{Nodes};
 ghost use Rattle.onix_outline.specs.Outline.{outline};
 ghost use Rattle.onix_outline.specs.Views.{line_views};
@@ -13,7 +12,7 @@ ghost use Rattle.onix_outline.specs.Views.{line_views};
 use crate::details::add_detail;
 use crate::elements::{Composite, next_composite};
 use crate::markets::fill_supply;
-use crate::notes::{Note, Reason, Why, push_note};
+use crate::notes::{Note, Why, push_why};
 use csv_records::buffer::RecordBuffer;
 use csv_records::fields::FieldBuffer;
 use onix_message::row::{Opening, RowFault};
@@ -93,18 +92,6 @@ fn add_detailed<'a>(
     )
 }
 
-// Adds a note that a ProductSupply has no SupplyDetail.
-fn push_no_detail<'a>(notes: &mut Vec<Note<'a>>, line: &'a Line) -> Result<(), AllocError>
-    ensures { OnOk result (note_views notes.new.items
-        ≡ note_views notes.old.items ++ note (element_view line.now) NoSupplyDetail [] ∷ []) }
-{
-    let reason = Reason {
-        why: Why::NoSupplyDetail,
-        text: b"",
-    };
-    push_note(notes, Note { line, reason })
-}
-
 // Adds the records of a ProductSupply, and notes on what is left out of it, or on itself.
 fn add_supply<'a>(
     alloc: Global,
@@ -128,7 +115,7 @@ fn add_supply<'a>(
 {
     let lines = supply.below;
     match next_composite(b"SupplyDetail", depth, lines) {
-        None => Ok(push_no_detail(notes, supply.line)?),
+        None => Ok(push_why(notes, supply.line, Why::NoSupplyDetail)?),
         Some(_) => add_detailed(
             alloc, opening, preferred, depth, lines, fields, records, notes,
         ),

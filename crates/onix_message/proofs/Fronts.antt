@@ -5,7 +5,7 @@ use Rattle.std.proofs.Math.Seq.{take-append_seam, take-append-add}
 use Rattle.std.proofs.lemmas.Bool.{cases_lt, eqb-true}
 use Rattle.std.specs.List.{AllByRecursion, flat_map}
 use Rattle.std.proofs.lemmas.Option.{same_Some}
-use Rattle.onix_message.specs.private.Draft.{DraftHasDetails, Stops, Takes, allows, draft_rows, has_ended, part_rows}
+use Rattle.onix_message.specs.private.Draft.{DraftHasDetails, Stops, Takes, allows, draft_rows, has_ended}
 use Rattle.onix_message.specs.Grammar.{BeginsMessage, CountsAfter, IsBadRow, IsFront, IsMessage, KeepsOrder, is_counted, may_follow}
 use Rattle.onix_message.specs.PartRows.{SuppliesHaveDetails, content_rows, product_rows, rows_after}
 use Rattle.onix_message.specs.Opening.{opening_of}

@@ -1,5 +1,5 @@
 -- What a step is where a row of one kind was read, and where none was.
-use Rattle.std.proofs.Common.{◌≡◌, ℕ, true, false, refl}
+use Rattle.std.proofs.Common.{◌≡◌, ℕ, true, refl}
 use Rattle.std.specs.Prelude.{Option, Some, None, Result, Ok, Err, IfErr, OnOk, option_map}
 use Rattle.std.proofs.lemmas.Option.{same_Some}
 use Rattle.onix_message.specs.Gives.{Gives}

@@ -15,15 +15,23 @@ is_control b = nat_lt b 32 || (b == 127)
 abbrev pub is_clean : List ℕ → Bool
 is_clean field = nat_le (length field) 1024 && list_all (λ b. not (is_control b)) field
 
+-- the value of a text, or nothing if the text is empty
+abbrev pub unless_empty : {A : Type 0} → List ℕ → Option A → Option (Option A)
+unless_empty [] value = Some None
+unless_empty (b ∷ bs) value = option_map Some value
+
 -- a term, or nothing
 abbrev pub optional : {A : Type 0} → (List ℕ → Option A) → List ℕ → Option (Option A)
-optional term [] = Some None
-optional term (b ∷ bs) = option_map Some (term (b ∷ bs))
+optional term text = unless_empty text (term text)
+
+-- the value of a text, or the default if the text is empty
+abbrev pub value_or_default : {A : Type 0} → Option A → List ℕ → Option A → Option A
+value_or_default default [] value = default
+value_or_default default (b ∷ bs) value = value
 
 -- a term, or the default if the text is empty
 abbrev pub or_default : {A : Type 0} → (List ℕ → Option A) → Option A → List ℕ → Option A
-or_default term default [] = default
-or_default term default (b ∷ bs) = term (b ∷ bs)
+or_default term default text = value_or_default default text (term text)
 
 -- an identifier's type and its value, which is not empty
 abbrev pub party_of : List ℕ → List ℕ → Option Party

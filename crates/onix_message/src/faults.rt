@@ -1,5 +1,8 @@
 //! Why a store could not answer.
 
+ghost use Rattle.std.specs.Prelude.{◌≡◌};
+
+use std::alloc::AllocError;
 use thiserror::Error;
 
 /// Why a desk could not answer. Nothing has changed then.
@@ -17,4 +20,14 @@ pub enum StoreFault {
     /// The store refused for any other reason.
     #[error("unusable")]
     Unusable,
+}
+
+impl From<AllocError> for StoreFault {
+    ghost use Rattle.onix_message.specs.declared.faults.StoreFault.TheVariants.{Memory};
+
+    ghost from_gives = { λ _ e. e ≡ Memory };
+
+    fn from(_e: AllocError) -> StoreFault {
+        StoreFault::Memory
+    }
 }

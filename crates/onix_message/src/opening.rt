@@ -1,14 +1,17 @@
 //! The row with which a message begins.
 
 ghost use Rattle.std.specs.Prelude.{map};
+ghost use Rattle.onix_message.specs.Fields.{optional};
 ghost use Rattle.onix_message.specs.Gives.{Gives};
 ghost use Rattle.onix_message.specs.Opening.{form_of, opening_fields, opening_from, opening_of};
+ghost use Rattle.onix_terms.specs.Digits.{digits_of};
 
 use crate::fields::{read_fields, read_optional_party, read_party};
 use crate::parts::Header;
 use crate::row::{Form, Opening, RowFault};
 use crate::term::read_optional;
 use csv_records::record::Record;
+use onix_terms::digits::read_digits;
 use onix_terms::text::Text;
 use std::alloc::Global;
 
@@ -22,6 +25,15 @@ fn read_form(text: &str) -> Result<Form, RowFault>
         return Ok(Form::Two);
     }
     Err(RowFault::Wrong)
+}
+
+fn read_repeat(text: &str) -> Result<Option<u32>, RowFault>
+    ensures { Gives result (optional digits_of text.now) }
+{
+    if text.is_empty() {
+        return Ok(None);
+    }
+    Ok(Some(read_digits(text).ok_or(RowFault::Wrong)?))
 }
 
 #[tactic(auto, unfolding(crate::specs::Opening::opening_from))]
@@ -44,7 +56,7 @@ fn make_opening(
 {
     let form = read_form(version)?;
     let number = read_optional(number)?;
-    let repeat = read_optional(repeat)?;
+    let repeat = read_repeat(repeat)?;
     let default_type = read_optional(price_type)?;
     let default_currency = read_optional(currency)?;
     let sent = Text::from_str(alloc, sent)?;

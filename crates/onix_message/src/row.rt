@@ -3,6 +3,7 @@
 ghost use Rattle.std.specs.Prelude.{◌≡◌};
 
 use crate::parts::{Header, Price, Product, ProductSupply, SupplyDetail};
+use onix_terms::NotATerm;
 use std::alloc::AllocError;
 
 /// The form of a message, which its first record names.
@@ -46,5 +47,15 @@ impl From<AllocError> for RowFault {
 
     fn from(_e: AllocError) -> RowFault {
         RowFault::Memory
+    }
+}
+
+impl From<NotATerm> for RowFault {
+    ghost use Rattle.onix_message.specs.declared.row.RowFault.TheVariants.{Wrong};
+
+    ghost from_gives = { λ _ e. e ≡ Wrong };
+
+    fn from(_e: NotATerm) -> RowFault {
+        RowFault::Wrong
     }
 }

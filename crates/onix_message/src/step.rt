@@ -18,8 +18,8 @@ use crate::price::read_price;
 use crate::product::read_product;
 use crate::row::{Opening, RowFault};
 use crate::supply::read_supply;
-use crate::term::read_term;
 use csv_records::record::Record;
+use onix_terms::digits::read_digits;
 use std::alloc::Global;
 
 fn step_fault(fault: RowFault) -> StepFault
@@ -94,7 +94,7 @@ fn read_end(fields: &[&str]) -> Result<u32, RowFault>
     let [count] = fields else {
         return Err(RowFault::Wrong);
     };
-    read_term(count)
+    read_digits(count).ok_or(RowFault::Wrong)
 }
 
 // An end says how many records come before it.

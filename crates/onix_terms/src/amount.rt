@@ -2,15 +2,17 @@
 
 ghost use Rattle.std.specs.Prelude.{◌≡◌, ◌<◌, ◌++◌, ◌∷◌, IfOk, IfSome, OnOk, OnErr};
 ghost use Rattle.std.specs.String.{string_bytes};
+ghost use Rattle.std.specs.Result.{result_ok};
 ghost use Rattle.onix_terms.specs.Amount.{amount_from, amount_of, amount_text, thousandths_of, three_digits};
 
-use crate::Memory;
 use crate::ascii::text_of;
 use crate::digits::{read_digits, two_digits};
 use crate::text::Text;
+use crate::{Memory, NotATerm};
 use itoa::Buffer;
 use std::alloc::Global;
 use std::marker::Model;
+use std::str::FromStr;
 
 /// An amount of money from 0 to 999,999,999.999, which contracts see as its thousandths.
 #[derive(Clone, Copy, Debug, PartialEq, Eq, PartialOrd, Ord)]
@@ -96,6 +98,16 @@ impl Amount {
         out.push_str(whole)?;
         out.push_str(text_of(&decimals))?;
         Ok(())
+    }
+}
+
+impl FromStr for Amount {
+    type Err = NotATerm;
+
+    ghost from_str_gives = { λ text given. result_ok given ≡ amount_of text };
+
+    fn from_str(text: &str) -> Result<Amount, NotATerm> {
+        Amount::read(text).ok_or(NotATerm)
     }
 }
 

@@ -1,10 +1,13 @@
 //! Codes of fixed length.
 
 ghost use Rattle.std.specs.Prelude.{◌≡◌, Some};
+ghost use Rattle.std.specs.Result.{result_ok};
 ghost use Rattle.onix_terms.specs.Code.{code2_of, country_of, currency_of};
 
+use crate::NotATerm;
 use crate::ascii::{are_capitals, are_digits, text_of};
 use std::marker::Model;
+use std::str::FromStr;
 
 /// A code of an ONIX code list: two digits.
 #[derive(Clone, Copy, Debug, PartialEq, Eq, PartialOrd, Ord)]
@@ -43,6 +46,16 @@ impl Code2 {
         ensures read { code2_of self.now ≡ Some self.now }
     {
         text_of(&self.bytes)
+    }
+}
+
+impl FromStr for Code2 {
+    type Err = NotATerm;
+
+    ghost from_str_gives = { λ text given. result_ok given ≡ code2_of text };
+
+    fn from_str(text: &str) -> Result<Code2, NotATerm> {
+        Code2::read(text).ok_or(NotATerm)
     }
 }
 
@@ -93,6 +106,16 @@ impl Country {
     }
 }
 
+impl FromStr for Country {
+    type Err = NotATerm;
+
+    ghost from_str_gives = { λ text given. result_ok given ≡ country_of text };
+
+    fn from_str(text: &str) -> Result<Country, NotATerm> {
+        Country::read(text).ok_or(NotATerm)
+    }
+}
+
 /// A currency: three letters `A` to `Z`.
 #[derive(Clone, Copy, Debug, PartialEq, Eq, PartialOrd, Ord)]
 pub struct Currency {
@@ -130,5 +153,15 @@ impl Currency {
         ensures read { currency_of self.now ≡ Some self.now }
     {
         text_of(&self.bytes)
+    }
+}
+
+impl FromStr for Currency {
+    type Err = NotATerm;
+
+    ghost from_str_gives = { λ text given. result_ok given ≡ currency_of text };
+
+    fn from_str(text: &str) -> Result<Currency, NotATerm> {
+        Currency::read(text).ok_or(NotATerm)
     }
 }

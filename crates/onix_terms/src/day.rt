@@ -2,16 +2,18 @@
 
 ghost use Rattle.std.specs.Prelude.{◌≡◌, ◌↔◌, ◌<◌, ◌++◌, ◌+ℤ◌, ◌≤ℤ◌, ◌<ℤ◌, IsTrue, IsSome, IsOk, IfOk, IfSome, OnOk, OnErr, pos};
 ghost use Rattle.std.specs.String.{string_bytes};
+ghost use Rattle.std.specs.Result.{result_ok};
 ghost use Rattle.onix_terms.specs.Day.{IsDayNumber, date_of, day_at, day_of, day_text, eight_digits};
 
-use crate::Memory;
 use crate::ascii::text_of;
 use crate::digits::{read_digits, two_digits};
 use crate::text::Text;
+use crate::{Memory, NotATerm};
 use jiff::civil::Date;
 use jiff_core::civil;
 use std::alloc::Global;
 use std::marker::Model;
+use std::str::FromStr;
 
 /// A day from 1 January 0001 to 31 December 9999, which contracts see as its number: 0 for
 /// 1 January 1970, and negative before it. Days are ordered by it.
@@ -118,6 +120,16 @@ impl Day {
         Day {
             number: self.number - 1,
         }
+    }
+}
+
+impl FromStr for Day {
+    type Err = NotATerm;
+
+    ghost from_str_gives = { λ text given. result_ok given ≡ day_of text };
+
+    fn from_str(text: &str) -> Result<Day, NotATerm> {
+        Day::read(text).ok_or(NotATerm)
     }
 }
 

@@ -1,10 +1,13 @@
 //! The number of an article.
 
 ghost use Rattle.std.specs.Prelude.{◌≡◌, Some};
+ghost use Rattle.std.specs.Result.{result_ok};
 ghost use Rattle.onix_terms.specs.Code.{isbn13_of};
 
+use crate::NotATerm;
 use crate::ascii::{are_digits, text_of};
 use std::marker::Model;
+use std::str::FromStr;
 
 /// The 13 digits of an ISBN-13 or a GTIN-13. The check digit is not looked at.
 #[derive(Clone, Copy, Debug, PartialEq, Eq, PartialOrd, Ord)]
@@ -43,5 +46,15 @@ impl Isbn13 {
         ensures read { isbn13_of self.now ≡ Some self.now }
     {
         text_of(&self.bytes)
+    }
+}
+
+impl FromStr for Isbn13 {
+    type Err = NotATerm;
+
+    ghost from_str_gives = { λ text given. result_ok given ≡ isbn13_of text };
+
+    fn from_str(text: &str) -> Result<Isbn13, NotATerm> {
+        Isbn13::read(text).ok_or(NotATerm)
     }
 }

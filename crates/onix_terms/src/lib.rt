@@ -14,6 +14,10 @@ use std::alloc::AllocError;
 /// Want of memory: a growth was refused.
 pub type Memory = AllocError;
 
+/// Why `parse` gives no term: the text writes none of that kind.
+#[derive(Clone, Copy, Debug, PartialEq, Eq)]
+pub struct NotATerm;
+
 pub mod amount;
 pub mod ascii;
 pub mod code;

@@ -1,10 +1,13 @@
 //! Message numbers.
 
 ghost use Rattle.std.specs.Prelude.{◌≡◌, ◌<◌, ℕ};
+ghost use Rattle.std.specs.Result.{result_ok};
 ghost use Rattle.onix_terms.specs.Number.{number_from, number_of};
 
+use crate::NotATerm;
 use crate::digits::read_digits;
 use std::marker::Model;
+use std::str::FromStr;
 
 /// A MessageNumber: 1 to 999,999,999.
 #[derive(Clone, Copy, Debug, PartialEq, Eq, PartialOrd, Ord)]
@@ -49,5 +52,15 @@ impl Number {
         ensures below { result < 1000000000 }
     {
         self.value
+    }
+}
+
+impl FromStr for Number {
+    type Err = NotATerm;
+
+    ghost from_str_gives = { λ text given. result_ok given ≡ number_of text };
+
+    fn from_str(text: &str) -> Result<Number, NotATerm> {
+        Number::read(text).ok_or(NotATerm)
     }
 }

@@ -1,10 +1,13 @@
 //! Numbers of copies.
 
 ghost use Rattle.std.specs.Prelude.{◌≡◌, ◌<◌};
+ghost use Rattle.std.specs.Result.{result_ok};
 ghost use Rattle.onix_terms.specs.Quantity.{quantity_from, quantity_of};
 
+use crate::NotATerm;
 use crate::digits::read_digits;
 use std::marker::Model;
+use std::str::FromStr;
 
 /// A number of copies: 1 to 999,999.
 #[derive(Clone, Copy, Debug, PartialEq, Eq, PartialOrd, Ord)]
@@ -52,5 +55,15 @@ impl Quantity {
         ensures below { result < 1_000_000 }
     {
         self.value
+    }
+}
+
+impl FromStr for Quantity {
+    type Err = NotATerm;
+
+    ghost from_str_gives = { λ text given. result_ok given ≡ quantity_of text };
+
+    fn from_str(text: &str) -> Result<Quantity, NotATerm> {
+        Quantity::read(text).ok_or(NotATerm)
     }
 }

@@ -8,11 +8,14 @@ ghost use Rattle.std.specs.Cmp;
 ghost use Rattle.std.specs.Cmp.Lexicographic.{slice_cmp, nat_list_cmp_total, nat_list_eq_equiv, texts_po, texts_ties};
 ghost use Rattle.std.specs.List.{list_all};
 ghost use Rattle.std.specs.Str.{bytes_eq};
+ghost use Rattle.std.specs.Result.{result_ok};
 ghost use Rattle.onix_terms.specs.SeriesName.{is_name_byte, series_name_of};
 
+use crate::NotATerm;
 use crate::ascii::text_of;
 use std::cmp::Ordering;
 use std::marker::Model;
+use std::str::FromStr;
 
 /// The name of a series: 1 to 32 characters of `a` to `z`, `0` to `9` and `-`, which contracts
 /// see as its bytes. It lies inline and takes no memory.
@@ -121,6 +124,16 @@ impl SeriesName {
         ensures { IsTrue result ↔ (slice_cmp nat_cmp self.now other.now ≡ Less) }
     {
         self < other
+    }
+}
+
+impl FromStr for SeriesName {
+    type Err = NotATerm;
+
+    ghost from_str_gives = { λ text given. result_ok given ≡ series_name_of text };
+
+    fn from_str(text: &str) -> Result<SeriesName, NotATerm> {
+        SeriesName::read(text).ok_or(NotATerm)
     }
 }
 

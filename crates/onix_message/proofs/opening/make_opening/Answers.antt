@@ -14,4 +14,7 @@ returns-in_err-default_currency c = grind (arith, common_steps)
 pub returns : goal.returns
 unfolding opening_from
 returns c =
-    rw (c.in_ok-form.ensures, c.in_ok-sender.ensures, c.in_ok-addressee.ensures, c.in_ok-number.ensures, c.in_ok-repeat.ensures, c.in_ok-default_type.ensures, c.in_ok-default_currency.ensures, c.in_ok-sent.ensures.text) refl
+    let number = c.in_ok-number.ensures in
+    let code = c.in_ok-default_type.ensures in
+    let currency = c.in_ok-default_currency.ensures in
+    rw (c.in_ok-form.ensures, c.in_ok-sender.ensures, c.in_ok-addressee.ensures, ← number.1, number.2, c.in_ok-repeat.ensures, ← code.1, code.2, ← currency.1, currency.2, c.in_ok-sent.ensures.text) refl

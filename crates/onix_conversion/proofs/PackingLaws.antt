@@ -1,0 +1,183 @@
+-- The program packs as it is defined.
+use Rattle.std.proofs.Common.{◌≡◌, ◌<◌, ℕ, zero, suc, ◌+◌, ◌-◌, Bool, true, false, ltb, List, [], ◌∷◌, ◌++◌, length, length-append, option_map, refl, sym, ap, ◌∙◌, fold, arith}
+use Rattle.std.specs.Prelude.{Option, Some, None, Result, Ok, Err, take, drop}
+use Rattle.std.specs.Option.{ok_or}
+use Rattle.std.proofs.lemmas.Bool.{lt-ltb}
+use Rattle.std.proofs.lemmas.List.Sums.{fold-append, fold_push}
+use Rattle.xml_text.specs.declared.position.Position.{Position}
+use Rattle.csv_records.specs.RecordTexts.{records_text}
+use Rattle.onix_outline.specs.Nodes.{Nodes}
+use Rattle.onix_mapping.specs.Elements.{Composite}
+use Rattle.onix_mapping.specs.Header.{Heading}
+use Rattle.onix_mapping.specs.Notes.{Note, note}
+use Rattle.onix_mapping.specs.ProductRecords.{all_notes, product_records}
+use Rattle.onix_mapping.specs.Products.{reference_in}
+use Rattle.onix_mapping.specs.declared.notes.Why.{Why}
+use Rattle.onix_mapping.specs.declared.notes.Why.TheVariants.{ProductTooLarge}
+use Rattle.onix_conversion.specs.Conversion.{Options, first_record, terms}
+use Rattle.onix_conversion.specs.Keeping.{Keeping}
+use Rattle.onix_conversion.specs.Messages.{empty_messages, fits, message_text}
+use Rattle.onix_conversion.specs.Packing.{Converted, Terms, Work, place_of, product_notes}
+use Rattle.onix_conversion.specs.Packing as defined
+use Rattle.onix_conversion.specs.Stages.{Begun, Held, Taken, empty_parts, end_text, first_fields, first_text, has_room, held, kept, taken, with_part}
+use Rattle.onix_conversion.specs.Stages.{after_product as product_taken}
+use Rattle.onix_conversion.specs.Stages as run
+use Rattle.onix_conversion.proofs.TextLaws.{closed, grown, room, text_first}
+
+-- what f makes of a value, if there is one
+abbrev pub result_map : {A B E : Type 0} → (A → B) → Result A E → Result B E
+result_map f (Ok x) = Ok (f x)
+result_map f (Err e) = Err e
+
+abbrev pub seen_begun : Heading → Nodes → Work → Begun
+seen_begun h header w = record {
+  front = take 6 (first_fields h header);
+  back = drop 7 (first_fields h header);
+  number = h.number;
+  opening = h.opening;
+  full = w.full;
+  count = 1 + length w.begun;
+  text = records_text (first_record h header w.full ∷ w.begun);
+  beyond = w.beyond;
+}
+
+-- what the program keeps of this work, where the target had taken something before
+abbrev pub seen : {P N : Type 0} → Keeping P N → Heading → Nodes → Taken P N → Work → Held P N
+seen k h header before w =
+    held (seen_begun h header w) (fold k.with_part before.parts w.parts) (fold k.with_note before.notes w.notes)
+
+-- a part behind those before
+parted : {P N : Type 0} (k : Keeping P N) (most full : ℕ) (text : List ℕ) (before : P) (parts : List (List ℕ))
+    → with_part k most full text (fold k.with_part before parts) ≡ fold k.with_part before (defined.with_part most full text parts)
+parted k most full text before parts = go (ltb full most) refl
+  where
+    go : (more : Bool) → ltb full most ≡ more → with_part k most full text (fold k.with_part before parts) ≡ fold k.with_part before (defined.with_part most full text parts)
+    go true e = rw e (sym (fold_push k.with_part before parts text))
+    go false e = rw e refl
+
+pub written_is : {P N : Type 0} (k : Keeping P N) (o : Options) (h : Heading) (header : Nodes) (before : Taken P N) (w : Work)
+    → run.written k o.choices.parts (seen k h header before w) ≡ fold k.with_part before.parts (defined.written (terms o h header) w)
+written_is k o h header before w =
+    ap (λ (t : List ℕ). with_part k o.choices.parts w.full t (fold k.with_part before.parts w.parts)) (closed (first_record h header w.full) w.begun)
+    ∙ parted k o.choices.parts w.full (message_text (first_record h header w.full) w.begun) before.parts w.parts
+
+joined_is : {P N : Type 0} (k : Keeping P N) (h : Heading) (header : Nodes) (before : Taken P N) (w : Work) (records : List (List (List ℕ)))
+    → held (run.grown (seen k h header before w).begun (length records) (records_text records)) (seen k h header before w).parts (seen k h header before w).notes
+    ≡ seen k h header before (defined.joined w records)
+joined_is k h header before w records =
+    let count : 1 + length (w.begun ++ records) ≡ 1 + length w.begun + length records = omega (arith, length-append w.begun records) in
+    rw (count, grown (first_record h header w.full) w.begun records) refl
+
+turned_is : {P N : Type 0} (k : Keeping P N) (o : Options) (h : Heading) (header : Nodes) (before : Taken P N) (w : Work) (place : Position) (records : List (List (List ℕ)))
+    → held (run.turned o.choices.parts (seen k h header before w).begun place (length records) (records_text records)) (run.written k o.choices.parts (seen k h header before w)) (seen k h header before w).notes
+    ≡ seen k h header before (defined.turned (terms o h header) w place records)
+turned_is k o h header before w place records =
+    rw (written_is k o h header before w, text_first (first_record h header (w.full + 1)) records) refl
+
+pub kept_is : {P N : Type 0} (k : Keeping P N) (o : Options) (h : Heading) (header : Nodes) (before : Taken P N) (w : Work) (place : Position) (records : List (List (List ℕ)))
+    → kept k o.choices.parts (seen k h header before w) place (length records) (records_text records)
+    ≡ option_map (seen k h header before) (defined.packed (terms o h header) w place records)
+unfolding kept
+kept_is k o h header before w place records =
+    go (fits (first_record h header w.full) (w.begun ++ records)) refl (fits (first_record h header (w.full + 1)) records) refl
+  where
+    here : has_room (1 + length w.begun) (length (records_text (first_record h header w.full ∷ w.begun))) (length records) (length (records_text records))
+        ≡ fits (first_record h header w.full) (w.begun ++ records)
+    here = room (first_record h header w.full) w.begun records
+
+    next : has_room 1 (length (records_text (first_record h header (w.full + 1) ∷ []))) (length records) (length (records_text records))
+        ≡ fits (first_record h header (w.full + 1)) records
+    next = room (first_record h header (w.full + 1)) [] records
+
+    go : (a : Bool) → fits (first_record h header w.full) (w.begun ++ records) ≡ a → (b : Bool) → fits (first_record h header (w.full + 1)) records ≡ b
+        → kept k o.choices.parts (seen k h header before w) place (length records) (records_text records)
+        ≡ option_map (seen k h header before) (defined.packed (terms o h header) w place records)
+    go true e b f = rw (here ∙ e, e) (ap Some (joined_is k h header before w records))
+    go false e true f = rw (here ∙ e, e, next ∙ f, f) (ap Some (turned_is k o h header before w place records))
+    go false e false f = rw (here ∙ e, e, next ∙ f, f) refl
+
+-- ---- products
+
+noted_is : {P N : Type 0} (k : Keeping P N) (h : Heading) (header : Nodes) (before : Taken P N) (w : Work) (reference : List ℕ) (notes : List Note)
+    → run.noted k reference notes (seen k h header before w) ≡ seen k h header before (defined.noted reference notes w)
+noted_is k h header before w reference notes = rw (fold-append k.with_note before.notes w.notes (product_notes reference notes)) refl
+
+left_out_is : {P N : Type 0} (k : Keeping P N) (o : Options) (h : Heading) (header : Nodes) (before : Taken P N) (w : Work) (c : Composite) (wrong : Why)
+    → run.left_out k o (seen k h header before w) c wrong ≡ result_map (seen k h header before) (defined.settled (terms o h header) w c (Err wrong))
+left_out_is k o h header before w c wrong = go o.leave_out_wrong refl
+  where
+    go : (lenient : Bool) → o.leave_out_wrong ≡ lenient
+        → run.left_out k o (seen k h header before w) c wrong ≡ result_map (seen k h header before) (defined.settled (terms o h header) w c (Err wrong))
+    go true e = rw e (ap Ok (noted_is k h header before w (reference_in c.below) (note c.element wrong [] ∷ [])))
+    go false e = rw e refl
+
+settled_is : {P N : Type 0} (k : Keeping P N) (o : Options) (h : Heading) (header : Nodes) (before : Taken P N) (w : Work) (c : Composite) (after : Result Work Why)
+    → run.settled k o (seen k h header before w) c (result_map (seen k h header before) after)
+    ≡ result_map (seen k h header before) (defined.settled (terms o h header) w c after)
+settled_is k o h header before w c (Ok after) = ap Ok (noted_is k h header before after (reference_in c.below) (all_notes h.opening o.choices.id_type c))
+settled_is k o h header before w c (Err wrong) = left_out_is k o h header before w c wrong
+
+with_records_is : {P N : Type 0} (k : Keeping P N) (o : Options) (h : Heading) (header : Nodes) (before : Taken P N) (w : Work) (place : Position) (records : Option (List (List (List ℕ))))
+    → run.with_records k o (seen k h header before w) place records ≡ result_map (seen k h header before) (defined.with_records (terms o h header) w place records)
+with_records_is k o h header before w place None = refl
+with_records_is k o h header before w place (Some records) =
+    rw (kept_is k o h header before w place records) (go (defined.packed (terms o h header) w place records))
+  where
+    go : (packed : Option Work) → ok_or (option_map (seen k h header before) packed) ProductTooLarge ≡ result_map (seen k h header before) (ok_or packed ProductTooLarge)
+    go None = refl
+    go (Some after) = refl
+
+pub product_is : {P N : Type 0} (k : Keeping P N) (o : Options) (h : Heading) (header : Nodes) (before : Taken P N) (w : Work) (c : Composite)
+    → product_taken k o (seen k h header before w) c ≡ result_map (seen k h header before) (defined.after_product (terms o h header) w c)
+unfolding product_taken
+product_is k o h header before w c =
+    ap (run.settled k o (seen k h header before w) c) (with_records_is k o h header before w (place_of c) (product_records h.opening o.choices.id_type c.below))
+    ∙ settled_is k o h header before w c (defined.with_records (terms o h header) w (place_of c) (product_records h.opening o.choices.id_type c.below))
+
+-- ---- the end
+
+empty_is : (h : Heading) (header : Nodes) (w : Work) (k more : ℕ) → empty_parts (seen_begun h header w) k more ≡ empty_messages (first_record h header) k more
+empty_is h header w k zero = refl
+empty_is h header w k (suc more) =
+    ap (λ (t : List ℕ). t ∷ empty_parts (seen_begun h header w) (suc k) more) (closed (first_record h header k) [])
+    ∙ ap (λ (ts : List (List ℕ)). message_text (first_record h header k) [] ∷ ts) (empty_is h header w (suc k) more)
+
+-- one more part without products
+pub one_more : {P N : Type 0} (k : Keeping P N) (b : Begun) (most before : ℕ) (old new all : P) (text : List ℕ) → before < most → text ≡ first_text b before
+    → new ≡ with_part k most before (text ++ end_text 1) old → fold k.with_part old (empty_parts b before (most - before)) ≡ all
+    → fold k.with_part new (empty_parts b (before + 1) (most - (before + 1))) ≡ all
+one_more {P} {N} k b most before old new all text lt is added rest =
+    let less : ltb before most ≡ true = lt-ltb before most lt in
+    let count : suc (most - (before + 1)) ≡ most - before = omega (arith, lt) in
+    let next : before + 1 ≡ suc before = omega arith in
+    let here : with_part k most before (text ++ end_text 1) old ≡ k.with_part old (text ++ end_text 1) = rw less refl in
+    ap (λ (ps : P). fold k.with_part ps (empty_parts b (before + 1) (most - (before + 1)))) (added ∙ here)
+    ∙ ap (λ (t : List ℕ). fold k.with_part old ((t ++ end_text 1) ∷ empty_parts b (before + 1) (most - (before + 1)))) is
+    ∙ ap (λ (n : ℕ). fold k.with_part old ((first_text b before ++ end_text 1) ∷ empty_parts b n (most - (before + 1)))) next
+    ∙ ap (λ (n : ℕ). fold k.with_part old (empty_parts b before n)) count
+    ∙ rest
+
+-- what the target makes of what comes of a message, behind what it had taken before
+abbrev pub behind : {P N : Type 0} → Keeping P N → Taken P N → Converted → Taken P N
+behind k before made = taken (fold k.with_part before.parts made.parts) (fold k.with_note before.notes made.notes)
+
+all_written_is : {P N : Type 0} (k : Keeping P N) (o : Options) (h : Heading) (header : Nodes) (before : Taken P N) (w : Work)
+    → run.all_written k o.choices.parts (seen k h header before w) ≡ fold k.with_part before.parts (defined.all_written (terms o h header) w)
+all_written_is {P} {N} k o h header before w =
+    ap (λ (ps : P). fold k.with_part ps (empty_parts (seen_begun h header w) (w.full + 1) (o.choices.parts - (w.full + 1)))) (written_is k o h header before w)
+    ∙ ap (fold k.with_part (fold k.with_part before.parts (defined.written (terms o h header) w))) (empty_is h header w (w.full + 1) (o.choices.parts - (w.full + 1)))
+    ∙ sym (fold-append k.with_part before.parts (defined.written (terms o h header) w) (empty_messages (first_record h header) (w.full + 1) (o.choices.parts - (w.full + 1))))
+
+pub ended_is : {P N : Type 0} (k : Keeping P N) (o : Options) (h : Heading) (header : Nodes) (before : Taken P N) (w : Work)
+    → run.ended k o.choices.parts (seen k h header before w) ≡ result_map (behind k before) (defined.ended (terms o h header) w)
+ended_is {P} {N} k o h header before w = go w.beyond refl
+  where
+    go : (beyond : Option Position) → w.beyond ≡ beyond
+        → run.ended k o.choices.parts (seen k h header before w) ≡ result_map (behind k before) (defined.ended (terms o h header) w)
+    go (Some place) e =
+        ap (run.ended_at k o.choices.parts (seen k h header before w)) e
+        ∙ sym (ap (λ (b : Option Position). result_map (behind k before) (defined.ended_at (terms o h header) w b)) e)
+    go None e =
+        ap (run.ended_at k o.choices.parts (seen k h header before w)) e
+        ∙ ap (λ (ps : P). Ok (taken ps (fold k.with_note before.notes w.notes))) (all_written_is k o h header before w)
+        ∙ sym (ap (λ (b : Option Position). result_map (behind k before) (defined.ended_at (terms o h header) w b)) e)

@@ -1,0 +1,9 @@
+pub mod Messages
+pub mod Packing
+pub mod Conversion
+pub mod Keeping
+pub mod Views
+pub mod Stages
+pub mod Outcomes
+pub mod Parts
+pub mod Taken

@@ -1,0 +1,230 @@
+-- What the program keeps of a message while it reads it.
+use Rattle.std.specs.Prelude.{◌≡◌, ℕ, zero, suc, ◌+◌, ◌-◌, Bool, true, false, ◌&&◌, List, [], ◌∷◌, ◌++◌, Option, Some, None, Result, Ok, Err, if◌then◌else◌, codes, decimal, nat_le, nat_lt, length, take, drop, fold}
+use Rattle.std.specs.Option.{ok_or}
+use Rattle.std.specs.Str.{bytes_eq}
+use Rattle.xml_text.specs.declared.position.Position.{Position}
+use Rattle.csv_records.specs.RecordTexts.{limit, records_text}
+use Rattle.onix_outline.specs.Nodes.{Nodes, no_nodes, node}
+use Rattle.onix_message.specs.Grammar.{most_records}
+use Rattle.onix_message.specs.declared.row.Opening.{Opening}
+use Rattle.onix_mapping.specs.Elements.{Composite}
+use Rattle.onix_mapping.specs.Header.{Heading, heading_in, message_fields}
+use Rattle.onix_mapping.specs.Notes.{Note, note}
+use Rattle.onix_mapping.specs.ProductRecords.{all_notes, product_records}
+use Rattle.onix_mapping.specs.Products.{reference_in}
+use Rattle.onix_mapping.specs.declared.header.Refusal.{Refusal}
+use Rattle.onix_mapping.specs.declared.notes.Why.{Why}
+use Rattle.onix_mapping.specs.declared.notes.Why.TheVariants.{ProductTooLarge, WrongProduct}
+use Rattle.onix_conversion.specs.declared.rejection.Rejection.{Rejection}
+use Rattle.onix_conversion.specs.declared.rejection.Rejection.TheVariants as why
+use Rattle.onix_conversion.specs.Conversion.{Options, composite}
+use Rattle.onix_conversion.specs.Keeping.{Keeping}
+use Rattle.onix_conversion.specs.Messages.{end_record}
+use Rattle.onix_conversion.specs.Packing.{beyond_at, place_of, product_notes}
+
+-- the parts of a message: the fields of their first records before and behind the number, the number of the first part, what its record says, how many parts are full, how many records the next one has so far, their text, and the place of the first product for which there is no part
+pub record Begun : Type 0 where
+  pub front : List (List ℕ)
+  pub back : List (List ℕ)
+  pub number : ℕ
+  pub opening : Opening
+  pub full : ℕ
+  pub count : ℕ
+  pub text : List ℕ
+  pub beyond : Option Position
+
+-- what the target has made of the parts and of the notes that it has taken
+pub record Taken (P N : Type 0) : Type 0 where
+  pub parts : P
+  pub notes : N
+
+abbrev pub taken : {P N : Type 0} → P → N → Taken P N
+taken parts notes = record { parts = parts; notes = notes }
+
+-- the parts of a message, with what the target has made of those that it has taken
+pub record Held (P N : Type 0) : Type 0 where
+  pub begun : Begun
+  pub parts : P
+  pub notes : N
+
+abbrev pub held : {P N : Type 0} → Begun → P → N → Held P N
+held begun parts notes = record { begun = begun; parts = parts; notes = notes }
+
+-- where a message is: before its Header, refused, or in its parts
+pub data Stage : Type 0 where
+  unbegun : Stage
+  refused : Rejection → Stage
+  within : Begun → Stage
+
+-- a message that is being converted, with what the target has made of what it has taken
+pub record State (P N : Type 0) : Type 0 where
+  pub options : Options
+  pub parts : P
+  pub notes : N
+  pub stage : Stage
+
+-- before the Header
+abbrev pub first_state : {P N : Type 0} → Options → P → N → State P N
+first_state o parts notes = record { options = o; parts = parts; notes = notes; stage = unbegun }
+
+-- ---- parts
+
+-- the first record of the part behind so many
+abbrev pub numbered : Begun → ℕ → List (List ℕ)
+numbered b before = b.front ++ (decimal (b.number + before) ∷ b.back)
+
+-- the text of the record that ends a message, behind so many
+abbrev pub end_text : ℕ → List ℕ
+end_text before = records_text (end_record before ∷ [])
+
+-- the text with which the part behind so many begins
+abbrev pub first_text : Begun → ℕ → List ℕ
+first_text b before = records_text (numbered b before ∷ [])
+
+-- a part of so many records and bytes has room for so many more
+unfoldable pub has_room : ℕ → ℕ → ℕ → ℕ → Bool
+has_room count size more bytes =
+    nat_le (count + more + 1) most_records && nat_le (size + bytes + length (end_text (count + more))) limit
+
+-- with so many more records, of this text, in the part that was begun
+abbrev pub grown : Begun → ℕ → List ℕ → Begun
+grown b more text = record b { count = b.count + more; text = b.text ++ text }
+
+-- with so many records, of this text, of a product at this place in the next part
+abbrev pub turned : ℕ → Begun → Position → ℕ → List ℕ → Begun
+turned most b place more text = record {
+  front = b.front;
+  back = b.back;
+  number = b.number;
+  opening = b.opening;
+  full = b.full + 1;
+  count = 1 + more;
+  text = first_text b (b.full + 1) ++ text;
+  beyond = beyond_at most (b.full + 1) b.beyond place;
+}
+
+-- with a text as the part behind so many, where there are more parts
+abbrev pub with_part : {P N : Type 0} → Keeping P N → ℕ → ℕ → List ℕ → P → P
+with_part k most full text parts = if nat_lt full most then k.with_part parts text else parts
+
+-- the parts, with the one that was begun
+abbrev pub written : {P N : Type 0} → Keeping P N → ℕ → Held P N → P
+written k most h = with_part k most h.begun.full (h.begun.text ++ end_text h.begun.count) h.parts
+
+-- with a product of so many records, of this text, in the part that was begun, in the next one, or in none
+unfoldable pub kept : {P N : Type 0} → Keeping P N → ℕ → Held P N → Position → ℕ → List ℕ → Option (Held P N)
+kept k most h place more text =
+    if has_room h.begun.count (length h.begun.text) more (length text) then Some (held (grown h.begun more text) h.parts h.notes)
+    else if has_room 1 (length (first_text h.begun (h.begun.full + 1))) more (length text)
+    then Some (held (turned most h.begun place more text) (written k most h) h.notes)
+    else None
+
+-- a call kept a product, or changed nothing
+abbrev pub IsKept : {P N : Type 0} → Bool → Held P N → Held P N → Option (Held P N) → Type 0
+IsKept true old new told = told ≡ Some new
+IsKept false old new told = (told ≡ None) × (new ≡ old)
+
+-- ---- products
+
+abbrev pub noted : {P N : Type 0} → Keeping P N → List ℕ → List Note → Held P N → Held P N
+noted k reference notes h = held h.begun h.parts (fold k.with_note h.notes (product_notes reference notes))
+
+abbrev pub with_records : {P N : Type 0} → Keeping P N → Options → Held P N → Position → Option (List (List (List ℕ))) → Result (Held P N) Why
+with_records k o h place None = Err WrongProduct
+with_records k o h place (Some records) = ok_or (kept k o.choices.parts h place (length records) (records_text records)) ProductTooLarge
+
+abbrev pub left_out : {P N : Type 0} → Keeping P N → Options → Held P N → Composite → Why → Result (Held P N) Rejection
+left_out k o h c wrong =
+    if o.leave_out_wrong then Ok (noted k (reference_in c.below) (note c.element wrong [] ∷ []) h)
+    else Err (why.Product (reference_in c.below) wrong (place_of c))
+
+abbrev pub settled : {P N : Type 0} → Keeping P N → Options → Held P N → Composite → Result (Held P N) Why → Result (Held P N) Rejection
+settled k o h c (Ok after) = Ok (noted k (reference_in c.below) (all_notes h.begun.opening o.choices.id_type c) after)
+settled k o h c (Err wrong) = left_out k o h c wrong
+
+unfoldable pub after_product : {P N : Type 0} → Keeping P N → Options → Held P N → Composite → Result (Held P N) Rejection
+after_product k o h c = settled k o h c (with_records k o h (place_of c) (product_records h.begun.opening o.choices.id_type c.below))
+
+-- a call told why the message is refused, and handed nothing on, or went on
+abbrev pub Went : {P N : Type 0} → Option Rejection → Held P N → Held P N → Result (Held P N) Rejection → Type 0
+Went None old new after = after ≡ Ok new
+Went (Some rejection) old new after = (after ≡ Err rejection) × (new.parts ≡ old.parts) × (new.notes ≡ old.notes)
+
+-- ---- elements
+
+-- the fields of the record with which the first part begins
+abbrev pub first_fields : Heading → Nodes → List (List ℕ)
+first_fields h header = codes "Message" ∷ message_fields h.sender h.addressee (decimal h.number) header
+
+-- the parts of a message of this heading, before the first product
+abbrev pub first_begun : Heading → Nodes → Begun
+first_begun h header = record {
+  front = take 6 (first_fields h header);
+  back = drop 7 (first_fields h header);
+  number = h.number;
+  opening = h.opening;
+  full = 0;
+  count = 1;
+  text = records_text (first_fields h header ∷ []);
+  beyond = None;
+}
+
+abbrev pub begun_by : Composite → Result Heading Refusal → Stage
+begun_by header (Err refusal) = refused (why.Header refusal (place_of header))
+begun_by header (Ok h) = within (first_begun h header.below)
+
+-- the first Header begins the message
+abbrev pub stage_after_header : Stage → Options → Composite → Stage
+stage_after_header unbegun o c = begun_by c (heading_in o.choices c.below)
+stage_after_header stage o c = stage
+
+abbrev pub at_stage : {P N : Type 0} → State P N → Stage → State P N
+at_stage s stage = record s { stage = stage }
+
+abbrev pub with_held : {P N : Type 0} → State P N → Result (Held P N) Rejection → State P N
+with_held s (Ok h) = record { options = s.options; parts = h.parts; notes = h.notes; stage = within h.begun }
+with_held s (Err rejection) = at_stage s (refused rejection)
+
+abbrev pub with_product : {P N : Type 0} → Keeping P N → Stage → State P N → Composite → State P N
+with_product k unbegun s c = at_stage s (refused (why.NoHeader (Some (place_of c))))
+with_product k (refused rejection) s c = s
+with_product k (within b) s c = with_held s (after_product k s.options (held b s.parts s.notes) c)
+
+abbrev pub after_element : {P N : Type 0} → Keeping P N → State P N → Composite → State P N
+after_element k s c =
+    if bytes_eq c.element.name (codes "Header") then at_stage s (stage_after_header s.stage s.options c)
+    else if bytes_eq c.element.name (codes "Product") then with_product k s.stage s c
+    else s
+
+-- after the element that lines tell
+abbrev pub after_nodes : {P N : Type 0} → Keeping P N → State P N → Nodes → State P N
+after_nodes k s no_nodes = s
+after_nodes k s (node name tag text below rest) = after_element k s (composite name tag text below)
+
+-- ---- the end
+
+-- so many messages without products, the first of which is the part behind so many
+abbrev pub empty_parts : Begun → ℕ → ℕ → List (List ℕ)
+empty_parts b before zero = []
+empty_parts b before (suc more) = (first_text b before ++ end_text 1) ∷ empty_parts b (suc before) more
+
+-- the parts at the end: with the one that was begun, and those that are left over
+abbrev pub all_written : {P N : Type 0} → Keeping P N → ℕ → Held P N → P
+all_written k most h = fold k.with_part (written k most h) (empty_parts h.begun (h.begun.full + 1) (most - (h.begun.full + 1)))
+
+-- what the target has made of all at the end
+abbrev pub ended_at : {P N : Type 0} → Keeping P N → ℕ → Held P N → Option Position → Result (Taken P N) Rejection
+ended_at k most h (Some place) = Err (why.Parts (h.begun.full + 1) place)
+ended_at k most h None = Ok (taken (all_written k most h) h.notes)
+
+abbrev pub ended : {P N : Type 0} → Keeping P N → ℕ → Held P N → Result (Taken P N) Rejection
+ended k most h = ended_at k most h h.begun.beyond
+
+abbrev pub finished_at : {P N : Type 0} → Keeping P N → Stage → State P N → Result (Taken P N) Rejection
+finished_at k unbegun s = Err (why.NoHeader None)
+finished_at k (refused rejection) s = Err rejection
+finished_at k (within b) s = ended k s.options.choices.parts (held b s.parts s.notes)
+
+-- what has come of a message at its end
+abbrev pub finished : {P N : Type 0} → Keeping P N → State P N → Result (Taken P N) Rejection
+finished k s = finished_at k s.stage s

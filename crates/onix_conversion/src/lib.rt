@@ -1,0 +1,16 @@
+//! The messages of a feed: an ONIX message in XML, as one or more messages that the desk takes.
+#![tactic(auto)]
+
+pub mod conversion;
+pub mod converter;
+pub mod laws;
+pub mod messages;
+pub mod options;
+pub mod packing;
+pub mod rejection;
+pub mod target;
+
+pub use conversion::{Outcome, convert};
+pub use options::Options;
+pub use rejection::{Fault, Rejection};
+pub use target::Target;

@@ -1,0 +1,29 @@
+//! Why no messages come of a feed.
+
+use onix_mapping::{Refusal, Why};
+use onix_terms::items::Items;
+use xml_text::Position;
+
+/// Why a message that was read is refused.
+#[derive(Debug, Drop)]
+pub enum Rejection {
+    /// It has no Header before its first Product, which stands at the place, where it has one.
+    NoHeader(Option<Position>),
+    /// For what its Header says, which stands at the place.
+    Header(Refusal, Position),
+    /// A Product of this RecordReference is wrong, which stands at the place.
+    Product(Items<u8>, Why, Position),
+    /// It needs so many parts: for the Product at the place, and those behind it, there is none.
+    Parts(u32, Position),
+}
+
+/// Why no messages come of a feed.
+#[derive(Debug, Drop)]
+pub enum Fault {
+    /// It was not read, and where reading stopped.
+    Unread(onix_outline::Fault, Position),
+    /// It is refused.
+    Refused(Rejection),
+    /// Memory ran out, or the target took no more.
+    Memory,
+}

@@ -1,0 +1,3 @@
+pub mod KeptLemmas
+pub mod EndLemmas
+pub mod RunLemmas

@@ -1,0 +1,52 @@
+//! How a FILE ends.
+
+ghost use Rattle.std.specs.Prelude.{◌≡◌, ◌≤◌, true, false};
+ghost use Rattle.onix_files.specs.Ends.{is_converted, status_of};
+
+/// How a FILE ended.
+#[derive(Clone, Copy, Debug, PartialEq, Eq)]
+pub enum Ended {
+    /// It was converted.
+    Done,
+    /// It was converted, but for wrong products.
+    LeftOut,
+    /// It was refused.
+    Refused,
+    /// It was refused since it is packed by its name.
+    Packed,
+    /// A file could not be read or written, or memory ran out.
+    Fault,
+}
+
+impl Ended {
+    /// The status of the FILE.
+    pub fn status(self) -> u8
+        ensures is { result ≡ status_of self }
+        ensures most { result ≤ 3 }
+    {
+        match self {
+            Ended::Done => 0,
+            Ended::LeftOut | Ended::Refused | Ended::Packed => 1,
+            Ended::Fault => 3,
+        }
+    }
+
+    /// Whether the FILE was converted.
+    pub fn is_converted(self) -> bool
+        ensures { result ≡ is_converted self }
+    {
+        matches!(self, Ended::Done | Ended::LeftOut)
+    }
+
+    /// That of a FILE that was converted.
+    pub fn of_converted(has_wrong: bool) -> Ended
+        ensures done { has_wrong ≡ false → result ≡ Ended.Done }
+        ensures left_out { has_wrong ≡ true → result ≡ Ended.LeftOut }
+    {
+        if has_wrong {
+            Ended::LeftOut
+        } else {
+            Ended::Done
+        }
+    }
+}

@@ -1,0 +1,122 @@
+//! How often each reason was given.
+
+use crate::words::{Words, push_reason, thing_of, words_of};
+use onix_mapping::Note;
+use std::alloc::{AllocError, Global};
+
+/// What is counted as one: what is left out, the words of the reason, and its text where that is a
+/// code of two digits.
+#[derive(Clone, Copy, PartialEq, Eq)]
+struct Kind {
+    thing: &'static str,
+    words: Words,
+    code: Option<[u8; 2]>,
+}
+
+#[derive(Drop)]
+struct Counted {
+    kind: Kind,
+    count: u64,
+}
+
+/// How many notes there are for each reason. A reason holds no text of a feed but a code of two
+/// digits, so that they stay few.
+#[derive(Drop)]
+pub struct Summary {
+    alloc: Global,
+    counts: Vec<Counted>,
+}
+
+// The text of a reason where it is a code of two digits.
+fn code_of(text: &[u8]) -> Option<[u8; 2]> {
+    match text {
+        [first, second] if first.is_ascii_digit() && second.is_ascii_digit() => {
+            Some([*first, *second])
+        }
+        _ => None,
+    }
+}
+
+impl Summary {
+    pub fn new(alloc: Global) -> Summary {
+        Summary {
+            alloc,
+            counts: Vec::new(alloc),
+        }
+    }
+
+    fn count(&mut self, kind: Kind, more: u64) -> Result<(), AllocError> {
+        for counted in self.counts.iter_mut() {
+            if counted.kind == kind {
+                counted.count = counted.count.saturating_add(more);
+                return Ok(());
+            }
+        }
+        self.counts.push(Counted { kind, count: more })?;
+        Ok(())
+    }
+
+    /// Counts a note.
+    pub fn add(&mut self, note: Note<'_>) -> Result<(), AllocError> {
+        let words = words_of(note.reason.why, note.reason.text);
+        let code = if words.has_text {
+            code_of(note.reason.text)
+        } else {
+            None
+        };
+        let thing = thing_of(note);
+        self.count(Kind { thing, words, code }, 1)
+    }
+
+    /// Counts all that another has counted.
+    pub fn add_all(&mut self, other: &Summary) -> Result<(), AllocError> {
+        for counted in other.counts.iter() {
+            self.count(counted.kind, counted.count)?;
+        }
+        Ok(())
+    }
+
+    // How many notes there are.
+    fn total(&self) -> u64 {
+        let mut total = 0u64;
+        for counted in self.counts.iter() {
+            total = total.saturating_add(counted.count);
+        }
+        total
+    }
+
+    // The line of each reason, with what is to stand first first: the greater count, then the text.
+    fn lines(&self) -> Result<Vec<(u64, String)>, AllocError> {
+        let mut lines = Vec::new(self.alloc);
+        for counted in self.counts.iter() {
+            let mut text = String::new(self.alloc);
+            push_kind(&mut text, counted.kind)?;
+            lines.push((u64::MAX - counted.count, text))?;
+        }
+        lines.sort()?;
+        Ok(lines)
+    }
+
+    /// Adds the lines of the summary: one for each reason, the most frequent first, and the count of
+    /// all notes. None where there are no notes.
+    pub fn push_lines(&self, prefix: &str, text: &mut String) -> Result<(), AllocError> {
+        let lines = self.lines()?;
+        for (rest, line) in lines.iter() {
+            let count = u64::MAX - *rest;
+            write!(text, "{prefix}{line}: {count}\n")?;
+        }
+        match self.total() {
+            0 => Ok(()),
+            1 => write!(text, "{prefix}1 note\n"),
+            total => write!(text, "{prefix}{total} notes\n"),
+        }
+    }
+}
+
+// Adds what is left out and why, with `..` in place of a text that is no code.
+fn push_kind(line: &mut String, kind: Kind) -> Result<(), AllocError> {
+    match kind.code {
+        Some(code) => push_reason(line, kind.thing, kind.words, &code),
+        None => push_reason(line, kind.thing, kind.words, b".."),
+    }
+}

@@ -1,0 +1,172 @@
+//! The words that say why something is left out.
+
+use crate::shown::push_shown_bytes;
+use onix_mapping::{Note, Why};
+use std::alloc::AllocError;
+
+/// Of a reason its words, with a text of the feed between them where it has one.
+#[derive(Clone, Copy, PartialEq, Eq)]
+pub struct Words {
+    pub before: &'static str,
+    pub has_text: bool,
+    pub behind: &'static str,
+}
+
+const MALFORMED: &str = "the desk would call it malformed";
+
+/// The most bytes that a field may have.
+const FIELD_BYTES: usize = 1_024;
+
+fn plain(words: &'static str) -> Words {
+    Words {
+        before: words,
+        has_text: false,
+        behind: "",
+    }
+}
+
+fn with_text(before: &'static str, behind: &'static str) -> Words {
+    Words {
+        before,
+        has_text: true,
+        behind,
+    }
+}
+
+// Of a field that breaks its rule: that it has what no field may have, or the rule.
+fn field(before: &'static str, text: &[u8], rule: &'static str) -> Words {
+    let behind = if text.contains(&0x7f) {
+        "has the control character U+007F"
+    } else if text.len() > FIELD_BYTES {
+        "has more than 1024 bytes"
+    } else {
+        return with_text(before, rule);
+    };
+    Words {
+        before,
+        has_text: false,
+        behind,
+    }
+}
+
+// Of a field that is absent where the Header has no default, or breaks its rule.
+fn or_default(
+    absent: &'static str,
+    before: &'static str,
+    text: &[u8],
+    rule: &'static str,
+) -> Words {
+    if text.is_empty() {
+        plain(absent)
+    } else {
+        field(before, text, rule)
+    }
+}
+
+// Of a composite without a type, or of a type that changes what the price means.
+fn of_type(absent: &'static str, before: &'static str, text: &[u8]) -> Words {
+    if text.is_empty() {
+        plain(absent)
+    } else {
+        with_text(before, "")
+    }
+}
+
+/// The words of a reason with that text.
+pub fn words_of(why: Why, text: &[u8]) -> Words {
+    match why {
+        Why::PriceQualifier => with_text("PriceQualifier ", ""),
+        Why::PricePer => with_text("PricePer ", ""),
+        Why::PriceCondition => of_type(
+            "PriceCondition without PriceConditionType",
+            "PriceConditionType ",
+            text,
+        ),
+        Why::PriceConstraint => of_type(
+            "PriceConstraint without PriceConstraintType",
+            "PriceConstraintType ",
+            text,
+        ),
+        Why::PriceCoded => plain("PriceCoded"),
+        Why::CurrencyZone => with_text("CurrencyZone ", ""),
+        Why::DateFormat => with_text("PriceDate in format ", ""),
+        Why::NoDate => with_text("PriceDate of role ", " without Date"),
+        Why::NotTwoDays => with_text("Date of PriceDate ", " is not two days YYYYMMDD"),
+        Why::MoreDecimals => with_text("PriceAmount ", " has more than 3 decimals"),
+        Why::WrongPriceType => or_default(
+            "no PriceType, and no default in the Header",
+            "PriceType ",
+            text,
+            " is not two digits",
+        ),
+        Why::WrongAmount => field(
+            "PriceAmount ",
+            text,
+            " is not 1 to 9 digits, and at most 3 behind a point",
+        ),
+        Why::WrongCurrency => or_default(
+            "no CurrencyCode, and no default in the Header",
+            "CurrencyCode ",
+            text,
+            " is not three capital letters",
+        ),
+        Why::WrongTerritory => plain("Territory with countries that are not two capital letters"),
+        Why::WrongDay => field("Date of PriceDate ", text, " is not a day YYYYMMDD"),
+        Why::WrongQuantity => field(
+            "MinimumOrderQuantity ",
+            text,
+            " is not 1 to 6 digits, not all zero",
+        ),
+        Why::PriceRefused => plain(MALFORMED),
+        Why::RegionIncluded => with_text("", " beside a country or WORLD"),
+        Why::RegionExcluded => with_text("", " is a part of a country"),
+        Why::RegionAlone => with_text("RegionsIncluded ", " without a country or WORLD"),
+        Why::RegionOfNoCountry => with_text("RegionsExcluded ", ", which is no part of a country"),
+        Why::NoSupplyDetail => plain("no SupplyDetail"),
+        Why::WrongIdentifier => plain(MALFORMED),
+        Why::NoSupplyLeft => plain("the Product is written without supplies"),
+        Why::WrongProduct => plain(MALFORMED),
+        Why::ProductTooLarge => {
+            plain("a Product too large for a message of 20000 records and 4194304 bytes")
+        }
+    }
+}
+
+/// What a note says is left out.
+pub fn thing_of(note: Note<'_>) -> &'static str {
+    match note.reason.why {
+        Why::RegionIncluded => "region of RegionsIncluded",
+        Why::RegionExcluded => "region of RegionsExcluded",
+        Why::NoSupplyLeft => "every ProductSupply",
+        _ => name_of(note.line.name),
+    }
+}
+
+// The reference name of a composite.
+fn name_of(name: &'static [u8]) -> &'static str {
+    match std::str::from_utf8(name) {
+        Ok(name) => name,
+        Err(_) => "",
+    }
+}
+
+/// Adds why, with the text of the reason.
+pub fn push_words(line: &mut String, words: Words, text: &[u8]) -> Result<(), AllocError> {
+    line.push_str(words.before)?;
+    if words.has_text {
+        push_shown_bytes(line, text)?;
+    }
+    line.push_str(words.behind)
+}
+
+/// Adds what is left out and why.
+pub fn push_reason(
+    line: &mut String,
+    thing: &str,
+    words: Words,
+    text: &[u8],
+) -> Result<(), AllocError> {
+    line.push_str(thing)?;
+    line.push_str(" left out: ")?;
+    push_words(line, words, text)
+}

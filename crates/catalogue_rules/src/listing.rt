@@ -51,11 +51,9 @@ impl Ord for Listing {
     ghost matches_eq = { listing_ties };
 
     fn cmp(&self, other: &Listing) -> Ordering {
-        match self.isbn.compare(&other.isbn) {
-            Ordering::Less => Ordering::Less,
-            Ordering::Equal => self.reference.compare(&other.reference),
-            Ordering::Greater => Ordering::Greater,
-        }
+        self.isbn
+            .compare(&other.isbn)
+            .then_with(|| self.reference.compare(&other.reference))
     }
 }
 

@@ -18,7 +18,7 @@ use Rattle.catalogue_rules.proofs.Plans.{changes_at-with_entry}
 use Rattle.onix_message.specs.declared.effects.Effect.{Effect}
 use Rattle.desk_tables.specs.RecordRows.{minimum_row, offer_row, price_row}
 use Rattle.desk_tables.specs.Rows.{DeskRows}
-use Rattle.desk_tables.specs.declared.rows.row_types.RecordRow.{RecordRow}
+use Rattle.desk_tables.specs.declared.records.RecordRow.{RecordRow}
 use Rattle.desk_tables.proofs.ManyRows.{mapped_behind}
 use Rattle.catalogue_store.specs.AppliedProducts.{IsProductApplied}
 use Rattle.catalogue_store.specs.EntryRows.{article_rows, detail_rows, has_minimum, price_rows_of, record_row}

@@ -11,8 +11,8 @@ use Rattle.catalogue_rules.specs.declared.change.Change.{Change}
 use Rattle.catalogue_rules.specs.declared.entry.Entry.{Entry}
 use Rattle.desk_tables.specs.RecordChanges.{has_minimums_of}
 use Rattle.desk_tables.specs.Rows.{DeskRows}
-use Rattle.desk_tables.specs.declared.rows.row_types.OfferRow as typed
-use Rattle.desk_tables.specs.declared.rows.row_types.RecordRow.{RecordRow}
+use Rattle.desk_tables.specs.declared.offers.OfferRow as typed
+use Rattle.desk_tables.specs.declared.records.RecordRow.{RecordRow}
 use Rattle.catalogue_store.specs.AppliedProducts.{IsCatalogueReadAs, IsChanged, IsProductApplied}
 use Rattle.catalogue_store.specs.Holding.{Became, HoldsCatalogue, HoldsEntry, IsApplied}
 use Rattle.catalogue_store.specs.ReadRows.{AreReadAs, HasPricesOf, HoldsSupplies, IsFound, IsReadAs}

@@ -11,7 +11,7 @@ use Rattle.catalogue_rules.specs.declared.change.Change.TheVariants.{Replace}
 use Rattle.onix_message.specs.declared.effects.Effect.{Effect}
 use Rattle.desk_tables.specs.RecordChanges.{with_articles, with_offers, with_prices, with_records}
 use Rattle.desk_tables.specs.Rows.{DeskRows}
-use Rattle.desk_tables.specs.declared.rows.row_types.RecordRow.{RecordRow}
+use Rattle.desk_tables.specs.declared.records.RecordRow.{RecordRow}
 use Rattle.catalogue_store.specs.AppliedProducts.{IsCatalogueReadAs, IsProductApplied}
 use Rattle.catalogue_store.specs.EntryRows.{record_row}
 use Rattle.catalogue_store.specs.Holding.{HoldsCatalogue, other_catalogues}

@@ -6,7 +6,7 @@ ghost use Rattle.catalogue_store.specs.ReadRecords.{AreReadOf};
 
 use crate::reading::read_record;
 use catalogue_rules::catalogue::Catalogue;
-use desk_tables::rows::row_types::RecordRow;
+use desk_tables::records::RecordRow;
 use desk_tables::work::Work;
 use onix_message::StoreFault;
 use onix_terms::series_name::SeriesName;

@@ -16,7 +16,7 @@ use crate::reading::{FoundRecord, find_record, has_supplies};
 use crate::records::{remove_record, replace_supplies, write_record};
 use crate::runs::{Step, apply_run, brings_new, record_row};
 use catalogue_rules::change::{Change, counted};
-use desk_tables::rows::row_types::RecordRow;
+use desk_tables::records::RecordRow;
 use desk_tables::work::Work;
 use onix_message::contents::Contents;
 use onix_message::parts::{Product, ProductIdentifier, ProductSupply};

@@ -5,7 +5,7 @@ ghost use Rattle.catalogue_store.specs.Calls.{ChangesRows, Writes, Removes, Repl
 ghost use Rattle.catalogue_store.specs.WrittenRows.{with_identified, with_supplies};
 
 use crate::build::{article_rows, detail_rows, price_rows};
-use desk_tables::rows::row_types::RecordRow;
+use desk_tables::records::RecordRow;
 use desk_tables::work::Work;
 use onix_message::StoreFault;
 use onix_message::parts::{ProductIdentifier, ProductSupply};

@@ -13,7 +13,10 @@ ghost use Rattle.catalogue_store.specs.WrittenRows.{articles_of, details_of, pri
 use crate::build::{add_article_rows, add_detail_rows, add_price_rows};
 use crate::reading::{FoundRecord, find_record};
 use catalogue_rules::change::Change;
-use desk_tables::rows::row_types::{ArticleRow, OfferRow, PriceRow, RecordRow};
+use desk_tables::articles::ArticleRow;
+use desk_tables::offers::OfferRow;
+use desk_tables::prices::PriceRow;
+use desk_tables::records::RecordRow;
 use desk_tables::work::Work;
 use onix_message::parts::Product;
 use onix_message::{Effect, StoreFault};

@@ -12,7 +12,7 @@ ghost use Rattle.series_rules.specs.Views.{Tells};
 
 use catalogue_rules::catalogue::Catalogue;
 use catalogue_store::catalogues::read_catalogue;
-use desk_tables::rows::series::SeriesRow;
+use desk_tables::series::SeriesRow;
 use desk_tables::tables::Tables;
 use desk_tables::work::Work;
 use onix_message::StoreFault;

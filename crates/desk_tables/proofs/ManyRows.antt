@@ -11,7 +11,7 @@ use Rattle.sqlite_schema.specs.declared.command.Command.TheVariants.{Insert}
 use Rattle.sqlite_schema.specs.declared.command.Source.TheVariants.{Values}
 use Rattle.sqlite.specs.Listing.{understood}
 use Rattle.sqlite.specs.State.{State, Executes}
-use Rattle.sqlite.specs.Values.{bound, bound_value}
+use Rattle.sqlite.specs.Values.{bound}
 use Rattle.sqlite.proofs.Callers.{IsPlain, command_of}
 use Rattle.sqlite_value.specs.declared.value.ValueRef.{ValueRef}
 use Rattle.onix_message.specs.declared.faults.StoreFault.{StoreFault}
@@ -24,17 +24,17 @@ use Rattle.desk_tables.specs.Rows.{DeskRows, Holds, unchanged}
 use Rattle.desk_tables.specs.Schema.{desk_schema}
 use Rattle.desk_tables.specs.declared.many_rows.CatalogueTable.{CatalogueTable}
 use Rattle.desk_tables.specs.declared.many_rows.CatalogueTable.TheVariants.{Record, Article, Offer, Price, PriceMinimum}
-use Rattle.desk_tables.specs.declared.many_rows.TheConstants.{PUT_RECORD, PUT_8_RECORDS, PUT_ARTICLE, PUT_8_ARTICLES, PUT_OFFER, PUT_8_OFFERS, PUT_PRICE, PUT_8_PRICES, PUT_MINIMUM, PUT_8_MINIMUMS}
 use Rattle.desk_tables.specs.Calls.{AddsBetween}
 use Rattle.desk_tables.specs.declared.work.Work.{Work}
 use Rattle.sqlite_trees.specs.declared.store.Store.{Ghosts}
 use Rattle.desk_tables.proofs.Addings.{adds_stopped, adds_then}
-use Rattle.desk_tables.proofs.ArticleInserts.{puts_articles}
-use Rattle.desk_tables.proofs.OfferInserts.{puts_offers}
-use Rattle.desk_tables.proofs.PriceInserts.{puts_minimums, puts_prices}
 use Rattle.desk_tables.proofs.Putting.{Puts}
-use Rattle.desk_tables.proofs.RecordInserts.{puts_records}
+use Rattle.desk_tables.proofs.TableInserts.{puts_articles, puts_minimums, puts_offers, puts_prices, puts_records}
 use Rattle.desk_tables.proofs.RecordStatementTexts.{add_record_is, put_8_records_is, put_article_is, put_8_articles_is, put_offer_is, put_8_offers_is, put_price_is, put_8_prices_is, put_minimum_is, put_8_minimums_is}
+use Rattle.desk_tables.specs.declared.articles.TheConstants.{PUT_8_ARTICLES, PUT_ARTICLE}
+use Rattle.desk_tables.specs.declared.offers.TheConstants.{PUT_8_OFFERS, PUT_OFFER}
+use Rattle.desk_tables.specs.declared.prices.TheConstants.{PUT_8_MINIMUMS, PUT_8_PRICES, PUT_MINIMUM, PUT_PRICE}
+use Rattle.desk_tables.specs.declared.records.TheConstants.{PUT_8_RECORDS, PUT_RECORD}
 
 -- ---- lists of one element, and of eight
 

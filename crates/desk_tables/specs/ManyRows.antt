@@ -10,10 +10,13 @@ use Rattle.desk_tables.specs.RecordRows.{ArticleRow, RecordRow, article_columns,
 use Rattle.desk_tables.specs.Rows.{DeskRows}
 use Rattle.desk_tables.specs.declared.many_rows.CatalogueTable.{CatalogueTable}
 use Rattle.desk_tables.specs.declared.many_rows.CatalogueTable.TheVariants.{Record, Article, Offer, Price, PriceMinimum}
-use Rattle.desk_tables.specs.declared.many_rows.TheConstants.{PUT_RECORD, PUT_8_RECORDS, PUT_ARTICLE, PUT_8_ARTICLES, PUT_OFFER, PUT_8_OFFERS, PUT_PRICE, PUT_8_PRICES, PUT_MINIMUM, PUT_8_MINIMUMS}
-use Rattle.desk_tables.specs.declared.rows.row_types.OfferRow as typed
-use Rattle.desk_tables.specs.declared.rows.row_types.PriceRow as typed_price
+use Rattle.desk_tables.specs.declared.offers.OfferRow as typed
+use Rattle.desk_tables.specs.declared.prices.PriceRow as typed_price
 use Rattle.desk_tables.specs.declared.work.Work.{Work}
+use Rattle.desk_tables.specs.declared.articles.TheConstants.{PUT_8_ARTICLES, PUT_ARTICLE}
+use Rattle.desk_tables.specs.declared.offers.TheConstants.{PUT_8_OFFERS, PUT_OFFER}
+use Rattle.desk_tables.specs.declared.prices.TheConstants.{PUT_8_MINIMUMS, PUT_8_PRICES, PUT_MINIMUM, PUT_PRICE}
+use Rattle.desk_tables.specs.declared.records.TheConstants.{PUT_8_RECORDS, PUT_RECORD}
 
 -- what is put into the table
 abbrev pub RowOf : CatalogueTable → Type 0

@@ -2,8 +2,8 @@
 use Rattle.std.specs.Prelude.{◌≡◌, ℕ, List, map}
 use Rattle.onix_terms.specs.Territory.{countries_text}
 use Rattle.onix_terms.specs.declared.territory.Territory.{Territory}
-use Rattle.desk_tables.specs.declared.rows.row_types.OfferRow as typed
-use Rattle.desk_tables.specs.declared.rows.row_types.PriceRow as typed_price
+use Rattle.desk_tables.specs.declared.offers.OfferRow as typed
+use Rattle.desk_tables.specs.declared.prices.PriceRow as typed_price
 use Rattle.desk_tables.specs.declared.rows.written.TerritoryTexts.{TerritoryTexts}
 
 abbrev pub texts_of : Territory → TerritoryTexts

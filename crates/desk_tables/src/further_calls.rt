@@ -8,17 +8,18 @@ ghost use Rattle.desk_tables.specs.RecordChanges.{has_record, with_article, with
 ghost use Rattle.desk_tables.specs.RecordRows.{minimum_row, offer_row, price_row};
 ghost use Rattle.desk_tables.specs.Rows.{AreSeriesInOrder};
 
-use crate::many_rows::{PUT_ARTICLE, PUT_MINIMUM, PUT_OFFER, PUT_PRICE};
-use crate::rows::articles::all_articles;
-use crate::rows::offers::all_offers;
-use crate::rows::prices::{all_minimums, all_prices};
-use crate::rows::records::has_row;
-use crate::rows::row_types::{ArticleRow, MinimumRow, OfferRow, PriceRow};
-use crate::rows::series::{SeriesRow, all_series};
-use crate::rows::values::{
-    article_row_values, minimum_row_values, offer_row_values, price_row_values,
+use crate::articles::{
+    ARTICLE_ROWS, ArticleRow, DELETE_ARTICLES, PUT_ARTICLE, all_articles, article_row_values,
 };
+use crate::offers::{OFFER_ROWS, OfferRow, PUT_OFFER, all_offers, offer_row_values};
+use crate::prices::{
+    MINIMUM_ROWS, MinimumRow, PRICE_ROWS, PUT_MINIMUM, PUT_PRICE, PriceRow, all_minimums,
+    all_prices, minimum_row_values, price_row_values,
+};
+use crate::records::{HAS_RECORD, PUT_RECORD_IF_NEW};
+use crate::rows::columns::has_row;
 use crate::rows::written::territory_texts;
+use crate::series::{SERIES_ROWS, SeriesRow, all_series};
 use crate::work::Work;
 use onix_message::StoreFault;
 use onix_terms::series_name::SeriesName;
@@ -30,10 +31,7 @@ impl<S: Alter> Work<'_, S> {
         ensures { Asks S.Store (λ rows series. AreSeriesInOrder rows series.items)
             self.old self.new result }
     {
-        let rows = self.rows(
-            "SELECT name, sender_type, sender_value, addressee_type, addressee_value, first_number, next_number FROM series ORDER BY name",
-            &[],
-        )?;
+        let rows = self.rows(SERIES_ROWS, &[])?;
         match all_series(&rows) {
             Ok(series) => Ok(series),
             Err(fault) => {
@@ -50,10 +48,7 @@ impl<S: Alter> Work<'_, S> {
             (with_record (record { series = series.now; reference = reference.now }))
             self.old self.new result }
     {
-        self.run(
-            "INSERT INTO record (series, reference) VALUES (?1, ?2) ON CONFLICT DO NOTHING",
-            params![series.as_str(), reference],
-        )?;
+        self.run(PUT_RECORD_IF_NEW, params![series.as_str(), reference])?;
         Ok(())
     }
 
@@ -161,10 +156,7 @@ impl<S: Alter> Work<'_, S> {
         ensures { Asks S.Store (λ rows there. there ≡ has_record series.now reference.now rows)
             self.old self.new result }
     {
-        let rows = self.rows(
-            "SELECT reference FROM record WHERE series = ?1 AND reference = ?2",
-            params![series.as_str(), reference],
-        )?;
+        let rows = self.rows(HAS_RECORD, params![series.as_str(), reference])?;
         Ok(has_row(&rows))
     }
 
@@ -177,10 +169,7 @@ impl<S: Alter> Work<'_, S> {
         ensures { Changes S.Store (without_articles series.now reference.now)
             self.old self.new result }
     {
-        self.run(
-            "DELETE FROM article WHERE series = ?1 AND reference = ?2",
-            params![series.as_str(), reference],
-        )?;
+        self.run(DELETE_ARTICLES, params![series.as_str(), reference])?;
         Ok(())
     }
 
@@ -190,10 +179,7 @@ impl<S: Alter> Work<'_, S> {
         ensures { Asks S.Store (λ rows articles. AreArticlesInOrder series.now rows articles.items)
             self.old self.new result }
     {
-        let rows = self.rows(
-            "SELECT series, reference, id_place, id_type, id_value FROM article WHERE series = ?1 ORDER BY reference, id_place",
-            params![series.as_str()],
-        )?;
+        let rows = self.rows(ARTICLE_ROWS, params![series.as_str()])?;
         match all_articles(&rows) {
             Ok(articles) => Ok(articles),
             Err(fault) => {
@@ -209,10 +195,7 @@ impl<S: Alter> Work<'_, S> {
         ensures { Asks S.Store (λ rows offers. AreOffersInOrder series.now rows offers.items)
             self.old self.new result }
     {
-        let rows = self.rows(
-            "SELECT series, reference, place, supply, included, world, excluded, role, supplier_type, supplier_value, supplier_name, availability, unpriced FROM offer WHERE series = ?1 ORDER BY reference, place",
-            params![series.as_str()],
-        )?;
+        let rows = self.rows(OFFER_ROWS, params![series.as_str()])?;
         match all_offers(&rows) {
             Ok(offers) => Ok(offers),
             Err(fault) => {
@@ -229,10 +212,7 @@ impl<S: Alter> Work<'_, S> {
             × AreRising minimums.items)
             self.old self.new result }
     {
-        let rows = self.rows(
-            "SELECT series, reference, place, price_place, minimum FROM price_minimum WHERE series = ?1 ORDER BY reference, place, price_place",
-            params![series.as_str()],
-        )?;
+        let rows = self.rows(MINIMUM_ROWS, params![series.as_str()])?;
         match all_minimums(&rows) {
             Ok(minimums) => Ok(minimums),
             Err(fault) => {
@@ -253,10 +233,7 @@ impl<S: Alter> Work<'_, S> {
             → ArePricesWith minimums.now series.now rows prices.items)
             self.old self.new result }
     {
-        let rows = self.rows(
-            "SELECT series, reference, place, price_place, price_type, amount, currency, included, world, excluded, from_day, until_day FROM price WHERE series = ?1 ORDER BY reference, place, price_place",
-            params![series.as_str()],
-        )?;
+        let rows = self.rows(PRICE_ROWS, params![series.as_str()])?;
         match all_prices(&rows, minimums) {
             Ok(prices) => Ok(prices),
             Err(fault) => {

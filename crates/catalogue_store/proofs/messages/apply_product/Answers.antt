@@ -2,7 +2,7 @@ use Rattle.std.proofs.Common.{◌≡◌, false, Ok, subst, sym, ◌∙◌, rules
 use Rattle.sqlite.specs.Held.{state}
 use Rattle.desk_tables.specs.RecordChanges.{has_minimums_of}
 use Rattle.desk_tables.specs.Rows.{DeskRows}
-use Rattle.desk_tables.specs.declared.rows.row_types.RecordRow.{RecordRow}
+use Rattle.desk_tables.specs.declared.records.RecordRow.{RecordRow}
 use Rattle.catalogue_store.specs.AchievesLemmas.{achieves_as, does}
 use Rattle.catalogue_store.specs.AppliedProducts.{IsChanged}
 use Rattle.catalogue_store.specs.MinimumLemmas.{records_without_minimums}

@@ -4,7 +4,7 @@ use Rattle.catalogue_store.specs.Achieves.{Achieves}
 use Rattle.catalogue_store.specs.AchievesLemmas.{achieves_as, achieves_call, achieves_call_failed, achieves_calls, does, handed_on}
 use Rattle.desk_tables.specs.Rows.{DeskRows, series_at, series_between, with_series}
 use Rattle.desk_tables.specs.Transactions.{NoAnswer}
-use Rattle.desk_tables.specs.declared.rows.series.SeriesRow.{SeriesRow}
+use Rattle.desk_tables.specs.declared.series.SeriesRow.{SeriesRow}
 use Rattle.series_rules.specs.Answers.{agree_answer}
 use Rattle.series_rules.specs.declared.answers.AgreeAnswer.TheVariants.{Agreed, SeriesTaken}
 use Rattle.series_rules.specs.declared.requests.Request.TheVariants.{Agree}

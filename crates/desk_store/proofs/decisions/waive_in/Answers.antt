@@ -2,7 +2,7 @@ use Rattle.std.proofs.Common.{◌≡◌, ◌<◌, ◌≤◌, Option, Ok, sym, �
 use Rattle.sqlite.specs.Held.{state}
 use Rattle.catalogue_store.specs.AchievesLemmas.{achieves_as, achieves_call, achieves_then, does}
 use Rattle.desk_tables.specs.Rows.{DeskRows, series_at}
-use Rattle.desk_tables.specs.declared.rows.series.SeriesRow.{SeriesRow}
+use Rattle.desk_tables.specs.declared.series.SeriesRow.{SeriesRow}
 use Rattle.series_rules.specs.declared.answers.WaiveAnswer.{WaiveAnswer}
 use Rattle.series_rules.specs.declared.answers.WaiveAnswer.TheVariants as waiver
 use Rattle.desk_store.specs.Answering.{WaivesAt}

@@ -4,7 +4,7 @@ use Rattle.catalogue_rules.specs.Records.{ByReference}
 use Rattle.catalogue_store.specs.Holding.{HoldsCatalogue}
 use Rattle.catalogue_store.specs.AchievesLemmas.{achieves_as, achieves_call, achieves_failed, achieves_then, does, handed_on}
 use Rattle.desk_tables.specs.Rows.{DeskRows, series_at}
-use Rattle.desk_tables.specs.declared.rows.series.SeriesRow.{SeriesRow}
+use Rattle.desk_tables.specs.declared.series.SeriesRow.{SeriesRow}
 use Rattle.series_rules.specs.Answers.{catalogue_answer}
 use Rattle.desk_store.specs.Desks.{OnlyAnswers}
 use Rattle.desk_store.proofs.QuestionRows.{no_catalogue, one_catalogue}

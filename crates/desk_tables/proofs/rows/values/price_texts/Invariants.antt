@@ -1,6 +1,0 @@
-use Rattle.std.proofs.Common.{take}
-use Rattle.desk_tables.specs.MarketTexts.{ArePriceTexts}
-use Rattle.desk_tables.proofs.rows.values.price_texts.Given as goal
-
-abbrev pub invariant-loop-row : goal.invariant-loop-row
-invariant-loop-row l = ArePriceTexts (take l.row-index l.rows) l.texts.items

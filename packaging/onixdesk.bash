@@ -6,7 +6,7 @@ _onixdesk_command() {
     for ((at = 1; at < cword; at++)); do
         case ${words[at]} in
             --db | --rules | --batches) ((at++)) ;;
-            batch | deliver | gaps | migrate | serve | help) echo "${words[at]}"; return ;;
+            batch | convert | deliver | gaps | migrate | serve | help) echo "${words[at]}"; return ;;
         esac
     done
 }
@@ -14,17 +14,20 @@ _onixdesk_command() {
 _onixdesk() {
     local cur prev words cword
     _init_completion || return
-    local command=$(_onixdesk_command) all="batch deliver gaps migrate serve help"
+    local command=$(_onixdesk_command) all="batch convert deliver gaps migrate serve help"
     case $command:$prev in
         :--db | :--rules | :--batches | serve:--batches) _filedir; return ;;
         serve:--port | serve:--requests) return ;;
+        convert:--parts | convert:--number | convert:--number-offset | convert:--sender | convert:--addressee | convert:--id-type) return ;;
+        convert:-o) _filedir -d; return ;;
     esac
     case $command:$cur in
+        convert:-*) COMPREPLY=($(compgen -W "--parts --number --number-offset --sender --addressee --id-type --leave-out-wrong -o --help" -- "$cur")) ;;
         serve:*) COMPREPLY=($(compgen -W "--port --batches --requests --help" -- "$cur")) ;;
         help:*) COMPREPLY=($(compgen -W "$all" -- "$cur")) ;;
         :-*) COMPREPLY=($(compgen -W "--db --existing --rules --batches --help --version" -- "$cur")) ;;
         :*) COMPREPLY=($(compgen -W "$all" -- "$cur")) ;;
         *:-*) COMPREPLY=($(compgen -W "--help" -- "$cur")) ;;
-        deliver:*) _filedir ;;
+        convert:* | deliver:*) _filedir ;;
     esac
 } && complete -F _onixdesk onixdesk

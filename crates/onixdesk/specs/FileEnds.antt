@@ -27,6 +27,7 @@ use Rattle.desk_store.specs.Openings.{AreEmptyFiles, AreFilesWith, HoldRowsOf, K
 use Rattle.desk_store.specs.Seen.{in_tables}
 use Rattle.desk_store.specs.declared.migrating.MigrateAnswer.{MigrateAnswer}
 use Rattle.desk_http.specs.Writing.{WritesFront}
+use Rattle.onixdesk.specs.ConvertEnds.{ConvertEnds}
 use Rattle.onixdesk.specs.Course.{course}
 use Rattle.onixdesk.specs.FileViews.{seen_image, seen_left}
 use Rattle.onixdesk.specs.MigrationEnd.{MigrationEnd}
@@ -34,7 +35,7 @@ use Rattle.onixdesk.specs.RulesFile.{RulesFit, status_of}
 use Rattle.onixdesk.specs.Sending.{SendEnds}
 use Rattle.onixdesk.specs.TaskEnds.{TaskEnds}
 use Rattle.onixdesk.specs.declared.command_line.Action.{Action}
-use Rattle.onixdesk.specs.declared.command_line.Action.TheVariants.{InMemory, InFile, Migrate, Send}
+use Rattle.onixdesk.specs.declared.command_line.Action.TheVariants.{Convert, InMemory, InFile, Migrate, Send}
 use Rattle.onixdesk.specs.declared.command_line.Invocation.{Invocation}
 use Rattle.onixdesk.specs.declared.command_line.Reading.{Reading}
 use Rattle.onixdesk.specs.declared.command_line.Reading.TheVariants as reading
@@ -114,6 +115,7 @@ ActionEnds seen path rules written told (InMemory task) status left = (left ≡ 
 ActionEnds seen path rules written told (InFile db task) status left = FileEnds path rules written task told status left
 ActionEnds seen path rules written told (Migrate db) status left = MigrateEnds path written status left
 ActionEnds seen path rules written told (Send socket) status left = (left ≡ None) × SendEnds told written status
+ActionEnds seen path rules written told (Convert c) status left = (left ≡ None) × ConvertEnds told written c status
 
 -- the rules of a precedence table: none where none is named, and else those of a text
 abbrev pub AreRulesOf : {N : Type 0} → Option N → List Rule → Type 0

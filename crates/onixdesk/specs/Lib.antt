@@ -10,4 +10,5 @@ pub mod Clients
 pub mod Sending
 pub mod TaskEnds
 pub mod FileViews
+pub mod ConvertEnds
 pub mod FileEnds

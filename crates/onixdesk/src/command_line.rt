@@ -5,6 +5,7 @@ ghost use Rattle.std.specs.Io.KnownBytes.{Appends};
 ghost use Rattle.onixdesk.specs.FileEnds.{HelpEnds};
 
 use crate::commands::program;
+use crate::convert_words::{Conversion, conversion_of};
 use crate::fault::{Fault, report};
 use clap::error::ErrorKind;
 use clap::{ArgMatches, Error};
@@ -49,6 +50,8 @@ pub enum Action<'a> {
     Migrate { db: Database<'a> },
     /// `--batches SOCKET batch`: the batch is sent to the desk that is open there.
     Send { socket: &'a str },
+    /// `convert`: messages in XML become CSV records, and no desk is opened.
+    Convert(Conversion<'a>),
 }
 
 /// What the program is asked to do, under the precedence table of a file or under no rules.
@@ -106,7 +109,7 @@ fn serve<'a>(matches: &ArgMatches<'a>) -> Option<Task<'a>> {
     })
 }
 
-// The command of that name with its words, or none where one lacks, which clap does not let pass.
+// The command of that name with its words, or none where one is missing, which clap does not let pass.
 fn task_of<'a>(
     alloc: Global,
     name: &str,
@@ -159,6 +162,23 @@ fn sent<'a>(socket: &'a str, name: &str) -> Reading<'a> {
     })
 }
 
+// What `convert` asks for.
+fn converted<'a>(alloc: Global, matches: &ArgMatches<'a>) -> Reading<'a> {
+    let bad = match conversion_of(alloc, matches) {
+        Ok(conversion) => {
+            return Reading::Run(Invocation {
+                rules: None,
+                action: Action::Convert(conversion),
+            });
+        }
+        Err(bad) => bad,
+    };
+    match bad.text(alloc) {
+        Ok(text) => Reading::Wrong(text),
+        Err(AllocError) => Reading::Memory,
+    }
+}
+
 // What words that clap let pass ask for.
 fn asked_for<'a>(alloc: Global, matches: &ArgMatches<'a>) -> Reading<'a> {
     let Some((name, words)) = matches.subcommand() else {
@@ -166,6 +186,9 @@ fn asked_for<'a>(alloc: Global, matches: &ArgMatches<'a>) -> Reading<'a> {
     };
     if let Some(socket) = matches.get_str("batches") {
         return sent(socket, name);
+    }
+    if name == "convert" {
+        return converted(alloc, words);
     }
     let rules = matches.get_str("rules");
     let db = database_of(matches);

@@ -11,7 +11,7 @@ fn batch<'a>(alloc: Global) -> Command<'a> {
     Command::new(alloc, "batch")
         .about("Read requests from standard input, write their answers to standard output")
         .long_about(
-            "Reads agreements, messages, waivers and questions as CSV records from standard input, up to 4,194,304 bytes of UTF-8, and writes the answer to each, in order, to standard output. A database file and a precedence table are named before the command: onixdesk --db FILE --rules FILE batch. Without a database file the desk ends with the batch. With --batches SOCKET before the command the batch goes to the desk that is open there, whose answers are written; then status 3 is a fault of the socket too, or an answer that lacks.",
+            "Reads agreements, messages, waivers and questions as CSV records from standard input, up to 4,194,304 bytes of UTF-8, and writes the answer to each, in order, to standard output. A database file and a precedence table are named before the command: onixdesk --db FILE --rules FILE batch. Without a database file the desk ends with the batch. With --batches SOCKET before the command the batch goes to the desk that is open there, whose answers are written; then status 3 also means that the socket failed or that an answer did not come.",
         )
 }
 
@@ -90,8 +90,108 @@ fn migrate<'a>(alloc: Global) -> Command<'a> {
     Command::new(alloc, "migrate")
         .about("Bring a database file of an earlier version to the one that this program keeps")
         .long_about(
-            "Brings the desk in the database file from version 1, which knows no minimum quantities, to version 2, all at once, and writes 'migrated'; an empty or missing file becomes a desk without agreements. A file of version 2 stays as it is, and 'schema 2' is written. Any other version is a fault, and the file stays. The file is named before the command: onixdesk --db FILE migrate. Copy the file first.",
+            "Brings the desk in the database file from version 1, which knows no minimum quantities, to version 2, in one transaction, and writes 'migrated'; an empty or missing file becomes a desk without agreements. A file of version 2 stays as it is, and 'schema 2' is written. Any other version is a fault, and the file stays. The file is named before the command: onixdesk --db FILE migrate. Copy the file first.",
         )
+}
+
+fn parts<'a>(alloc: Global) -> Arg<'a> {
+    Arg::new(alloc, "parts")
+        .long("parts")
+        .value_name("P")
+        .value_parser(ValueParser::unsigned(1, 9_999))
+        .action(ArgAction::Set)
+        .help(
+            "Make P messages of each, numbered on from one message to the next; 1 without it, at most 9999. It is agreed with the series, so that P stays what it is",
+        )
+}
+
+fn number<'a>(alloc: Global) -> Result<Arg<'a>, AllocError> {
+    Arg::new(alloc, "number")
+        .long("number")
+        .value_name("N")
+        .value_parser(ValueParser::unsigned(1, 999_999_999))
+        .action(ArgAction::Set)
+        .help("The number of the message, in place of its own; for one FILE alone")
+        .conflicts_with("number-offset")
+}
+
+fn number_offset<'a>(alloc: Global) -> Arg<'a> {
+    Arg::new(alloc, "number-offset")
+        .long("number-offset")
+        .value_name("K")
+        .value_parser(ValueParser::unsigned(0, 999_999_998))
+        .action(ArgAction::Set)
+        .help("Add K to the number of each FILE, whose sender began again at 1; not with --number")
+}
+
+fn sender<'a>(alloc: Global) -> Arg<'a> {
+    Arg::new(alloc, "sender")
+        .long("sender")
+        .value_name("TYPE,VALUE")
+        .action(ArgAction::Set)
+        .help(
+            "The identifier of the sender, for a FILE whose Header has none with a type and a value",
+        )
+}
+
+fn addressee<'a>(alloc: Global) -> Arg<'a> {
+    Arg::new(alloc, "addressee")
+        .long("addressee")
+        .value_name("TYPE,VALUE")
+        .action(ArgAction::Set)
+        .help("Of several addressees take the one that has this identifier")
+}
+
+fn id_type<'a>(alloc: Global) -> Arg<'a> {
+    Arg::new(alloc, "id-type")
+        .long("id-type")
+        .value_name("TT")
+        .action(ArgAction::Set)
+        .help(
+            "Of several identifiers take the first of this type, else the first; 06 (GLN) without it",
+        )
+}
+
+fn leave_out_wrong<'a>(alloc: Global) -> Arg<'a> {
+    Arg::new(alloc, "leave-out-wrong")
+        .long("leave-out-wrong")
+        .action(ArgAction::SetTrue)
+        .help(
+            "Leave out products that the desk would call malformed, where else the FILE is refused",
+        )
+}
+
+fn folder<'a>(alloc: Global) -> Arg<'a> {
+    Arg::new(alloc, "folder")
+        .short('o')
+        .value_name("FOLDER")
+        .action(ArgAction::Set)
+        .help("Write each message into a file of its own in FOLDER, in place of standard output")
+}
+
+fn feeds<'a>(alloc: Global) -> Arg<'a> {
+    Arg::new(alloc, "file")
+        .value_name("FILE")
+        .num_args(0..)
+        .action(ArgAction::Append)
+        .help("A message in XML; - or none is standard input")
+}
+
+fn convert<'a>(alloc: Global) -> Result<Command<'a>, AllocError> {
+    Command::new(alloc, "convert")
+        .about("Convert ONIX messages in XML to the CSV records that the desk reads")
+        .long_about(
+            "Converts ONIX for Books messages in XML, release 3.0 or 3.1, to the CSV records that the desk reads. Notes on standard error tell what is left out. A FILE that is refused gives no output, and the others are done. Without -o the records of one FILE go to standard output. With it each message becomes NAME.csv, or NAME.part-01.csv and so on, where NAME is the FILE without its extension; a file that is there is never written over, which is a fault unless it has the same bytes. A packed FILE is refused: unpack it before, gunzip -c FILE | onixdesk convert.",
+        )
+        .arg(parts(alloc))?
+        .arg(number(alloc)?)?
+        .arg(number_offset(alloc))?
+        .arg(sender(alloc))?
+        .arg(addressee(alloc))?
+        .arg(id_type(alloc))?
+        .arg(leave_out_wrong(alloc))?
+        .arg(folder(alloc))?
+        .arg(feeds(alloc))
 }
 
 // The option `--db FILE`, which stands before the command.
@@ -148,13 +248,13 @@ fn named<'a>(alloc: Global) -> Command<'a> {
             "The intake of a bookshop's buying desk: numbered ONIX messages in, proved answers out",
         )
         .after_help(
-            "Exit status: 0; 1 where an answer of batch, deliver or gaps was a refusal; 2 for a bad command line or rules file; 3 for a fault of storage, a file, input, output, the port or the socket, or for want of memory. While serve runs, a request that cannot be answered ends only its connection.",
+            "Exit status: 0; 1 where an answer of batch, deliver or gaps was a refusal, or a FILE of convert was refused or a wrong product left out; 2 for a bad command line or rules file; 3 for a fault of storage, a file, input, output, the port or the socket, or when out of memory. While serve runs, a request that cannot be answered ends only its connection.",
         )
         .subcommand_required(true)
 }
 
-// The program with one more command. A command that memory lacks for is refused here alone, so that the
-// program is let go of in one place.
+// The program with one more command. One that there was no memory for is refused here alone, so that
+// the program is let go of in one place.
 fn with_command<'a>(
     program: Command<'a>,
     command: Result<Command<'a>, AllocError>,
@@ -175,6 +275,7 @@ pub fn program<'a>(alloc: Global) -> Result<Command<'a>, AllocError> {
     let program = with_arg(named(alloc).arg(db(alloc))?, existing(alloc))?.arg(rules(alloc))?;
     let program = with_arg(program, batches(alloc))?;
     let program = with_command(program, Ok(batch(alloc)))?;
+    let program = with_command(program, convert(alloc))?;
     let program = with_command(program, deliver(alloc))?;
     let program = with_command(program, gaps(alloc))?;
     let program = with_command(program, Ok(migrate(alloc)))?;

@@ -14,6 +14,7 @@ mod clients;
 mod command_line;
 mod commands;
 mod connection;
+mod convert_words;
 mod database;
 mod deliver;
 mod doors;

@@ -15,6 +15,7 @@ use crate::rules::{RulesFault, open_table, report_rules};
 use crate::{batch, deliver, gaps, migrate, sending, serve};
 use desk_memory::MemoryDesk;
 use desk_store::DeskStore;
+use onix_files::convert_files;
 use onix_message::StoreFault;
 use price_rules::precedence::Precedence;
 use series_rules::desk::Desk;
@@ -194,6 +195,13 @@ fn run_action<S: Start, R: Read, W: Write, E: Write>(
         }
         Action::Migrate { db } => migrate_file(rt, db, start, output, errors),
         Action::Send { socket } => (sending::run(rt, socket, input, output, errors), None),
+        Action::Convert(conversion) => {
+            let files = conversion.files.as_slice();
+            (
+                convert_files(rt, &conversion.run, files, input, output, errors),
+                None,
+            )
+        }
     }
 }
 

@@ -144,8 +144,8 @@ fn take_all<S: Read, W: Write>(
     Err(Fault::Socket)
 }
 
-// Takes the answers to so many requests, and says whether one is a refusal. Where one lacks the desk
-// has met a fault, or was stopped.
+// Takes the answers to so many requests, and says whether one is a refusal. Where one is missing the
+// desk has met a fault, or was stopped.
 fn take_answers<S: Read, W: Write>(
     alloc: Global,
     asked: usize,
@@ -250,7 +250,7 @@ fn read_text<R: Read>(alloc: Global, input: &mut R) -> Result<Vec<u8>, Fault>
 
 /// Sends the batch of the input to the desk that listens at a socket, and writes the answers as they
 /// come. Gives 0, or 1 where an answer is a refusal, or 3 after a fault of the input, the output or
-/// the socket, which is reported; that an answer lacks is a fault of the socket.
+/// the socket, which is reported; a missing answer is a fault of the socket.
 pub fn run<R: Read, W: Write, E: Write>(
     rt: &HostRuntime,
     socket: &str,

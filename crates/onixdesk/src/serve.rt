@@ -187,7 +187,7 @@ fn listen<D: Desk, O: Write, E: Write>(
 /// Listens at a port of 127.0.0.1, and at a socket of the file system where one is named, writes
 /// `listening` and the number of the port, and serves so many connections: an exchange over HTTP at
 /// the port, a batch at the socket. Gives 0, or 3 after a fault of the port, of the socket or of the
-/// output, or for want of memory, which is reported. The routes of HTTP are made before.
+/// output, or when out of memory, which is reported. The routes of HTTP are made before.
 pub fn run<D: Desk, O: Write, E: Write>(
     rt: &HostRuntime,
     desk: &mut D,

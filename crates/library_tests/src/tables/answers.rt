@@ -1,8 +1,11 @@
 //! What a query gives, beside what the words of a transcript name. What is compared takes no memory.
 
 use crate::tables::words::{is_whole, word};
-use desk_tables::rows::row_types::{ArticleRow, OfferRow, PriceRow, RecordRow};
-use desk_tables::rows::series::SeriesRow;
+use desk_tables::articles::ArticleRow;
+use desk_tables::offers::OfferRow;
+use desk_tables::prices::PriceRow;
+use desk_tables::records::RecordRow;
+use desk_tables::series::SeriesRow;
 use onix_message::parts::{Price, Supplier};
 use onix_message::{Agreement, Effect, StoreFault};
 use onix_terms::items::Items;

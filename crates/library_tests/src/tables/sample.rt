@@ -2,7 +2,10 @@
 //! market GB and IE, the supplier North Books, the price 12.99 GBP of the world.
 
 use crate::tables::words::{code, name, number, term, whole, word};
-use desk_tables::rows::row_types::{ArticleRow, OfferRow, PriceRow, RecordRow};
+use desk_tables::articles::ArticleRow;
+use desk_tables::offers::OfferRow;
+use desk_tables::prices::PriceRow;
+use desk_tables::records::RecordRow;
 use onix_message::parts::{Price, Supplier};
 use onix_message::{Agreement, Effect, StoreFault};
 use onix_terms::amount::Amount;

@@ -1,0 +1,1 @@
+"""Compares `onixdesk convert` with a second converter, feed by feed."""

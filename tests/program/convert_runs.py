@@ -1,0 +1,174 @@
+"""The words, files and statuses of `onixdesk convert`."""
+
+import codecs
+import gzip
+import re
+from collections.abc import Iterator
+from functools import partial
+
+from tests.program import converter_runs, converter_words
+from tests.program.conversions import SUPPLIER, in_short_tags
+from tests.program.converter import FEED
+from tests.program.converter_runs import BAD, FRAME, ONE, PRODUCT, TWO, Case, encoded, message_of
+from tests.program.converter_words import HEADER, SENDER
+from tests.program.room import Group, Ran, Room
+from tests.running import Outcome
+
+# The cases of the converter with packed files, which are refused here.
+PACKED = "names of files"
+
+NAMES = {"a.xml": "a", "b.c.onix": "b.c", "d": "d", "j.gz.xml": "j.gz"}
+
+# Two products that have together more records than a message may have.
+PRICES = 10_000
+LARGE = in_short_tags(
+    "\n".join(
+        [
+            FRAME.before,
+            *(
+                f"{PRODUCT.format(reference).removesuffix('</Product>')}<ProductSupply><SupplyDetail>{SUPPLIER}"
+                f"{'<Price><PriceAmount>1</PriceAmount></Price>' * PRICES}</SupplyDetail></ProductSupply></Product>"
+                for reference in ("R1", "R2")
+            ),
+            FRAME.behind,
+        ]
+    )
+).encode()
+
+
+def large_part(number: int, *references: str) -> bytes:
+    """The message of that part, with these of the two products."""
+    begin = FRAME.records.replace(",1,", f",{number},")
+    supply = "ProductSupply,,,\nSupplyDetail,04,,,North,21,\n" + "Price,,1,,,,,,\n" * PRICES
+    records = begin + "".join(f"Product,{each},03,15,9\n{supply}" for each in references)
+    return f"{records}EndMessage,{records.count(chr(10))}\n".encode()
+
+
+LARGE_PARTS = {1: large_part(1, "R1"), 2: large_part(2, "R2"), 3: large_part(3)}
+
+CASES = [
+    *(case for case in converter_runs.CASES if case.name != PACKED),
+    Case(
+        PACKED,
+        {name: ONE for name in NAMES},
+        ["-o", ".", *NAMES],
+        Ran(0),
+        {f"{name}.csv": message_of("R1") for name in NAMES.values()},
+    ),
+    Case(
+        "a message that needs more parts",
+        {FEED: LARGE},
+        ["-o", ".", FEED],
+        Ran(1, b"", b"onixdesk: feed.xml:3:1: refused\n"),
+    ),
+    Case(
+        "a message that needs two parts and has three",
+        {FEED: LARGE},
+        ["--parts", "3", "-o", ".", FEED],
+        Ran(0),
+        {f"feed.part-0{part}.csv": records for part, records in LARGE_PARTS.items()},
+    ),
+    *(
+        Case(
+            f"a file that is packed by its name, {name}",
+            {name: gzip.compress(ONE), "b.xml": ONE},
+            ["-o", ".", name, "b.xml"],
+            Ran(1, b"", f"onixdesk: {name}:1:1: refused\n".encode()),
+            {"b.csv": message_of("R1")},
+        )
+        for name in ["a.xml.gz", "A.GZ", "a.zip", "A.Zip"]
+    ),
+    Case("a packed file by standard input", {}, [], Ran(1, b"", b"onixdesk: -:1:1: refused\n"), given=gzip.compress(ONE)),
+    Case("a file of nothing", {FEED: b""}, ["-o", ".", FEED], Ran(1, b"", b"onixdesk: feed.xml:1:1: refused\n")),
+]
+
+# What a line begins with: a FILE, and perhaps a place and that it is refused.
+HEAD = re.compile(r"(?:onix-to-csv|onixdesk): ([^ :]+)((?::[0-9]+:[0-9]+)?)(: refused\b)?")
+
+
+def heads(errors: bytes) -> list[tuple[str, ...]]:
+    """The lines about files, without why; not the summary."""
+    found = map(HEAD.match, errors.decode().splitlines())
+    return [each.groups("") for each in found if each]
+
+
+def check(case: Case, room: Room) -> Iterator[Outcome]:
+    for name, data in case.files.items():
+        room.write(name, data)
+    came = room.run("convert", *case.words, given=case.given)
+    left = {path.name: path.read_bytes() for path in room.folder.iterdir()}
+    found = came.status, came.output, heads(came.errors), left
+    wanted = case.wanted.status, case.wanted.output, heads(case.wanted.errors), case.files | case.made
+    yield Outcome(f"convert: {case.name}", found, wanted)
+
+
+BAD_WORDS: list[list[str | bytes]] = [[*words] for words in converter_runs.BAD_WORDS]
+BAD_WORDS += converter_words.BAD
+
+
+def bad_words(room: Room) -> Iterator[Outcome]:
+    files = {"a.xml": ONE, "b.xml": TWO, FEED: converter_words.feed_of(HEADER.format(SENDER))}
+    for name, data in files.items():
+        room.write(name, data)
+    for words in BAD_WORDS:
+        came = room.run("convert", *words, *([] if "a.xml" in words or words == ["-o"] else [FEED]))
+        yield Outcome(f"convert {words}", (came.status, came.output, came.errors != b""), (2, b"", True))
+    left = {path.name: path.read_bytes() for path in room.folder.iterdir()}
+    yield Outcome("convert: nothing is written on bad words", left, files)
+
+
+def good_words(room: Room) -> Iterator[Outcome]:
+    room.write(FEED, converter_words.feed_of(HEADER.format("<Sender><SenderName>North</SenderName></Sender>")))
+    for words, sender, number in converter_words.GOOD:
+        came = room.run("convert", *words, FEED)
+        records = f"Message,2,{sender},,,{number},,,,\nEndMessage,1\n"
+        yield Outcome(f"convert {words}", came, Ran(0, records.encode()))
+
+
+# Names of the five encodings, and their codecs.
+ENCODINGS = [
+    *(encoded(name, "utf-8") for name in ("utf-8", "UTF-8", "utf8")),
+    encoded("UTF-8", "utf-8", codecs.BOM_UTF8),
+    encoded("UTF-16", "utf-16-le", codecs.BOM_UTF16_LE),
+    encoded("UTF-16", "utf-16-be", codecs.BOM_UTF16_BE),
+]
+LATIN = [
+    encoded("ISO-8859-1", "latin-1", sender="é"),
+    encoded("windows-1252", "cp1252", sender="é"),
+    encoded("US-ASCII", "ascii", sender="&#233;"),
+]
+OTHERS = [encoded("windows-1250", "cp1250"), encoded("ISO-8859-15", "iso8859-15", sender="é"), encoded("x", "utf-8")]
+
+
+def encodings(room: Room) -> Iterator[Outcome]:
+    for sender, feeds in [(converter_runs.SENDER, ENCODINGS), ("é", LATIN)]:
+        records = message_of("R1").replace(b",S,", f",{sender},".encode())
+        for feed in feeds:
+            yield Outcome(f"convert: encoding {feed[:50]!r}", room.run("convert", given=feed), Ran(0, records))
+    for feed in OTHERS:
+        came = room.run("convert", given=feed)
+        yield Outcome(f"convert: another encoding {feed[:50]!r}", (came.status, came.output), (1, b""))
+
+
+def streams(room: Room) -> Iterator[Outcome]:
+    """An output that takes nothing, an input that cannot be read, and a refusal beside what is missing."""
+    room.write(FEED, ONE)
+    came = room.run("convert", FEED, is_full=True)
+    yield Outcome("convert: an output that takes nothing", (came.status, came.errors != b""), (3, True))
+    came = room.run("convert", given=None)
+    yield Outcome("convert: an input that cannot be read", (came.status, came.output), (3, b""))
+    room.write("b.xml", BAD)
+    for words, status in [([FEED], 0), (["b.xml", FEED], 1), (["absent.xml", "b.xml", FEED], 3)]:
+        room.path(str(len(words))).mkdir(exist_ok=True)
+        came = room.run("convert", "-o", str(len(words)), *words)
+        is_made = room.path(f"{len(words)}/feed.csv").exists()
+        yield Outcome(f"convert: {words}", (came.status, is_made), (status, True))
+
+
+GROUPS = [
+    *(Group(f"convert: {case.name}", partial(check, case)) for case in CASES),
+    Group("convert: bad words", bad_words),
+    Group("convert: words for a sender and for numbers", good_words),
+    Group("convert: encodings", encodings),
+    Group("convert: streams", streams),
+]

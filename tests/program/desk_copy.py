@@ -4,6 +4,7 @@ missing."""
 import os
 import random
 import re
+import shutil
 import sqlite3
 import threading
 import time
@@ -222,22 +223,46 @@ def unsound(room: Room) -> Iterator[Outcome]:
     yield Outcome("no copy is left", room.path("copy").exists(), False)
 
 
-def touched_until(ended: threading.Event, file: Path) -> None:
-    while not ended.wait(0.02):
-        file.touch()
+class Toucher(threading.Thread):
+    """Touches a file until it is ended; `longest` is the longest time that it left the file alone, in seconds."""
+
+    def __init__(self, file: Path):
+        super().__init__()
+        self.file = file
+        self.ended = threading.Event()
+        self.longest = 0.0
+
+    def run(self) -> None:
+        before = time.monotonic()
+        while not self.ended.wait(0.02):
+            begun = time.monotonic()
+            self.file.touch()
+            self.longest = max(self.longest, time.monotonic() - before)
+            before = begun
+        self.longest = max(self.longest, time.monotonic() - before)
+
+
+def copied_while_touched(room: Room, file: Path) -> Ran:
+    """A copy of a second, during which the file is never left alone for so long as a copy takes for rest: on a busy
+    machine the first tries may be none of these, and say nothing."""
+    for _ in range(30):
+        toucher = Toucher(file)
+        toucher.start()
+        try:
+            came = copy(room, "--seconds", "1", DATABASE, "copy")
+        finally:
+            toucher.ended.set()
+            toucher.join()
+        if toucher.longest < 0.08:
+            return came
+        shutil.rmtree(room.path("copy"), ignore_errors=True)
+    raise TimeoutError("the machine is too busy to touch a file all the while")
 
 
 def changed_all_the_while(room: Room) -> Iterator[Outcome]:
     batch(room, AGREEMENT)
-    ended = threading.Event()
     log = room.path(f"{DATABASE}-wal")
-    toucher = threading.Thread(target=touched_until, args=(ended, log))
-    toucher.start()
-    try:
-        came = copy(room, "--seconds", "1", DATABASE, "copy")
-    finally:
-        ended.set()
-        toucher.join()
+    came = copied_while_touched(room, log)
     line = f"desk-copy: {DATABASE}-wal: it was never left as it is for long enough, in 1 s\n"
     yield Outcome("a log that is always written", came, Ran(3, b"", line.encode()))
     later = time.time() + 86_400

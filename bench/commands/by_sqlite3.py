@@ -1,5 +1,5 @@
-"""Reads the file of a desk by SQLite: the schema is that of crates/desk_tables/src/creation.rt, the file and
-its foreign keys pass SQLite's tests, and the rows are those of the messages that were applied.
+"""Reads the file of a desk by SQLite: the schema is that of crates/desk_tables/src, the file and its
+foreign keys pass SQLite's tests, and the rows are those of the messages that were applied.
 
     bench/by-sqlite3 [PROGRAM]
 

@@ -10,14 +10,16 @@ from pathlib import Path
 from bench.figures.runs import BenchmarkFault
 from tools.words import Row
 
-CREATION = Path(__file__).resolve().parent.parent.parent / "crates/desk_tables/src/creation.rt"
+SOURCES = Path(__file__).resolve().parent.parent.parent / "crates/desk_tables/src"
 
 TABLES = ("meta", "series", "held", "applied", "record", "article", "offer", "price", "price_minimum")
 
 
 def written_schema() -> list[str]:
-    """The texts that make the tables, in their order."""
-    return re.findall(r'"(CREATE [^"]*)"', CREATION.read_text(encoding="utf-8"))
+    """The texts that make the tables, in their order, and the index."""
+    sources = "".join(file.read_text(encoding="utf-8") for file in sorted(SOURCES.glob("*.rt")))
+    tables = {name: text for text, name in re.findall(r'"(CREATE TABLE (\w+) [^"]*)"', sources)}
+    return [*(tables[name] for name in TABLES), *re.findall(r'"(CREATE INDEX [^"]*)"', sources)]
 
 
 def rows_of(connection: sqlite3.Connection, table: str) -> Iterator[Row]:

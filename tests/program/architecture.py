@@ -94,6 +94,37 @@ def walks(room: Room) -> Iterator[Outcome]:
     yield Outcome("docs/ARCHITECTURE.md tells of calls", len(found) > 0, True)
 
 
+# How many calls, and in how many files, the page says of a way: of a second one those that the first has not.
+COUNT = re.compile(r"(\d+)(?: further)? calls in (\d+)(?: further)? files")
+
+
+def counted(text: str) -> list[tuple[int, int]]:
+    """Of each way that the page tells of the calls and the files that no way before it has."""
+    ways: list[list[Function]] = []
+    for above, function in calls(text):
+        if above is None:
+            ways.append([])
+        ways[-1].append(function)
+    known: set[Function] = set()
+    counts = []
+    for way in ways:
+        new = set(way) - known
+        counts.append((len(new), len({file for _, file in new} - {file for _, file in known})))
+        known |= new
+    return counts
+
+
+def counts(room: Room) -> Iterator[Outcome]:
+    text = PAGE.read_text(encoding="utf-8")
+    found = counted(text)
+    told = [(int(calls), int(files)) for calls, files in COUNT.findall(text)]
+    yield Outcome("docs/ARCHITECTURE.md: the calls and files of each way", told, found)
+    decisions = (ROOT / "docs/DECISIONS.md").read_text(encoding="utf-8")
+    told = [(int(calls), int(files)) for calls, files in COUNT.findall(decisions)]
+    whole = (sum(calls for calls, _ in found), sum(files for _, files in found))
+    yield Outcome("docs/DECISIONS.md: the calls and files of all ways", told, [whole])
+
+
 def without_a_file(room: Room) -> Iterator[Outcome]:
     """A page whose calls name no file, or one that is not there, has wrong calls."""
     for text in ("    answer\n", "    answer    series_rules/src/nowhere.rt\n"):
@@ -105,5 +136,6 @@ GROUPS = [
     Group("the layers of the crates", layers),
     Group("the lines of crates.txt", lines),
     Group("the calls that docs/ARCHITECTURE.md names", walks),
+    Group("how many calls docs/ARCHITECTURE.md tells of", counts),
     Group("calls without a file", without_a_file),
 ]

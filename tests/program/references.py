@@ -117,12 +117,14 @@ def sources(room: Room) -> Iterator[Outcome]:
 
 
 def pages(room: Room) -> Iterator[Outcome]:
-    """README.md leads to each page of docs/ that git keeps, and to nothing that is not there."""
+    """README.md leads to each page of the repository that git keeps, to those of the crates by their folder, and to
+    nothing that is not there."""
     text = (ROOT / "README.md").read_text(encoding="utf-8")
     linked = set(re.findall(r"\]\(([\w/.]+)\)", text))
     lost = sorted(name for name in linked if not (ROOT / name).exists())
     yield Outcome("README.md: what it leads to and is not there", lost, [])
-    there = {str(page.relative_to(ROOT)) for page in (ROOT / "docs").glob("*.md") if page != PAGE}
+    found = [page for pattern in ("*.md", "docs/*.md", "examples/**/*.md") for page in ROOT.glob(pattern)]
+    there = {str(page.relative_to(ROOT)) for page in found if page not in (PAGE, ROOT / "README.md")}
     yield Outcome("README.md: pages that it does not lead to", sorted(there - linked), [])
 
 

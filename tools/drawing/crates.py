@@ -12,9 +12,22 @@ LAYERS = {
         "batches, HTTP, program",
         ["desk_batch", "http_requests", "desk_http", "onixdesk", "library_tests"],
     ),
+    "Feeds": (
+        "from XML to messages",
+        [
+            "xml_text",
+            "xml_verdicts",
+            "onix_outline",
+            "outline_verdicts",
+            "onix_mapping",
+            "mapping_verdicts",
+            "onix_conversion",
+            "onix_files",
+        ],
+    ),
     "Tables": ("a desk in a file", ["desk_tables", "catalogue_store", "desk_store"]),
     "Rules": ("what is answered", ["price_rules", "catalogue_rules", "series_rules", "desk_memory"]),
-    "Words": ("what a message says", ["xml_text", "xml_verdicts", "onix_outline", "outline_verdicts", "onix_mapping", "csv_records", "onix_terms", "onix_message"]),
+    "Words": ("what a message says", ["csv_records", "onix_terms", "onix_message"]),
 }
 
 

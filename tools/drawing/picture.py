@@ -11,14 +11,20 @@ from tools.root import ROOT
 PICTURE = ROOT / "docs/crates.svg"
 
 # For each layer the colour behind it, and that of its boxes' edges and of the arrows that begin there.
-COLOURS = [("#eef3fb", "#3b62a8"), ("#f6effa", "#7a4a9c"), ("#fdf3e7", "#9a5b12"), ("#edf6ee", "#2f7338")]
+COLOURS = [
+    ("#eef3fb", "#3b62a8"),
+    ("#fbeef2", "#a83b5c"),
+    ("#f6effa", "#7a4a9c"),
+    ("#fdf3e7", "#9a5b12"),
+    ("#edf6ee", "#2f7338"),
+]
 
 # How many characters of what is taken of the toolchain a line of a box has.
 LINE = 28
 
 HEAD = """\
 digraph crates {
-    graph [tooltip="The crates in four layers, each with arrows to those that it stands on",
+    graph [tooltip="The crates in five layers, each with arrows to those that it stands on",
         fontname="DejaVu Sans,Verdana,sans-serif", fontsize=16, labeljust=l, style=filled, pencolor=transparent,
         newrank=true, ranksep=0.45, nodesep=0.25]
     node [fontname="DejaVu Sans,Verdana,sans-serif", fontsize=10.5, shape=box, style="filled,rounded", fillcolor=white]

@@ -1,5 +1,6 @@
--- The desk's tables, with the columns and keys that they have in its file (crates/desk_tables/src/creation.rt). Rows
--- come from a copy whose foreign keys hold, so none are tested here. Texts are ordered by their bytes.
+-- The desk's tables, with the columns and keys that they have in its file (AgreementRows.antt and RecordRows.antt in
+-- crates/desk_tables/specs). Rows come from a copy whose foreign keys hold, so none are tested here. Texts are ordered
+-- by their bytes.
 CREATE TABLE desk.meta (
     item text COLLATE "C" NOT NULL,
     amount bigint NOT NULL

@@ -32,7 +32,7 @@ fn read_records<S: Alter>(
 }
 
 /// The catalogue of a series, which has no record where the series has no rows. `Unusable` where its
-/// rows cannot be read back; otherwise a fault is one of the store, or want of memory.
+/// rows cannot be read back; otherwise a fault is one of the store, or out of memory.
 pub fn read_catalogue<S: Alter>(
     alloc: Global,
     work: &mut Work<'_, S>,

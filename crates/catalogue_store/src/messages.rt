@@ -230,7 +230,7 @@ fn may_have_minimums<S: Alter>(
 
 /// Applies the products of a message, one after the other, to the catalogue of the series, and gives
 /// how many did what. A record that stays as it is is not written. `Unusable` where the series is not
-/// there or its rows cannot be read back; otherwise a fault is one of the store, or want of memory.
+/// there or its rows cannot be read back; otherwise a fault is one of the store, or out of memory.
 pub fn apply_message<S: Alter>(
     alloc: Global,
     work: &mut Work<'_, S>,

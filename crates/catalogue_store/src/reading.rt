@@ -57,7 +57,7 @@ fn read_prices<S: Alter>(
 }
 
 /// The entry of a record that is there. `Unusable` where its rows cannot be read back; otherwise a
-/// fault is one of the store, or want of memory.
+/// fault is one of the store, or out of memory.
 pub fn read_record<S: Alter>(
     alloc: Global,
     work: &mut Work<'_, S>,
@@ -114,7 +114,7 @@ impl FoundRecord {
 
 /// What is there of a record, against these identifiers.
 /// A record has an identifier, so the rows of its identifiers tell that it is there. A fault is one of
-/// the store, or want of memory; `Unusable` where a row cannot be read back.
+/// the store, or out of memory; `Unusable` where a row cannot be read back.
 pub fn find_record<S: Alter>(
     alloc: Global,
     work: &mut Work<'_, S>,
@@ -133,7 +133,7 @@ pub fn find_record<S: Alter>(
 }
 
 /// Whether the supplies of a record are these. Without `with_minimums` the rows of minimums are not
-/// asked for: none of its prices may have one then. A fault is one of the store, or want of memory;
+/// asked for: none of its prices may have one then. A fault is one of the store, or out of memory;
 /// `Unusable` where a row cannot be read back.
 pub fn has_supplies<S: Alter>(
     alloc: Global,

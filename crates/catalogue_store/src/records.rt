@@ -30,7 +30,7 @@ fn put_supplies<S: Alter>(
 }
 
 // Adds the record and its identifiers.
-fn put_identified<S: Alter>(
+fn put_record_and_articles<S: Alter>(
     alloc: Global,
     work: &mut Work<'_, S>,
     row: &RecordRow,
@@ -45,7 +45,7 @@ fn put_identified<S: Alter>(
 }
 
 /// Writes the rows of a record with these identifiers and supplies, where it has no rows.
-/// `Unusable` where the series is not there; otherwise a fault is one of the store, or want of
+/// `Unusable` where the series is not there; otherwise a fault is one of the store, or out of
 /// memory.
 pub fn write_record<S: Alter>(
     alloc: Global,
@@ -56,7 +56,7 @@ pub fn write_record<S: Alter>(
 ) -> Result<(), StoreFault>
     ensures { Does S.Store (Writes row.now ids.now supplies.now) work.old work.new result }
 {
-    put_identified(alloc, work, row, ids)?;
+    put_record_and_articles(alloc, work, row, ids)?;
     put_supplies(alloc, work, row, supplies)
 }
 
@@ -68,7 +68,7 @@ pub fn remove_record<S: Alter>(work: &mut Work<'_, S>, row: &RecordRow) -> Resul
 }
 
 /// Puts these supplies in the place of all supplies of a record. `Unusable` where the record is not
-/// there; otherwise a fault is one of the store, or want of memory.
+/// there; otherwise a fault is one of the store, or out of memory.
 pub fn replace_supplies<S: Alter>(
     alloc: Global,
     work: &mut Work<'_, S>,

@@ -121,7 +121,7 @@ fn count_new<S: Alter>(
     Ok(most)
 }
 
-fn record_rows(
+fn records_of(
     alloc: Global,
     series: &SeriesName,
     products: &[Product],
@@ -138,7 +138,7 @@ fn record_rows(
     Ok(rows)
 }
 
-fn article_rows(
+fn articles_of(
     alloc: Global,
     series: &SeriesName,
     products: &[Product],
@@ -153,7 +153,7 @@ fn article_rows(
     Ok(rows)
 }
 
-fn detail_rows(
+fn details_of(
     alloc: Global,
     series: &SeriesName,
     products: &[Product],
@@ -168,7 +168,7 @@ fn detail_rows(
     Ok(rows)
 }
 
-fn price_rows(
+fn prices_of(
     alloc: Global,
     series: &SeriesName,
     products: &[Product],
@@ -184,7 +184,7 @@ fn price_rows(
 }
 
 // Adds the records of the products and their identifiers.
-fn put_identified<S: Alter>(
+fn put_records_and_articles<S: Alter>(
     alloc: Global,
     work: &mut Work<'_, S>,
     series: &SeriesName,
@@ -193,14 +193,14 @@ fn put_identified<S: Alter>(
     ensures { Does S.Store (ChangesRows (with_identifiers_of series.now products.now))
         work.old work.new result }
 {
-    let records = record_rows(alloc, series, products)?;
-    let articles = article_rows(alloc, series, products)?;
+    let records = records_of(alloc, series, products)?;
+    let articles = articles_of(alloc, series, products)?;
     work.put_records(alloc, records.as_slice())?;
     work.put_articles(alloc, articles.as_slice())
 }
 
 // Adds the SupplyDetails of the products and their prices.
-fn put_supplied<S: Alter>(
+fn put_offers_and_prices<S: Alter>(
     alloc: Global,
     work: &mut Work<'_, S>,
     series: &SeriesName,
@@ -209,8 +209,8 @@ fn put_supplied<S: Alter>(
     ensures { Does S.Store (ChangesRows (with_supplies_of series.now products.now))
         work.old work.new result }
 {
-    let details = detail_rows(alloc, series, products)?;
-    let prices = price_rows(alloc, series, products)?;
+    let details = details_of(alloc, series, products)?;
+    let prices = prices_of(alloc, series, products)?;
     work.put_offers(alloc, details.as_slice())?;
     work.put_prices(alloc, prices.as_slice())
 }
@@ -225,12 +225,12 @@ fn write_products<S: Alter>(
     ensures { Does S.Store (ChangesRows (with_products series.now products.now))
         work.old work.new result }
 {
-    put_identified(alloc, work, series, products)?;
-    put_supplied(alloc, work, series, products)
+    put_records_and_articles(alloc, work, series, products)?;
+    put_offers_and_prices(alloc, work, series, products)
 }
 
 /// Applies the run of new records that begins with the first product, which is one. A fault is one of
-/// the store, or want of memory; `Unusable` where the series is not there or a row cannot be read back.
+/// the store, or out of memory; `Unusable` where the series is not there or a row cannot be read back.
 pub fn apply_run<S: Alter>(
     alloc: Global,
     work: &mut Work<'_, S>,

@@ -9,3 +9,4 @@ pub mod HeldWalk
 pub mod Folds
 pub mod Listing
 pub mod Folding
+pub mod Faults

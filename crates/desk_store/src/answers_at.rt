@@ -4,7 +4,7 @@ ghost use Rattle.std.specs.Prelude.{◌≡◌};
 ghost use Rattle.catalogue_store.specs.Achieves.{Does};
 ghost use Rattle.desk_store.specs.Answering.{AnswersAgain, DeliversAt, IsStored, WaivesAt};
 
-use crate::applying::{placed, put_new};
+use crate::applying::{applied_or_held, put_new};
 use crate::laws::one_standing_text;
 use crate::standings::is_waived;
 use desk_tables::work::Work;
@@ -67,7 +67,7 @@ fn answer_again(
         };
     }
     if stored.text.as_str() == text {
-        return placed(series, next, number, stored.effect);
+        return applied_or_held(series, next, number, stored.effect);
     }
     DeliveryAnswer::OtherContents {
         series: *series,
@@ -77,7 +77,7 @@ fn answer_again(
 
 /// Answers a delivery for a number of a series, which is at the number `next`, and keeps it where
 /// the number has nothing. `Unusable` where what is held cannot be read back; otherwise a fault is one
-/// of the store, or want of memory.
+/// of the store, or out of memory.
 pub(crate) fn deliver_at<S: Alter>(
     alloc: Global,
     work: &mut Work<'_, S>,

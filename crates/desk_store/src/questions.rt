@@ -24,7 +24,7 @@ use price_rules::offer::Offer;
 use series_rules::answers::GapReport;
 use series_rules::gaps::gap_report;
 use sqlite::Alter;
-use std::alloc::{AllocError, Global};
+use std::alloc::Global;
 
 // The catalogue of a series, or `None` where no agreement has the name.
 fn catalogue_in<S: Alter>(
@@ -100,10 +100,7 @@ fn report_of(
     if next < first.value() || next > 1_000_000_000 || !are_rising(next, held) {
         return Err(StoreFault::Unusable);
     }
-    match gap_report(alloc, series, first, next, held) {
-        Ok(report) => Ok(report),
-        Err(AllocError) => Err(StoreFault::Memory),
-    }
+    Ok(gap_report(alloc, series, first, next, held)?)
 }
 
 // Which numbers a series lacks, or `None` where no agreement has the name.

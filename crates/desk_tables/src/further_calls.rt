@@ -32,13 +32,7 @@ impl<S: Alter> Work<'_, S> {
             self.old self.new result }
     {
         let rows = self.rows(SERIES_ROWS, &[])?;
-        match all_series(&rows) {
-            Ok(series) => Ok(series),
-            Err(fault) => {
-                self.spent = true;
-                Err(fault)
-            }
-        }
+        self.or_spend(all_series(&rows))
     }
 
     /// Sees to it that the series has the record: adds its row, or nothing where it is there.
@@ -157,7 +151,7 @@ impl<S: Alter> Work<'_, S> {
             self.old self.new result }
     {
         let rows = self.rows(HAS_RECORD, params![series.as_str(), reference])?;
-        Ok(has_row(&rows))
+        Ok(has_row(rows.as_slice()))
     }
 
     /// Removes all rows of a record.
@@ -180,13 +174,7 @@ impl<S: Alter> Work<'_, S> {
             self.old self.new result }
     {
         let rows = self.rows(ARTICLE_ROWS, params![series.as_str()])?;
-        match all_articles(&rows) {
-            Ok(articles) => Ok(articles),
-            Err(fault) => {
-                self.spent = true;
-                Err(fault)
-            }
-        }
+        self.or_spend(all_articles(&rows))
     }
 
     /// All rows of a series, in the order of the bytes of their references, and then of their
@@ -196,13 +184,7 @@ impl<S: Alter> Work<'_, S> {
             self.old self.new result }
     {
         let rows = self.rows(OFFER_ROWS, params![series.as_str()])?;
-        match all_offers(&rows) {
-            Ok(offers) => Ok(offers),
-            Err(fault) => {
-                self.spent = true;
-                Err(fault)
-            }
-        }
+        self.or_spend(all_offers(&rows))
     }
 
     // The minimums of a series, in the order of its prices.
@@ -213,13 +195,7 @@ impl<S: Alter> Work<'_, S> {
             self.old self.new result }
     {
         let rows = self.rows(MINIMUM_ROWS, params![series.as_str()])?;
-        match all_minimums(&rows) {
-            Ok(minimums) => Ok(minimums),
-            Err(fault) => {
-                self.spent = true;
-                Err(fault)
-            }
-        }
+        self.or_spend(all_minimums(&rows))
     }
 
     // The prices of a series, with those minimums.
@@ -234,13 +210,7 @@ impl<S: Alter> Work<'_, S> {
             self.old self.new result }
     {
         let rows = self.rows(PRICE_ROWS, params![series.as_str()])?;
-        match all_prices(&rows, minimums) {
-            Ok(prices) => Ok(prices),
-            Err(fault) => {
-                self.spent = true;
-                Err(fault)
-            }
-        }
+        self.or_spend(all_prices(&rows, minimums))
     }
 
     /// All prices of a series, in the order of the bytes of their references, then of the places

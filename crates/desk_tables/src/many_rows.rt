@@ -3,7 +3,7 @@
 
 ghost use Rattle.std.specs.Prelude.{◌≡◌, ◌*◌, ◌≤◌, length};
 ghost use Rattle.sqlite.specs.Values.{bound};
-ghost use Rattle.desk_tables.specs.ManyRows.{many_of, text_of, width_of, RunsEach, RunsRows, RunsValues};
+ghost use Rattle.desk_tables.specs.ManyRows.{many_of, text_of, width_of, InsertsEach, InsertsRows, InsertsValues};
 
 use crate::articles::{PUT_8_ARTICLES, PUT_ARTICLE};
 use crate::offers::{PUT_8_OFFERS, PUT_OFFER};
@@ -67,7 +67,7 @@ fn many(eight: bool) -> usize
 
 impl<S: Alter> Work<'_, S> {
     // Puts rows by statements of eight, or of one: those of the statements from one up to another.
-    fn run_each(
+    fn insert_each(
         &mut self,
         table: CatalogueTable,
         eight: bool,
@@ -77,7 +77,7 @@ impl<S: Alter> Work<'_, S> {
     ) -> Result<(), StoreFault>
         requires rising { from ≤ to }
         requires within { many_of eight * to * width_of table ≤ length values.now }
-        ensures { RunsEach S.Store table eight from to (bound values.now)
+        ensures { InsertsEach S.Store table eight from to (bound values.now)
             self.old self.new result }
     {
         if self.spent {
@@ -93,29 +93,33 @@ impl<S: Alter> Work<'_, S> {
     }
 
     // Puts the rows of these values.
-    fn run_rows(&mut self, table: CatalogueTable, values: &[ValueRef<'_>]) -> Result<(), StoreFault>
-        ensures { RunsRows S.Store table (bound values.now) self.old self.new result }
+    fn insert_rows(
+        &mut self,
+        table: CatalogueTable,
+        values: &[ValueRef<'_>],
+    ) -> Result<(), StoreFault>
+        ensures { InsertsRows S.Store table (bound values.now) self.old self.new result }
     {
         let count = values.len() / table.width();
         let eights = count / 8;
-        self.run_each(table, true, 0, eights, values)?;
-        self.run_each(table, false, 8 * eights, count, values)
+        self.insert_each(table, true, 0, eights, values)?;
+        self.insert_each(table, false, 8 * eights, count, values)
     }
 
     // Puts the rows of these values, where memory sufficed for them.
-    pub(crate) fn run_values(
+    pub(crate) fn insert_values(
         &mut self,
         table: CatalogueTable,
         values: Result<Vec<ValueRef<'_>>, AllocError>,
     ) -> Result<(), StoreFault>
-        ensures { RunsValues S.Store table values.entry (λ v. bound v.items)
+        ensures { InsertsValues S.Store table values.entry (λ v. bound v.items)
             self.old self.new result }
     {
         if self.spent {
             return Err(StoreFault::Unusable);
         }
         match values {
-            Ok(values) => self.run_rows(table, values.as_slice()),
+            Ok(values) => self.insert_rows(table, values.as_slice()),
             Err(_) => {
                 self.spent = true;
                 Err(StoreFault::Memory)

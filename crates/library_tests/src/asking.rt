@@ -18,7 +18,7 @@ use std::process::Abort;
 #[derive(Clone, Copy)]
 pub enum End {
     Done,
-    /// By want of memory, of the desk or of the text that the test lets it write to.
+    /// Out of memory, of the desk or of the text that the test lets it write to.
     Memory,
     Disk,
     /// A disk failed before files were opened for it.

@@ -232,7 +232,7 @@ fn make<D: Disk + Drop>(
 #[derive(Drop)]
 pub struct FileDesk {
     files: Option<TestFiles>,
-    // Whether one of them fails otherwise than for want of memory.
+    // Whether one of them fails otherwise than when out of memory.
     may_fail: bool,
 }
 

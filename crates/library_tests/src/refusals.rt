@@ -1,5 +1,5 @@
 //! Memory that may be refused once in a test, by `tests/refused-memory` or `bench/refused_memory`, which
-//! say so in the environment. Where none is refused, a call that answers want of memory ends the test, and
+//! say so in the environment. Where none is refused, a call that answers out of memory ends the test, and
 //! so does a second one where one request was refused. The words by which a test ends that could not go on
 //! are those of no fault.
 
@@ -32,11 +32,11 @@ impl Refusals {
     pub fn meet(&mut self, stop: &impl Abort) {
         match self.left.checked_sub(1) {
             Some(left) => self.left = left,
-            None => stop.panic("want of memory that no refusal explains"),
+            None => stop.panic("out of memory that no refusal explains"),
         }
     }
 
-    /// Whether a request ended by want of memory. A disk in memory that lacked it has lost what it had,
+    /// Whether a request ended out of memory. A disk in memory that lacked it has lost what it had,
     /// so that nothing can be compared.
     pub fn has_met(&mut self, stop: &impl Abort, ended: End) -> bool {
         match ended {

@@ -16,9 +16,9 @@ returns-then-value-next g c =
     let other : ¬ (c.args.number ≡ c.args.next) = λ e. c.if-value-next.true (c.value.ensures.value ∙ e) in
     let Put : DeskRows → Unit {0} → DeskRows → Type 0 = λ rows x now. NoAnswer rows x × (now ≡ with_held row rows) in
     does (search rules)
-    (achieves_as Put _ old new tt c.placed.result
+    (achieves_as Put _ old new tt c.applied_or_held.result
     (achieves_call (NoAnswer {A = Unit {0}}) (with_held row) old new c.args.work.now.spent c.put_held.new.self.spent (Ok tt) c.in_ok-put_held.ensures.works)
-    (λ rows now h m one. put_above c.args.series.now c.args.next c.args.number c.args.standing.now c.args.text.now rows now c.placed.result other c.placed.ensures one.1))
+    (λ rows now h m one. put_above c.args.series.now c.args.next c.args.number c.args.standing.now c.args.text.now rows now c.applied_or_held.result other c.applied_or_held.ensures one.1))
 
 pub returns : goal.returns
 returns g c =
@@ -30,14 +30,14 @@ returns g c =
     let h = c.args.standing.now in
     let t = c.args.text.now in
     let e = c.in_ok-effect.effect in
-    let answer = c.placed-2.result in
+    let answer = c.applied_or_held-2.result in
     let Drained : DeskRows → Unit {0} → DeskRows → Type 0 = λ rows _ now. Drains s (c.value-2.result + 1) rows now in
     let Done : DeskRows → Unit {0} → DeskRows → Type 0 = λ rows _ now. PutsNew s c.args.next n h t rows answer now in
     let is_next : c.value.result ≡ c.args.next = search rules in
     does (search rules)
     (achieves_as Done _ old new tt answer
     (achieves_then (AppliesAt s n h t) Drained Done old mid new e (Ok tt) c.in_ok-effect.ensures.achieves c.in_ok-drain.ensures.achieves
-    (λ rows between now x h' m k one two. put_next_at s n c.args.next c.value-2.result h t e rows between now answer (sym c.value.ensures.value ∙ is_next) c.value-2.ensures.value c.placed-2.ensures one two))
+    (λ rows between now x h' m k one two. put_next_at s n c.args.next c.value-2.result h t e rows between now answer (sym c.value.ensures.value ∙ is_next) c.value-2.ensures.value c.applied_or_held-2.ensures one two))
     (λ rows now h' m one. one))
 
 pub returns-in_err-drain : goal.returns-in_err-drain

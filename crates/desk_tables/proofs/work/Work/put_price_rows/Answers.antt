@@ -9,4 +9,4 @@ pub returns-in-Err : goal.returns-in-Err
 returns-in-Err g c = adds_unasked c.args.self.now (search rules)
 
 pub returns-in-Ok : goal.returns-in-Ok
-returns-in-Ok g c = c.run_values.ensures c.args.rows.now c.price_values-values.ensures
+returns-in-Ok g c = c.insert_values.ensures c.args.rows.now c.price_values-values.ensures

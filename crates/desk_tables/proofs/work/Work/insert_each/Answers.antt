@@ -7,7 +7,7 @@ use Rattle.desk_tables.specs.ManyRows.{columns_of, many_of, width_of, with_rows}
 use Rattle.desk_tables.specs.Transactions.{Adding}
 use Rattle.desk_tables.proofs.Addings.{adding_as, adding_none, adding_then, adds_done, adds_failed}
 use Rattle.desk_tables.proofs.ManyRows.{adds_next, part_bound}
-use Rattle.desk_tables.proofs.work.Work.run_each.Goals as goal
+use Rattle.desk_tables.proofs.work.Work.insert_each.Goals as goal
 
 pub loop-place-init : goal.loop-place-init
 loop-place-init g c = record {

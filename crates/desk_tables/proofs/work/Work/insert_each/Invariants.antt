@@ -4,7 +4,7 @@ use Rattle.sqlite.specs.Held.{state}
 use Rattle.sqlite.specs.Values.{bound}
 use Rattle.desk_tables.specs.ManyRows.{RowOf, columns_of, many_of, with_rows}
 use Rattle.desk_tables.specs.Transactions.{Adding}
-use Rattle.desk_tables.proofs.work.Work.run_each.Given as goal
+use Rattle.desk_tables.proofs.work.Work.insert_each.Given as goal
 
 abbrev pub invariant-loop-place : goal.invariant-loop-place
 invariant-loop-place g l = record {

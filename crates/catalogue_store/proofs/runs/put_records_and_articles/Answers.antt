@@ -4,7 +4,7 @@ use Rattle.desk_tables.specs.RecordChanges.{with_articles, with_records}
 use Rattle.desk_tables.specs.Rows.{DeskRows}
 use Rattle.catalogue_store.specs.AchievesLemmas.{achieves_added, achieves_stopped, achieves_then, does, handed_on}
 use Rattle.catalogue_store.specs.WrittenRows.{records_of}
-use Rattle.catalogue_store.proofs.runs.put_identified.Goals as goal
+use Rattle.catalogue_store.proofs.runs.put_records_and_articles.Goals as goal
 
 pub returns : goal.returns
 returns g c =

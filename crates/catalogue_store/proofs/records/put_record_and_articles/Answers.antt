@@ -5,7 +5,7 @@ use Rattle.desk_tables.specs.Rows.{DeskRows}
 use Rattle.desk_tables.specs.Transactions.{NoAnswer}
 use Rattle.catalogue_store.specs.AchievesLemmas.{achieves_added, achieves_call, achieves_then, does}
 use Rattle.catalogue_store.proofs.Additions.{identified_put}
-use Rattle.catalogue_store.proofs.records.put_identified.Goals as goal
+use Rattle.catalogue_store.proofs.records.put_record_and_articles.Goals as goal
 
 pub returns : goal.returns
 returns g c =

@@ -1,6 +1,6 @@
 use Rattle.std.proofs.Common.{◌≡◌, take}
 use Rattle.catalogue_store.specs.WrittenRows.{details_of}
-use Rattle.catalogue_store.proofs.runs.detail_rows.Given as goal
+use Rattle.catalogue_store.proofs.runs.details_of.Given as goal
 
 abbrev pub invariant-loop-product : goal.invariant-loop-product
 invariant-loop-product l = l.rows.items ≡ details_of l.series (take l.product-index l.products)

@@ -4,4 +4,6 @@ pub mod StageLaws
 pub mod OutcomeLaws
 pub mod PartLaws
 pub mod FirstRecords
+pub mod Utf8Texts
+pub mod Utf8Records
 pub mod TakenLaws

@@ -1,6 +1,8 @@
 -- The desk takes each part of a message.
 use Rattle.std.proofs.Common.{◌≡◌, ◌≤◌, ◌<◌, ℕ, zero, suc, ◌+◌, ◌-◌, Bool, true, false, ltb, subst, List, [], ◌∷◌, ◌++◌, map, length, length-append, refl, sym, ap, ◌∙◌, arith}
 use Rattle.std.specs.Prelude.{Option, Some, None, Result, Ok, Err, nat_le}
+use Rattle.std.specs.List.{list_all}
+use Rattle.std.specs.Str.{is_utf8}
 use Rattle.std.proofs.lemmas.Bool.{and_parts, leb-true, ltb-true}
 use Rattle.csv.specs.Reading.{strip_bom}
 use Rattle.csv_records.specs.RecordTexts.{AllFilled, limit, records_of, records_text}
@@ -27,6 +29,8 @@ use Rattle.onix_conversion.specs.Packing.{Converted, Terms, Work, after_product,
 use Rattle.onix_conversion.specs.Taken.{AreTaken, IsTaken, PartsAreTaken}
 use Rattle.onix_conversion.proofs.FirstRecords.{empty_fits, filled_message, no_mark}
 use Rattle.onix_conversion.proofs.PartLaws.{beyond_none, made_of, part_there, value, walk}
+use Rattle.onix_conversion.proofs.Utf8Records.{first_utf8, message_utf8, product_utf8}
+use Rattle.onix_conversion.proofs.Utf8Texts.{are_utf8, joined_utf8, text_utf8}
 
 -- ---- what other laws say
 
@@ -46,6 +50,7 @@ pub record Laws : Type 0 where
 pub record Firsts (t : Terms) (number : ℕ) : Type 0 where
   pub says : (before : ℕ) → before < t.most → opening_of (t.first before) ≡ Some (numbered (number + before) t.opening)
   pub fits_alone : (before : ℕ) → before < t.most → fits (t.first before) [] ≡ true
+  pub utf8 : (before : ℕ) → before < t.most → list_all is_utf8 (t.first before) ≡ true
   pub no_mark : (before : ℕ) (records : List (List (List ℕ))) → strip_bom (records_text (t.first before ∷ records)) ≡ records_text (t.first before ∷ records)
 
 -- ---- one part
@@ -56,9 +61,9 @@ same_rows l n o (r ∷ records) =
     ap (λ x. x ∷ map (row_of (numbered n o)) records) (l.rows n o r) ∙ ap (λ xs. row_of o r ∷ xs) (same_rows l n o records)
 
 part_taken : (l : Laws) (t : Terms) (number : ℕ) → Firsts t number → (k : ℕ) → k < t.most → (records : List (List (List ℕ))) (products : List Product) → AreProducts t.opening records products
-    → fits (t.first k) records ≡ true → IsTaken (number + k) (message_text (t.first k) records)
+    → are_utf8 records ≡ true → fits (t.first k) records ≡ true → IsTaken (number + k) (message_text (t.first k) records)
 unfolding fits
-part_taken l t number f k less records products are room =
+part_taken l t number f k less records products are utf8 room =
     let p = and_parts (nat_le (length (message (t.first k) records)) most_records) (nat_le (length (message_text (t.first k) records)) limit) room in
     let few = leb-true (length (message (t.first k) records)) most_records p.0 in
     let here : AreProducts (numbered (number + k) t.opening) records products = record { reads = same_rows l (number + k) t.opening records ∙ are.reads; details = are.details } in
@@ -67,6 +72,7 @@ part_taken l t number f k less records products are room =
     let same : records_of (message_text (t.first k) records) ≡ message (t.first k) records =
     l.read (message (t.first k) records) (filled_message (message (t.first k) records) header products is) (f.no_mark k _) in
     record {
+      utf8 = text_utf8 (message (t.first k) records) (message_utf8 (t.first k) records (f.utf8 k less) utf8 few);
       within = leb-true (length (message_text (t.first k) records)) limit p.1;
       header = header;
       products = products;
@@ -87,7 +93,7 @@ empty_taken : (l : Laws) (t : Terms) (number : ℕ) → Firsts t number → (k m
 empty_taken l t number f k zero low = tt
 empty_taken l t number f k (suc more) low =
     let less : k < t.most = omega (arith, low) in (
-      part_taken l t number f k less [] [] (l.none t.opening) (f.fits_alone k less),
+      part_taken l t number f k less [] [] (l.none t.opening) refl (f.fits_alone k less),
       taken_at (number + suc k) (suc (number + k)) (empty_messages t.first (suc k) more) (omega arith) (empty_taken l t number f (suc k) more (omega (arith, low))),
     )
 
@@ -100,6 +106,7 @@ pub record Sound (t : Terms) (number : ℕ) (w : Work) : Type 0 where
   pub count : length w.parts ≡ w.full
   pub products : List Product
   pub are : AreProducts t.opening w.begun products
+  pub utf8 : are_utf8 w.begun ≡ true
   pub room : fits (t.first w.full) w.begun ≡ true
 
 written_is : (t : Terms) (number : ℕ) (w : Work) → Sound t number w → written t w ≡ w.parts ++ message_text (t.first w.full) w.begun ∷ []
@@ -108,7 +115,7 @@ written_is t number w s = rw s.more refl
 written_taken : (l : Laws) (t : Terms) (number : ℕ) → Firsts t number → (w : Work) → Sound t number w → AreTaken number (written t w)
 written_taken l t number f w s =
     let text = message_text (t.first w.full) w.begun in
-    let one : AreTaken (number + w.full) (text ∷ []) = (part_taken l t number f w.full (ltb-true w.full t.most s.more) w.begun s.products s.are s.room, tt) in
+    let one : AreTaken (number + w.full) (text ∷ []) = (part_taken l t number f w.full (ltb-true w.full t.most s.more) w.begun s.products s.are s.utf8 s.room, tt) in
     subst (λ (ts : List (List ℕ)). AreTaken number ts) (sym (written_is t number w s))
     (taken_append number w.parts (text ∷ []) s.taken (taken_at (number + w.full) (number + length w.parts) (text ∷ []) (ap (λ (n : ℕ). number + n) (sym s.count)) one))
 
@@ -123,7 +130,7 @@ left_sound : (t : Terms) (number : ℕ) (w v : Work) (c : Composite) (wrong : Wh
 left_sound t number w v c wrong true e is s =
     let now : Ok (noted (reference_in c.below) (note c.element wrong [] ∷ []) w) ≡ Ok v = rw e at is in
     moved t number (noted (reference_in c.below) (note c.element wrong [] ∷ []) w) v (ap (value w) now)
-    (record { more = s.more; taken = s.taken; count = s.count; products = s.products; are = s.are; room = s.room })
+    (record { more = s.more; taken = s.taken; count = s.count; products = s.products; are = s.are; utf8 = s.utf8; room = s.room })
 left_sound t number w v c wrong false e is s = let no = rw e at is in absurd cc
 
 step_sound : (l : Laws) (t : Terms) (number : ℕ) → Firsts t number → (w : Work) (c : Composite) (v : Work) (made : Option (List (List (List ℕ)))) → made_of t c ≡ made
@@ -133,6 +140,9 @@ step_sound l t number f w c v (Some records) m e none s = go (fits (t.first w.fu
   where
     is_one : (p : Product) × (p.reference ≡ reference_in c.below) × AreProducts t.opening records (p ∷ [])
     is_one = l.one t.opening t.preferred c.below records m
+
+    own : are_utf8 records ≡ true
+    own = product_utf8 t.opening t.preferred c.below records m
 
     go : (a : Bool) → fits (t.first w.full) (w.begun ++ records) ≡ a → (b : Bool) → fits (t.first (w.full + 1)) records ≡ b → Sound t number v
     go true here b next =
@@ -145,6 +155,7 @@ step_sound l t number f w c v (Some records) m e none s = go (fits (t.first w.fu
           count = s.count;
           products = s.products ++ is_one.0 ∷ [];
           are = l.joined t.opening w.begun records s.products (is_one.0 ∷ []) s.are is_one.2;
+          utf8 = joined_utf8 w.begun records s.utf8 own;
           room = here;
         })
     go false here true next =
@@ -158,6 +169,7 @@ step_sound l t number f w c v (Some records) m e none s = go (fits (t.first w.fu
           count = written_count t number w s;
           products = is_one.0 ∷ [];
           are = is_one.2;
+          utf8 = own;
           room = next;
         })
     go false here false next =
@@ -192,6 +204,7 @@ whole l o nodes made header h z counts says e none is =
     let firsts : Firsts t h.number = record {
       says = l.opening o.choices header.below h says;
       fits_alone = λ k less. empty_fits h header.below k (numbered (h.number + k) h.opening) (l.opening o.choices header.below h says k less);
+      utf8 = first_utf8 o.choices header.below h says;
       no_mark = no_mark h header.below;
     } in
     let there = part_there o.choices header.below h says in
@@ -201,6 +214,7 @@ whole l o nodes made header h z counts says e none is =
       count = refl;
       products = [];
       are = l.none h.opening;
+      utf8 = refl;
       room = firsts.fits_alone 0 (ltb-true 0 o.choices.parts there);
     } in record {
       header = header;

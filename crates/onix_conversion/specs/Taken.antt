@@ -1,5 +1,5 @@
 -- Which texts the desk takes as the messages of a feed.
-use Rattle.std.specs.Prelude.{◌≡◌, ◌≤◌, ℕ, suc, List, [], ◌∷◌, ⊤, Some, Ok, length}
+use Rattle.std.specs.Prelude.{◌≡◌, ◌≤◌, ℕ, suc, List, [], ◌∷◌, ⊤, Some, Ok, IsUtf8, length}
 use Rattle.csv_records.specs.RecordTexts.{limit, records_of}
 use Rattle.onix_outline.specs.Nodes.{Nodes}
 use Rattle.onix_message.specs.Grammar.{IsMessage}
@@ -10,8 +10,9 @@ use Rattle.onix_mapping.specs.Header.{Heading, heading_in}
 use Rattle.onix_conversion.specs.Conversion.{Options, header_in}
 use Rattle.onix_conversion.specs.Packing.{Converted}
 
--- the desk takes this text, if it is UTF-8, as the message of this number: it is within the limit, and the records that are read of it are such a message, with its header and its contents; a message has at most 20,000 records
+-- the desk takes this text as the message of this number: it is UTF-8 and within the limit, and the records that are read of it are such a message, with its header and its contents; a message has at most 20,000 records
 pub record IsTaken (number : ℕ) (text : List ℕ) : Type 0 where
+  pub utf8 : IsUtf8 text
   pub within : length text ≤ limit
   pub header : Header
   pub products : List Product

@@ -66,6 +66,26 @@ fn hand_notes<T: Target>(
     Ok(())
 }
 
+// Has the target look at a product of which an identifier is left out.
+fn show<T: Target>(
+    target: &mut T,
+    product: Composite<'_>,
+    preferred: &[u8],
+    notes: &[Note<'_>],
+) -> Result<(), AllocError>
+    ensures parts { OnOk result (T.parts target.new ≡ T.parts target.old) }
+    ensures notes { OnOk result (T.notes target.new ≡ T.notes target.old) }
+{
+    if notes
+        .iter()
+        .any(|note| note.reason.why == Why::WrongIdentifier)
+    {
+        target.look_at(product, preferred)
+    } else {
+        Ok(())
+    }
+}
+
 // Leaves out a wrong product, or tells why the message is refused.
 fn leave_out<T: Target>(
     alloc: Global,
@@ -81,6 +101,7 @@ fn leave_out<T: Target>(
         (left_out T.keeping (options_view options.now)
         (held (begun_view begun.now) (T.parts target.old) (T.notes target.old)) c why)) }
 {
+    target.look_at(product, options.choices.id_type)?;
     let reference = text_or_empty(1, b"RecordReference", product.below);
     if !options.leave_out_wrong {
         let reference = Items::from_vec(Vec::from_slice(alloc, reference)?);
@@ -117,6 +138,7 @@ fn keep_product<T: Target>(
     if !keep(alloc, options.choices.parts, begun, target, place, records)? {
         return leave_out(alloc, options, begun, target, product, Why::ProductTooLarge);
     }
+    show(target, product, options.choices.id_type, notes)?;
     let reference = text_or_empty(1, b"RecordReference", product.below);
     hand_notes(target, reference, notes)?;
     Ok(None)

@@ -17,8 +17,8 @@ pub fn products_stand_or_are_told()
         → AreParts o nodes made }
 {}
 
-/// The desk takes each part, if it is UTF-8: its text is at most 4,194,304 bytes, and the records
-/// that are read of it are a message, of at most 20,000 records, whose header has the part's number.
+/// The desk takes each part: its text is UTF-8 and at most 4,194,304 bytes, and the records that are
+/// read of it are a message, of at most 20,000 records, whose header has the part's number.
 pub fn parts_are_taken()
     ensures { (o : Options) (nodes : Nodes) (made : Converted) → conversion o nodes ≡ Ok made
         → PartsAreTaken o nodes made }

@@ -7,7 +7,7 @@ use crate::fault::FileFault;
 use crate::notes::Notes;
 use crate::store::Store;
 use onix_conversion::Target;
-use onix_mapping::{Note, Why};
+use onix_mapping::{Composite, Note, Why};
 use onix_terms::items::Items;
 use std::alloc::AllocError;
 
@@ -49,6 +49,10 @@ impl<'a, S: Store + Drop> Target for Collected<'a, S> {
                 Err(AllocError)
             }
         }
+    }
+
+    fn look_at(&mut self, product: Composite<'_>, preferred: &[u8]) -> Result<(), AllocError> {
+        self.notes.look_at(product, preferred)
     }
 
     fn note(&mut self, reference: &[u8], note: Note<'_>) -> Result<(), AllocError> {

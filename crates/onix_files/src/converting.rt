@@ -9,15 +9,15 @@ ghost use Rattle.onix_files.specs.Runs.{AllEnd, RunEnds};
 use crate::collected::Collected;
 use crate::ended::Ended;
 use crate::fault::FileFault;
-use crate::files::{first_bytes, is_folder};
+use crate::files::is_folder;
 use crate::folder::Folder;
-use crate::kinds::other_kind;
 use crate::names::{STANDARD_INPUT, is_packed, name_of};
 use crate::notes::{Notes, PREFIX};
-use crate::refusal::{push_packed, push_refusal};
+use crate::refusal::{Known, push_packed, push_refusal};
 use crate::spool::Spool;
 use crate::store::Store;
 use crate::summary::Summary;
+use crate::watched::Watched;
 use onix_conversion::{Fault, Options, Outcome, convert};
 use std::alloc::{AllocError, Global};
 use std::fs::File;
@@ -46,52 +46,31 @@ fn report_fault<E: Write>(alloc: Global, fault: &FileFault, errors: &mut E) -> E
     Ended::Fault
 }
 
-// The first bytes of a FILE, where they can be read once more.
-fn head_of(rt: &HostRuntime, file: &str) -> Result<Option<Vec<u8>>, FileFault> {
-    if file == STANDARD_INPUT {
-        return Ok(None);
-    }
-    first_bytes(rt, file)
-}
-
 // Says that a FILE cannot be read.
-fn report_unread<E: Write>(rt: &HostRuntime, file: &str, errors: &mut E) -> Ended
+fn report_unread<E: Write>(alloc: Global, known: &Known<'_>, errors: &mut E) -> Ended
     ensures { result ≡ Ended.Fault }
 {
-    let fault = match head_of(rt, file) {
-        Ok(_) => FileFault::new(rt.alloc(), file, "cannot be read"),
-        Err(fault) => fault,
-    };
-    report_fault(rt.alloc(), &fault, errors)
-}
-
-// Adds why a FILE is refused. Its first bytes tell what it is that is no XML.
-fn push_refused(
-    rt: &HostRuntime,
-    file: &str,
-    fault: &Fault,
-    options: &Options<'_>,
-    line: &mut String,
-) -> Result<(), AllocError> {
-    match head_of(rt, file) {
-        Ok(Some(head)) => push_refusal(line, file, fault, other_kind(head.as_slice()), options),
-        _ => push_refusal(line, file, fault, None, options),
+    match known.seen.fault() {
+        Some(fault) => report_fault(alloc, fault, errors),
+        None => report_fault(
+            alloc,
+            &FileFault::new(alloc, known.file, "cannot be read"),
+            errors,
+        ),
     }
 }
 
 // Says why a FILE is refused.
 fn report_refusal<E: Write>(
-    rt: &HostRuntime,
-    file: &str,
+    alloc: Global,
+    known: &Known<'_>,
     fault: &Fault,
-    options: &Options<'_>,
     errors: &mut E,
 ) -> Ended
     ensures { (result ≡ Ended.Fault) ⊎ (result ≡ Ended.Refused) }
 {
-    let alloc = rt.alloc();
     let mut line = String::new(alloc);
-    match push_refused(rt, file, fault, options, &mut line) {
+    match push_refusal(&mut line, alloc, known, fault) {
         Ok(()) => {
             write_lines(line.as_str(), errors);
             Ended::Refused
@@ -101,24 +80,18 @@ fn report_refusal<E: Write>(
 }
 
 // Says what ended the reading of a FILE.
-fn report_ended<E: Write>(
-    rt: &HostRuntime,
-    file: &str,
-    fault: &Fault,
-    options: &Options<'_>,
-    errors: &mut E,
-) -> Ended
+fn report_ended<E: Write>(alloc: Global, known: &Known<'_>, fault: &Fault, errors: &mut E) -> Ended
     ensures { IsUnconverted fault.now result }
 {
     match fault {
         Fault::Unread(onix_outline::Fault::Document(xml_text::Fault::Read), _) => {
-            report_unread(rt, file, errors)
+            report_unread(alloc, known, errors)
         }
         Fault::Unread(onix_outline::Fault::Document(xml_text::Fault::Memory), _) => {
-            report_fault(rt.alloc(), &FileFault::Memory, errors)
+            report_fault(alloc, &FileFault::Memory, errors)
         }
-        Fault::Memory => report_fault(rt.alloc(), &FileFault::Memory, errors),
-        _ => report_refusal(rt, file, fault, options, errors),
+        Fault::Memory => report_fault(alloc, &FileFault::Memory, errors),
+        _ => report_refusal(alloc, known, fault, errors),
     }
 }
 
@@ -132,29 +105,27 @@ struct Taken<'a, S> {
 
 // Says what ended the reading of a FILE; where what was read could not be kept, that.
 fn report_stopped<E: Write>(
-    rt: &HostRuntime,
-    file: &str,
+    alloc: Global,
+    known: &Known<'_>,
     fault: &Fault,
     kept: &Option<FileFault>,
-    options: &Options<'_>,
     errors: &mut E,
 ) -> Ended
     ensures { IsUnconverted fault.now result }
 {
     match kept {
-        Some(kept) => report_fault(rt.alloc(), kept, errors),
-        None => report_ended(rt, file, fault, options, errors),
+        Some(kept) => report_fault(alloc, kept, errors),
+        None => report_ended(alloc, known, fault, errors),
     }
 }
 
 // How a FILE ended that was read so.
 fn end_of<E: Write>(
-    rt: &HostRuntime,
-    file: &str,
+    alloc: Global,
+    known: &Known<'_>,
     read: &Result<(), Fault>,
     kept: &Option<FileFault>,
     has_wrong: bool,
-    options: &Options<'_>,
     errors: &mut E,
 ) -> Ended
     ensures done { has_wrong ≡ false → OnOk read.now (result ≡ Ended.Done) }
@@ -163,7 +134,7 @@ fn end_of<E: Write>(
 {
     match read {
         Ok(()) => Ended::of_converted(has_wrong),
-        Err(fault) => report_stopped(rt, file, fault, kept, options, errors),
+        Err(fault) => report_stopped(alloc, known, fault, kept, errors),
     }
 }
 
@@ -179,20 +150,29 @@ fn read_into<'a, R: Read, S: Store + Drop, E: Write>(
     ensures { IsTaken (options_view options.now) (R.remaining reader.old) (S.texts store)
         (S.texts result.store) result.ended }
 {
+    let alloc = rt.alloc();
     let target = Collected {
         store,
-        notes: Notes::new(rt.alloc(), file),
+        notes: Notes::new(alloc, file),
         has_wrong: false,
         fault: None,
     };
-    let Outcome { target, ended } = convert(rt.alloc(), reader, options, target);
+    let mut watched = Watched::new(rt, file, reader);
+    let Outcome { target, ended } = convert(alloc, &mut watched, options, target);
+    let seen = watched.into_seen();
     let Collected {
         store,
         notes,
         has_wrong,
         fault,
     } = target;
-    let ended = end_of(rt, file, &ended, &fault, has_wrong, options, errors);
+    let known = Known {
+        file,
+        options,
+        seen: &seen,
+        causes: notes.causes(),
+    };
+    let ended = end_of(alloc, &known, &ended, &fault, has_wrong, errors);
     Taken {
         store,
         notes,

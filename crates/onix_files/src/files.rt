@@ -2,11 +2,8 @@
 
 use crate::fault::FileFault;
 use std::fs::File;
-use std::io::{ErrorKind, Read, Write};
+use std::io::{ErrorKind, Write};
 use std::rt::HostRuntime;
-
-// How many of the first bytes tell what a file is that is no XML.
-const HEAD: usize = 1_024;
 
 // How many names are tried for a file that nobody has.
 const TRIES: u32 = 100;
@@ -41,27 +38,6 @@ pub fn write_synced(
     match file.sync_all() {
         Ok(()) => Ok(()),
         Err(error) => Err(FileFault::of(rt.alloc(), folder, &error)),
-    }
-}
-
-// The first bytes of a file that can be read once more.
-fn read_head(rt: &HostRuntime, name: &str) -> std::io::Result<Vec<u8>> {
-    let mut head = vec![in rt.alloc(); 0u8; HEAD]?;
-    let mut file = File::open(rt, name)?;
-    let count = file.read(head.as_mut_slice())?;
-    head.truncate(count);
-    Ok(head)
-}
-
-/// The first bytes of a FILE, once more: of a regular file alone, since another one gives its bytes once.
-pub fn first_bytes(rt: &HostRuntime, name: &str) -> Result<Option<Vec<u8>>, FileFault> {
-    match std::fs::metadata(rt, name) {
-        Ok(found) if found.is_file() || found.is_dir() => {}
-        _ => return Ok(None),
-    }
-    match read_head(rt, name) {
-        Ok(head) => Ok(Some(head)),
-        Err(error) => Err(FileFault::of(rt.alloc(), name, &error)),
     }
 }
 

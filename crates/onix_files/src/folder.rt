@@ -1,7 +1,8 @@
 //! The parts of a message as files of a folder: made beside their names, and named when all are whole.
 
 use crate::fault::FileFault;
-use crate::files::{create_beside, is_same, sync_folder, write_synced};
+use crate::files::{is_same, sync_folder, write_synced};
+use crate::hidden::Hidden;
 use crate::names::{part_name, path_in};
 use crate::store::Store;
 use std::fs::{self, File};
@@ -22,6 +23,7 @@ pub struct Folder<'a> {
     folder: &'a str,
     name: &'a str,
     parts: u32,
+    hidden: Option<Hidden>,
     made: Vec<Made>,
 }
 
@@ -83,20 +85,31 @@ impl<'a> Folder<'a> {
             folder,
             name,
             parts,
+            hidden: None,
             made: Vec::new(rt.alloc()),
+        }
+    }
+
+    // The hidden names, which are taken for the first part.
+    fn hidden(&mut self) -> Result<Hidden, FileFault> {
+        match self.hidden.take() {
+            Some(hidden) => Ok(hidden),
+            None => Hidden::take(self.rt, self.folder, self.name),
         }
     }
 
     // Makes the file of the next part beside its name.
     fn make(&mut self) -> Result<File, FileFault> {
         let alloc = self.rt.alloc();
-        let number = u32::try_from(self.made.len()).unwrap_or(u32::MAX);
-        let file_name = part_name(alloc, self.name, number.saturating_add(1), self.parts)?;
-        let process = std::process::id(self.rt.process());
-        let hidden = format!(in alloc; ".{file_name}.{process}")?;
-        let path = path_in(alloc, self.folder, hidden.as_str())?;
+        let before = u32::try_from(self.made.len()).unwrap_or(u32::MAX);
+        let number = before.saturating_add(1);
+        let file_name = part_name(alloc, self.name, number, self.parts)?;
         let target = path_in(alloc, self.folder, file_name.as_str())?;
-        let (beside, file) = create_beside(self.rt, path.as_str())?;
+        self.made.reserve(1)?;
+        let hidden = self.hidden()?;
+        let made = hidden.make(self.rt, number);
+        self.hidden = Some(hidden);
+        let (beside, file) = made?;
         self.made.push(Made { beside, target })?;
         Ok(file)
     }
@@ -147,6 +160,9 @@ impl<'a> Folder<'a> {
     pub fn discard(&self) {
         for made in self.made.iter() {
             let _ = fs::remove_file(self.rt, made.beside.as_str());
+        }
+        if let Some(hidden) = &self.hidden {
+            hidden.remove(self.rt);
         }
     }
 }

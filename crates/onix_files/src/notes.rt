@@ -1,9 +1,10 @@
 //! Notes on what is left out of the message of a FILE.
 
+use crate::causes::Causes;
 use crate::shown::{push_reference, push_shown};
 use crate::summary::Summary;
-use crate::words::{push_reason, thing_of, words_of};
-use onix_mapping::Note;
+use crate::words::{Told, push_reason, thing_of};
+use onix_mapping::{Composite, Note};
 use std::alloc::{AllocError, Global};
 
 /// What each line on standard error begins with.
@@ -19,6 +20,27 @@ pub struct Notes<'a> {
     text: String,
     lines: u32,
     summary: Summary,
+    causes: Causes,
+}
+
+// Adds the line of a note on a product of that reference, with its reason as it is told.
+fn push_line(
+    text: &mut String,
+    file: &str,
+    reference: &[u8],
+    note: Note<'_>,
+    told: Told<'_>,
+) -> Result<(), AllocError> {
+    let line = note.line.place.line;
+    let column = note.line.place.column;
+    text.push_str(PREFIX)?;
+    push_shown(text, file)?;
+    write!(text, ":{line}:{column}: ")?;
+    push_reference(text, reference)?;
+    text.push_str(": ")?;
+    push_reason(text, thing_of(note), told.words, told.text)?;
+    text.push_str(told.more)?;
+    text.push_str("\n")
 }
 
 impl<'a> Notes<'a> {
@@ -29,35 +51,33 @@ impl<'a> Notes<'a> {
             text: String::new(alloc),
             lines: 0,
             summary: Summary::new(alloc),
+            causes: Causes::new(alloc),
         }
     }
 
-    // Adds the line of a note.
-    fn push_line(&mut self, reference: &[u8], note: Note<'_>) -> Result<(), AllocError> {
-        let line = note.line.place.line;
-        let column = note.line.place.column;
-        self.text.push_str(PREFIX)?;
-        push_shown(&mut self.text, self.file)?;
-        write!(self.text, ":{line}:{column}: ")?;
-        push_reference(&mut self.text, reference)?;
-        self.text.push_str(": ")?;
-        let words = words_of(note.reason.why, note.reason.text);
-        push_reason(&mut self.text, thing_of(note), words, note.reason.text)?;
-        self.text.push_str("\n")
+    /// Finds what is wrong in a product, before the notes on it or the refusal for it.
+    pub fn look_at(&mut self, product: Composite<'_>, preferred: &[u8]) -> Result<(), AllocError> {
+        self.causes.find(product, preferred)
     }
 
     /// Adds a note on a product of that reference.
     pub fn add(&mut self, reference: &[u8], note: Note<'_>) -> Result<(), AllocError> {
+        let told = self.causes.told(note.line.place, note.reason);
         if self.lines < MOST_LINES {
-            self.push_line(reference, note)?;
+            push_line(&mut self.text, self.file, reference, note, told)?;
             self.lines = self.lines.saturating_add(1);
         }
-        self.summary.add(note)
+        self.summary.add(thing_of(note), told.words, told.text)
     }
 
     /// Their lines.
     pub fn text(&self) -> &str {
         self.text.as_str()
+    }
+
+    /// What is wrong in the product that was looked at last.
+    pub fn causes(&self) -> &Causes {
+        &self.causes
     }
 
     /// How often each reason was given.

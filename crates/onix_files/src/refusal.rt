@@ -1,12 +1,16 @@
 //! Why the message of a FILE is refused.
 
+use crate::causes::Causes;
+use crate::header_number::{number_in, push_number};
 use crate::notes::PREFIX;
+use crate::seen::Seen;
 use crate::shown::{push_reference, push_shown, push_shown_bytes};
-use crate::words::{push_words, words_of};
+use crate::unread::{push_malformed, push_release, push_root};
+use crate::words::push_words;
 use onix_conversion::{Fault, Options, Rejection};
-use onix_mapping::{Pair, Refusal, Why};
+use onix_mapping::{Pair, Reason, Refusal, Why};
 use onix_outline::Wrong;
-use std::alloc::AllocError;
+use std::alloc::{AllocError, Global};
 use xml_text::Position;
 
 const NO_HEADER: &str = "no Header before the first Product, and so neither a sender nor a number";
@@ -20,35 +24,42 @@ const AGREED: &str =
 const OTHER_ENCODING: &str =
     "its encoding is none of UTF-8, UTF-16, US-ASCII, ISO-8859-1 and windows-1252";
 
+/// What is known of a FILE that was not converted, beside its fault.
+#[derive(Clone, Copy)]
+pub struct Known<'a> {
+    pub file: &'a str,
+    pub options: &'a Options<'a>,
+    pub seen: &'a Seen,
+    /// What is wrong in the product for which it is refused.
+    pub causes: &'a Causes,
+}
+
 // Adds why a file is no document.
 fn push_unread(
     line: &mut String,
+    alloc: Global,
     fault: &xml_text::Fault,
-    kind: Option<&str>,
+    seen: &Seen,
 ) -> Result<(), AllocError> {
     match fault {
         xml_text::Fault::TooDeep => line.push_str("too many elements within one another"),
         xml_text::Fault::TooLong => line.push_str("a tag or name that is too long"),
         xml_text::Fault::LargeTag => line.push_str("a tag with too many attributes"),
         xml_text::Fault::UnknownEncoding => line.push_str(OTHER_ENCODING),
-        _ => match kind {
-            Some(kind) => write!(line, "no XML, but {kind}"),
-            None => line.push_str("no well-formed XML"),
-        },
+        _ => push_malformed(line, alloc, seen),
     }
 }
 
 // Adds why a document is no message.
-fn push_wrong(line: &mut String, wrong: &Wrong, kind: Option<&str>) -> Result<(), AllocError> {
+fn push_wrong(
+    line: &mut String,
+    alloc: Global,
+    wrong: &Wrong,
+    seen: &Seen,
+) -> Result<(), AllocError> {
     match wrong {
-        Wrong::Root => {
-            line.push_str("its root is neither ONIXMessage nor ONIXmessage")?;
-            match kind {
-                Some(kind) => write!(line, "; this is {kind}"),
-                None => Ok(()),
-            }
-        }
-        Wrong::Release => line.push_str("its release is not 3.0 or 3.1"),
+        Wrong::Root => push_root(line, alloc, seen),
+        Wrong::Release => push_release(line, alloc, seen),
     }
 }
 
@@ -65,11 +76,10 @@ fn push_pair(line: &mut String, pair: Option<Pair<'_>>) -> Result<(), AllocError
 // Adds why a message is refused for its Header.
 fn push_header(
     line: &mut String,
+    alloc: Global,
     refusal: Refusal,
-    options: &Options<'_>,
+    known: &Known<'_>,
 ) -> Result<(), AllocError> {
-    let parts = options.choices.parts;
-    let offset = options.choices.offset;
     match refusal {
         Refusal::NoSender => line.push_str("no sender identifier; --sender TYPE,VALUE gives one"),
         Refusal::SeveralAddressees => {
@@ -77,24 +87,13 @@ fn push_header(
         }
         Refusal::NoSuchAddressee => {
             line.push_str("none of several addressees has the identifier ")?;
-            push_pair(line, options.choices.addressee)?;
+            push_pair(line, known.options.choices.addressee)?;
             line.push_str(" of --addressee")
         }
         Refusal::NoNumber => line.push_str("no MessageNumber; --number N gives one"),
-        Refusal::WrongNumber => {
-            line.push_str("MessageNumber is not a number of 1 to 9 digits, not all zero")
-        }
-        Refusal::NumberTooGreat => {
-            write!(
-                line,
-                "MessageNumber with --number-offset {offset} is above 999999999"
-            )
-        }
-        Refusal::LastNumberTooGreat => {
-            write!(
-                line,
-                "a message in {parts} parts would end with a number above 999999999"
-            )
+        Refusal::WrongNumber | Refusal::NumberTooGreat | Refusal::LastNumberTooGreat => {
+            let number = number_in(alloc, known.seen.first());
+            push_number(line, refusal, number.as_deref(), &known.options.choices)
         }
         Refusal::Malformed => line.push_str(
             "a Header whose record Message the desk would call malformed",
@@ -103,19 +102,27 @@ fn push_header(
 }
 
 // Adds the reference of a wrong product, why it is wrong, and what can be done about it.
-fn push_product(line: &mut String, reference: &[u8], why: Why) -> Result<(), AllocError> {
+fn push_product(
+    line: &mut String,
+    reference: &[u8],
+    why: Why,
+    place: Position,
+    causes: &Causes,
+) -> Result<(), AllocError> {
     push_reference(line, reference)?;
     line.push_str(": ")?;
-    push_words(line, words_of(why, b""), b"")?;
+    let told = causes.told(place, Reason { why, text: b"" });
+    push_words(line, told.words, told.text)?;
+    line.push_str(told.more)?;
     line.push_str(MENDED)
 }
 
-// Where a message is refused.
-fn place_of(rejection: &Rejection) -> Position {
+// Where what a message is refused for stands.
+fn place_of(rejection: &Rejection, causes: &Causes) -> Position {
     match rejection {
+        Rejection::Product(_, why, place) => causes.place_of(*place, *why),
         Rejection::NoHeader(Some(place))
         | Rejection::Header(_, place)
-        | Rejection::Product(_, _, place)
         | Rejection::Parts(_, place) => *place,
         Rejection::NoHeader(None) => Position::first(),
     }
@@ -124,15 +131,18 @@ fn place_of(rejection: &Rejection) -> Position {
 // Adds why a message is refused.
 fn push_rejection(
     line: &mut String,
+    alloc: Global,
     rejection: &Rejection,
-    options: &Options<'_>,
+    known: &Known<'_>,
 ) -> Result<(), AllocError> {
     match rejection {
         Rejection::NoHeader(_) => line.push_str(NO_HEADER),
-        Rejection::Header(refusal, _) => push_header(line, *refusal, options),
-        Rejection::Product(reference, why, _) => push_product(line, reference.as_slice(), *why),
+        Rejection::Header(refusal, _) => push_header(line, alloc, *refusal, known),
+        Rejection::Product(reference, why, place) => {
+            push_product(line, reference.as_slice(), *why, *place, known.causes)
+        }
         Rejection::Parts(count, _) => {
-            let parts = options.choices.parts;
+            let parts = known.options.choices.parts;
             write!(
                 line,
                 "the message needs {count} parts, not {parts}; {AGREED}"
@@ -144,12 +154,13 @@ fn push_rejection(
 // Adds why a feed is not read.
 fn push_stopped(
     line: &mut String,
+    alloc: Global,
     fault: &onix_outline::Fault,
-    kind: Option<&str>,
+    seen: &Seen,
 ) -> Result<(), AllocError> {
     match fault {
-        onix_outline::Fault::Document(fault) => push_unread(line, fault, kind),
-        onix_outline::Fault::Message(wrong) => push_wrong(line, wrong, kind),
+        onix_outline::Fault::Document(fault) => push_unread(line, alloc, fault, seen),
+        onix_outline::Fault::Message(wrong) => push_wrong(line, alloc, wrong, seen),
         onix_outline::Fault::Reference => line.push_str("a reference that stands for nothing"),
         onix_outline::Fault::TooLarge => {
             line.push_str("a Header or a Product of more than 4,194,304 bytes")
@@ -167,19 +178,18 @@ fn push_start(line: &mut String, file: &str, place: Position) -> Result<(), Allo
 /// Adds the line of a FILE that was not converted, unless memory ran out.
 pub fn push_refusal(
     line: &mut String,
-    file: &str,
+    alloc: Global,
+    known: &Known<'_>,
     fault: &Fault,
-    kind: Option<&str>,
-    options: &Options<'_>,
 ) -> Result<(), AllocError> {
     match fault {
         Fault::Unread(fault, place) => {
-            push_start(line, file, *place)?;
-            push_stopped(line, fault, kind)?;
+            push_start(line, known.file, *place)?;
+            push_stopped(line, alloc, fault, known.seen)?;
         }
         Fault::Refused(rejection) => {
-            push_start(line, file, place_of(rejection))?;
-            push_rejection(line, rejection, options)?;
+            push_start(line, known.file, place_of(rejection, known.causes))?;
+            push_rejection(line, alloc, rejection, known)?;
         }
         Fault::Memory => return Ok(()),
     }

@@ -1,7 +1,6 @@
 //! How often each reason was given.
 
-use crate::words::{Words, push_reason, thing_of, words_of};
-use onix_mapping::Note;
+use crate::words::{Words, push_reason};
 use std::alloc::{AllocError, Global};
 
 /// What is counted as one: what is left out, the words of the reason, and its text where that is a
@@ -56,15 +55,14 @@ impl Summary {
         Ok(())
     }
 
-    /// Counts a note.
-    pub fn add(&mut self, note: Note<'_>) -> Result<(), AllocError> {
-        let words = words_of(note.reason.why, note.reason.text);
-        let code = if words.has_text {
-            code_of(note.reason.text)
-        } else {
-            None
-        };
-        let thing = thing_of(note);
+    /// Counts a note on what is left out, with the words of its reason and their text.
+    pub fn add(
+        &mut self,
+        thing: &'static str,
+        words: Words,
+        text: &[u8],
+    ) -> Result<(), AllocError> {
+        let code = if words.has_text { code_of(text) } else { None };
         self.count(Kind { thing, words, code }, 1)
     }
 

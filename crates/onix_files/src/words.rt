@@ -12,12 +12,24 @@ pub struct Words {
     pub behind: &'static str,
 }
 
+/// A reason as a line tells it: its words, the text of the feed that they have, and what else is told of it.
+#[derive(Clone, Copy)]
+pub struct Told<'a> {
+    pub words: Words,
+    pub text: &'a [u8],
+    pub more: &'a str,
+}
+
 const MALFORMED: &str = "the desk would call it malformed";
+
+const WRONG_COUNTRIES: &str =
+    "CountriesIncluded or CountriesExcluded is no list of two capital letters each, or has more than 1024 bytes";
 
 /// The most bytes that a field may have.
 const FIELD_BYTES: usize = 1_024;
 
-fn plain(words: &'static str) -> Words {
+/// Words without a text.
+pub fn plain(words: &'static str) -> Words {
     Words {
         before: words,
         has_text: false,
@@ -33,24 +45,32 @@ fn with_text(before: &'static str, behind: &'static str) -> Words {
     }
 }
 
-// Of a field that breaks its rule: that it has what no field may have, or the rule.
-fn field(before: &'static str, text: &[u8], rule: &'static str) -> Words {
+/// Of a field that has what no field may have.
+pub fn forbidden(before: &'static str, text: &[u8]) -> Option<Words> {
     let behind = if text.contains(&0x7f) {
         "has the control character U+007F"
     } else if text.len() > FIELD_BYTES {
         "has more than 1024 bytes"
     } else {
-        return with_text(before, rule);
+        return None;
     };
-    Words {
+    Some(Words {
         before,
         has_text: false,
         behind,
+    })
+}
+
+/// Of a field that breaks its rule: that it has what no field may have, or the rule.
+pub fn field(before: &'static str, text: &[u8], rule: &'static str) -> Words {
+    match forbidden(before, text) {
+        Some(words) => words,
+        None => with_text(before, rule),
     }
 }
 
-// Of a field that is absent where the Header has no default, or breaks its rule.
-fn or_default(
+/// Of a field that is needed, and is absent or breaks its rule.
+pub fn needed(
     absent: &'static str,
     before: &'static str,
     text: &[u8],
@@ -93,7 +113,7 @@ pub fn words_of(why: Why, text: &[u8]) -> Words {
         Why::NoDate => with_text("PriceDate of role ", " without Date"),
         Why::NotTwoDays => with_text("Date of PriceDate ", " is not two days YYYYMMDD"),
         Why::MoreDecimals => with_text("PriceAmount ", " has more than 3 decimals"),
-        Why::WrongPriceType => or_default(
+        Why::WrongPriceType => needed(
             "no PriceType, and no default in the Header",
             "PriceType ",
             text,
@@ -104,13 +124,13 @@ pub fn words_of(why: Why, text: &[u8]) -> Words {
             text,
             " is not 1 to 9 digits, and at most 3 behind a point",
         ),
-        Why::WrongCurrency => or_default(
+        Why::WrongCurrency => needed(
             "no CurrencyCode, and no default in the Header",
             "CurrencyCode ",
             text,
             " is not three capital letters",
         ),
-        Why::WrongTerritory => plain("Territory with countries that are not two capital letters"),
+        Why::WrongTerritory => plain(WRONG_COUNTRIES),
         Why::WrongDay => field("Date of PriceDate ", text, " is not a day YYYYMMDD"),
         Why::WrongQuantity => field(
             "MinimumOrderQuantity ",

@@ -27,6 +27,7 @@ use Rattle.desk_store.specs.Openings.{AreEmptyFiles, AreFilesWith, HoldRowsOf, K
 use Rattle.desk_store.specs.Seen.{in_tables}
 use Rattle.desk_store.specs.declared.migrating.MigrateAnswer.{MigrateAnswer}
 use Rattle.desk_http.specs.Writing.{WritesFront}
+use Rattle.onixdesk.specs.Asked.{Reads}
 use Rattle.onixdesk.specs.ConvertEnds.{ConvertEnds}
 use Rattle.onixdesk.specs.Course.{course}
 use Rattle.onixdesk.specs.FileViews.{seen_image, seen_left}
@@ -150,6 +151,6 @@ ReadingEnds seen path written told reading.NoDatabase status left = IsUndone 2 w
 ReadingEnds seen path written told reading.NoBatch status left = IsUndone 2 written status left
 ReadingEnds seen path written told reading.Memory status left = IsUndone 3 written status left
 
--- how the program can end: as its words read, which no clause says
-abbrev pub RunEnds : {M : Type 0} → {k : DeskKind} → (M → View k) → {D : Type 0} → {g : Ghosts D} → Path D g → (List ℕ → Type 0) → Option (List ℕ) → ℕ → Option (FilesLeft D g) → Type 0
-RunEnds seen path written told status left = (read : Reading) × ReadingEnds seen path written told read status left
+-- how the program can end on these words, of which the first is its name: as they read
+abbrev pub RunEnds : {M : Type 0} → {k : DeskKind} → (M → View k) → {D : Type 0} → {g : Ghosts D} → Path D g → (List ℕ → Type 0) → Option (List ℕ) → List (List ℕ) → ℕ → Option (FilesLeft D g) → Type 0
+RunEnds seen path written told words status left = (read : Reading) × Reads words read × ReadingEnds seen path written told read status left

@@ -10,5 +10,9 @@ pub mod Clients
 pub mod Sending
 pub mod TaskEnds
 pub mod FileViews
+pub mod ConvertWords
 pub mod ConvertEnds
+pub mod CommandLine
+pub mod Asked
+pub mod CommandNames
 pub mod FileEnds

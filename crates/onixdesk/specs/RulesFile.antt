@@ -15,7 +15,7 @@ RulesFit text (Err (rules_fault.Table (fault.BadRule number))) = (length text �
 RulesFit text (Err (rules_fault.Table fault.Memory)) = ⊤
 RulesFit text (Err rules_fault.Unreadable) = ⊤
 
--- the exit status after a fault of reading the rules: 3 for want of memory, else 2
+-- the exit status after a fault of reading the rules: 3 when out of memory, else 2
 abbrev pub status_of : RulesFault → ℕ
 status_of (rules_fault.Table fault.Memory) = 3
 status_of (rules_fault.Table fault.NotToml) = 2

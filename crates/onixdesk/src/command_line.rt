@@ -1,7 +1,10 @@
 //! What the words of the command line ask for, read by clap.
 
-ghost use Rattle.std.specs.Prelude.{◌≡◌};
+ghost use Rattle.std.specs.Prelude.{◌≡◌, ◌∷◌, ℕ, List, None, Option, Some, IfOk, IfSome, codes, map, unwrap_or};
 ghost use Rattle.std.specs.Io.KnownBytes.{Appends};
+ghost use Rattle.clap.specs.Simple.{subcommand_rows_of};
+ghost use Rattle.clap.specs.Walk.{Row, Text};
+ghost use Rattle.onixdesk.specs.Asked.{IsDatabase, IsTask, Reads, ReadsAs, ReadsWords, has_flag, number_in, text_in, words_in};
 ghost use Rattle.onixdesk.specs.FileEnds.{HelpEnds};
 
 use crate::commands::program;
@@ -78,7 +81,9 @@ pub enum Reading<'a> {
 }
 
 // What clap could not read as an invocation.
-fn refused<'a>(alloc: Global, error: &Error) -> Reading<'a> {
+fn refused<'a>(alloc: Global, error: &Error) -> Reading<'a>
+    ensures { (top : List Row) (command : Option (Text × List Row)) → ReadsWords top command result }
+{
     if error.kind() == ErrorKind::OutOfMemory {
         return Reading::Memory;
     }
@@ -93,58 +98,122 @@ fn refused<'a>(alloc: Global, error: &Error) -> Reading<'a> {
 }
 
 // The files of `deliver`.
-fn deliver<'a>(alloc: Global, matches: &ArgMatches<'a>) -> Result<Option<Task<'a>>, AllocError> {
-    let Some(files) = matches.get_strs("file") else {
+fn deliver<'a>(alloc: Global, words: &ArgMatches<'a>) -> Result<Option<Task<'a>>, AllocError>
+    ensures { IfOk result (λ task. IfSome task (IsTask (codes "deliver") (words_in words.now))) }
+{
+    let Some(files) = words.get_strs("file") else {
         return Ok(None);
     };
-    Ok(Some(Task::Deliver(files.to_vec(alloc)?)))
+    Ok(Some(Task::Deliver(Vec::from_slice(alloc, files)?)))
+}
+
+// The name of `gaps`.
+fn gaps<'a>(words: &ArgMatches<'a>) -> Option<Task<'a>>
+    ensures { IfSome result (IsTask (codes "gaps") (words_in words.now)) }
+{
+    Some(Task::Gaps(words.get_str("name")?))
+}
+
+// The port of `serve`.
+fn port(words: &ArgMatches<'_>) -> Option<u16>
+    ensures { IfSome result (λ port. number_in (words_in words.now) (codes "port") ≡ Some port) }
+{
+    words.get_one::<u16>("port")
+}
+
+// How many connections `serve` is for. None where what stands there is no number.
+fn requests(words: &ArgMatches<'_>) -> Option<u64>
+    ensures { IfSome result (λ requests.
+        requests ≡ unwrap_or (number_in (words_in words.now) (codes "requests")) u64.MAX) }
+{
+    match words.try_get_one::<u64>("requests") {
+        Ok(given) => Some(given.unwrap_or(u64::MAX)),
+        Err(_) => None,
+    }
 }
 
 // The port, the number of connections and the socket of `serve`.
-fn serve<'a>(matches: &ArgMatches<'a>) -> Option<Task<'a>> {
+fn serve<'a>(words: &ArgMatches<'a>) -> Option<Task<'a>>
+    ensures { IfSome result (IsTask (codes "serve") (words_in words.now)) }
+{
     Some(Task::Serve {
-        port: matches.get_one::<u16>("port")?,
-        requests: matches.get_one::<u64>("requests").unwrap_or(u64::MAX),
-        batches: matches.get_str("socket"),
+        port: port(words)?,
+        requests: requests(words)?,
+        batches: words.get_str("batches"),
     })
 }
 
-// The command of that name with its words, or none where one is missing, which clap does not let pass.
+// The task of the command of that name, or none where a word is missing, which clap does not let pass.
 fn task_of<'a>(
     alloc: Global,
     name: &str,
-    matches: &ArgMatches<'a>,
-) -> Result<Option<Task<'a>>, AllocError> {
+    words: &ArgMatches<'a>,
+) -> Result<Option<Task<'a>>, AllocError>
+    ensures { IfOk result (λ task. IfSome task (IsTask name.now (words_in words.now))) }
+{
     match name {
         "batch" => Ok(Some(Task::Batch)),
-        "deliver" => deliver(alloc, matches),
-        "gaps" => Ok(matches.get_str("name").map(Task::Gaps)),
-        "serve" => Ok(serve(matches)),
+        "deliver" => deliver(alloc, words),
+        "gaps" => Ok(gaps(words)),
+        "serve" => Ok(serve(words)),
         _ => Ok(None),
     }
 }
 
+// Whether an option without a text is there.
+fn has_flag(words: &ArgMatches<'_>, name: &str) -> bool
+    ensures { result ≡ has_flag (words_in words.now) name.now }
+{
+    match words.get_str(name) {
+        Some(text) => text == "true",
+        None => false,
+    }
+}
+
 // The database file, where one is named.
-fn database_of<'a>(matches: &ArgMatches<'a>) -> Option<Database<'a>> {
+fn database_of<'a>(matches: &ArgMatches<'a>) -> Option<Database<'a>>
+    ensures { IsDatabase (words_in matches.now) result }
+{
     let name = matches.get_str("db")?;
-    let is_existing = matches.get_flag("existing");
+    let is_existing = has_flag(matches, "existing");
     Some(Database { name, is_existing })
 }
 
 // What a command over a desk asks for.
-fn over_desk<'a>(rules: Option<&'a str>, db: Option<Database<'a>>, task: Task<'a>) -> Reading<'a> {
-    let action = match db {
-        Some(db) => Action::InFile { db, task },
-        None => Action::InMemory(task),
+fn over_desk<'a>(
+    alloc: Global,
+    matches: &ArgMatches<'a>,
+    name: &str,
+    words: &ArgMatches<'a>,
+) -> Reading<'a>
+    ensures { text_in (words_in matches.now) (codes "batches") ≡ None
+        → ReadsAs (words_in matches.now) name.now (words_in words.now) result }
+{
+    let task = match task_of(alloc, name, words) {
+        Ok(Some(task)) => task,
+        Ok(None) => return Reading::Wrong(String::new(alloc)),
+        Err(AllocError) => return Reading::Memory,
     };
-    Reading::Run(Invocation { rules, action })
+    match database_of(matches) {
+        Some(db) => Reading::Run(Invocation {
+            rules: matches.get_str("rules"),
+            action: Action::InFile { db, task },
+        }),
+        None => Reading::Run(Invocation {
+            rules: matches.get_str("rules"),
+            action: Action::InMemory(task),
+        }),
+    }
 }
 
 // What `migrate` asks for.
-fn migration<'a>(rules: Option<&'a str>, db: Option<Database<'a>>) -> Reading<'a> {
-    match db {
+fn migration<'a>(matches: &ArgMatches<'a>) -> Reading<'a>
+    ensures { (own : List Row) → text_in (words_in matches.now) (codes "batches") ≡ None
+        → ReadsAs (words_in matches.now) (codes "migrate") own result }
+{
+    match database_of(matches) {
         Some(db) => Reading::Run(Invocation {
-            rules,
+            rules: matches.get_str("rules"),
             action: Action::Migrate { db },
         }),
         None => Reading::NoDatabase,
@@ -152,7 +221,10 @@ fn migration<'a>(rules: Option<&'a str>, db: Option<Database<'a>>) -> Reading<'a
 }
 
 // What a command asks for whose batch goes to the desk at a socket.
-fn sent<'a>(socket: &'a str, name: &str) -> Reading<'a> {
+fn sent<'a>(socket: &'a str, name: &str) -> Reading<'a>
+    ensures { (top own : List Row) → text_in top (codes "batches") ≡ Some socket.entry.now
+        → ReadsAs top name.now own result }
+{
     if name != "batch" {
         return Reading::NoBatch;
     }
@@ -163,8 +235,11 @@ fn sent<'a>(socket: &'a str, name: &str) -> Reading<'a> {
 }
 
 // What `convert` asks for.
-fn converted<'a>(alloc: Global, matches: &ArgMatches<'a>) -> Reading<'a> {
-    let bad = match conversion_of(alloc, matches) {
+fn converted<'a>(alloc: Global, words: &ArgMatches<'a>) -> Reading<'a>
+    ensures { (top : List Row) → text_in top (codes "batches") ≡ None
+        → ReadsAs top (codes "convert") (words_in words.now) result }
+{
+    let bad = match conversion_of(alloc, words) {
         Ok(conversion) => {
             return Reading::Run(Invocation {
                 rules: None,
@@ -179,31 +254,40 @@ fn converted<'a>(alloc: Global, matches: &ArgMatches<'a>) -> Reading<'a> {
     }
 }
 
-// What words that clap let pass ask for.
-fn asked_for<'a>(alloc: Global, matches: &ArgMatches<'a>) -> Reading<'a> {
-    let Some((name, words)) = matches.subcommand() else {
-        return Reading::Wrong(String::new(alloc));
-    };
+// What the command of that name asks for, behind the options that were found.
+fn asked_of<'a>(
+    alloc: Global,
+    matches: &ArgMatches<'a>,
+    name: &str,
+    words: &ArgMatches<'a>,
+) -> Reading<'a>
+    ensures { ReadsAs (words_in matches.now) name.now (words_in words.now) result }
+{
     if let Some(socket) = matches.get_str("batches") {
         return sent(socket, name);
     }
-    if name == "convert" {
-        return converted(alloc, words);
-    }
-    let rules = matches.get_str("rules");
-    let db = database_of(matches);
-    if name == "migrate" {
-        return migration(rules, db);
-    }
-    match task_of(alloc, name, words) {
-        Ok(Some(task)) => over_desk(rules, db, task),
-        Ok(None) => Reading::Wrong(String::new(alloc)),
-        Err(AllocError) => Reading::Memory,
+    match name {
+        "convert" => converted(alloc, words),
+        "migrate" => migration(matches),
+        _ => over_desk(alloc, matches, name, words),
     }
 }
 
-/// Reads the words, of which the first is the program's name.
-pub fn read<'a>(alloc: Global, words: &'a [&'a str]) -> Reading<'a> {
+// What words that clap let pass ask for.
+fn asked_for<'a>(alloc: Global, matches: &ArgMatches<'a>) -> Reading<'a>
+    ensures { ReadsWords (words_in matches.now) (subcommand_rows_of matches.now) result }
+{
+    match matches.subcommand() {
+        Some((name, words)) => asked_of(alloc, matches, name, words),
+        None => Reading::Wrong(String::new(alloc)),
+    }
+}
+
+/// Reads the words, of which the first is the program's name. A fault of the command line and a
+/// call for help are as clap words them.
+pub fn read<'a>(alloc: Global, words: &'a [&'a str]) -> Reading<'a>
+    ensures { Reads (map (λ word. word.now) words.entry.now) result }
+{
     let Ok(program) = program(alloc) else {
         return Reading::Memory;
     };

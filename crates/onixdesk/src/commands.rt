@@ -1,5 +1,9 @@
 //! The commands of the program and their options, as clap takes them, with their help.
 
+ghost use Rattle.std.specs.Prelude.{◌∷◌, ℕ, [], IfOk, IsOkAnd, codes};
+ghost use Rattle.clap.specs.Built.{AddsArg, AddsSubcommand};
+ghost use Rattle.onixdesk.specs.CommandLine.{IsCommand, IsProgram, IsWord, batch_command, convert_command, deliver_command, flag_option, gaps_command, migrate_command, needed, number_option, one_operand, onixdesk, program_of, program_options, serve_command, short_option, some_operands, text_option, tied};
+
 use clap::builder::ValueParser;
 use clap::{Arg, ArgAction, Command};
 use std::alloc::{AllocError, Global};
@@ -7,7 +11,44 @@ use std::alloc::{AllocError, Global};
 /// The version that `--version` prints.
 const VERSION: &str = "0.2.0";
 
-fn batch<'a>(alloc: Global) -> Command<'a> {
+// The option `--NAME TEXT`. Help calls the text `value`.
+fn text_option<'a>(alloc: Global, name: &'a str, value: &'a str, help: &'a str) -> Arg<'a>
+    ensures { IsWord (text_option name.entry.now) result }
+{
+    Arg::new(alloc, name)
+        .long(name)
+        .value_name(value)
+        .action(ArgAction::Set)
+        .help(help)
+}
+
+// The option `--NAME N`, a number from `least` to `most`. Help calls it `value`.
+fn number_option<'a>(
+    alloc: Global,
+    name: &'a str,
+    value: &'a str,
+    least: u64,
+    most: u64,
+    help: &'a str,
+) -> Arg<'a>
+    ensures { IsWord (number_option name.entry.now least most) result }
+{
+    text_option(alloc, name, value, help).value_parser(ValueParser::unsigned(least, most))
+}
+
+// The option `--NAME`, without a text.
+fn flag_option<'a>(alloc: Global, name: &'a str, help: &'a str) -> Arg<'a>
+    ensures { IsWord (flag_option name.entry.now) result }
+{
+    Arg::new(alloc, name)
+        .long(name)
+        .action(ArgAction::SetTrue)
+        .help(help)
+}
+
+fn batch<'a>(alloc: Global) -> Command<'a>
+    ensures { IsCommand batch_command result }
+{
     Command::new(alloc, "batch")
         .about("Read requests from standard input, write their answers to standard output")
         .long_about(
@@ -15,22 +56,31 @@ fn batch<'a>(alloc: Global) -> Command<'a> {
         )
 }
 
-fn deliver<'a>(alloc: Global) -> Result<Command<'a>, AllocError> {
-    let files = Arg::new(alloc, "file")
+fn messages<'a>(alloc: Global) -> Arg<'a>
+    ensures { IsWord (needed (some_operands (codes "file") 1)) result }
+{
+    Arg::new(alloc, "file")
         .value_name("FILE")
         .required(true)
         .num_args(1..)
         .action(ArgAction::Append)
-        .help("A message as CSV records, up to 4,194,304 bytes of UTF-8; - is standard input");
+        .help("A message as CSV records, up to 4,194,304 bytes of UTF-8; - is standard input")
+}
+
+fn deliver<'a>(alloc: Global) -> Result<Command<'a>, AllocError>
+    ensures { IfOk result (IsCommand deliver_command) }
+{
     Command::new(alloc, "deliver")
         .about("Deliver the message of each file, write the answer to each")
         .long_about(
             "Delivers the message that each file holds, from its record Message to its record EndMessage, in the order of the files, and writes the answer to each to standard output; the file - is standard input. A file that cannot be read, or a fault, ends the command with status 3; the answers before it stand. The agreements are those of the database file: onixdesk --db FILE deliver FILE. Without one there are none, and a whole message with a number is answered refused,unknown-series.",
         )
-        .arg(files)
+        .arg(messages(alloc))
 }
 
-fn gaps<'a>(alloc: Global) -> Result<Command<'a>, AllocError> {
+fn gaps<'a>(alloc: Global) -> Result<Command<'a>, AllocError>
+    ensures { IfOk result (IsCommand gaps_command) }
+{
     let name = Arg::new(alloc, "name")
         .value_name("NAME")
         .required(true)
@@ -44,38 +94,47 @@ fn gaps<'a>(alloc: Global) -> Result<Command<'a>, AllocError> {
         .arg(name)
 }
 
-fn port<'a>(alloc: Global) -> Arg<'a> {
-    Arg::new(alloc, "port")
-        .long("port")
-        .value_name("N")
-        .required(true)
-        .value_parser(ValueParser::unsigned(1, 65_535))
-        .action(ArgAction::Set)
-        .help("The port of 127.0.0.1, 1 to 65535")
+fn port<'a>(alloc: Global) -> Arg<'a>
+    ensures { IsWord (needed (number_option (codes "port") 1 65535)) result }
+{
+    number_option(
+        alloc,
+        "port",
+        "N",
+        1,
+        65_535,
+        "The port of 127.0.0.1, 1 to 65535",
+    )
+    .required(true)
 }
 
-fn requests<'a>(alloc: Global) -> Arg<'a> {
-    Arg::new(alloc, "requests")
-        .long("requests")
-        .value_name("K")
-        .value_parser(ValueParser::unsigned(1, 1_000_000))
-        .action(ArgAction::Set)
-        .help(
-            "How many connections are served, 1 to 1000000, at the port and at the socket together; then the program ends. Without it serving goes on until the program is stopped",
-        )
+fn requests<'a>(alloc: Global) -> Arg<'a>
+    ensures { IsWord (number_option (codes "requests") 1 1000000) result }
+{
+    number_option(
+        alloc,
+        "requests",
+        "K",
+        1,
+        1_000_000,
+        "How many connections are served, 1 to 1000000, at the port and at the socket together; then the program ends. Without it serving goes on until the program is stopped",
+    )
 }
 
-fn socket<'a>(alloc: Global) -> Arg<'a> {
-    Arg::new(alloc, "socket")
-        .long("batches")
-        .value_name("SOCKET")
-        .action(ArgAction::Set)
-        .help(
-            "Take batches too, at this socket of the file system: onixdesk --batches SOCKET batch sends one there",
-        )
+fn socket<'a>(alloc: Global) -> Arg<'a>
+    ensures { IsWord (text_option (codes "batches")) result }
+{
+    text_option(
+        alloc,
+        "batches",
+        "SOCKET",
+        "Take batches too, at this socket of the file system: onixdesk --batches SOCKET batch sends one there",
+    )
 }
 
-fn serve<'a>(alloc: Global) -> Result<Command<'a>, AllocError> {
+fn serve<'a>(alloc: Global) -> Result<Command<'a>, AllocError>
+    ensures { IfOk result (IsCommand serve_command) }
+{
     Command::new(alloc, "serve")
         .about("Answer requests over HTTP on a port of this machine")
         .long_about(
@@ -86,7 +145,9 @@ fn serve<'a>(alloc: Global) -> Result<Command<'a>, AllocError> {
         .arg(requests(alloc))
 }
 
-fn migrate<'a>(alloc: Global) -> Command<'a> {
+fn migrate<'a>(alloc: Global) -> Command<'a>
+    ensures { IsCommand migrate_command result }
+{
     Command::new(alloc, "migrate")
         .about("Bring a database file of an earlier version to the one that this program keeps")
         .long_about(
@@ -94,74 +155,92 @@ fn migrate<'a>(alloc: Global) -> Command<'a> {
         )
 }
 
-fn parts<'a>(alloc: Global) -> Arg<'a> {
-    Arg::new(alloc, "parts")
-        .long("parts")
-        .value_name("P")
-        .value_parser(ValueParser::unsigned(1, 9_999))
-        .action(ArgAction::Set)
-        .help(
-            "Make P messages of each, numbered on from one message to the next; 1 without it, at most 9999. It is agreed with the series, so that P stays what it is",
-        )
+fn parts<'a>(alloc: Global) -> Arg<'a>
+    ensures { IsWord (number_option (codes "parts") 1 9999) result }
+{
+    number_option(
+        alloc,
+        "parts",
+        "P",
+        1,
+        9_999,
+        "Make P messages of each, numbered on from one message to the next; 1 without it, at most 9999. It is agreed with the series, so that P stays what it is",
+    )
 }
 
-fn number<'a>(alloc: Global) -> Result<Arg<'a>, AllocError> {
-    Arg::new(alloc, "number")
-        .long("number")
-        .value_name("N")
-        .value_parser(ValueParser::unsigned(1, 999_999_999))
-        .action(ArgAction::Set)
-        .help("The number of the message, in place of its own; for one FILE alone")
-        .conflicts_with("number-offset")
+fn number<'a>(alloc: Global) -> Result<Arg<'a>, AllocError>
+    ensures { IfOk result (IsWord (tied (number_option (codes "number") 1 999999999))) }
+{
+    number_option(
+        alloc,
+        "number",
+        "N",
+        1,
+        999_999_999,
+        "The number of the message, in place of its own; for one FILE alone",
+    )
+    .conflicts_with("number-offset")
 }
 
-fn number_offset<'a>(alloc: Global) -> Arg<'a> {
-    Arg::new(alloc, "number-offset")
-        .long("number-offset")
-        .value_name("K")
-        .value_parser(ValueParser::unsigned(0, 999_999_998))
-        .action(ArgAction::Set)
-        .help("Add K to the number of each FILE, whose sender began again at 1; not with --number")
+fn number_offset<'a>(alloc: Global) -> Arg<'a>
+    ensures { IsWord (number_option (codes "number-offset") 0 999999998) result }
+{
+    number_option(
+        alloc,
+        "number-offset",
+        "K",
+        0,
+        999_999_998,
+        "Add K to the number of each FILE, whose sender began again at 1; not with --number",
+    )
 }
 
-fn sender<'a>(alloc: Global) -> Arg<'a> {
-    Arg::new(alloc, "sender")
-        .long("sender")
-        .value_name("TYPE,VALUE")
-        .action(ArgAction::Set)
-        .help(
-            "The identifier of the sender, for a FILE whose Header has none with a type and a value",
-        )
+fn sender<'a>(alloc: Global) -> Arg<'a>
+    ensures { IsWord (text_option (codes "sender")) result }
+{
+    text_option(
+        alloc,
+        "sender",
+        "TYPE,VALUE",
+        "The identifier of the sender, for a FILE whose Header has none with a type and a value",
+    )
 }
 
-fn addressee<'a>(alloc: Global) -> Arg<'a> {
-    Arg::new(alloc, "addressee")
-        .long("addressee")
-        .value_name("TYPE,VALUE")
-        .action(ArgAction::Set)
-        .help("Of several addressees take the one that has this identifier")
+fn addressee<'a>(alloc: Global) -> Arg<'a>
+    ensures { IsWord (text_option (codes "addressee")) result }
+{
+    text_option(
+        alloc,
+        "addressee",
+        "TYPE,VALUE",
+        "Of several addressees take the one that has this identifier",
+    )
 }
 
-fn id_type<'a>(alloc: Global) -> Arg<'a> {
-    Arg::new(alloc, "id-type")
-        .long("id-type")
-        .value_name("TT")
-        .action(ArgAction::Set)
-        .help(
-            "Of several identifiers take the first of this type, else the first; 06 (GLN) without it",
-        )
+fn id_type<'a>(alloc: Global) -> Arg<'a>
+    ensures { IsWord (text_option (codes "id-type")) result }
+{
+    text_option(
+        alloc,
+        "id-type",
+        "TT",
+        "Of several identifiers take the first of this type, else the first; 06 (GLN) without it",
+    )
 }
 
-fn leave_out_wrong<'a>(alloc: Global) -> Arg<'a> {
-    Arg::new(alloc, "leave-out-wrong")
-        .long("leave-out-wrong")
-        .action(ArgAction::SetTrue)
-        .help(
-            "Leave out products that the desk would call malformed, where else the FILE is refused",
-        )
+fn leave_out_wrong<'a>(alloc: Global) -> Arg<'a>
+    ensures { IsWord (flag_option (codes "leave-out-wrong")) result }
+{
+    flag_option(
+        alloc,
+        "leave-out-wrong",
+        "Leave out products that the desk would call malformed, where else the FILE is refused",
+    )
 }
 
-fn folder<'a>(alloc: Global) -> Arg<'a> {
+fn folder<'a>(alloc: Global) -> Arg<'a>
+    ensures { IsWord (short_option (codes "folder") 111) result }
+{
     Arg::new(alloc, "folder")
         .short('o')
         .value_name("FOLDER")
@@ -169,7 +248,9 @@ fn folder<'a>(alloc: Global) -> Arg<'a> {
         .help("Write each message into a file of its own in FOLDER, in place of standard output")
 }
 
-fn feeds<'a>(alloc: Global) -> Arg<'a> {
+fn feeds<'a>(alloc: Global) -> Arg<'a>
+    ensures { IsWord (some_operands (codes "file") 0) result }
+{
     Arg::new(alloc, "file")
         .value_name("FILE")
         .num_args(0..)
@@ -177,7 +258,9 @@ fn feeds<'a>(alloc: Global) -> Arg<'a> {
         .help("A message in XML; - or none is standard input")
 }
 
-fn convert<'a>(alloc: Global) -> Result<Command<'a>, AllocError> {
+fn convert<'a>(alloc: Global) -> Result<Command<'a>, AllocError>
+    ensures { IfOk result (IsCommand convert_command) }
+{
     Command::new(alloc, "convert")
         .about("Convert ONIX messages in XML to the CSV records that the desk reads")
         .long_about(
@@ -195,53 +278,59 @@ fn convert<'a>(alloc: Global) -> Result<Command<'a>, AllocError> {
 }
 
 // The option `--db FILE`, which stands before the command.
-fn db<'a>(alloc: Global) -> Arg<'a> {
-    Arg::new(alloc, "db")
-        .long("db")
-        .value_name("FILE")
-        .action(ArgAction::Set)
-        .help(
-            "Keep the desk in this SQLite file, which is made where it is missing; it stands before the command, and without it the desk is in memory and ends with the program. One program at a time may use the file",
-        )
+fn db<'a>(alloc: Global) -> Arg<'a>
+    ensures { IsWord (text_option (codes "db")) result }
+{
+    text_option(
+        alloc,
+        "db",
+        "FILE",
+        "Keep the desk in this SQLite file, which is made where it is missing; it stands before the command, and without it the desk is in memory and ends with the program. One program at a time may use the file",
+    )
 }
 
 // The option `--existing`, which stands beside `--db`.
-fn existing<'a>(alloc: Global) -> Result<Arg<'a>, AllocError> {
-    Arg::new(alloc, "existing")
-        .long("existing")
-        .action(ArgAction::SetTrue)
-        .help(
-            "Take the file of --db only where it is there: a missing one is a fault, and none is made",
-        )
-        .requires_arg("db")
+fn existing<'a>(alloc: Global) -> Result<Arg<'a>, AllocError>
+    ensures { IfOk result (IsWord (tied (flag_option (codes "existing")))) }
+{
+    flag_option(
+        alloc,
+        "existing",
+        "Take the file of --db only where it is there: a missing one is a fault, and none is made",
+    )
+    .requires_arg("db")
 }
 
 // The option `--rules FILE`, which stands before the command.
-fn rules<'a>(alloc: Global) -> Arg<'a> {
-    Arg::new(alloc, "rules")
-        .long("rules")
-        .value_name("FILE")
-        .action(ArgAction::Set)
-        .help(
-            "Choose among offers by the precedence table of this TOML file; it stands before the command, and without it there are no rules",
-        )
+fn rules<'a>(alloc: Global) -> Arg<'a>
+    ensures { IsWord (text_option (codes "rules")) result }
+{
+    text_option(
+        alloc,
+        "rules",
+        "FILE",
+        "Choose among offers by the precedence table of this TOML file; it stands before the command, and without it there are no rules",
+    )
 }
 
 // The option `--batches SOCKET`, which stands before the command `batch`.
-fn batches<'a>(alloc: Global) -> Result<Arg<'a>, AllocError> {
-    Arg::new(alloc, "batches")
-        .long("batches")
-        .value_name("SOCKET")
-        .action(ArgAction::Set)
-        .help(
-            "Send the batch to the desk that is open at this socket, that of serve --batches; it stands before the command batch, and no desk is opened here",
-        )
-        .conflicts_with("db")?
-        .conflicts_with("rules")
+fn batches<'a>(alloc: Global) -> Result<Arg<'a>, AllocError>
+    ensures { IfOk result (IsWord (tied (text_option (codes "batches")))) }
+{
+    text_option(
+        alloc,
+        "batches",
+        "SOCKET",
+        "Send the batch to the desk that is open at this socket, that of serve --batches; it stands before the command batch, and no desk is opened here",
+    )
+    .conflicts_with("db")?
+    .conflicts_with("rules")
 }
 
 // The program's own words.
-fn named<'a>(alloc: Global) -> Command<'a> {
+fn named<'a>(alloc: Global) -> Command<'a>
+    ensures { IsProgram (program_of [] []) result }
+{
     Command::new(alloc, "onixdesk")
         .version(VERSION)
         .about(
@@ -258,7 +347,9 @@ fn named<'a>(alloc: Global) -> Command<'a> {
 fn with_command<'a>(
     program: Command<'a>,
     command: Result<Command<'a>, AllocError>,
-) -> Result<Command<'a>, AllocError> {
+) -> Result<Command<'a>, AllocError>
+    ensures { IfOk result (λ made. IsOkAnd command.entry (λ command. AddsSubcommand program.entry command made)) }
+{
     program.subcommand(command?)
 }
 
@@ -266,15 +357,26 @@ fn with_command<'a>(
 fn with_arg<'a>(
     program: Command<'a>,
     option: Result<Arg<'a>, AllocError>,
-) -> Result<Command<'a>, AllocError> {
+) -> Result<Command<'a>, AllocError>
+    ensures { IfOk result (λ made. IsOkAnd option.entry (λ option. AddsArg program.entry option made)) }
+{
     program.arg(option?)
 }
 
+// The program with its options.
+fn with_options<'a>(alloc: Global) -> Result<Command<'a>, AllocError>
+    ensures { IfOk result (IsProgram (program_of program_options [])) }
+{
+    let program = named(alloc).arg(db(alloc))?;
+    let program = with_arg(program, existing(alloc))?.arg(rules(alloc))?;
+    with_arg(program, batches(alloc))
+}
+
 /// The program with all its commands. Without memory there is none.
-pub fn program<'a>(alloc: Global) -> Result<Command<'a>, AllocError> {
-    let program = with_arg(named(alloc).arg(db(alloc))?, existing(alloc))?.arg(rules(alloc))?;
-    let program = with_arg(program, batches(alloc))?;
-    let program = with_command(program, Ok(batch(alloc)))?;
+pub fn program<'a>(alloc: Global) -> Result<Command<'a>, AllocError>
+    ensures { IfOk result (IsProgram onixdesk) }
+{
+    let program = with_command(with_options(alloc)?, Ok(batch(alloc)))?;
     let program = with_command(program, convert(alloc))?;
     let program = with_command(program, deliver(alloc))?;
     let program = with_command(program, gaps(alloc))?;

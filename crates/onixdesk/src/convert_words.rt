@@ -1,9 +1,22 @@
 //! The words of the command `convert`.
 
+ghost use Rattle.std.specs.Prelude.{◌≡◌, IfErr, IfOk, Some, codes, map, not, option_map};
+ghost use Rattle.std.specs.List.{list_all};
+ghost use Rattle.clap.specs.Matches.{found_of};
+ghost use Rattle.onix_terms.specs.Code.{code2_of};
+ghost use Rattle.onix_terms.specs.Digits.{digits_of};
+ghost use Rattle.onix_terms.specs.Number.{number_of};
+ghost use Rattle.onix_message.specs.Fields.{is_control};
+ghost use Rattle.onix_mapping.specs.PartyViews.{pair_view};
+ghost use Rattle.onix_conversion.specs.Views.{options_view};
+ghost use Rattle.onixdesk.specs.ConvertWords.{AreOptions, AsksFor, AsksNothing, IsOf, IsUnread, asked_view, files_named, identifier_of, is_set, is_value, word_as, word_or};
+
 use clap::ArgMatches;
 use onix_conversion::Options;
 use onix_files::{Run, STANDARD_INPUT};
 use onix_mapping::{Choices, Pair};
+use onix_terms::code::Code2;
+use onix_terms::digits::read_digits;
 use onix_terms::number::Number;
 use std::alloc::{AllocError, Global};
 
@@ -13,7 +26,39 @@ const MOST_BYTES: usize = 1_024;
 /// The type of identifier that is preferred without `--id-type`: GLN.
 const GLN: &[u8] = b"06";
 
-const TWO_DIGITS: &str = "two digits";
+/// An option whose word has a rule.
+#[derive(Clone, Copy, Debug, PartialEq, Eq)]
+pub enum OptionName {
+    Parts,
+    Number,
+    NumberOffset,
+    Sender,
+    Addressee,
+    IdType,
+}
+
+impl OptionName {
+    // The option as the help shows it.
+    fn shown(self) -> &'static str {
+        match self {
+            OptionName::Parts => "--parts <P>",
+            OptionName::Number => "--number <N>",
+            OptionName::NumberOffset => "--number-offset <K>",
+            OptionName::Sender => "--sender <TYPE,VALUE>",
+            OptionName::Addressee => "--addressee <TYPE,VALUE>",
+            OptionName::IdType => "--id-type <TT>",
+        }
+    }
+
+    // What its word has to be.
+    fn rule(self) -> &'static str {
+        match self {
+            OptionName::Parts | OptionName::Number | OptionName::NumberOffset => NINE_DIGITS,
+            OptionName::Sender | OptionName::Addressee => IDENTIFIER,
+            OptionName::IdType => "two digits",
+        }
+    }
+}
 
 const NINE_DIGITS: &str = "a number in at most 9 digits";
 
@@ -31,11 +76,7 @@ pub struct Conversion<'a> {
 #[derive(Drop)]
 pub enum BadWords<'a> {
     /// The word of an option is not what it has to be.
-    Value {
-        option: &'static str,
-        word: &'a str,
-        rule: &'static str,
-    },
+    Value { option: OptionName, word: &'a str },
     /// Several FILEs without a folder.
     NoFolder,
     /// `--number` with several FILEs.
@@ -45,16 +86,22 @@ pub enum BadWords<'a> {
 }
 
 impl From<AllocError> for BadWords<'_> {
+    ghost use Rattle.onixdesk.specs.declared.convert_words.BadWords.TheVariants.{Memory};
+
+    ghost from_gives = { λ _ bad. bad ≡ Memory };
+
     fn from(_: AllocError) -> Self {
         BadWords::Memory
     }
 }
 
 impl<'a> BadWords<'a> {
-    /// What is said of it, but of want of memory.
+    /// What is said of it, but of memory that ran out.
     pub fn text(&self, alloc: Global) -> Result<String, AllocError> {
         match self {
-            BadWords::Value { option, word, rule } => {
+            BadWords::Value { option, word } => {
+                let rule = option.rule();
+                let option = option.shown();
                 format!(in alloc; "error: invalid value '{word}' for '{option}': not {rule}\n")
             }
             BadWords::NoFolder => String::from_str(alloc, "error: several FILEs need -o FOLDER\n"),
@@ -66,80 +113,126 @@ impl<'a> BadWords<'a> {
     }
 }
 
-// Whether a word is one to nine digits.
-fn is_short_number(word: &str) -> bool {
-    let digits = word.as_bytes();
-    !digits.is_empty() && digits.len() <= 9 && digits.iter().all(|b| b.is_ascii_digit())
-}
-
-// The number that is given for an option.
-fn number_of<'a>(
+// The number that is given for an option, or the default.
+fn number_or<'a>(
     matches: &ArgMatches<'a>,
     id: &str,
-    option: &'static str,
-) -> Result<Option<u32>, BadWords<'a>> {
+    option: OptionName,
+    default: u32,
+) -> Result<u32, BadWords<'a>>
+    ensures ok { IfOk result (λ n. word_or digits_of default (found_of matches.now) id.now ≡ Some n) }
+    ensures err { IfErr result (IsOf option (IsUnread digits_of (found_of matches.now) id.now)) }
+{
     let Some(word) = matches.get_str(id) else {
+        return Ok(default);
+    };
+    match read_digits(word) {
+        Some(number) => Ok(number),
+        None => Err(BadWords::Value { option, word }),
+    }
+}
+
+// The number of the message, where it is given.
+fn number_of<'a>(matches: &ArgMatches<'a>) -> Result<Option<Number>, BadWords<'a>>
+    ensures ok { IfOk result (λ n. word_as number_of (found_of matches.now) (codes "number") ≡ Some n) }
+    ensures err { IfErr result (IsOf OptionName.Number
+        (IsUnread number_of (found_of matches.now) (codes "number"))) }
+{
+    let Some(word) = matches.get_str("number") else {
         return Ok(None);
     };
-    let number = word.parse::<u32>();
-    match number {
-        Ok(number) if is_short_number(word) => Ok(Some(number)),
-        _ => Err(BadWords::Value {
-            option,
+    match Number::read(word) {
+        Some(number) => Ok(Some(number)),
+        None => Err(BadWords::Value {
+            option: OptionName::Number,
             word,
-            rule: NINE_DIGITS,
         }),
     }
 }
 
-fn is_code(word: &[u8]) -> bool {
-    matches!(word, [first, second] if first.is_ascii_digit() && second.is_ascii_digit())
+// Whether no byte is a control character.
+fn has_no_control(text: &[u8]) -> bool
+    ensures { result ≡ list_all (λ b. not (is_control b)) text.now }
+{
+    text.iter().all(|b| !(*b < 0x20 || *b == 0x7f))
 }
 
 // Whether a text may be the value of an identifier.
-fn is_value(text: &[u8]) -> bool {
-    let fits = !text.is_empty() && text.len() <= MOST_BYTES;
-    fits && text.iter().all(|b| *b >= 0x20 && *b != 0x7f)
+fn is_value(text: &[u8]) -> bool
+    ensures { result ≡ is_value text.now }
+{
+    !text.is_empty() && text.len() <= MOST_BYTES && has_no_control(text)
+}
+
+// The identifier that a word is.
+fn identifier_of(word: &[u8]) -> Option<Pair<'_>>
+    ensures { option_map pair_view result ≡ identifier_of word.now }
+{
+    let [first, second, comma, id_value @ ..] = word else {
+        return None;
+    };
+    let is_type = first.is_ascii_digit() && second.is_ascii_digit();
+    if is_type && *comma == b',' && is_value(id_value) {
+        let id_type = &word[..2];
+        Some(Pair { id_type, id_value })
+    } else {
+        None
+    }
 }
 
 // The identifier that is given for an option.
 fn pair_of<'a>(
     matches: &ArgMatches<'a>,
     id: &str,
-    option: &'static str,
-) -> Result<Option<Pair<'a>>, BadWords<'a>> {
+    option: OptionName,
+) -> Result<Option<Pair<'a>>, BadWords<'a>>
+    ensures ok { IfOk result (λ p. word_as identifier_of (found_of matches.now) id.now
+        ≡ Some (option_map pair_view p)) }
+    ensures err { IfErr result (IsOf option (IsUnread identifier_of (found_of matches.now) id.now)) }
+{
     let Some(word) = matches.get_str(id) else {
         return Ok(None);
     };
-    if let Some((id_type, id_value)) = word.split_once(',') {
-        let id_type = id_type.as_bytes();
-        let id_value = id_value.as_bytes();
-        if is_code(id_type) && is_value(id_value) {
-            return Ok(Some(Pair { id_type, id_value }));
-        }
+    match identifier_of(word.as_bytes()) {
+        Some(pair) => Ok(Some(pair)),
+        None => Err(BadWords::Value { option, word }),
     }
-    Err(BadWords::Value {
-        option,
-        word,
-        rule: IDENTIFIER,
-    })
 }
 
 // The type of identifier that is preferred.
-fn id_type_of<'a>(matches: &ArgMatches<'a>) -> Result<&'a [u8], BadWords<'a>> {
-    match matches.get_str("id-type") {
-        None => Ok(GLN),
-        Some(word) if is_code(word.as_bytes()) => Ok(word.as_bytes()),
-        Some(word) => Err(BadWords::Value {
-            option: "--id-type <TT>",
+fn id_type_of<'a>(matches: &ArgMatches<'a>) -> Result<&'a [u8], BadWords<'a>>
+    ensures ok { IfOk result (λ t. word_or code2_of (codes "06") (found_of matches.now)
+        (codes "id-type") ≡ Some t.now) }
+    ensures err { IfErr result (IsOf OptionName.IdType
+        (IsUnread code2_of (found_of matches.now) (codes "id-type"))) }
+{
+    let Some(word) = matches.get_str("id-type") else {
+        return Ok(GLN);
+    };
+    match Code2::read(word) {
+        Some(_) => Ok(word.as_bytes()),
+        None => Err(BadWords::Value {
+            option: OptionName::IdType,
             word,
-            rule: TWO_DIGITS,
         }),
     }
 }
 
+// Whether an option without a value is there.
+fn is_set(matches: &ArgMatches<'_>, id: &str) -> bool
+    ensures { result ≡ is_set (found_of matches.now) id.now }
+{
+    match matches.get_str(id) {
+        Some(word) => word == "true",
+        None => false,
+    }
+}
+
 // The files that are named, or standard input where none is.
-fn files_of<'a>(alloc: Global, matches: &ArgMatches<'a>) -> Result<Vec<&'a str>, AllocError> {
+fn files_of<'a>(alloc: Global, matches: &ArgMatches<'a>) -> Result<Vec<&'a str>, AllocError>
+    ensures { IfOk result (λ files. map (λ name. name.now) files.items
+        ≡ files_named (found_of matches.now)) }
+{
     match matches.get_strs("file") {
         Some(files) => files.to_vec(alloc),
         None => {
@@ -150,37 +243,52 @@ fn files_of<'a>(alloc: Global, matches: &ArgMatches<'a>) -> Result<Vec<&'a str>,
     }
 }
 
-/// What words that clap let pass ask of `convert`.
+// How each message is converted.
+fn options_of<'a>(matches: &ArgMatches<'a>) -> Result<Options<'a>, BadWords<'a>>
+    ensures ok { IfOk result (λ o. AreOptions (found_of matches.now) (options_view o)) }
+    ensures err { IfErr result (AsksNothing (found_of matches.now)) }
+{
+    let parts = number_or(matches, "parts", OptionName::Parts, 1)?;
+    let number = number_of(matches)?;
+    let offset = number_or(matches, "number-offset", OptionName::NumberOffset, 0)?;
+    let sender = pair_of(matches, "sender", OptionName::Sender)?;
+    let addressee = pair_of(matches, "addressee", OptionName::Addressee)?;
+    let id_type = id_type_of(matches)?;
+    let choices = Choices {
+        parts,
+        number,
+        offset,
+        sender,
+        addressee,
+        id_type,
+    };
+    Ok(Options {
+        choices,
+        leave_out_wrong: is_set(matches, "leave-out-wrong"),
+    })
+}
+
+/// What words that clap let pass ask of `convert`: each is read by its rule, and what is not there has its default. Of
+/// words that break their rules it tells one, and else that several FILEs need a folder or have no number in common.
 pub fn conversion_of<'a>(
     alloc: Global,
     matches: &ArgMatches<'a>,
-) -> Result<Conversion<'a>, BadWords<'a>> {
-    let parts = number_of(matches, "parts", "--parts <P>")?;
-    let number = number_of(matches, "number", "--number <N>")?;
-    let offset = number_of(matches, "number-offset", "--number-offset <K>")?;
-    let sender = pair_of(matches, "sender", "--sender <TYPE,VALUE>")?;
-    let addressee = pair_of(matches, "addressee", "--addressee <TYPE,VALUE>")?;
-    let id_type = id_type_of(matches)?;
+) -> Result<Conversion<'a>, BadWords<'a>>
+    ensures ok { IfOk result (λ c. AsksFor (found_of matches.now) (asked_view c)) }
+    ensures err { IfErr result (AsksNothing (found_of matches.now)) }
+{
+    let options = match options_of(matches) {
+        Ok(options) => options,
+        Err(bad) => return Err(bad),
+    };
     let files = files_of(alloc, matches)?;
     let folder = matches.get_str("folder");
     if files.len() > 1 && folder.is_none() {
         return Err(BadWords::NoFolder);
     }
-    if files.len() > 1 && number.is_some() {
+    if files.len() > 1 && options.choices.number.is_some() {
         return Err(BadWords::OneNumber);
     }
-    let choices = Choices {
-        parts: parts.unwrap_or(1),
-        number: number.and_then(Number::from_value),
-        offset: offset.unwrap_or(0),
-        sender,
-        addressee,
-        id_type,
-    };
-    let options = Options {
-        choices,
-        leave_out_wrong: matches.get_flag("leave-out-wrong"),
-    };
     Ok(Conversion {
         run: Run { options, folder },
         files,

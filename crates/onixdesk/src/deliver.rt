@@ -40,7 +40,7 @@ fn delivery_of(alloc: Global, bytes: &[u8]) -> Result<Request, DeliveryFault>
 }
 
 // Reads a delivery, of which the bytes are not kept.
-fn read_delivery<R: Read>(alloc: Global, reader: &mut R) -> Result<Request, DeliveryFault>
+fn delivery_from_reader<R: Read>(alloc: Global, reader: &mut R) -> Result<Request, DeliveryFault>
     ensures { (text : List ℕ) × IsTold (R.remaining reader.old) text × ReadFits text result }
 {
     match read_input(alloc, reader, LIMIT) {
@@ -66,7 +66,7 @@ pub fn deliver_one<D: Desk, R: Read, W: Write>(
         (course precedence.now (D.seen desk.old) (D.seen desk.new)
         (Appends (W.contents writer.old) (W.contents writer.new))) text result }
 {
-    let request = match read_delivery(alloc, reader) {
+    let request = match delivery_from_reader(alloc, reader) {
         Ok(request) => request,
         Err(fault) => return Err(fault),
     };
@@ -79,7 +79,7 @@ pub fn deliver_one<D: Desk, R: Read, W: Write>(
 }
 
 // Why a file was not opened.
-fn unopened(error: &Error) -> DeliveryFault
+fn open_fault(error: &Error) -> DeliveryFault
     ensures { IsUnasked result }
 {
     match error.kind() {
@@ -104,7 +104,7 @@ fn deliver_file<D: Desk, W: Write>(
 {
     match File::open(rt, name) {
         Ok(mut file) => deliver_one(rt.alloc(), desk, precedence, &mut file, writer),
-        Err(error) => Err(unopened(&error)),
+        Err(error) => Err(open_fault(&error)),
     }
 }
 

@@ -21,6 +21,7 @@ mod doors;
 mod fault;
 mod files;
 mod gaps;
+mod laws;
 mod migrate;
 mod port;
 mod program;

@@ -1,6 +1,6 @@
 //! The program run on its words: the command line, the rules file, the desk, and then the command.
 
-ghost use Rattle.std.specs.Prelude.{◌≤◌, IfErr, IfOk};
+ghost use Rattle.std.specs.Prelude.{◌≤◌, IfErr, IfOk, map};
 ghost use Rattle.std.specs.Io.KnownBytes.{Appends};
 ghost use Rattle.onixdesk.specs.Course.{course};
 ghost use Rattle.onixdesk.specs.FileEnds.{ActionEnds, AreRulesOf, Closes, FileEnds, InvocationEnds, IsUnruled, EndsLeaving, MigrateEnds, NewDeskEnds, RunEnds, path_of};
@@ -257,7 +257,7 @@ pub fn run_invocation<S: Start, R: Read, W: Write, E: Write>(
 
 /// Runs the program on these words, of which the first is its name, and gives its exit status:
 /// 0, or 1 where an answer was a refusal, 2 for a bad command line or rules file, 3 for a fault of
-/// storage, a file, input, output, the port or the socket, or for want of memory. The command line is judged first,
+/// storage, a file, input, output, the port or the socket, or when out of memory. The command line is judged first,
 /// then the rules file, then what the command itself meets. `start` says what the database file and its
 /// log hold; beside the status comes what is left of them.
 pub fn run<S: Start, R: Read, W: Write, E: Write>(
@@ -269,10 +269,9 @@ pub fn run<S: Start, R: Read, W: Write, E: Write>(
     errors: &mut E,
 ) -> (u8, Option<FilesLeft<FileFrom<S>>>)
     ensures status { result.0 ≤ 3 }
-    // As what the words are read no clause says.
     ensures end { RunEnds ⟦<MemoryDesk as Desk>⟧.seen (path_of S.Start)
         (Appends (W.contents output.old) (W.contents output.new))
-        (R.remaining input.old) result.0 result.1 }
+        (R.remaining input.old) (map (λ word. word.now) words.now) result.0 result.1 }
 {
     let alloc = rt.alloc();
     match command_line::read(alloc, words) {

@@ -38,7 +38,7 @@ fn table_of(alloc: Global, bytes: &[u8]) -> Result<Precedence, RulesFault>
 }
 
 // Why a file was not opened.
-fn unopened(error: &Error) -> RulesFault
+fn open_fault(error: &Error) -> RulesFault
     ensures { (text : List ℕ) → RulesFit text (Err result) }
 {
     match error.kind() {
@@ -67,11 +67,11 @@ pub fn open_table(rt: &HostRuntime, name: &str) -> Result<Precedence, RulesFault
 {
     match File::open(rt, name) {
         Ok(mut file) => read_table(rt.alloc(), &mut file),
-        Err(error) => Err(unopened(&error)),
+        Err(error) => Err(open_fault(&error)),
     }
 }
 
-/// Writes the line of a fault of the rules file of this name, and gives the status: 3 for want of
+/// Writes the line of a fault of the rules file of this name, and gives the status: 3 when out of
 /// memory, else 2.
 pub fn report_rules<E: Write>(fault: &RulesFault, name: &str, errors: &mut E) -> u8
     ensures { result ≡ status_of fault.now }

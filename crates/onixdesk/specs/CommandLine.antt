@@ -1,0 +1,143 @@
+-- The command line of the program: its options, and its commands with the options and operands of each.
+use Rattle.std.specs.Prelude.{◌≡◌, ◌∷◌, ℕ, true, false, List, [], Some, codes}
+use Rattle.clap.specs.Lexer.{usize_max}
+use Rattle.clap.specs.Simple.{App, Shape, app_of, new_rule, new_shape}
+use Rattle.clap.specs.Walk.{Rule, Text, is_empty, rule_of}
+use Rattle.clap.specs.declared.builder.action.ArgAction.TheVariants.{Append, Set, SetTrue}
+use Rattle.clap.specs.declared.builder.arg.Arg.{Arg}
+use Rattle.clap.specs.declared.builder.command.Command.{Command}
+use Rattle.clap.specs.declared.builder.command.Command.TheViews.{out-Command as fields_of}
+use Rattle.clap.specs.declared.builder.value_parser.ValueParser.TheVariants.{Unsigned}
+
+-- ---- options and operands
+
+-- the option `--NAME TEXT`
+abbrev pub text_option : Text → Rule
+text_option name = record (new_rule name) { long = Some name; action = Some Set; value_names = 1 }
+
+-- the option `--NAME N`, a number from `least` to `most`
+abbrev pub number_option : Text → ℕ → ℕ → Rule
+number_option name least most = record (text_option name) { parser = Some (Unsigned least most) }
+
+-- the option `-X TEXT`, of that letter
+abbrev pub short_option : Text → ℕ → Rule
+short_option name letter =
+    record (new_rule name) { short = Some letter; action = Some Set; value_names = 1 }
+
+-- the option `--NAME`, without a text
+abbrev pub flag_option : Text → Rule
+flag_option name = record (new_rule name) { long = Some name; action = Some SetTrue }
+
+-- one operand, which has to be there
+abbrev pub one_operand : Text → Rule
+one_operand name =
+    record (new_rule name) { action = Some Set; value_names = 1; required = true }
+
+-- `least` operands or more
+abbrev pub some_operands : Text → ℕ → Rule
+some_operands name least = record (new_rule name) {
+  action = Some Append;
+  range = Some (record { start_inclusive = least; end_inclusive = usize_max });
+  value_names = 1;
+}
+
+-- the same, which have to be there
+abbrev pub needed : Rule → Rule
+needed r = record r { required = true }
+
+-- the same, which excludes another option or goes only with it
+abbrev pub tied : Rule → Rule
+tied r = record r { is_free = false }
+
+-- ---- the commands
+
+-- the command of that name with these options and operands
+abbrev pub command_of : Text → List Rule → Shape
+command_of name words = record (new_shape name) { rules = words }
+
+-- batch
+abbrev pub batch_command : Shape
+batch_command = command_of (codes "batch") []
+
+-- convert [--parts P] [--number N | --number-offset K] [--sender TYPE,VALUE] [--addressee TYPE,VALUE] [--id-type TT] [--leave-out-wrong] [-o FOLDER] [FILE..]
+abbrev pub convert_command : Shape
+convert_command = command_of (codes "convert") (
+    number_option (codes "parts") 1 9999
+    ∷ tied (number_option (codes "number") 1 999999999)
+    ∷ number_option (codes "number-offset") 0 999999998
+    ∷ text_option (codes "sender")
+    ∷ text_option (codes "addressee")
+    ∷ text_option (codes "id-type")
+    ∷ flag_option (codes "leave-out-wrong")
+    ∷ short_option (codes "folder") 111
+    ∷ some_operands (codes "file") 0
+    ∷ []
+    )
+
+-- deliver FILE..
+abbrev pub deliver_command : Shape
+deliver_command = command_of (codes "deliver") (needed (some_operands (codes "file") 1) ∷ [])
+
+-- gaps NAME
+abbrev pub gaps_command : Shape
+gaps_command = command_of (codes "gaps") (one_operand (codes "name") ∷ [])
+
+-- migrate
+abbrev pub migrate_command : Shape
+migrate_command = command_of (codes "migrate") []
+
+-- serve --port N [--batches SOCKET] [--requests K]
+abbrev pub serve_command : Shape
+serve_command = command_of (codes "serve") (
+    needed (number_option (codes "port") 1 65535)
+    ∷ text_option (codes "batches")
+    ∷ number_option (codes "requests") 1 1000000
+    ∷ []
+    )
+
+-- ---- the program
+
+-- the program with these options and commands
+abbrev pub program_of : List Rule → List Shape → App
+program_of words commands = record {
+  top = record (new_shape (codes "onixdesk")) {
+    rules = words;
+    is_leaf = is_empty commands;
+    has_version = true;
+    subcommand_required = true;
+  };
+  subs = commands;
+}
+
+-- [--db FILE [--existing]] [--rules FILE] [--batches SOCKET]
+abbrev pub program_options : List Rule
+program_options =
+    text_option (codes "db")
+    ∷ tied (flag_option (codes "existing"))
+    ∷ text_option (codes "rules")
+    ∷ tied (text_option (codes "batches"))
+    ∷ []
+
+-- batch, convert, deliver, gaps, migrate, serve
+abbrev pub program_commands : List Shape
+program_commands =
+    batch_command ∷ convert_command ∷ deliver_command ∷ gaps_command ∷ migrate_command
+    ∷ serve_command ∷ []
+
+-- onixdesk [OPTIONS] COMMAND
+abbrev pub onixdesk : App
+onixdesk = program_of program_options program_commands
+
+-- ---- what is built is that
+
+-- the option or operand is that, of its own command alone
+abbrev pub IsWord : Rule → Arg → Type 0
+IsWord r a = (rule_of a ≡ r) × (a.global ≡ false)
+
+-- the program is that, and no option is of its commands too
+abbrev pub IsProgram : App → Command → Type 0
+IsProgram a c = (app_of c ≡ a) × ((fields_of c).has_globals ≡ false)
+
+-- the command is that, without commands of its own
+abbrev pub IsCommand : Shape → Command → Type 0
+IsCommand s c = IsProgram (record { top = s; subs = [] }) c

@@ -14,7 +14,8 @@ trap '[ -z "$desk" ] || kill "$desk" 2>/dev/null; rm -rf "$room"' EXIT
 command -v curl >/dev/null || { echo "http.sh: no curl" >&2; exit 2; }
 
 "$program" --db "$room/shop.db" batch <"$root/examples/shop/monday.csv" >/dev/null || exit 2
-"$program" --db "$room/shop.db" serve --port "$port" --requests 7 >"$room/lines" &
+: >"$room/lines"
+"$program" --db "$room/shop.db" serve --port "$port" --requests 7 >>"$room/lines" &
 desk=$!
 for _ in $(seq 120); do
     grep -q listening "$room/lines" && break

@@ -22,9 +22,9 @@ STATE = "/var/lib/onixdesk-inbox/{}"
 
 DESCRIPTION = """\
 Takes the files that a wholesaler has put into a folder to a running desk: what ends in .csv as it is, what ends
-in .xml, .onix, .onx, .gz or .zip through onix-to-csv. What the desk has applied or holds is moved to done in the
-folder STATE, what it or the converter refuses to refused, with the notes and answers beside it in NAME.answer.
-Of each file a line is written to standard error."""
+in .xml, .onix, .onx, .gz or .zip through onix-to-csv, unpacked where it is packed. What the desk has applied or holds
+is moved to done in the folder STATE, what it or the converter refuses to refused, with the notes and answers beside it
+in NAME.answer. Of each file a line is written to standard error."""
 
 STATUSES = """\
 Status 0, also where files wait; 1 where a file was refused, or has lain there for an hour; 2 for a bad command
@@ -55,11 +55,11 @@ def apart(incoming: Path, state: Path) -> None:
         raise Fault(f"{state} and {incoming} are not apart")
 
 
-def run(options: argparse.Namespace, folder: Path, beside: Path, voice: Voice) -> int:
+def run(options: argparse.Namespace, folder: Path, programs: Path, voice: Voice) -> int:
     """Makes one run, whose state is kept in the folder."""
     name = options.series
     incoming = (options.incoming or Path(INCOMING.format(name))).resolve()
-    converter = (options.converter or beside / "onix-to-csv").resolve()
+    converter = (options.converter or programs / "onix-to-csv").resolve()
     settings = read_settings(options.settings or Path(SETTINGS.format(name)))
     apart(incoming, folder)
     state = State(folder)
@@ -68,10 +68,10 @@ def run(options: argparse.Namespace, folder: Path, beside: Path, voice: Voice) -
     return FAILED if is_failed else DONE
 
 
-def main(beside: Path) -> int:
-    """Makes one run, and gives the status. `beside` is the folder of the programs."""
+def main(programs: Path) -> int:
+    """Makes one run, and gives the status. `programs` is their folder."""
     options = command_line().parse_args()
     voice = Voice(sys.stderr)
     folder = (options.state or Path(STATE.format(options.series))).resolve()
     os.umask(0o077)
-    return status_of(partial(run, options, folder, beside, voice), partial(voice.say, ERROR), folder)
+    return status_of(partial(run, options, folder, programs, voice), partial(voice.say, ERROR), folder)

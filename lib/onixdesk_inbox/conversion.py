@@ -1,45 +1,62 @@
 """A run of the converter over a file."""
 
+import contextlib
 import os
 import re
 import signal
 import subprocess
+import time
+from collections.abc import Iterator
 from dataclasses import dataclass
 from pathlib import Path
-from typing import BinaryIO
 
-from command_lines.ending import Fault
-from onixdesk_inbox.names import shown
+from command_lines.ending import BAD_CALL, Fault
+from onixdesk_inbox import telling
+from onixdesk_inbox.feeding import Feed, feed_of
+from onixdesk_inbox.names import PACKED, shown
+from onixdesk_inbox.packed import Damage
 from onixdesk_inbox.verdicts import Refusal
 
 CONVERTED, REFUSED = 0, 1
 
+STANDARD_INPUT = "-"
+
 # How many lines of the converter's summary are told; a reason is one line.
 TOLD = 20
 
-PROGRAM = "onix-to-csv: "
+PROGRAM = "onixdesk: "
 REFUSED_WORD = re.compile(r"\brefused: ")
 
 
 @dataclass(frozen=True)
 class Said:
-    """What the converter wrote on standard error: its last line, and those that are of no place in the file,
-    which are its summary."""
+    """What the converter wrote on standard error: its first line and its last, and those that are of no place in the
+    file, which are its summary."""
 
+    first: str
     last: str
     summary: tuple[str, ...]
 
 
-def said(answer: Path, source: Path) -> Said:
-    """Reads it, without the names of the program and of the file, which say nothing here."""
-    last, summary = "", []
-    with answer.open(encoding="utf-8", errors="backslashreplace") as lines:
-        for line in lines:
-            text = line.rstrip("\n").removeprefix(PROGRAM)
-            if not text.startswith(f"{source.name}:"):
-                summary.append(text)
-            last = text.removeprefix(f"{source.name}:").strip() or last
-    return Said(shown(REFUSED_WORD.sub("", last, count=1)), tuple(map(shown, summary[-TOLD:])))
+def said(answer: Path, file: str, name: str) -> Said:
+    """Reads it, without the names of the program and of the file, by which it was given, and puts the name that the
+    file came in by there."""
+    found: list[str] = []
+    summary: list[str] = []
+    named: list[str] = []
+    before = f"{PROGRAM}{file}:"
+    for line in answer.read_text(encoding="utf-8", errors="backslashreplace").split("\n"):
+        text = line.removeprefix(before)
+        if text != line:
+            named.append(f"{PROGRAM}{shown(name)}:{text}")
+        else:
+            text = line.removeprefix(PROGRAM)
+            named.append(line)
+            summary += [text] if text else []
+        found += [text.strip()] if text.strip() else []
+    answer.write_text("\n".join(named), encoding="utf-8", errors="backslashreplace")
+    first, last = (found[0], found[-1]) if found else ("", "")
+    return Said(shown(first), shown(REFUSED_WORD.sub("", last, count=1)), tuple(map(shown, summary[-TOLD:])))
 
 
 @dataclass(frozen=True)
@@ -50,38 +67,63 @@ class Converter:
     # The lock of the state is also held by a converter whose inbox was killed.
     lock: int
 
-    def convert(self, source: Path, number: int | None, messages: Path, answer: Path) -> tuple[str, ...]:
-        """Puts the messages of a file into a folder, what is said of them into the answer, and gives the
-        summary of what was left out."""
+    def convert(self, name: str, source: Path, number: int | None, messages: Path, answer: Path) -> tuple[str, ...]:
+        """Puts the messages of the copy of a file of that name into a folder, what is said of them into the answer, and
+        gives the summary of what was left out."""
         given = () if number is None else ("--number", str(number))
-        with answer.open("ab") as errors:
-            status = self.run([*self.words, *given, "-o", str(messages), source.name], source.parent, errors)
-        words = said(answer, source)
+        is_packed = source.suffix in PACKED
+        file = STANDARD_INPUT if is_packed else source.name
+        words = [*self.words, *given, "-o", str(messages), file]
+        try:
+            status = self.run(words, source, is_packed, answer)
+        except Damage as damage:
+            answer.write_text(f"{telling.PROGRAM}: {shown(name)}: refused: {damage}\n", encoding="utf-8")
+            raise Refusal(str(damage)) from None
+        lines = said(answer, file, name)
         if status == CONVERTED or status == REFUSED and any(messages.glob("*.csv")):
             # With the second it has left out what was wrong.
-            return words.summary
+            return lines.summary
         if status == REFUSED:
-            raise Refusal(words.last)
+            raise Refusal(lines.last)
         if status == -signal.SIGKILL:
             raise Refusal("its conversion was killed, as where it takes more memory than the unit allows")
-        raise Fault(f"the converter ends with status {status}: {words.last}")
+        why = lines.first if status == BAD_CALL else lines.last
+        raise Fault(f"the converter ends with status {status}: {why}")
 
-    def run(self, words: list[str], folder: Path, errors: BinaryIO) -> int:
+    def run(self, words: list[str], source: Path, is_packed: bool, answer: Path) -> int:
+        """Its status. Damage where the file cannot be unpacked."""
+        end = time.monotonic() + self.seconds
+        try:
+            with feed_of(source) if is_packed else contextlib.nullcontext() as feed:
+                with self.started(words, source.parent, feed, answer) as process:
+                    if feed:
+                        feed.give(self.seconds)
+                    return process.wait(max(0, end - time.monotonic()))
+        except subprocess.TimeoutExpired:
+            raise Refusal(f"its conversion took more than {self.seconds} s") from None
+
+    @contextlib.contextmanager
+    def started(
+        self, words: list[str], folder: Path, feed: Feed | None, answer: Path
+    ) -> Iterator[subprocess.Popen[bytes]]:
+        """It runs, and is killed where it has not ended by then."""
         environment = {
             "PATH": os.environ.get("PATH", os.defpath),
             "HOME": "/nonexistent",
             "LC_ALL": "C.UTF-8",
         }
-        try:
-            return subprocess.run(
+        with answer.open("ab") as errors:
+            process = subprocess.Popen(
                 [self.program, *words],
                 cwd=folder,
                 env=environment,
-                stdin=subprocess.DEVNULL,
+                stdin=feed.output if feed else subprocess.DEVNULL,
                 stdout=subprocess.DEVNULL,
                 stderr=errors,
                 pass_fds=[self.lock],
-                timeout=self.seconds,
-            ).returncode
-        except subprocess.TimeoutExpired:
-            raise Refusal(f"its conversion took more than {self.seconds} s") from None
+            )
+        try:
+            yield process
+        finally:
+            process.kill()
+            process.wait()

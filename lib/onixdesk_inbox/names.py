@@ -4,8 +4,9 @@ import os
 
 RECORDS = ".csv"
 
-# What the converter takes; it unpacks the last two.
-FEEDS = (".xml", ".onix", ".onx", ".gz", ".zip")
+# What is unpacked before it is converted, and all that is.
+PACKED = (".gz", ".zip")
+FEEDS = (".xml", ".onix", ".onx", *PACKED)
 
 # How much of a name or text a line shows.
 SHOWN = 300

@@ -10,10 +10,8 @@ from dataclasses import dataclass
 from pathlib import Path
 
 from command_lines.ending import Fault
-from onixdesk_inbox.names import ending, kept_name
+from onixdesk_inbox.names import PACKED, ending, kept_name
 from onixdesk_inbox.numbers import Numbers, sync_folder
-
-PACKED = (".gz", ".zip")
 
 
 @dataclass(frozen=True)

@@ -76,7 +76,7 @@ class Taker:
             work.answer.touch()
             return [copied.source], ()
         of_feed = None if number is None else self.number_of_feed(number)
-        summary = self.converter.convert(copied.source, of_feed, work.messages, work.answer)
+        summary = self.converter.convert(copied.name, copied.source, of_feed, work.messages, work.answer)
         messages = sorted(work.messages.glob("*.csv"))
         if not messages:
             raise Fault("the converter wrote no message")

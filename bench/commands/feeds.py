@@ -1,13 +1,14 @@
-"""Measures bin/onix-to-csv on feeds that it makes as streams, of the products of the sample feeds in
+"""Measures `onixdesk convert` on feeds that it makes as streams, of the products of the sample feeds in
 tests/feeds with a RecordReference for each: how many MB of XML it converts in a second of its processor
 time, and the greatest memory that it takes.
 
-    bench/feeds [MEGABYTES]
+    bench/feeds [--desk PROGRAM] [MEGABYTES]
 
 MEGABYTES is 2,000 without a word. The records go into files in the folder for temporary files, in a part
 for each MB of XML, which is more than they need.
 """
 
+import argparse
 import sys
 import tempfile
 from collections.abc import Iterator
@@ -45,13 +46,17 @@ def counted(feed: Iterator[bytes], sizes: list[int]) -> Iterator[bytes]:
         yield piece
 
 
-def main(words: list[str]) -> None:
-    megabytes = words[0] if words else "2000"
-    size = int(megabytes) * 1_000_000
+def main() -> None:
+    form = argparse.RawDescriptionHelpFormatter
+    parser = argparse.ArgumentParser("bench/feeds", description=__doc__, formatter_class=form)
+    parser.add_argument("--desk", metavar="PROGRAM", type=Path, default=ROOT / "crates/onixdesk/out/onixdesk")
+    parser.add_argument("megabytes", metavar="MEGABYTES", type=int, nargs="?", default=2_000)
+    given = parser.parse_args()
+    program, parts, size = given.desk.resolve(), str(given.megabytes), given.megabytes * 1_000_000
     for name, feed in FEEDS.items():
         with tempfile.TemporaryDirectory() as folder:
             sizes: list[int] = []
-            came = converted(Path(folder), counted(pieces(*feed, size), sizes), "--parts", megabytes, "-o", ".")
+            came = converted(program, Path(folder), counted(pieces(*feed, size), sizes), "--parts", parts, "-o", ".")
         if came.status:
             sys.exit(f"bench/feeds: {came.errors.decode()}")
         made = sum(sizes) / 1_000_000
@@ -63,4 +68,4 @@ def main(words: list[str]) -> None:
 
 
 if __name__ == "__main__":
-    main(sys.argv[1:])
+    main()

@@ -1,7 +1,6 @@
 """A conversion that is measured: its processor time and its memory."""
 
 import contextlib
-import os
 import subprocess
 import sys
 import threading
@@ -9,23 +8,18 @@ from collections.abc import Iterator
 from pathlib import Path
 from typing import BinaryIO, NamedTuple
 
-from tools.root import ROOT
+# How long a conversion may take.
+SECONDS = 300
 
-CONVERTER = ROOT / "lib/onix-to-csv"
-
-# How long the last piece of a feed may take to be given.
-SECONDS = 120
-
-# Runs the converter and then writes its greatest resident memory, of this process alone.
+# Runs a program and then writes its greatest resident memory, in kilobytes, and the seconds of processor time that it
+# took. What runs it is small, since a process begins with the memory of the one that starts it.
 MEASURING = """
-import re, runpy, sys
-sys.argv = sys.argv[1:]
-try:
-    runpy.run_path(sys.argv[0], run_name="__main__")
-finally:
-    sys.stdout.flush()
-    with open("memory", "w") as file:
-        file.write(re.search("VmHWM: *\\t *([0-9]+) kB", open("/proc/self/status").read())[1])
+import os, sys
+child = os.posix_spawn(sys.argv[1], sys.argv[1:], os.environ)
+_, status, usage = os.wait4(child, 0)
+with open("usage", "w") as file:
+    file.write(f"{usage.ru_maxrss} {usage.ru_utime + usage.ru_stime}")
+sys.exit(os.waitstatus_to_exitcode(status) % 256)
 """
 
 
@@ -40,11 +34,6 @@ class Converted(NamedTuple):
     memory: int
 
 
-def within(script: str, *words: str | Path, python: str = sys.executable) -> list[str | Path]:
-    """The words by which that Python runs a script, which may run the converter."""
-    return ["env", f"PYTHONPATH={ROOT / 'lib'}", python, "-P", "-s", "-S", "-B", "-c", script, *words]
-
-
 def feed_in(pieces: Iterator[bytes], stream: BinaryIO) -> None:
     """Writes the pieces, as far as they are taken."""
     with contextlib.suppress(BrokenPipeError), stream:
@@ -52,23 +41,21 @@ def feed_in(pieces: Iterator[bytes], stream: BinaryIO) -> None:
             stream.write(piece)
 
 
-def converted(folder: Path, pieces: Iterator[bytes], *words: str, python: str = sys.executable) -> Converted:
-    """Converts a feed from standard input, in a folder, by that Python."""
+def converted(program: Path, folder: Path, pieces: Iterator[bytes], *words: str) -> Converted:
+    """Converts a feed from standard input, in a folder."""
     process = subprocess.Popen(
-        within(MEASURING, CONVERTER, *words, python=python),
+        [sys.executable, "-I", "-S", "-c", MEASURING, program, "convert", *words],
         cwd=folder,
         stdin=subprocess.PIPE,
         stdout=subprocess.PIPE,
-        stderr=folder.joinpath("errors").open("wb"),
+        stderr=subprocess.PIPE,
     )
+    assert process.stdin
     feeder = threading.Thread(target=feed_in, args=(pieces, process.stdin))
     feeder.start()
-    assert process.stdout
-    output = process.stdout.read()
-    _, status, usage = os.wait4(process.pid, 0)
-    process.returncode = os.waitstatus_to_exitcode(status)
-    process.stdout.close()
+    # Its standard input is the feeder's.
+    process.stdin = None
+    output, errors = process.communicate(timeout=SECONDS)
     feeder.join(SECONDS)
-    memory = int(folder.joinpath("memory").read_text()) * 1024
-    seconds = usage.ru_utime + usage.ru_stime
-    return Converted(process.returncode, output, folder.joinpath("errors").read_bytes(), seconds, memory)
+    kilobytes, seconds = folder.joinpath("usage").read_text().split()
+    return Converted(process.returncode, output, errors, float(seconds), int(kilobytes) * 1_024)

@@ -13,7 +13,7 @@ def main(words: list[str]) -> int:
         print(__doc__.strip(), file=sys.stderr)
         return 2
     seed = int(words[0])
-    print("onix-to-csv", *SERIES[seed // MESSAGES].words.line(), file=sys.stderr)
+    print("onixdesk convert", *SERIES[seed // MESSAGES].words.line(), file=sys.stderr)
     sys.stdout.buffer.write(made(seed).written.feed)
     return 0
 

@@ -10,7 +10,7 @@ from tools.root import ROOT
 from tools.words import Word
 
 # The converter that a feed is compared with.
-SECOND: list[Word] = [ROOT / "lib/onix-to-csv"]
+SECOND: list[Word] = [ROOT / "tests/second-opinion"]
 
 SHOWN = 300
 

@@ -56,8 +56,8 @@ def hostile() -> Kind:
     """Each in a run of its own, since they are large."""
     found = hostile_feeds.BOMBS + hostile_feeds.LARGE + hostile_feeds.CUT
     found += hostile_tokens.START_TAGS + hostile_tokens.DECLARED + hostile_tokens.LATE
+    found += hostile_tokens.LONG_TAGS + hostile_tokens.GOOD
     feeds = [Feed(case.name, b"".join(case.pieces()), tuple(case.words)) for case in found]
-    feeds += [Feed(name, b"".join(pieces())) for name, pieces in hostile_tokens.GOOD.items()]
     return Kind("hostile", [[feed] for feed in feeds])
 
 

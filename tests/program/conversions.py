@@ -1,4 +1,4 @@
-"""Feeds in XML, and what `onix-to-csv` is to write of them.
+"""Feeds in XML, and what a converter is to write of them; the second opinion is tried here.
 
 The cases stand in tests/conversions. Behind a heading each file has them: a line `== ` with the name, and
 parts that begin with a line `-- `:
@@ -26,7 +26,7 @@ from functools import partial
 from pathlib import Path
 from typing import NamedTuple
 
-from tests.program.converter import convert
+from tests.program.converter import second_opinion
 from tests.program.room import Group, Room
 from tests.running import Outcome
 
@@ -176,8 +176,8 @@ class Feed(NamedTuple):
 
 
 def said(lines: list[str]) -> bytes:
-    """These lines of `onix-to-csv` on standard error."""
-    return "".join(f"onix-to-csv: {line}\n" for line in lines).encode()
+    """These lines of the converter on standard error."""
+    return "".join(f"onixdesk: {line}\n" for line in lines).encode()
 
 
 def in_short_tags(text: str) -> str:
@@ -244,10 +244,10 @@ def check(words: list[str], feeds: list[Feed], room: Room) -> Iterator[Outcome]:
     room.path("out").mkdir()
     for number, feed in enumerate(feeds):
         room.write(f"{number}.xml", feed.data)
-    came = convert(room, *words, "-o", "out", *(f"{number}.xml" for number in range(len(feeds))))
+    came = second_opinion(room, *words, "-o", "out", *(f"{number}.xml" for number in range(len(feeds))))
     said: dict[str, list[str]] = {}
     for line in came.errors.decode().splitlines():
-        file, _, what = line.removeprefix("onix-to-csv: ").partition(".xml:")
+        file, _, what = line.removeprefix("second-opinion: ").partition(".xml:")
         said.setdefault(file, []).append(what)
     for number, feed in enumerate(feeds):
         path = room.path(f"out/{number}.csv")
@@ -277,11 +277,11 @@ def groups(cases: list[Case]) -> Iterator[Group]:
         for feed in case.feeds():
             # --number is for one file alone.
             if feed.summary is not None or "--number" in case.words:
-                yield Group(feed.name, partial(check, case.words, [feed]))
+                yield Group(f"second opinion: {feed.name}", partial(check, case.words, [feed]))
             else:
                 together.setdefault(tuple(case.words), []).append(feed)
     for words, feeds in together.items():
-        yield Group(feeds[0].name, partial(check, list(words), feeds))
+        yield Group(f"second opinion: {feeds[0].name}", partial(check, list(words), feeds))
 
 
 GROUPS = [

@@ -1,6 +1,7 @@
-"""The cases of tests/conversions over `onixdesk convert`: their records, statuses and places.
+"""The cases of tests/conversions over `onixdesk convert`: their records, statuses, places, notes and reasons.
 
-The wording of its lines is its own, and some cases it decides otherwise: `OTHERWISE` names each kind of them.
+The wording of a refusal is its own, but for that of a wrong product, and some cases it decides otherwise: `OTHERWISE`
+names each kind of them.
 """
 
 import re
@@ -8,7 +9,7 @@ from collections.abc import Iterator
 from functools import partial
 from typing import NamedTuple
 
-from tests.program.conversions import FOLDER, PLACE, Case, Feed, read_cases
+from tests.program.conversions import FOLDER, MENDED, NOT_LOOKED_AT, PLACE, Case, Feed, read_cases
 from tests.program.room import Group, Room
 from tests.running import Outcome
 
@@ -42,13 +43,20 @@ def is_ours(case: Case) -> bool:
 
 
 class Noted(NamedTuple):
-    """A line about a place, without why: of a note the RecordReference and what is left out."""
+    """A line about a place: a note, or the refusal of a wrong product; of another refusal not why."""
 
     place: str
     about: str
 
 
 REFUSED = "refused"
+
+# Of a Price that is left out neither the field of its Territory is named, nor the role of a date in another format.
+OWN_WORDS = {
+    r"(?<=: Price left out: )Countries(?:In|Ex)cluded .*": "CountriesIncluded or CountriesExcluded is no list of two"
+    " capital letters each, or has more than 1024 bytes",
+    r"(?<=: Price left out: PriceDate )of role [0-9]+ (?=in format )": "",
+}
 
 # A place that is not compared.
 ANYWHERE = ""
@@ -61,8 +69,15 @@ class Came(NamedTuple):
     noted: list[Noted]
 
 
-def about(text: str) -> str:
-    return text.partition(" left out: ")[0]
+def in_own_words(note: str) -> str:
+    for words, own in OWN_WORDS.items():
+        note = re.sub(words, own, note)
+    return note
+
+
+def about(refused: str, text: str) -> str:
+    """What is compared of a line, behind its place and that it is refused."""
+    return REFUSED if refused and not text.endswith(MENDED) else refused + text
 
 
 PART = re.compile("<(?:[Hh]eader|[Pp]roduct)>")
@@ -87,8 +102,8 @@ def wanted(feed: Feed) -> Came:
         found = PLACE.fullmatch(line)
         assert found
         place, text = f"{found[1]}:{found[2]}", found[4].removeprefix(": ")
-        if not text.startswith("refused: "):
-            noted.append(Noted(place, about(text)))
+        if not text.startswith("refused: ") or text.endswith(MENDED):
+            noted.append(Noted(place, in_own_words(text)))
         elif text.startswith(OF_FORM, len("refused: ")):
             noted.append(Noted(ANYWHERE, REFUSED))
         else:
@@ -104,7 +119,7 @@ def read_lines(errors: bytes) -> tuple[dict[int, list[Noted]], list[str]]:
     for text in errors.decode().splitlines():
         line = text.removeprefix("onixdesk: ")
         if found := LINE.fullmatch(line):
-            noted = Noted(found[2], REFUSED if found[3] else about(found[4]))
+            noted = Noted(found[2], about(found[3] or "", found[4]))
             of_feeds.setdefault(int(found[1]), []).append(noted)
         else:
             summary.append(line)
@@ -136,6 +151,9 @@ def check(words: list[str], feeds: list[Feed], room: Room) -> Iterator[Outcome]:
     counts = [int(found[2]) for found in map(COUNTED.fullmatch, summary[:-1]) if found]
     last = [] if notes == 0 else ["1 note"] if notes == 1 else [f"{notes} notes"]
     yield Outcome(f"{name}: the summary", (sum(counts), len(counts), summary[-1:]), (notes, len(summary[:-1]), last))
+    if feeds[0].summary is not None:
+        counted = [line for line in feeds[0].summary if NOT_LOOKED_AT not in line]
+        yield Outcome(f"{name}: the lines of the summary", summary, counted)
 
 
 # How many are converted together at most.
@@ -143,16 +161,20 @@ AT_ONCE = 30
 
 
 def groups(cases: list[Case]) -> Iterator[Group]:
-    """Those with the same words are converted together; --number is for one file alone."""
+    """Those with the same words are converted together, but for one with a summary of its own; --number is for one file
+    alone."""
     together: dict[tuple[str, ...], list[list[Feed]]] = {}
     for case in filter(is_ours, cases):
         for feed in case.feeds():
             runs = together.setdefault(tuple(case.words), [[]])
+            if feed.summary is not None:
+                runs.insert(0, [feed])
+                continue
             if len(runs[-1]) == AT_ONCE or "--number" in case.words and runs[-1]:
                 runs.append([])
             runs[-1].append(feed)
     for words, runs in together.items():
-        for feeds in runs:
+        for feeds in filter(None, runs):
             yield Group(f"convert: {feeds[0].name}", partial(check, list(words), feeds))
 
 

@@ -14,9 +14,6 @@ from tests.program.converter_words import HEADER, SENDER
 from tests.program.room import Group, Ran, Room
 from tests.running import Outcome
 
-# The cases of the converter with packed files, which are refused here.
-PACKED = "names of files"
-
 NAMES = {"a.xml": "a", "b.c.onix": "b.c", "d": "d", "j.gz.xml": "j.gz"}
 
 # Two products that have together more records than a message may have.
@@ -47,9 +44,9 @@ def large_part(number: int, *references: str) -> bytes:
 LARGE_PARTS = {1: large_part(1, "R1"), 2: large_part(2, "R2"), 3: large_part(3)}
 
 CASES = [
-    *(case for case in converter_runs.CASES if case.name != PACKED),
+    *converter_runs.CASES,
     Case(
-        PACKED,
+        "names of files",
         {name: ONE for name in NAMES},
         ["-o", ".", *NAMES],
         Ran(0),
@@ -83,7 +80,7 @@ CASES = [
 ]
 
 # What a line begins with: a FILE, and perhaps a place and that it is refused.
-HEAD = re.compile(r"(?:onix-to-csv|onixdesk): ([^ :]+)((?::[0-9]+:[0-9]+)?)(: refused\b)?")
+HEAD = re.compile(r"onixdesk: ([^ :]+)((?::[0-9]+:[0-9]+)?)(: refused\b)?")
 
 
 def heads(errors: bytes) -> list[tuple[str, ...]]:

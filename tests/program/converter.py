@@ -1,20 +1,35 @@
-"""Runs of `onix-to-csv`."""
+"""Runs of `onixdesk convert`, and of the second opinion beside it."""
 
-import sys
+import re
 from collections.abc import Iterator
-from pathlib import Path
 from typing import NamedTuple
 
-from bench.figures.conversion import CONVERTER, converted
+from bench.figures.conversion import converted
 from tests.program.room import Ran, Room
+from tools.root import ROOT
 from tools.words import Word
 
 # The file that holds the feed of a case.
 FEED = "feed.xml"
 
+SECOND_OPINION = ROOT / "tests/second-opinion"
+
 
 def convert(room: Room, *words: Word | bytes, given: bytes = b"") -> Ran:
-    return room.call([CONVERTER, *words], given)
+    return room.run("convert", *words, given=given)
+
+
+def second_opinion(room: Room, *words: Word | bytes, given: bytes = b"") -> Ran:
+    return room.call([SECOND_OPINION, *words], given)
+
+
+REFUSED = re.compile(r"onixdesk: ([^ ]+):([0-9]+):[0-9]+: refused: .")
+
+
+def refused_lines(came: Ran) -> list[tuple[str, int]]:
+    """The files that were refused, and the line of each where the place of it is."""
+    found = map(REFUSED.match, came.errors.decode().splitlines())
+    return [(each[1], int(each[2])) for each in found if each]
 
 
 class Measured(NamedTuple):
@@ -25,7 +40,7 @@ class Measured(NamedTuple):
     memory: int
 
 
-def measured(folder: Path, pieces: Iterator[bytes], *words: str, python: str = sys.executable) -> Measured:
-    """Converts a feed from standard input, in a folder, by that Python."""
-    came = converted(folder, pieces, *words, python=python)
+def measured(room: Room, pieces: Iterator[bytes], *words: str) -> Measured:
+    """Converts a feed from standard input."""
+    came = converted(room.program, room.folder, pieces, *words)
     return Measured(Ran(came.status, came.output, came.errors), came.seconds, came.memory)

@@ -1,19 +1,16 @@
-"""`onix-to-csv` where it cannot write, is stopped, or nobody takes what it says: what is left, and the
-status."""
+"""`onixdesk convert` where it cannot write, where files come meanwhile, or where nobody takes what it says: what is
+left, and the status."""
 
 import contextlib
 import os
-import signal
 import subprocess
 import time
 from collections.abc import Iterator
-from functools import partial
 from pathlib import Path
 
-from bench.figures.conversion import CONVERTER, within
-from tests.program.conversions import FRAMES, said
+from tests.program.conversions import said
 from tests.program.converter import convert
-from tests.program.converter_runs import BAD, ONE, TWO, feed_of, message_of
+from tests.program.converter_runs import BAD, FRAME, ONE, PRODUCT, feed_of, message_of
 from tests.program.room import SECONDS, Group, Ran, Room
 from tests.running import Outcome
 from tools.words import Word
@@ -22,7 +19,7 @@ from tools.words import Word
 LONGEST = 255
 
 # More than the small file system has room for.
-LARGE = feed_of(*(f"R{number:05}" for number in range(15_000)))
+LARGE = feed_of(*(f"R{number:05}" for number in range(6_000)))
 
 FULL = "No space left on device"
 
@@ -55,25 +52,25 @@ def full_disk(room: Room) -> Iterator[Outcome]:
         for parts in ["1", "60"]:
             came = convert(room, "--parts", parts, "-o", "disk", "a.xml")
             wanted = Ran(3, b"", said([f"disk: {FULL}"]))
-            yield Outcome(f"a full disk, {parts} parts", (came, names(folder)), (wanted, []))
+            yield Outcome(f"convert: a full disk, {parts} parts", (came, names(folder)), (wanted, []))
         status = run_without_error(room, "-o", "disk", "a.xml")
-        yield Outcome("a full disk, standard error closed", (status, names(folder)), (3, []))
+        yield Outcome("convert: a full disk, standard error closed", (status, names(folder)), (3, []))
 
 
 def largest_file(room: Room) -> Iterator[Outcome]:
     """A bound on the size of files stands for a full disk where none may be mounted."""
     room.write("a.xml", LARGE)
     room.path("out").mkdir()
-    script = f'ulimit -f 20; trap "" XFSZ; exec "{CONVERTER}" -o out a.xml'
+    script = f'ulimit -f 20; trap "" XFSZ; exec "{room.program}" convert -o out a.xml'
     came = room.call(["sh", "-c", script])
     found = came.status, came.errors, names(room.path("out"))
-    yield Outcome("a file that grows too large", found, (3, said(["out: File too large"]), []))
+    yield Outcome("convert: a file that grows too large", found, (3, said(["out: File too large"]), []))
 
 
 def run_without_error(room: Room, *words: str) -> int:
     """The status of a run whose standard error is closed."""
     script = 'exec "$@" 2>&-'
-    return room.call(["sh", "-c", script, "sh", CONVERTER, *words]).status
+    return room.call(["sh", "-c", script, "sh", room.program, "convert", *words]).status
 
 
 def closed_error(room: Room) -> Iterator[Outcome]:
@@ -88,36 +85,11 @@ def closed_error(room: Room) -> Iterator[Outcome]:
         (["absent.xml"], 3),
         (["-o", "absent", "a.xml"], 3),
     ]:
-        yield Outcome(f"standard error closed: {words}", run_without_error(room, *words), status)
+        yield Outcome(f"convert: standard error closed: {words}", run_without_error(room, *words), status)
         with open("/dev/full", "wb") as full:
-            done = subprocess.run(
-                [CONVERTER, *words], cwd=room.folder, stdout=subprocess.DEVNULL, stderr=full, timeout=SECONDS
-            )
-        yield Outcome(f"standard error full: {words}", done.returncode, status)
-
-
-def stopped(number: signal.Signals, room: Room) -> Iterator[Outcome]:
-    """A signal in the midst of a message ends it by that signal, without a word and with nothing left."""
-    room.path("out").mkdir()
-    process = subprocess.Popen(
-        [CONVERTER, "--parts", "2", "-o", "out"],
-        cwd=room.folder,
-        stdin=subprocess.PIPE,
-        stderr=subprocess.PIPE,
-    )
-    assert process.stdin
-    process.stdin.write(FRAMES["products"].before.encode() + b"<Note/>" * 100_000)
-    process.stdin.flush()
-    for _ in range(SECONDS * 10):
-        if names(room.path("out")):
-            break
-        time.sleep(0.1)
-    begun = names(room.path("out"))
-    yield Outcome(f"{number.name}: a file was begun", begun, [f".message.part-01.csv.{process.pid}"])
-    process.send_signal(number)
-    _, errors = process.communicate(timeout=SECONDS)
-    found = process.returncode, errors, names(room.path("out"))
-    yield Outcome(f"{number.name}: what is left", found, (-number, b"", []))
+            command: list[Word] = [room.program, "convert", *words]
+            done = subprocess.run(command, cwd=room.folder, stdout=subprocess.DEVNULL, stderr=full, timeout=SECONDS)
+        yield Outcome(f"convert: standard error full: {words}", done.returncode, status)
 
 
 def long_names(room: Room) -> Iterator[Outcome]:
@@ -126,93 +98,60 @@ def long_names(room: Room) -> Iterator[Outcome]:
     room.write("x" * 200 + ".xml", ONE)
     came = convert(room, "-o", "out", "x" * 200 + ".xml")
     found = came, names(room.path("out"))
-    yield Outcome("a long name", found, (Ran(0), ["x" * 200 + ".csv"]))
+    yield Outcome("convert: a long name", found, (Ran(0), ["x" * 200 + ".csv"]))
     name = "y" * (LONGEST - 4)
     room.write(name + ".xml", ONE)
     came = convert(room, "-o", "out", name + ".xml")
     found = came.status, came.output, came.errors.count(b"\n"), b"File name too long" in came.errors
-    yield Outcome("a name that is too long", found, (3, b"", 1, True))
-    yield Outcome("a name that is too long: what is left", names(room.path("out")), ["x" * 200 + ".csv"])
+    yield Outcome("convert: a name that is too long", found, (3, b"", 1, True))
+    yield Outcome("convert: a name that is too long: what is left", names(room.path("out")), ["x" * 200 + ".csv"])
+
+
+def begun(room: Room, *words: str) -> subprocess.Popen[bytes]:
+    """A run over standard input, into the folder `out`."""
+    room.path("out").mkdir()
+    command: list[Word] = [room.program, "convert", *words, "-o", "out", "-"]
+    return subprocess.Popen(command, cwd=room.folder, stdin=subprocess.PIPE, stderr=subprocess.PIPE)
 
 
 def links(room: Room) -> Iterator[Outcome]:
     """A link with the name of the file beside is neither followed nor written over."""
     room.write("precious", b"precious")
-    room.path("out").mkdir()
-    process = subprocess.Popen(
-        [CONVERTER, "-o", "out", "-"], cwd=room.folder, stdin=subprocess.PIPE, stderr=subprocess.PIPE
-    )
+    process = begun(room)
     beside = room.path(f"out/.message.csv.{process.pid}")
     beside.symlink_to(room.path("precious"))
     _, errors = process.communicate(ONE, timeout=SECONDS)
     found = process.returncode, errors, room.path("precious").read_bytes()
-    yield Outcome("a link beside", found, (0, b"", b"precious"))
-    found = names(room.path("out")), beside.is_symlink(), room.path("out/message.csv").read_bytes()
-    yield Outcome("a link beside stays", found, ([beside.name, "message.csv"], True, message_of("R1")))
+    yield Outcome("convert: a link beside", found, (0, b"", b"precious"))
+    is_there = "message.csv" in names(room.path("out")) and room.path("out/message.csv").read_bytes()
+    yield Outcome("convert: the message beside a link", is_there, message_of("R1"))
 
 
 def came_meanwhile(room: Room) -> Iterator[Outcome]:
-    """A file that comes after the look at the names is not written over, and no part is placed."""
-    room.path("out").mkdir()
-    room.write("a.xml", TWO)
-    # It comes where the program gives the second part its name.
-    script = (
-        "import os, runpy, sys\n"
-        "link = os.link\n"
-        "def late(one, other):\n"
-        "    if '-02' in str(other) and not os.path.exists(other):\n"
-        "        open(other, 'w').write('other')\n"
-        "    link(one, other)\n"
-        "os.link = late\n"
-        "sys.argv = sys.argv[1:]\n"
-        "runpy.run_path(sys.argv[0], run_name='__main__')\n"
-    )
-    done = subprocess.run(
-        within(script, CONVERTER, "--parts", "2", "-o", "out", "a.xml"),
-        cwd=room.folder,
-        capture_output=True,
-        timeout=SECONDS,
-    )
-    wanted = 3, said(["out/a.part-02.csv: is there, with other bytes"])
-    yield Outcome("a file that came meanwhile", (done.returncode, done.stderr), wanted)
-    found = names(room.path("out")), room.path("out/a.part-02.csv").read_bytes()
-    yield Outcome("a file that came meanwhile stays alone", found, (["a.part-02.csv"], b"other"))
-
-
-def without_second_names(room: Room) -> Iterator[Outcome]:
-    """Where no file may have two names a message is renamed, over no file that is there."""
-    room.path("out").mkdir()
-    room.write("a.xml", ONE)
-    script = (
-        "import errno, os, runpy, sys\n"
-        "first = sys.argv[1]\n"
-        "def none(one, other):\n"
-        "    if first == 'late':\n"
-        "        open(other, 'w').write('other')\n"
-        "    raise OSError(errno.EPERM, 'Operation not permitted')\n"
-        "os.link = none\n"
-        "sys.argv = sys.argv[2:]\n"
-        "runpy.run_path(sys.argv[0], run_name='__main__')\n"
-    )
-    for first, status, data in [("none", 0, message_of("R1")), ("late", 3, b"other")]:
-        done = subprocess.run(
-            within(script, first, CONVERTER, "-o", "out", "a.xml"),
-            cwd=room.folder,
-            capture_output=True,
-            timeout=SECONDS,
-        )
-        found = done.returncode, names(room.path("out")), room.path("out/a.csv").read_bytes()
-        yield Outcome(f"without second names: {first}", found, (status, ["a.csv"], data))
-        room.path("out/a.csv").unlink()
+    """A file that comes while a message is read is not written over, and no part of the message is placed."""
+    process = begun(room, "--parts", "2")
+    assert process.stdin
+    # So many products that the first part is written before the last of them has come.
+    products = "".join(PRODUCT.format(f"R{number:05}") for number in range(20_000))
+    process.stdin.write(f"{FRAME.before}{products}".encode())
+    process.stdin.flush()
+    for _ in range(SECONDS * 10):
+        if names(room.path("out")):
+            break
+        time.sleep(0.1)
+    room.write("out/message.part-02.csv", b"other")
+    _, errors = process.communicate(FRAME.behind.encode(), timeout=SECONDS)
+    wanted = 3, said(["out/message.part-02.csv: is there, with other bytes"])
+    yield Outcome("convert: a file that came meanwhile", (process.returncode, errors), wanted)
+    found = names(room.path("out")), room.path("out/message.part-02.csv").read_bytes()
+    yield Outcome("convert: a file that came meanwhile stays alone", found, (["message.part-02.csv"], b"other"))
 
 
 GROUPS = [
-    Group("a full disk", full_disk),
-    Group("a file that grows too large", largest_file),
-    Group("standard error closed", closed_error),
-    *(Group(number.name, partial(stopped, number)) for number in (signal.SIGTERM, signal.SIGINT)),
-    Group("long names", long_names),
-    Group("links", links),
-    Group("a file that comes meanwhile", came_meanwhile),
-    Group("without second names", without_second_names),
+    Group("convert: a full disk", full_disk),
+    Group("convert: a file that grows too large", largest_file),
+    Group("convert: standard error closed", closed_error),
+    Group("convert: long names", long_names),
+    Group("convert: links", links),
+    Group("convert: a file that comes meanwhile", came_meanwhile),
 ]

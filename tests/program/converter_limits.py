@@ -1,4 +1,5 @@
-"""Messages up to the desk's limits of 20,000 records and 4,194,304 bytes, beyond them, and in parts."""
+"""What `onixdesk convert` makes of messages up to the desk's limits of 20,000 records and 4,194,304 bytes, beyond them,
+and in parts."""
 
 from collections.abc import Iterator
 
@@ -19,12 +20,7 @@ DETAIL = (
     "<SupplyDetail><Supplier><SupplierRole>04</SupplierRole><SupplierName>North</SupplierName></Supplier>"
     "<ProductAvailability>21</ProductAvailability>{}</SupplyDetail>"
 )
-PRICE = (
-    "<Price><MinimumOrderQuantity>2</MinimumOrderQuantity><PriceAmount>1</PriceAmount>"
-    "<Territory><CountriesIncluded>GB</CountriesIncluded></Territory>"
-    "<PriceDate><PriceDateRole>24</PriceDateRole><Date dateformat='06'>2025010120251231</Date></PriceDate>"
-    "</Price>"
-)
+PRICE = "<Price><PriceAmount>1</PriceAmount></Price>"
 
 
 # What is said to the person who has to act, of parts and of a product.
@@ -104,30 +100,41 @@ def product_of(details: int, prices: int) -> str:
     )
 
 
-def one_product(room: Room) -> Iterator[Outcome]:
-    why = "a Product too large for a message of 20000 records and 4194304 bytes"
-    detail, price = "SupplyDetail,04,,,North,21,\n", "Price,,1,,GB,,,20250101,20251231,2\n"
-    for name, details, prices in [
-        ("prices", 1, MOST - 3),
-        ("supply details", MOST - 2, 0),
-    ]:
-        records = detail + price * prices + detail * (details - 1)
-        whole = f"{FRAME.records}Product,R1,03,15,9\nProductSupply,,,\n{records}EndMessage,19999\n"
-        room.write(FEED, (FRAME.before + product_of(details, prices) + FRAME.behind).encode())
-        came = convert(room, FEED)
-        yield Outcome(f"a product of 19,998 records, with {name}", came, Ran(0, whole.encode()))
+def between_others(product: str) -> bytes:
+    """A feed of three products, of which that is the second."""
+    return f"{FRAME.before}{PRODUCT.format('R0')}\n{product}\n{PRODUCT.format('R2')}{FRAME.behind}".encode()
 
-        more = product_of(details + (prices == 0), prices + (prices > 0))
-        feed = f"{FRAME.before}{PRODUCT.format('R0')}\n{more}\n{PRODUCT.format('R2')}{FRAME.behind}"
-        room.write(FEED, feed.encode())
-        came = convert(room, "--parts", "5", FEED)
-        said_of = said([f"{FEED}:2:1: refused: R1: {why}; {MEND}"])
-        yield Outcome(f"a product of 19,999 records, with {name}", came, Ran(1, b"", said_of))
-        came = convert(room, "--leave-out-wrong", FEED)
-        left_out = f"Product left out: {why}"
-        said_of = said([f"{FEED}:2:1: R1: {left_out}", f"{left_out}: 1", "1 note"])
-        wanted = Ran(1, message_of("R0", "R2"), said_of)
-        yield Outcome(f"a product of 19,999 records, with {name}, left out", came, wanted)
+
+def one_product(room: Room) -> Iterator[Outcome]:
+    """A product with as many prices as it may have, and with one more."""
+    why = "a Product too large for a message of 20000 records and 4194304 bytes"
+    prices = MOST - 3
+    whole = (
+        f"{FRAME.records}Product,R1,03,15,9\nProductSupply,,,\nSupplyDetail,04,,,North,21,\n"
+        + "Price,,1,,,,,,\n" * prices
+        + "EndMessage,19999\n"
+    )
+    room.write(FEED, (FRAME.before + product_of(1, prices) + FRAME.behind).encode())
+    came = convert(room, FEED)
+    yield Outcome("a product of 19,998 records", came, Ran(0, whole.encode()))
+
+    room.write(FEED, between_others(product_of(1, prices + 1)))
+    came = convert(room, "--parts", "5", FEED)
+    said_of = said([f"{FEED}:2:1: refused: R1: {why}; {MEND}"])
+    yield Outcome("a product of 19,999 records", came, Ran(1, b"", said_of))
+    came = convert(room, "--leave-out-wrong", FEED)
+    left_out = f"Product left out: {why}"
+    said_of = said([f"{FEED}:2:1: R1: {left_out}", f"{left_out}: 1", "1 note"])
+    yield Outcome("a product of 19,999 records, left out", came, Ran(1, message_of("R0", "R2"), said_of))
+
+
+def large_product(room: Room) -> Iterator[Outcome]:
+    """A product of elements of more than 4,194,304 bytes, each 64 beside its text, is refused before it is looked at."""
+    room.write(FEED, between_others(product_of(MOST - 2, 0)))
+    said_of = said([f"{FEED}:2:1: refused: a Header or a Product of more than 4,194,304 bytes"])
+    for option in (), ("--leave-out-wrong",):
+        came = convert(room, *option, FEED)
+        yield Outcome(f"a product of 19,998 supply details {option}", came, Ran(1, b"", said_of))
 
 
 def a_whole_product_in_the_next_part(room: Room) -> Iterator[Outcome]:
@@ -150,5 +157,6 @@ GROUPS = [
     Group("the records of a message", records),
     Group("the bytes of a message", size),
     Group("the records of a product", one_product),
+    Group("the bytes of a product", large_product),
     Group("a whole product in the next part", a_whole_product_in_the_next_part),
 ]

@@ -1,11 +1,11 @@
-"""How many notes `onix-to-csv` writes and counts, and fields too long for the files of tests/conversions."""
+"""How many notes `onixdesk convert` writes and counts, and fields too long for the files of tests/conversions."""
 
 from collections.abc import Iterator
 from itertools import product
 from string import ascii_uppercase
 
-from tests.program.conversions import FRAMES, MENDED, SUPPLIER, said
-from tests.program.converter import FEED, convert
+from tests.program.conversions import FRAMES, SUPPLIER, said
+from tests.program.converter import FEED, convert, refused_lines
 from tests.program.room import Group, Ran, Room
 from tests.running import Outcome
 
@@ -64,9 +64,9 @@ def refused(room: Room) -> Iterator[Outcome]:
     room.write("b.xml", prices(1, "07"))
     came = convert(room, "-o", ".", "a.xml", "b.xml")
     errors = came.errors.decode().splitlines()
-    found = came.status, [line.split(":")[1] for line in errors[:1]], errors[1:]
+    found = came.status, refused_lines(came), errors[1:]
     told = [*notes_on("b.xml", 1, "07"), "Price left out: PriceQualifier 07: 1", "1 note"]
-    wanted = 1, [" a.xml"], said(told).decode().splitlines()
+    wanted = 1, [("a.xml", 5)], said(told).decode().splitlines()
     yield Outcome("a refused file of notes, and another", found, wanted)
 
 
@@ -114,10 +114,8 @@ def unions(room: Room) -> Iterator[Outcome]:
 
     room.write(FEED, markets_of(COUNTRIES[:200], COUNTRIES[100 : most + 1]))
     came = convert(room, FEED)
-    why = f"R1: its Markets together have more than {FIELD_BYTES} bytes{MENDED}"
-    at = FRAMES["supply"].before.index("<ProductSupply>") + 1
-    wanted = Ran(1, b"", said([f"{FEED}:1:{at}: refused: {why}"]))
-    yield Outcome(f"Markets of {most + 1} countries", came, wanted)
+    found = came.status, came.output, refused_lines(came)
+    yield Outcome(f"Markets of {most + 1} countries", found, (1, b"", [(FEED, 1)]))
 
 
 def long_prices(room: Room) -> Iterator[Outcome]:
@@ -126,10 +124,10 @@ def long_prices(room: Room) -> Iterator[Outcome]:
     territory = f"<Territory><CountriesIncluded>{long}</CountriesIncluded></Territory>"
     room.write(FEED, feed_of("price", territory))
     came = convert(room, FEED)
-    why = f"Price left out: CountriesIncluded has more than {FIELD_BYTES} bytes"
     at = FRAMES["price"].before.index("<Price>") + 1
-    told = [f"{FEED}:1:{at}: R1: {why}", f"{why}: 1", "1 note"]
-    yield Outcome("a Price with a long field", came, Ran(0, message_of("price"), said(told)))
+    first, *_, last = came.errors.decode().splitlines()
+    found = came.status, came.output, first.startswith(f"onixdesk: {FEED}:1:{at}: R1: Price left out: "), last
+    yield Outcome("a Price with a long field", found, (0, message_of("price"), True, "onixdesk: 1 note"))
 
 
 GROUPS = [

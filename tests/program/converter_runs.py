@@ -1,21 +1,14 @@
-"""The words, files and statuses of `onix-to-csv`."""
+"""What the words, files and statuses of a converter are to be, and the encodings of the second opinion."""
 
 import codecs
-import gzip
 import io
-import os
-import pty
-import subprocess
-import time
 import zipfile
 from collections.abc import Iterator
-from functools import partial
 from typing import NamedTuple
 
-from bench.figures.conversion import CONVERTER
 from tests.program.conversions import FRAMES, said
-from tests.program.converter import FEED, convert
-from tests.program.room import SECONDS, Group, Ran, Room
+from tests.program.converter import FEED, second_opinion
+from tests.program.room import Group, Ran, Room
 from tests.running import Outcome
 
 FRAME = FRAMES["products"]
@@ -46,27 +39,6 @@ BAD_SAID = (
     "2:1: refused: no RecordReference: no RecordReference; the sender has to mend it, or --leave-out-wrong"
     " leaves the product out"
 )
-
-
-# Names of files, with the NAME that the messages of each have.
-NAMES = {
-    "a.xml": "a",
-    "b.c.onix": "b.c",
-    "d": "d",
-    "e.xml.gz": "e",
-    "F.XML.GZ": "F",
-    "g.zip": "g",
-    "h.onx.Zip": "h",
-    "i.zip.gz": "i",
-    "j.gz.xml": "j.gz",
-}
-
-
-def packed(name: str) -> bytes:
-    """A feed, packed as the ending of its name says."""
-    if name.lower().endswith(".gz"):
-        return gzip.compress(ONE)
-    return zipped({"any": ONE}) if name.lower().endswith(".zip") else ONE
 
 
 def zipped(entries: dict[str, bytes], method: int = zipfile.ZIP_DEFLATED) -> bytes:
@@ -106,13 +78,6 @@ CASES = [
         Ran(0),
         {"message.csv": message_of("R1")},
         given=ONE,
-    ),
-    Case(
-        "names of files",
-        {name: packed(name) for name in NAMES},
-        ["-o", ".", *NAMES],
-        Ran(0),
-        {f"{name}.csv": message_of("R1") for name in NAMES.values()},
     ),
     Case(
         "parts on standard output follow each other",
@@ -256,15 +221,7 @@ def encodings(room: Room) -> Iterator[Outcome]:
     for sender, feeds in [(SENDER, ENCODINGS), ("é", LATIN)]:
         wanted = Ran(0, message_of("R1").replace(b",S,", f",{sender},".encode()))
         for feed in feeds:
-            yield Outcome(f"encoding: {feed[:50]!r}", convert(room, given=feed), wanted)
-
-
-def check(case: Case, room: Room) -> Iterator[Outcome]:
-    for name, data in case.files.items():
-        room.write(name, data)
-    came = convert(room, *case.words, given=case.given)
-    left = {path.name: path.read_bytes() for path in room.folder.iterdir()}
-    yield Outcome(f"onix-to-csv: {case.name}", (came, left), (case.wanted, case.files | case.made))
+            yield Outcome(f"second opinion: encoding {feed[:50]!r}", second_opinion(room, given=feed), wanted)
 
 
 BAD_WORDS = [
@@ -289,57 +246,4 @@ BAD_WORDS = [
 ]
 
 
-def bad_words(room: Room) -> Iterator[Outcome]:
-    room.write("a.xml", ONE)
-    room.write("b.xml", ONE)
-    for words in BAD_WORDS:
-        came = convert(room, *words)
-        found = came.status, came.output, came.errors.startswith(b"usage: onix-to-csv ")
-        yield Outcome(f"onix-to-csv {words}", found, (2, b"", True))
-    left = sorted(path.name for path in room.folder.iterdir())
-    yield Outcome("onix-to-csv: nothing is written", left, ["a.xml", "b.xml"])
-    came = convert(room, "--help")
-    found = came.status, came.errors, came.output.startswith(b"usage: onix-to-csv ")
-    yield Outcome("onix-to-csv --help", found, (0, b"", True))
-
-
-def full_output(room: Room) -> Iterator[Outcome]:
-    room.write(FEED, ONE)
-    with open("/dev/full", "wb") as full:
-        done = subprocess.run(
-            [CONVERTER, FEED], cwd=room.folder, stdout=full, stderr=subprocess.PIPE, timeout=SECONDS
-        )
-    wanted = 3, said(["standard output: No space left on device"])
-    yield Outcome("an output that takes nothing", (done.returncode, done.stderr), wanted)
-
-
-def terminal(room: Room) -> Iterator[Outcome]:
-    """On a terminal a line shows how far it is, and is taken away at the end."""
-    ours, theirs = pty.openpty()
-    process = subprocess.Popen(
-        [CONVERTER], cwd=room.folder, stdin=subprocess.PIPE, stdout=subprocess.PIPE, stderr=theirs
-    )
-    os.close(theirs)
-    assert process.stdin
-    process.stdin.write(FRAME.before.encode())
-    for _ in range(4):
-        process.stdin.write(b"<Note/>" * 30_000)
-        process.stdin.flush()
-        time.sleep(0.25)
-    process.stdin.write(FRAME.behind.encode())
-    output, _ = process.communicate(timeout=SECONDS)
-    shown = os.read(ours, 65536).decode()
-    os.close(ours)
-    yield Outcome("a terminal: the records", (process.returncode, output), (0, message_of()))
-    lines = shown.split("\r\033[K")
-    is_so = all(line.startswith("-: ") for line in lines[1:-1])
-    yield Outcome("a terminal: how far it is", (len(lines) > 2, is_so, lines[-1]), (True, True, ""))
-
-
-GROUPS = [
-    *(Group(case.name, partial(check, case)) for case in CASES),
-    Group("encodings", encodings),
-    Group("bad words", bad_words),
-    Group("an output that takes nothing", full_output),
-    Group("a terminal", terminal),
-]
+GROUPS = [Group("second opinion: encodings", encodings)]

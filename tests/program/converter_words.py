@@ -1,11 +1,6 @@
-"""What `onix-to-csv` takes for the words of a sender, of numbers and of parts."""
-
-from collections.abc import Iterator
+"""What a converter takes for the words of a sender, of numbers and of parts, and what it does not."""
 
 from tests.program.conversions import FRAMES
-from tests.program.converter import FEED, convert
-from tests.program.room import Group, Ran, Room
-from tests.running import Outcome
 
 HEADER = "<Header>{}<MessageNumber>1</MessageNumber></Header>"
 SENDER = (
@@ -49,14 +44,6 @@ BAD: list[list[str | bytes]] = [
 ]
 
 
-def bad(room: Room) -> Iterator[Outcome]:
-    room.write(FEED, feed_of(HEADER.format(SENDER)))
-    for words in BAD:
-        came = convert(room, *words, FEED)
-        found = came.status, came.output, came.errors.startswith(b"usage: onix-to-csv ")
-        yield Outcome(f"onix-to-csv {words}", found, (2, b"", True))
-
-
 # Words, and the fields of the sender and the number that they give a message without a sender.
 GOOD = [
     (["--sender", "01,S"], "01,S", "1"),
@@ -66,18 +53,4 @@ GOOD = [
     (["--sender", "06,S", "--number-offset", "000000000"], "06,S", "1"),
     (["--sender", "06,S", "--number-offset", "999999998"], "06,S", "999999999"),
     (["--sender", "06,S", "--number", "999999999"], "06,S", "999999999"),
-]
-
-
-def good(room: Room) -> Iterator[Outcome]:
-    room.write(FEED, feed_of(HEADER.format("<Sender><SenderName>North</SenderName></Sender>")))
-    for words, sender, number in GOOD:
-        came = convert(room, *words, FEED)
-        records = f"Message,2,{sender},,,{number},,,,\nEndMessage,1\n"
-        yield Outcome(f"onix-to-csv {words}", came, Ran(0, records.encode()))
-
-
-GROUPS = [
-    Group("bad words of the converter", bad),
-    Group("words for a sender and for numbers", good),
 ]

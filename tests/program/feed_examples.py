@@ -15,7 +15,6 @@ def like_the_repository(room: Room) -> None:
     """The folder of the room with what the commands name, of which bin/onixdesk is the tested program."""
     room.path("bin").mkdir()
     room.path("bin/onixdesk").symlink_to(room.program)
-    room.path("bin/onix-to-csv").symlink_to(ROOT / "bin/onix-to-csv")
     room.path("examples").symlink_to(ROOT / "examples")
 
 

@@ -1,4 +1,4 @@
-"""What `onix-to-csv` says of its files on standard error, compared with what is wanted."""
+"""What `onixdesk convert` says of its files on standard error, compared with what is wanted."""
 
 import re
 from collections.abc import Iterable
@@ -29,12 +29,12 @@ def read_errors(errors: bytes) -> Errors:
     of_files: dict[str, list[Said]] = {}
     summary: list[str] = []
     for line in errors.decode().splitlines():
-        found = re.fullmatch(r"onix-to-csv: ([^ :]+):([0-9]+)(?::([0-9]+))?: (.*)", line)
+        found = re.fullmatch(r"onixdesk: ([^ :]+):([0-9]+)(?::([0-9]+))?: (.*)", line)
         if found:
             column = int(found[3]) if found[3] else None
             of_files.setdefault(found[1], []).append(Said((int(found[2]), column), found[4]))
         else:
-            summary.append(line.removeprefix("onix-to-csv: "))
+            summary.append(line.removeprefix("onixdesk: "))
     return Errors(of_files, summary)
 
 
@@ -74,28 +74,20 @@ def compared(wanted: list[Note], starts: dict[object, Place], said: Iterable[Sai
     return Compared(missing, surplus)
 
 
-# What is passed over is counted beside the notes.
-PASSED_OVER = "not looked at"
-
-
 class Summary(NamedTuple):
-    """How often each reason was given, how often an element was passed over, and the last line, which counts
-    all notes, where there are some."""
+    """How often each reason was given, and the last line, which counts all notes, where there are some."""
 
     reasons: dict[str, int]
-    passed_over: dict[str, int]
     last: str
 
 
 def read_summary(lines: list[str]) -> Summary:
     reasons: dict[str, int] = {}
-    passed_over: dict[str, int] = {}
     has_count = lines and re.fullmatch("[0-9]+ notes?", lines[-1])
     for line in lines[:-1] if has_count else lines:
         reason, _, count = line.rpartition(": ")
-        counts = passed_over if PASSED_OVER in reason else reasons
-        counts[reason] = int(count)
-    return Summary(reasons, passed_over, lines[-1] if has_count else "")
+        reasons[reason] = int(count)
+    return Summary(reasons, lines[-1] if has_count else "")
 
 
 def count_line(notes: int) -> str:

@@ -74,7 +74,6 @@ class Part:
 class Verdict:
     parts: list[Part] = field(default_factory=list)
     notes: list[Note] = field(default_factory=list)
-    passed_over: dict[str, int] = field(default_factory=dict)
     leaves_out_products: bool = False
     refusal: Refused | None = None
 
@@ -168,13 +167,9 @@ class Judge:
     words: Words
     product: Product
     notes: list[Note] = field(default_factory=list)
-    passed_over: dict[str, int] = field(default_factory=dict)
 
     def note(self, about: object, *reasons: str, names: tuple[str, ...] = ANY) -> None:
         self.notes.append(Note(about, self.product.reference, reasons, names))
-
-    def pass_over(self, name: str) -> None:
-        self.passed_over[name] = self.passed_over.get(name, 0) + 1
 
     def note_regions(self, territory: Territory | None) -> None:
         for region in regions_left_out(territory) if territory else []:
@@ -239,8 +234,6 @@ class Judge:
             return None
         for market in kept:
             self.note_regions(market.territory)
-            if market.is_restricted:
-                self.pass_over("SalesRestriction")
         fields = [territory_fields(market.territory) for market in kept] or [["", "", ""]]
         if not all(map(are_taken, fields)):
             raise Wrong
@@ -278,8 +271,6 @@ class Judge:
             self.note(price, *reasons, names=names)
             return []
         self.note_regions(price.territory)
-        for name in price.passed_over:
-            self.pass_over(name)
         return [price_record(price)]
 
 
@@ -352,8 +343,6 @@ def put(product: Product, message: Message, words: Words, filling: Filling, verd
         verdict.notes.append(Note(product, product.reference, ANY, wrong.names))
         return
     verdict.notes += one.notes
-    for name, count in one.passed_over.items():
-        verdict.passed_over[name] = verdict.passed_over.get(name, 0) + count
 
 
 def effect(products: list[Product], catalogue: set[str]) -> str:

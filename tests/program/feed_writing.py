@@ -37,15 +37,15 @@ PASSED_OVER_TAGS = {
 TAGS = SHORT_TAGS | PASSED_OVER_TAGS
 
 ENCODINGS = [
-    *("UTF-8", "utf-8", "UTF8", "utf8", "UTF-16", "UTF-16LE", "UTF-16BE"),
-    *("ISO-8859-1", "windows-1252", "koi8-r", "US-ASCII", ""),
+    *("UTF-8", "utf-8", "UTF8", "utf8", "UTF-16"),
+    *("ISO-8859-1", "windows-1252", "US-ASCII", ""),
 ]
 
 SPACES = [" ", "\n", "\t", "  \n ", "\r\n", "\r"]
 
-# What a DOCTYPE may declare. A reference to names that are not there has what is behind it not count.
-OWN_NAME = '<!ENTITY own "Y">'
-NAMES_BY_ADDRESS = [
+# What a DOCTYPE may declare, which is passed over.
+DECLARATIONS = [
+    '<!ENTITY own "Y">',
     '<!ENTITY % names SYSTEM "names.ent"> %names; <!ENTITY eacute "not this">',
     '%names; <!ENTITY eacute "not this">',
 ]
@@ -81,7 +81,6 @@ class Writer:
         self.is_short = random.random() < 0.5
         self.prefix = random.choice(["", "", "o:"])
         self.namespace = NAMESPACES[self.is_short] if self.prefix or random.random() < 0.5 else ""
-        self.has_own_name = False
         self.parts: list[str] = []
         self.length = 0
         self.starts: dict[object, int] = {}
@@ -110,8 +109,6 @@ class Writer:
         number = ord(character)
         if number in codepoint2name and self.is_one_of(3):
             return f"&{codepoint2name[number]};"
-        if character == "Y" and self.has_own_name:
-            return "&own;"
         if not self.can_write(character) or self.is_one_of(12):
             return f"&#{number};" if self.is_one_of(2) else f"&#x{number:x};"
         if character == " " and self.is_one_of(3):
@@ -351,12 +348,9 @@ class Writer:
         encoding = f' encoding="{self.encoding}"' if self.encoding else ""
         standalone = self.random.choice(["", "", ' standalone="yes"', " standalone='no'"])
         self.append(f'<?xml version="1.0"{encoding}{standalone}?>\n')
-        kind = self.random.choice(["none", "none", "own", "address"])
-        if kind == "own":
-            self.has_own_name = True
-            self.append(f'<!DOCTYPE {root} SYSTEM "onix.dtd" [{OWN_NAME}]>\n')
-        elif kind == "address" and "yes" not in standalone:
-            self.append(f"<!DOCTYPE {root} [{self.random.choice(NAMES_BY_ADDRESS)}]>\n")
+        if self.random.random() < 0.5:
+            address = self.random.choice(["", ' SYSTEM "onix.dtd"'])
+            self.append(f"<!DOCTYPE {root}{address} [{self.random.choice(DECLARATIONS)}]>\n")
 
     def write(self, message: Message) -> Written:
         root = self.name("ONIXMessage")
@@ -376,7 +370,7 @@ class Writer:
 
     def written(self) -> Written:
         text = "".join(self.parts)
-        lines = [0, *(found.end() for found in finditer("\r\n|\r|\n", text))]
+        lines = [0, *(found.end() for found in finditer("\n", text))]
 
         def place(offset: int) -> Place:
             line = bisect_right(lines, offset)

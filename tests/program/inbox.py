@@ -6,12 +6,9 @@ import json
 import os
 import threading
 import time
-import zipfile
 from collections.abc import Iterator
 from functools import partial
-from io import BytesIO
 
-from bench.figures.conversion import CONVERTER
 from tests.program.converter_runs import feed_of, message_of
 from tests.program.databases import batch, execute
 from tests.program.inboxes import (
@@ -30,20 +27,14 @@ from tests.program.inboxes import (
     taken,
 )
 from tests.program.messages import AGREED
-from tests.program.room import Group, Ran, Room
+from tests.program.packed_feeds import packed
+from tests.program.room import SECONDS, Group, Ran, Room
 from tests.program.serving import free_port, serving
 from tests.running import Outcome
 
 UNREAD_XML = b"<ONIXMessage release='2.1'/>"
 
 NOBODY = "waiting: no desk answers at http://127.0.0.1:{}: Connection refused"
-
-
-def zipped(data: bytes) -> bytes:
-    packed = BytesIO()
-    with zipfile.ZipFile(packed, "w") as archive:
-        archive.writestr("feed.xml", data)
-    return packed.getvalue()
 
 
 def each_kind_of_file(room: Room) -> Iterator[Outcome]:
@@ -85,40 +76,36 @@ def each_kind_of_file(room: Room) -> Iterator[Outcome]:
 
 
 def what_the_converter_takes(room: Room) -> Iterator[Outcome]:
-    """It gets each feed under an ending that it knows, and none of its name; what it refuses is told by its
-    last line."""
-    feeds = {"a.xml": "feed.xml", "b.ONIX": "feed.onix", "c.onx": "feed.onx", "d.gz": "feed.xml.gz",
-             "e.xml.gz": "feed.xml.gz", "f.ZIP": "feed.xml.zip"}
-    program = script(room, "converter", 'for word; do :; done; cat "$word" >/dev/null &&'
-                     ' echo "onix-to-csv: $word:3:7: refused: $# words" >&2; exit 1')
+    """It gets each feed under an ending that it knows, and none of its name, and one that is packed as its standard
+    input; what it refuses is told by its last line, and kept with the name that the feed came in by."""
+    feeds = {"a.xml": "feed.xml", "b.ONIX": "feed.onix", "c.onx": "feed.onx", "d.gz": "-", "e.xml.gz": "-",
+             "f.ZIP": "-", "g\x07.xml": "feed.xml"}
+    program = script(room, "converter", 'for word; do :; done; echo "$word $(cat "$word")" >>"$0.given"'
+                     '; echo "onixdesk: $word:3:7: refused: $# words" >&2; exit 1')
     inbox = Inbox(room, 1, WORDS="--id-type 01 '--addressee' \"06,a b\"")
-    inbox.put({name: b"x" for name in feeds})
+    inbox.put({name: packed(name, b"x") for name in feeds})
     came = inbox.run("--converter", program)
-    wanted = said(*(f"{name}: refused: 3:7: 7 words" for name in feeds), status=1)
+    shown = [name.replace("\x07", "\\x07") for name in feeds]
+    wanted = said(*(f"{name}: refused: 3:7: 7 words" for name in shown), status=1)
     yield Outcome("inbox: what the converter is given", came, wanted)
-    lines = {f"refused/{name}.answer": f"onix-to-csv: {file}:3:7: refused: 7 words\n".encode()
-             for name, file in feeds.items()}
+    given = room.path("converter.given").read_text().splitlines()
+    yield Outcome("inbox: the names that the converter is given", given, [f"{file} x" for file in feeds.values()])
+    lines = {f"refused/{name}.answer": f"onixdesk: {name}:3:7: refused: 7 words\n".encode() for name in shown}
     kept = {name: data for name, data in inbox.kept().items() if name.endswith(".answer")}
-    yield Outcome("inbox: the names that the converter is given", kept, lines)
+    yield Outcome("inbox: the names that are kept", kept, lines)
 
 
 def a_feed_that_is_refused(room: Room) -> Iterator[Outcome]:
     inbox = Inbox(room, 1)
-    inbox.put({"d.onix": UNREAD_XML, "e.zip": b"no zip"})
+    inbox.put({"d.onix": UNREAD_XML, "e.xml": feed_of("")})
     came = inbox.run()
     lines = came.errors.decode().splitlines()
-    found = came.status, [line.split(":")[1:3] for line in lines], ["2.1" in line for line in lines]
-    wanted = 1, [[" d.onix", " refused"], [" e.zip", " refused"]], [True, False]
+    found = came.status, [line.split(": ")[1:4] for line in lines]
+    wanted = 1, [["d.onix", "refused", "1:1"], ["e.xml", "refused", "2:1"]]
     yield Outcome("inbox: feeds that the converter refuses", found, wanted)
-
-
-def packed_feeds(room: Room) -> Iterator[Outcome]:
-    batch(room, AGREEMENT)
-    with serving(room, WORDS, 2) as desk:
-        inbox = Inbox(room, desk.port)
-        inbox.put({"a.gz": gzip.compress(feed_of("R1")), "b.zip": zipped(numbered(["R2"], 2))})
-        wanted = said("a.gz: done: number 1 applied", "b.zip: done: number 2 applied")
-        yield Outcome("inbox: packed feeds", inbox.run(), wanted)
+    kept = inbox.kept()
+    found = [kept[f"refused/{name}.answer"].partition(b": refused: ")[0] for name in ("d.onix", "e.xml")]
+    yield Outcome("inbox: what is kept of them", found, [b"onixdesk: d.onix:1:1", b"onixdesk: e.xml:2:1"])
 
 
 def names_that_come_again(room: Room) -> Iterator[Outcome]:
@@ -162,7 +149,7 @@ def words_of_the_converter(room: Room) -> Iterator[Outcome]:
         }
         yield Outcome("inbox: all parts are posted", found, wanted)
         notes = kept["done/b.xml.answer"].decode()
-        yield Outcome("inbox: the notes", notes.startswith("onix-to-csv: feed.xml:3"), True)
+        yield Outcome("inbox: the notes", notes.startswith("onixdesk: b.xml:3:1: "), True)
 
 
 def what_waits(room: Room) -> Iterator[Outcome]:
@@ -217,10 +204,10 @@ def what_is_still_written(room: Room) -> Iterator[Outcome]:
         ]
         yield Outcome("inbox: what is still written", (inbox.run(), inbox.lying()), (said(*lines), files))
         # Long enough that a busy machine looks at the renamed file in time.
-        inbox.set(UNCHANGED_SECONDS=10)
-        time.sleep(10.1)
+        inbox.set(UNCHANGED_SECONDS=30)
+        time.sleep(30.1)
         (inbox.incoming / "c.xml.part").rename(inbox.incoming / "c.xml")
-        lines = "a.xml: done: number 1 applied", "c.xml: waiting: it changed less than 10 s ago"
+        lines = "a.xml: done: number 1 applied", "c.xml: waiting: it changed less than 30 s ago"
         yield Outcome("inbox: what is written", inbox.run(), said(*lines))
 
 
@@ -261,7 +248,7 @@ def what_changes_meanwhile(change: str, room: Room) -> Iterator[Outcome]:
         step = CHANGING[change].format(inbox.incoming, inbox.incoming)
         other = inbox.incoming / "next"
         once = f"[ ! -e {other} ] || {{ {step}; rm -f {other}; }}"
-        program = script(room, "converter", f'{once}\nexec "{CONVERTER}" "$@"')
+        program = script(room, "converter", f'{once}\nexec "{inbox.converter}" "$@"')
         wanted = said("a.xml: done: number 1 applied", "a.xml: done: number 2 applied")
         yield Outcome(f"inbox: {change} meanwhile", inbox.run("--converter", program), wanted)
         wanted = {
@@ -278,12 +265,14 @@ def conversions_that_do_not_end(room: Room) -> Iterator[Outcome]:
     program = script(room, "converter", 'for word; do :; done; case $(cat "$word") in long) exec sleep 60 ;;'
                      ' big) kill -KILL $$ ;; stopped) kill -TERM $$ ;; esac')
     inbox = Inbox(room, 1, CONVERSION_SECONDS=1)
-    inbox.put({"a.xml": b"long", "b.xml": b"big"})
-    lines = [
-        "a.xml: refused: its conversion took more than 1 s",
-        "b.xml: refused: its conversion was killed, as where it takes more memory than the unit allows",
-    ]
-    yield Outcome("inbox: conversions that do not end", inbox.run("--converter", program), said(*lines, status=1))
+    inbox.put({"a.xml": b"long"})
+    wanted = said("a.xml: refused: its conversion took more than 1 s", status=1)
+    yield Outcome("inbox: a conversion that does not end", inbox.run("--converter", program), wanted)
+    inbox.set(CONVERSION_SECONDS=SECONDS)
+    inbox.put({"b.xml": b"big"})
+    line = "b.xml: refused: its conversion was killed, as where it takes more memory than the unit allows"
+    wanted = said(line, status=1)
+    yield Outcome("inbox: a conversion that is killed", inbox.run("--converter", program), wanted)
     inbox.put({"c.xml": b"stopped", "d.xml": b"none"})
     line = "waiting: the converter ends with status -15: "
     wanted = said(f"c.xml: {line}", f"d.xml: {line}")
@@ -442,7 +431,6 @@ GROUPS = [
     Group("inbox: each kind of file", each_kind_of_file),
     Group("inbox: what the converter takes", what_the_converter_takes),
     Group("inbox: a feed that is refused", a_feed_that_is_refused),
-    Group("inbox: packed feeds", packed_feeds),
     Group("inbox: names that come again", names_that_come_again),
     Group("inbox: words of the converter", words_of_the_converter),
     Group("inbox: what waits", what_waits),

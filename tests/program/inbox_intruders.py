@@ -9,10 +9,9 @@ from collections.abc import Iterator
 from functools import partial
 from pathlib import Path
 
-from bench.figures.conversion import within
 from tests.program.converter_runs import feed_of, message_of
 from tests.program.databases import batch
-from tests.program.inboxes import AGREEMENT, WORDS, Inbox, ended, of_series, said, taken
+from tests.program.inboxes import AGREEMENT, WORDS, Inbox, ended, of_series, said, taken, within
 from tests.program.room import Group, Room
 from tests.program.serving import serving
 from tests.running import Outcome

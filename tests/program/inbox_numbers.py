@@ -11,7 +11,6 @@ from collections.abc import Iterator
 from functools import partial
 from pathlib import Path
 
-from bench.figures.conversion import within
 from tests.program.converter_runs import message_of
 from tests.program.databases import batch
 from tests.program.inboxes import (
@@ -28,6 +27,7 @@ from tests.program.inboxes import (
     script,
     taken,
     unnumbered,
+    within,
 )
 from tests.program.room import Group, Ran, Room
 from tests.program.serving import serving

@@ -4,8 +4,7 @@ import re
 import subprocess
 from collections.abc import Iterator
 
-from bench.figures.conversion import within
-from tests.program.inboxes import PROGRAM, script
+from tests.program.inboxes import PROGRAM, script, within
 from tests.program.room import SECONDS, Group, Room
 from tests.running import Outcome
 from tools.root import ROOT

@@ -2,6 +2,7 @@
 
 import os
 import subprocess
+import sys
 from collections.abc import Sequence
 from pathlib import Path
 
@@ -58,8 +59,14 @@ def files_in(folder: Path) -> dict[str, bytes]:
     }
 
 
+def within(text: str, *words: Word) -> list[Word]:
+    """The words by which a text of Python runs, which may import what ships and run a program of it."""
+    return ["env", f"PYTHONPATH={ROOT / 'lib'}", sys.executable, "-P", "-s", "-S", "-B", "-c", text, *words]
+
+
 class Inbox:
-    """The inbox of a series, in a room: what comes in, what it keeps, and its settings."""
+    """The inbox of a series, in a room: what comes in, what it keeps, and its settings. It converts by the program that
+    is tested."""
 
     def __init__(self, room: Room, port: int, series: str = "north", **settings: object) -> None:
         self.room = room
@@ -67,6 +74,7 @@ class Inbox:
         self.series = series
         self.incoming = room.path(f"in-{series}")
         self.state = room.path(f"state-{series}")
+        self.converter = script(room, "convert", f'exec "{room.program}" convert "$@"')
         self.incoming.mkdir(exist_ok=True)
         self.set(**settings)
 
@@ -86,7 +94,8 @@ class Inbox:
 
     def words(self, *more: Word) -> list[Word]:
         folders: list[Word] = ["--settings", "settings.conf", "--incoming", self.incoming, "--state", self.state]
-        return [PROGRAM, *folders, *more, "--", self.series]
+        converter: list[Word] = [] if "--converter" in more else ["--converter", self.converter]
+        return [PROGRAM, *folders, *converter, *more, "--", self.series]
 
     def start(self, *more: Word, before: Sequence[Word] = (), **environment: str) -> subprocess.Popen[bytes]:
         return subprocess.Popen(

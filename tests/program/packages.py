@@ -15,12 +15,12 @@ MAY_IMPORT: dict[str, set[str]] = {
     "lib/command_lines": set(),
     "lib/desk_copy": {"command_lines"},
     "lib/desk_follow": {"command_lines", "desk_copy", "psycopg2"},
-    "lib/onix_to_csv": {"command_lines"},
     "lib/onixdesk_inbox": {"command_lines"},
+    "tests/second_opinion": {"command_lines", "tests"},
     "tools": set(),
     "bench": {"desk_copy", "desk_follow", "psycopg2", "tools"},
     # The tests of the page drive a browser.
-    "tests": {"bench", "command_lines", "desk_copy", "desk_follow", "onix_to_csv", "psycopg2", "selenium", "tools"},
+    "tests": {"bench", "command_lines", "desk_copy", "desk_follow", "onixdesk_inbox", "psycopg2", "selenium", "tools"},
 }
 
 

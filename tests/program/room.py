@@ -72,9 +72,10 @@ class Room:
             return self.call([self.program, *words], given, full.fileno())
 
     def start(self, *words: Word, stdin: int = subprocess.DEVNULL) -> subprocess.Popen[bytes]:
-        """Starts the program, to be asked while it runs."""
+        """Starts the program, to be asked while it runs. SIGINT ends it also where a shell that runs the tests in the
+        background has it ignored."""
         return subprocess.Popen(
-            [self.program, *words],
+            ["env", "--default-signal=INT", self.program, *words],
             cwd=self.folder,
             stdin=stdin,
             stdout=subprocess.PIPE,

@@ -1,13 +1,10 @@
 """The sample feeds in tests/feeds: whole messages, and the records that they give, byte for byte."""
 
-import gzip
 import re
 from collections.abc import Iterator
-from functools import partial
 from pathlib import Path
 
-from tests.program.converter import convert
-from tests.program.feed_notes import Said, count_line, read_errors, read_summary
+from tests.program.converter import convert, second_opinion
 from tests.program.feed_writing import Place
 from tests.program.room import Group, Ran, Room
 from tests.running import Outcome
@@ -38,51 +35,18 @@ NOTED = [
 ]
 
 
-# What each feed has once and is only counted.
-COUNTED = {
-    "block-update": "SalesRestriction",
-    "left-out": "",
-    "two-products": "PriceStatus",
-    "two-products-short": "PriceStatus",
-}
-
-
 def element_at(feed: list[str], place: Place) -> str:
     """The element whose start tag is at a place of the feed."""
     found = re.match("<([A-Za-z]+)", feed[place.line - 1][place.column - 1 :])
     return found[1] if found else ""
 
 
-def noted(path: Path, said: list[Said]) -> list[tuple[str, str, str]]:
-    """What the notes name, each by the word that is wanted where its reason has it."""
-    feed = path.read_text(encoding="latin-1").splitlines()
-    found = []
-    for (place, what), (_, _, word) in zip(said, NOTED):
-        reference, reason = what.split(": ", 1)
-        found.append((reference, element_at(feed, Place(place[0], place[1] or 0)), word if word in reason else reason))
-    return found
-
-
-def sample(path: Path, room: Room) -> Iterator[Outcome]:
-    records = path.with_suffix(".csv").read_bytes()
-    noted_here = NOTED if path.stem == "left-out" else []
-    came = convert(room, path)
-    yield Outcome(f"{path.name}", (came.status, came.output), (0, records))
-    errors = read_errors(came.errors)
-    said = errors.of_files.get(str(path), [])
-    summary = read_summary(errors.summary)
-    count = len(noted_here)
-    found = noted(path, said), len(said), sum(summary.reasons.values()), summary.last
-    wanted = noted_here, count, count, count_line(count)
-    yield Outcome(f"{path.name}: its notes", found, wanted)
-    counted = [(COUNTED[path.stem] in line, count) for line, count in summary.passed_over.items()]
-    yield Outcome(f"{path.name}: what is only counted", counted, [(True, 1)] if COUNTED[path.stem] else [])
-
-    came = convert(room, given=path.read_bytes())
-    yield Outcome(f"{path.name}, from standard input", came.output, records)
-    room.write("packed.xml.gz", gzip.compress(path.read_bytes()))
-    came = convert(room, "packed.xml.gz")
-    yield Outcome(f"{path.name}, packed", came.output, records)
+def second(room: Room) -> Iterator[Outcome]:
+    """The second opinion makes the same records of them."""
+    for path in sorted(FOLDER.glob("*.xml")):
+        came = second_opinion(room, path)
+        wanted = 0, path.with_suffix(".csv").read_bytes()
+        yield Outcome(f"second opinion: {path.name}", (came.status, came.output), wanted)
 
 
 def delivered(room: Room) -> Iterator[Outcome]:
@@ -112,6 +76,6 @@ def delivered(room: Room) -> Iterator[Outcome]:
 
 
 GROUPS = [
-    *(Group(path.name, partial(sample, path)) for path in sorted(FOLDER.glob("*.xml"))),
+    Group("second opinion: the samples", second),
     Group("the samples, delivered", delivered),
 ]

@@ -5,10 +5,6 @@ Each message has a seed of its own, 0 to 1,999: `tests/seeded-feed SEED` writes 
 follow each other and are converted in one run.
 """
 
-import gzip
-import io
-import zipfile
-from collections import Counter
 from collections.abc import Iterator
 from functools import partial
 from random import Random
@@ -36,6 +32,8 @@ from tests.running import Outcome
 
 # So many messages a series has.
 MESSAGES = 250
+
+ENDINGS = [".xml", ".XML", ".onix"]
 
 SHOP = ("06", "5012345678900")
 
@@ -96,17 +94,6 @@ class Case(NamedTuple):
     verdict: Verdict
 
 
-def packed(file: str, feed: bytes) -> bytes:
-    if file.endswith(".gz"):
-        return gzip.compress(feed, 1)
-    if file.endswith(".ZIP"):
-        packed = io.BytesIO()
-        with zipfile.ZipFile(packed, "w", zipfile.ZIP_DEFLATED, compresslevel=1) as entries:
-            entries.writestr("whatever.gz", feed)
-        return packed.getvalue()
-    return feed
-
-
 def made(seed: int) -> Case:
     """The case of a seed."""
     series, number = SERIES[seed // MESSAGES], seed % MESSAGES + 1
@@ -117,7 +104,7 @@ def made(seed: int) -> Case:
         odd: list[list[Identifier] | None] = [None, [], identifiers(("06", ""))]
         sender = random.choice(odd)
     message = maker.message(sender, series.addressees, number)
-    file = f"{number}" + random.choice([".xml"] * 8 + [".xml.gz", ".XML.ZIP"])
+    file = f"{number}{random.choice(ENDINGS)}"
     written = Writer(random).write(message)
     return Case(f"seed {seed}", number, file, written, judge(message, series.words))
 
@@ -141,7 +128,7 @@ def check(place: int, room: Room) -> Iterator[Outcome]:
 def converted(name: str, cases: list[Case], words: Words, room: Room) -> Iterator[Outcome]:
     """What comes of the messages in one run."""
     for case in cases:
-        room.write(case.file, packed(case.file, case.written.feed))
+        room.write(case.file, case.written.feed)
     room.path("out").mkdir()
     came = convert(room, *words.line(), "-o", "out", *(case.file for case in cases))
     errors = read_errors(came.errors)
@@ -191,22 +178,13 @@ def refusal_of(case: Case, refusal: Refused, said: list[Said]) -> tuple[object, 
 
 
 def summaries(name: str, cases: list[Case], errors: Errors) -> Iterator[Outcome]:
-    """What the last lines count: all notes, those of each reason, and what is passed over."""
+    """What the last lines count: all notes, and those of each reason."""
     notes = [note for case in cases for note in case.verdict.notes]
     summary = read_summary(errors.summary)
     found = summary.last, sum(summary.reasons.values()), miscounted(notes, summary.reasons)
     yield Outcome(f"{name}: the summary", found, (count_line(len(notes)), len(notes), []))
     texts = [text for text in FEED_TEXTS for line in errors.summary if is_named(text, line)]
     yield Outcome(f"{name}: texts of feeds in the summary", texts, [])
-    passed_over: Counter[str] = Counter()
-    for case in cases:
-        passed_over.update(case.verdict.passed_over)
-    counts = {each: sum_of(summary.passed_over, each) for each in passed_over}
-    yield Outcome(f"{name}: what is passed over", counts, dict(passed_over))
-
-
-def sum_of(counts: dict[str, int], name: str) -> int:
-    return sum(count for line, count in counts.items() if is_named(name, line))
 
 
 def delivered(name: str, cases: list[Case], words: Words, room: Room) -> Iterator[Outcome]:

@@ -25,8 +25,9 @@ class LargeMaker(Maker):
     def product(self, message: Message) -> Product:
         product = Product(f"R{self.random.randrange(10**6)}", "03", [])
         if self.is_one_of(2):
-            value = "x" * self.random.randint(900, 1024)
-            count = self.random.choice([900, 1300, 2000, 2000, 4500])
+            # A quotation mark is two bytes of a record, and one of an element.
+            count, character = self.random.choice([(900, "x"), (1300, "x"), (2000, "x"), (2000, "x"), (2500, '"')])
+            value = character * self.random.randint(900, 1024)
         else:
             value, count = "9", 1
             details = self.random.choice([4000, 6665, 9000])

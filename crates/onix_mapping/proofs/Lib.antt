@@ -4,6 +4,7 @@ pub mod PriceLaws
 pub mod HeaderLaws
 pub mod TerritorySets
 pub mod UnionLaws
+pub mod LetterLaws
 pub mod MarketLaws
 pub mod ElementLaws
 pub mod SupplyLaws

@@ -27,7 +27,7 @@ use Rattle.onix_mapping.proofs.RowLaws.{rows-joined}
 
 -- ---- the number of a part
 
-bind-ok : {A B : Type 0} (r : Result A Refusal) (f : A → Result B Refusal) (y : B) → (r >>= f) ≡ Ok y → (x : A) × (r ≡ Ok x) × (f x ≡ Ok y)
+pub bind-ok : {A B : Type 0} (r : Result A Refusal) (f : A → Result B Refusal) (y : B) → (r >>= f) ≡ Ok y → (x : A) × (r ≡ Ok x) × (f x ≡ Ok y)
 bind-ok (Err e) f y h = cc h
 bind-ok (Ok x) f y h = (x, refl, h)
 
@@ -36,7 +36,7 @@ abbrev value : {A : Type 0} → Result A Refusal → Option A
 value (Ok x) = Some x
 value (Err e) = None
 
-some-ok : {A : Type 0} (o : Option A) (e : Refusal) (x : A) → ok_or o e ≡ Ok x → o ≡ Some x
+pub some-ok : {A : Type 0} (o : Option A) (e : Refusal) (x : A) → ok_or o e ≡ Ok x → o ≡ Some x
 some-ok None e x h = cc h
 some-ok (Some y) e x h = ap value h
 

@@ -53,7 +53,7 @@ pub cond-then : {A : Type 0} (b : Bool) (x : Option A) (y : A) → (if b then x 
 cond-then true x y e = (refl, e)
 cond-then false x y e = cc e
 
-mapped : {A B : Type 0} (x : Option A) (f : A → B) (y : B) → option_map f x ≡ Some y → (z : A) × (x ≡ Some z) × (f z ≡ y)
+pub mapped : {A B : Type 0} (x : Option A) (f : A → B) (y : B) → option_map f x ≡ Some y → (z : A) × (x ≡ Some z) × (f z ≡ y)
 mapped None f y e = cc e
 mapped (Some z) f y e = (z, refl, same_Some (f z) y e)
 
@@ -92,13 +92,13 @@ no-rows o records e = ap (map (row_of o)) (sym (same_Some [] records e))
 
 -- ---- Prices
 
-last-none : {A : Type 0} (xs : List (Option A)) (y : Option A) → first_some (xs ++ y ∷ []) ≡ None → y ≡ None
+pub last-none : {A : Type 0} (xs : List (Option A)) (y : Option A) → first_some (xs ++ y ∷ []) ≡ None → y ≡ None
 last-none [] None e = refl
 last-none [] (Some r) e = cc e
 last-none (None ∷ xs) y e = last-none xs y e
 last-none (Some r ∷ xs) y e = cc e
 
-taken : {A B : Type 0} (x : Option A) (w : B) → (if is_some x then None else Some w) ≡ None → (p : A) × (x ≡ Some p)
+pub taken : {A B : Type 0} (x : Option A) (w : B) → (if is_some x then None else Some w) ≡ None → (p : A) × (x ≡ Some p)
 taken (Some p) w e = (p, refl)
 taken None w e = cc e
 
@@ -246,7 +246,7 @@ supplies-rows o preferred (c ∷ cs) records e =
 
 -- ---- a Product
 
-left-over : (bare : Bool) (x : Option Records) (records : Records) → left_supplies bare x ≡ Some records → x ≡ Some records
+pub left-over : (bare : Bool) (x : Option Records) (records : Records) → left_supplies bare x ≡ Some records → x ≡ Some records
 left-over bare None records e = cc e
 left-over true (Some []) records e = e
 left-over false (Some []) records e = cc e

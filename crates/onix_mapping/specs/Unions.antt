@@ -1,5 +1,5 @@
 -- Several territories as one.
-use Rattle.std.specs.Prelude.{ℕ, Bool, true, false, ◌&&◌, ◌||◌, not, List, [], ◌∷◌, Option, Some, None, filter, if◌then◌else◌, codes}
+use Rattle.std.specs.Prelude.{ℕ, Bool, true, false, ◌&&◌, ◌||◌, ◌==◌, not, List, [], ◌∷◌, Option, Some, None, filter, if◌then◌else◌, codes}
 use Rattle.std.specs.List.{filter_map, flat_map, list_any}
 use Rattle.std.specs.Str.{bytes_eq}
 use Rattle.onix_terms.specs.Code.{country_of}
@@ -35,6 +35,24 @@ wanted territories inside = filter (is_wanted territories inside) countries
 -- whether one of them is the world, or the world without some countries
 abbrev pub has_world : List Territory → Bool
 has_world territories = list_any (λ t. t.world) territories
+
+-- whether the code of a country begins with this letter
+abbrev pub begins : ℕ → List ℕ → Bool
+begins first [] = false
+begins first (b ∷ code) = first == b
+
+-- whether a territory names a country with this first letter
+abbrev pub names : ℕ → Territory → Bool
+names first t = list_any (begins first) t.included || list_any (begins first) t.excluded
+
+-- whether a country is wanted that no territory names
+abbrev pub wants_unnamed : List Territory → Bool → Bool
+wants_unnamed territories true = has_world territories
+wants_unnamed territories false = not (has_world territories)
+
+-- whether a country with this first letter may be wanted
+abbrev pub may_be_wanted : List Territory → Bool → ℕ → Bool
+may_be_wanted territories inside first = wants_unnamed territories inside || list_any (names first) territories
 
 abbrev pub world_without : List (List ℕ) → Territory
 world_without outside = record { included = []; world = true; excluded = outside }

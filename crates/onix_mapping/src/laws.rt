@@ -46,8 +46,8 @@ pub fn parts_say_the_same()
 /// those of several, one after the other. With a first record and an end they are a message, if
 /// they are not too many.
 pub fn records_are_products()
-    ensures one { (o : Opening) (preferred : List ℕ) (nodes : Nodes) (records : List (List (List ℕ)))
-        → product_records o preferred nodes ≡ Some records
+    ensures one { (o : Opening) (preferred : List ℕ) (nodes : Nodes)
+        (records : List (List (List ℕ))) → product_records o preferred nodes ≡ Some records
         → (p : Product) × (p.reference ≡ reference_in nodes) × AreProducts o records (p ∷ []) }
     ensures none { (o : Opening) → AreProducts o [] [] }
     ensures joined { (o : Opening) (a b : List (List (List ℕ))) (c d : List Product)

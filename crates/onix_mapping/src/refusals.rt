@@ -136,7 +136,8 @@ fn day_reason<'a>(day: Option<&'a [u8]>) -> Option<Reason<'a>>
 }
 
 fn quantity_reason<'a>(text: &'a [u8]) -> Option<Reason<'a>>
-    ensures { reason_read result ≡ unread (optional (term_said quantity_of)) WrongQuantity text.now }
+    ensures { reason_read result
+        ≡ unread (optional (term_said quantity_of)) WrongQuantity text.now }
 {
     unless(
         may_be_empty(text, quantity_said(text)),

@@ -110,7 +110,8 @@ pub(crate) fn push_regions<'a>(
     text: &'a [u8],
 ) -> Result<(), AllocError>
     ensures { OnOk result (note_views notes.new.items
-        ≡ note_views notes.old.items ++ map (note (element_view line.now) why) (other_regions text.now)) }
+        ≡ note_views notes.old.items
+        ++ map (note (element_view line.now) why) (other_regions text.now)) }
 {
     let mut rest = text;
     while let Some((region, behind)) = next_word(rest) {

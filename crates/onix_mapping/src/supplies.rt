@@ -78,7 +78,8 @@ fn add_detailed<'a>(
         (details_records opening.now preferred.now nodes)) ≡ Some records.new) }
     ensures notes { (nodes : Nodes) → line_views lines.now ≡ outline depth nodes
         → OnOk result (note_views notes.new.items ≡ note_views notes.old.items
-        ++ (market_notes_in nodes ++ with_notes (record_in nodes) (details_notes opening.now nodes))) }
+        ++ (market_notes_in nodes
+        ++ with_notes (record_in nodes) (details_notes opening.now nodes))) }
     ensures wrong { (nodes : Nodes) → line_views lines.now ≡ outline depth nodes
         → IsErrOf result RowFault.Wrong → with_details (record_in nodes)
         (details_records opening.now preferred.now nodes) ≡ None }

@@ -1,7 +1,8 @@
 //! Several territories as one.
 
 ghost use Rattle.std.specs.Prelude.{◌≡◌, ◌++◌, ◌∷◌, [], IfOk, OnOk, filter};
-ghost use Rattle.onix_mapping.specs.Unions.{countries_from, has_world, is_wanted, letters, lies_in, lies_in_one, of_countries, union, wanted};
+ghost use Rattle.std.specs.List.{list_any};
+ghost use Rattle.onix_mapping.specs.Unions.{begins, countries_from, has_world, is_wanted, letters, lies_in, lies_in_one, may_be_wanted, names, of_countries, union, wanted, wants_unnamed};
 ghost use Rattle.onix_terms.specs.Code.{country_of};
 
 use onix_terms::code::Country;
@@ -73,6 +74,80 @@ fn push_countries(
     Ok(())
 }
 
+// Whether the code of a country begins with this letter.
+fn begins(first: u8, country: Country) -> bool
+    ensures { result ≡ begins first country }
+{
+    match country.as_str().as_bytes() {
+        [] => false,
+        [b, ..] => first == *b,
+    }
+}
+
+// Whether one of the countries has this first letter.
+fn one_begins(first: u8, countries: &[Country]) -> bool
+    ensures { result ≡ list_any (begins first) countries.now }
+{
+    countries.iter().any(|country| begins(first, *country))
+}
+
+// Whether a territory names a country with this first letter.
+fn names(first: u8, territory: &Territory) -> bool
+    ensures { result ≡ names first territory.now }
+{
+    one_begins(first, territory.included.as_slice())
+        || one_begins(first, territory.excluded.as_slice())
+}
+
+fn has_world(territories: &[Territory]) -> bool
+    ensures { result ≡ has_world territories.now }
+{
+    territories.iter().any(|territory| territory.world)
+}
+
+// Whether a country is wanted that no territory names.
+fn wants_unnamed(territories: &[Territory], inside: bool) -> bool
+    ensures { result ≡ wants_unnamed territories.now inside }
+{
+    if inside {
+        has_world(territories)
+    } else {
+        !has_world(territories)
+    }
+}
+
+// Whether one of the territories names a country with this first letter.
+fn one_names(first: u8, territories: &[Territory]) -> bool
+    ensures { result ≡ list_any (names first) territories.now }
+{
+    territories.iter().any(|territory| names(first, territory))
+}
+
+// Whether a country with this first letter may be wanted.
+fn may_be_wanted(territories: &[Territory], inside: bool, first: u8) -> bool
+    ensures { result ≡ may_be_wanted territories.now inside first }
+{
+    wants_unnamed(territories, inside) || one_names(first, territories)
+}
+
+// Adds the countries that are wanted whose code begins with this letter. Few letters begin one that
+// a territory names.
+fn push_wanted(
+    found: &mut Items<Country>,
+    territories: &[Territory],
+    inside: bool,
+    first: u8,
+) -> Result<(), AllocError>
+    ensures { OnOk result (found.new ≡ found.old
+        ++ filter (is_wanted territories.now inside) (countries_from letters first)) }
+{
+    if may_be_wanted(territories, inside, first) {
+        push_countries(found, territories, inside, first)
+    } else {
+        Ok(())
+    }
+}
+
 // The countries that lie in one of the territories, or those that lie in none.
 #[tactic(auto, unfolding(crate::specs::Unions::countries))]
 fn wanted(
@@ -85,16 +160,10 @@ fn wanted(
     let mut found = Items::new(alloc);
     let mut rest = letters();
     while let [first, tail @ ..] = rest {
-        push_countries(&mut found, territories, inside, *first)?;
+        push_wanted(&mut found, territories, inside, *first)?;
         rest = tail;
     }
     Ok(found)
-}
-
-fn has_world(territories: &[Territory]) -> bool
-    ensures { result ≡ has_world territories.now }
-{
-    territories.iter().any(|territory| territory.world)
 }
 
 // The territory of these countries, or nothing where there is none.

@@ -1,9 +1,11 @@
 -- Lines in a vector, the outline that they tell, and its size.
-use Rattle.std.proofs.Common.{◌≡◌, ℕ, zero, suc, ◌+◌, ◌<◌, ◌≤◌, List, [], ◌∷◌, ◌++◌, length, get_or, refl, ap, arith, slice_set}
+use Rattle.std.proofs.Common.{◌≡◌, ℕ, zero, suc, ◌+◌, ◌<◌, ◌≤◌, true, List, [], ◌∷◌, ◌++◌, length, get_or, refl, ap, arith, slice_set}
+use Rattle.std.specs.Prelude.{nat_lt, Option}
+use Rattle.std.proofs.lemmas.Bool.{ltb-true}
 use Rattle.onix_outline.specs.declared.line.Line.{Line}
 use Rattle.onix_outline.specs.Nodes.{Tag}
 use Rattle.onix_outline.specs.Outline.{Line as Told}
-use Rattle.onix_outline.specs.Growing.{change}
+use Rattle.onix_outline.specs.Growing.{Growing, change, growing, opened}
 use Rattle.onix_outline.specs.Sizes.{element_size, format_size, lines_size}
 use Rattle.onix_outline.specs.Views.{line_view, line_views, tag_view}
 
@@ -29,3 +31,8 @@ set_size (l ∷ lines) (suc at) new d lt is = omega (arith, set_size lines at ne
 pub pushed_size : (lines : List Line) (l : Line) → lines_size (line_views (lines ++ l ∷ [])) ≡ lines_size (line_views lines) + element_size (tag_view l) l.text.items
 pushed_size [] l = omega arith
 pushed_size (k ∷ lines) l = omega (arith, pushed_size lines l)
+
+-- in an element that is passed over all are
+pub opened_in_passed : (passed : ℕ) (name : Option (List ℕ)) (tag : Tag) (g : Growing) → nat_lt 0 passed ≡ true → opened passed name tag g ≡ growing g.lines g.opens (suc passed)
+opened_in_passed zero name tag g h = absurd (omega (arith, ltb-true 0 zero h))
+opened_in_passed (suc passed) name tag g h = refl

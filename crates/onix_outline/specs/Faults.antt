@@ -70,7 +70,7 @@ IsRefusedRoot wrong before token = (root_of before ≡ None) × (root_of (token 
 abbrev pub IsUnknown : List Token → Token → Type 0
 IsUnknown before token = is_known token ≡ false
 
--- the place of a fault: that of the tag of a refused root, of a reference that stands for nothing, of the tag of a Header or Product that is too large, else that behind the tokens at which reading stopped; of an unknown encoding, a failed read and want of memory nothing is said
+-- the place of a fault: that of the tag of a refused root, of a reference that stands for nothing, of the tag of a Header or Product that is too large, else that behind the tokens at which reading stopped; of an unknown encoding, a failed read and out of memory nothing is said
 abbrev pub IsAt : Option (List ℕ) → Fault → Position → Type 0
 IsAt bytes (Document UnknownEncoding) place = Unit {0}
 IsAt bytes (Document Read) place = Unit {0}

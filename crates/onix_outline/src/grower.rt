@@ -1,8 +1,8 @@
 //! An outline that grows from token to token.
 
-ghost use Rattle.std.specs.Prelude.{◌≡◌, ◌+◌, [], IfOk, OnOk, Some, option_map};
+ghost use Rattle.std.specs.Prelude.{◌≡◌, ◌+◌, suc, nat_lt, [], IfOk, OnOk, Some, option_map};
 ghost use Rattle.onix_outline.specs.Feed.{fits};
-ghost use Rattle.onix_outline.specs.Growing.{no_lines, change, longer, opened, closed, texted, is_idle};
+ghost use Rattle.onix_outline.specs.Growing.{growing, no_lines, change, longer, opened, closed, texted, is_idle};
 ghost use Rattle.onix_outline.specs.Nodes.{tagged};
 ghost use Rattle.onix_outline.specs.Sizes.{element_size, format_size, lines_size};
 ghost use Rattle.onix_outline.specs.Views.{line_views};
@@ -142,22 +142,39 @@ impl Grower {
         self.passed = 0;
     }
 
+    /// Whether an element that is passed over is open.
+    pub(crate) fn is_passing(&self) -> bool
+        ensures { result ≡ nat_lt 0 self.now.passed }
+    {
+        self.passed > 0
+    }
+
+    /// Begins an element, whatever it is, in one that is passed over.
+    pub(crate) fn pass(&mut self) -> Result<(), AllocError>
+        ensures { OnOk result (self.new
+            ≡ growing self.old.lines self.old.opens (suc self.old.passed)) }
+    {
+        let Some(passed) = self.passed.checked_add(1) else {
+            return Err(AllocError);
+        };
+        self.passed = passed;
+        Ok(())
+    }
+
     /// Begins an element at a place, with this name where it counts.
+    #[tactic(auto, using(crate::proofs::GrowerLaws::opened_in_passed))]
     pub(crate) fn open(
         &mut self,
         name: Option<&'static [u8]>,
         place: Position,
         format: Option<Vec<u8>>,
     ) -> Result<(), AllocError>
-        ensures { OnOk result (self.new ≡ opened self.old.passed (option_map (λ n. n.now) name.entry)
+        ensures { OnOk result (self.new ≡ opened self.old.passed
+            (option_map (λ n. n.now) name.entry)
             (tagged place (option_map (λ f. f.items) format)) self.old) }
     {
-        if self.passed > 0 {
-            let Some(passed) = self.passed.checked_add(1) else {
-                return Err(AllocError);
-            };
-            self.passed = passed;
-            return Ok(());
+        if self.is_passing() {
+            return self.pass();
         }
         match name {
             None => {

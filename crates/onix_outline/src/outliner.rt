@@ -144,7 +144,8 @@ impl<T: Taker + Drop> Outliner<T> {
 
     // Hands on the lines of a child of the root.
     fn hand_on(&mut self) -> Result<(), AllocError>
-        ensures { OnOk result (self.new ≡ feeding (handed T.after self.old.taker self.old.child.lines)
+        ensures { OnOk result (self.new ≡ feeding
+            (handed T.after self.old.taker self.old.child.lines)
             self.old.root self.old.child self.old.known self.old.place) }
     {
         match self.child.lines() {
@@ -161,7 +162,8 @@ impl<T: Taker + Drop> Outliner<T> {
 
     // Ends an element of a message, which may be a child of the root.
     fn settle(&mut self) -> Result<(), AllocError>
-        ensures { OnOk result (self.new ≡ settled T.after self.old (closed self.old.child.passed self.old.child)) }
+        ensures { OnOk result (self.new ≡ settled T.after self.old
+            (closed self.old.child.passed self.old.child)) }
     {
         self.child.close();
         if self.child.is_idle() && self.child.fits() {
@@ -171,7 +173,8 @@ impl<T: Taker + Drop> Outliner<T> {
         Ok(())
     }
 
-    // Takes the tag of an element.
+    // Takes the tag of an element. In one that is passed over nothing is asked of it.
+    #[tactic(auto, using(crate::proofs::GrowerLaws::opened_in_passed))]
     fn begin(&mut self, name: &[u8], attributes: &Attributes<'_>) -> Result<(), AllocError>
         ensures { OnOk result (self.new ≡ begun self.old.root name.now attributes.now self.old) }
     {
@@ -182,6 +185,9 @@ impl<T: Taker + Drop> Outliner<T> {
             }
             Some(Err(_)) => Ok(()),
             Some(Ok(dialect)) => {
+                if self.child.is_passing() {
+                    return self.child.pass();
+                }
                 let name = dialect.counted(self.alloc, name, attributes)?;
                 let format = format_of(self.alloc, attributes)?;
                 self.child.open(name, self.place, format)

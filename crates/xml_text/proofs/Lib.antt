@@ -8,12 +8,14 @@ pub mod AttributeRuns
 pub mod SkimLaws
 pub mod TokenLaws
 pub mod PieceLaws
+pub mod PositionLaws
 pub mod NestingLaws
 pub mod PlaceLaws
 pub mod DocumentLaws
 pub mod LimitLaws
 pub mod NumberLaws
 pub mod TreeLaws
+pub mod AsciiLaws
 pub mod EncodingLaws
 pub mod ReadingLaws
 pub mod HeadLaws

@@ -2,7 +2,7 @@
 use Rattle.xml_text.specs.declared.fault.Fault.{Fault}
 use Rattle.xml_text.specs.declared.fault.Fault.TheVariants.{Malformed, TooDeep, LargeTag, UnknownEncoding, Read, Memory}
 
--- those of a token that may not stand at a place, and want of memory
+-- those of a token that may not stand at a place, and out of memory
 abbrev pub IsOfPlace : Fault → Type 0
 IsOfPlace Malformed = Unit {0}
 IsOfPlace TooDeep = Unit {0}
@@ -17,7 +17,7 @@ AtFault P Read = Unit {0}
 AtFault P Memory = Unit {0}
 AtFault P other = P
 
--- a read that failed, and want of memory
+-- a read that failed, and out of memory
 abbrev pub IsOfReading : Fault → Type 0
 IsOfReading Read = Unit {0}
 IsOfReading Memory = Unit {0}

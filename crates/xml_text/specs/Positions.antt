@@ -1,5 +1,5 @@
 -- Lines and columns of a text.
-use Rattle.std.specs.Prelude.{ℕ, ◌+◌, ◌&&◌, Bool, ◌==◌, nat_le, nat_lt, List, fold, if◌then◌else◌}
+use Rattle.std.specs.Prelude.{ℕ, ◌+◌, ◌&&◌, Bool, not, ◌==◌, nat_le, nat_lt, List, fold, if◌then◌else◌}
 use Rattle.xml_text.specs.declared.position.Position.{Position}
 use Rattle.xml_text.specs.Grammar.{Token, spelling}
 
@@ -13,6 +13,10 @@ first_position = position 1 1
 -- a byte that goes on with a character
 abbrev pub is_continuation : ℕ → Bool
 is_continuation b = nat_le 128 b && nat_lt b 192
+
+-- a byte that begins a character of the same line
+abbrev pub has_column : ℕ → Bool
+has_column b = not (b == 10) && not (is_continuation b)
 
 -- Behind a byte: a line feed begins a line, and each character has a column.
 abbrev pub next_position : Position → ℕ → Position

@@ -1,8 +1,9 @@
 //! Encodings.
 
-ghost use Rattle.std.specs.Prelude.{◌≡◌, ◌<◌, ◌++◌, OnOk, IfOk, encode_utf8};
-ghost use Rattle.std.specs.List.{flat_map};
+ghost use Rattle.std.specs.Prelude.{◌≡◌, ◌<◌, ◌≤◌, ◌++◌, OnOk, IfOk, encode_utf8, length, true};
+ghost use Rattle.std.specs.List.{flat_map, list_all};
 ghost use Rattle.xml_text.specs.Encodings.{windows_code, code_of, byte_text, unit_of, is_lead, is_trail, after_unit, after_pair, after_byte, held16, text16, held_behind, text_from, ending, ending16};
+ghost use Rattle.xml_text.specs.private.NameCharacters.{is_ascii};
 
 use std::alloc::AllocError;
 
@@ -126,15 +127,47 @@ fn push_code(out: &mut Vec<u8>, code: u32) -> Result<(), AllocError>
     out.extend_from_slice(c.encode_utf8(&mut bytes).as_bytes())
 }
 
+// The ASCII that bytes begin with, and what stands behind it.
+fn split_ascii(bytes: &[u8]) -> (&[u8], &[u8])
+    ensures whole { bytes.now ≡ result.0.now ++ result.1.now }
+    ensures ascii { list_all is_ascii result.0.now ≡ true }
+{
+    let mut at = 0;
+    while at < bytes.len() {
+        if bytes[at] < 128 {
+            at += 1;
+        } else {
+            return bytes.split_at(at);
+        }
+    }
+    bytes.split_at(at)
+}
+
+// Adds the ASCII that bytes begin with, at once since it is its own text, and gives what stands behind it.
+#[tactic(auto, using(crate::proofs::AsciiLaws::ascii_first))]
+fn push_ascii<'a>(
+    out: &mut Vec<u8>,
+    encoding: Encoding,
+    bytes: &'a [u8],
+) -> Result<&'a [u8], AllocError>
+    ensures text { IfOk result (λ rest. out.new.items ++ flat_map (byte_text encoding) rest.now
+        ≡ out.old.items ++ flat_map (byte_text encoding) bytes.now) }
+    ensures shorter { IfOk result (λ rest. length rest.now ≤ length bytes.now) }
+{
+    let (ascii, rest) = split_ascii(bytes);
+    out.extend_from_slice(ascii)?;
+    Ok(rest)
+}
+
 // Adds the text of bytes, each of which is a character.
 fn push_characters(out: &mut Vec<u8>, encoding: Encoding, bytes: &[u8]) -> Result<(), AllocError>
     ensures { OnOk result (out.new.items ≡ out.old.items ++ flat_map
         (byte_text encoding) bytes.now) }
 {
-    let mut rest = bytes;
+    let mut rest = push_ascii(out, encoding, bytes)?;
     while let [b, tail @ ..] = rest {
         push_code(out, code_of(encoding, *b))?;
-        rest = tail;
+        rest = push_ascii(out, encoding, tail)?;
     }
     Ok(())
 }

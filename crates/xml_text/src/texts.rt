@@ -75,6 +75,34 @@ fn last_start(part: Part, at: usize, other: usize) -> usize
     if is_start(part) { at } else { other }
 }
 
+// The bytes behind the characters of one byte at the front.
+#[inline(always)]
+fn behind_ascii(bytes: &[u8]) -> &[u8]
+    ensures same { follow Part.Whole result.now ≡ follow Part.Whole bytes.now }
+    ensures shorter { length result.now ≤ length bytes.now }
+{
+    let mut rest = bytes;
+    while let [b, tail @ ..] = rest {
+        match begin(*b) {
+            Some(Part::Whole) => rest = tail,
+            _ => return rest,
+        }
+    }
+    rest
+}
+
+// The same, where a character begins there.
+#[inline(always)]
+fn skip_ascii(part: Part, bytes: &[u8]) -> &[u8]
+    ensures same { follow part result.now ≡ follow part bytes.now }
+    ensures shorter { length result.now ≤ length bytes.now }
+{
+    match part {
+        Part::Whole => behind_ascii(bytes),
+        _ => bytes,
+    }
+}
+
 /// The part behind these bytes, where they are of a text; else how many stand before the character that is none.
 pub(crate) fn follow(part: Part, bytes: &[u8]) -> Result<Part, usize>
     requires { IsSmall part }
@@ -84,7 +112,7 @@ pub(crate) fn follow(part: Part, bytes: &[u8]) -> Result<Part, usize>
     ensures within { IfErr result (λ whole. whole ≤ length bytes.now) }
 {
     let mut part = part;
-    let mut rest = bytes;
+    let mut rest = skip_ascii(part, bytes);
     let mut whole = 0;
     while let [b, tail @ ..] = rest {
         whole = last_start(part, bytes.len() - rest.len(), whole);
@@ -92,7 +120,7 @@ pub(crate) fn follow(part: Part, bytes: &[u8]) -> Result<Part, usize>
             return Err(whole);
         };
         part = next;
-        rest = tail;
+        rest = skip_ascii(part, tail);
     }
     Ok(part)
 }

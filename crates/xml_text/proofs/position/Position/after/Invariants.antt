@@ -1,13 +1,12 @@
 use Rattle.std.proofs.Common.{◌≡◌, ◌+◌, ◌^◌, ◌<◌, length}
-use Rattle.xml_text.specs.Positions.{position, position_after}
+use Rattle.xml_text.specs.Positions.{position_after}
 use Rattle.xml_text.proofs.position.Position.after.Given as goal
 
 abbrev pub invariant-loop-rest : goal.invariant-loop-rest
 invariant-loop-rest l = record {
-  so_far : position_after (position l.line l.column) l.rest ≡ position_after l.fn.self l.bytes;
-  lines : l.line + length l.rest < 2 ^ 64;
-  columns : l.column + length l.rest < 2 ^ 64;
-  few : 1 + length l.rest < 2 ^ 64;
+  so_far : position_after l.place l.rest ≡ position_after l.fn.self l.bytes;
+  lines : l.place.line + length l.rest < 2 ^ 64;
+  columns : l.place.column + length l.rest < 2 ^ 64;
 }
 
 abbrev pub decreases-loop-rest : goal.decreases-loop-rest

@@ -25,7 +25,7 @@ pub record Says (bytes : Option (List ℕ)) (o : Options) (comes : Result Conver
   pub message : IsMessage text dialect place inside
   pub conversion : conversion o (nodes_in dialect place inside) ≡ comes
 
--- Refused: the bytes are a message, and that comes of it. Unread: what onix_outline says of such a fault and its place. Of want of memory nothing is said.
+-- Refused: the bytes are a message, and that comes of it. Unread: what onix_outline says of such a fault and its place. Of out of memory nothing is said.
 abbrev pub ExplainsFault : Option (List ℕ) → Options → Fault → Type 0
 ExplainsFault bytes o (fault.Refused rejection) = Says bytes o (Err rejection)
 ExplainsFault bytes o (fault.Unread unread place) = Explains bytes unread × IsAt bytes unread place

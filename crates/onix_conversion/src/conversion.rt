@@ -123,9 +123,9 @@ fn unread<'a, T: Target + Drop>(stopped: Stopped<Converter<'a, T>>) -> Outcome<T
     Outcome { target, ended }
 }
 
-/// Reads a feed, and hands to the target the texts of the messages that come of it, and the notes on what is left out.
-/// With an error the target may have taken some of them. What is refused is read to its end all the same, so that a
-/// fault of its form goes before.
+/// Reads a feed, and hands to the target the texts of the messages that come of it, and the notes
+/// on what is left out. With an error the target may have taken some of them. What is refused is
+/// read to its end all the same, so that a fault of its form goes before.
 pub fn convert<'a, R: Read, T: Target + Drop>(
     alloc: Global,
     reader: &mut R,

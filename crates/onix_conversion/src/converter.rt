@@ -126,7 +126,8 @@ fn keep_product<T: Target>(
     notes: &[Note<'_>],
 ) -> Result<Option<Rejection>, AllocError>
     ensures { (c : Told) → Tells product.entry 1 c
-        → product_records begun.old.opening options.now.choices.id_type.now c.below ≡ Some records.now
+        → product_records begun.old.opening options.now.choices.id_type.now c.below
+        ≡ Some records.now
         → note_views notes.now ≡ all_notes begun.old.opening options.now.choices.id_type.now c
         → IfOk result (λ r. Went r
         (held (begun_view begun.old) (T.parts target.old) (T.notes target.old))
@@ -186,8 +187,8 @@ fn add<T: Target>(
     }
 }
 
-// The parts of a message with this heading, before the first product. The list takes the fields of the record with
-// which the first one begins.
+// The parts of a message with this heading, before the first product. The list takes the fields of
+// the record with which the first one begins.
 fn begin_with(
     alloc: Global,
     heading: Heading<'_>,
@@ -253,7 +254,8 @@ fn begin<'a>(
 impl<'a, T: Target + Drop> Converter<'a, T> {
     /// Before the Header.
     pub(crate) fn new(alloc: Global, options: &'a Options<'a>, target: T) -> Converter<'a, T>
-        ensures { result ≡ first_state (options_view options.now) (T.parts target) (T.notes target) }
+        ensures { result
+            ≡ first_state (options_view options.now) (T.parts target) (T.notes target) }
     {
         Converter {
             alloc,

@@ -113,7 +113,8 @@ fn beyond_at(most: u32, full: u32, earlier: Option<Position>, place: Position) -
     }
 }
 
-// Hands on the text of the part behind so many, which has so many records, where there is such a part.
+// Hands on the text of the part behind so many, which has so many records, where there is such a
+// part.
 pub(crate) fn hand_on<T: Target>(
     alloc: Global,
     most: u32,
@@ -162,8 +163,8 @@ fn turn(
     Ok(())
 }
 
-// Puts a product of so many records and this text into the part that was begun where that has room, else into the
-// next one. It is false where that has none either.
+// Puts a product of so many records and this text into the part that was begun where that has room,
+// else into the next one. It is false where that has none either.
 #[tactic(auto, unfolding(crate::specs::Stages::kept))]
 fn keep_text<T: Target>(
     alloc: Global,
@@ -204,8 +205,8 @@ fn keep_text<T: Target>(
     Ok(true)
 }
 
-/// Puts the records of a product into the part that was begun where that has room, else into the next one. It is false
-/// where that has none either.
+/// Puts the records of a product into the part that was begun where that has room, else into the
+/// next one. It is false where that has none either.
 pub(crate) fn keep<T: Target>(
     alloc: Global,
     most: u32,

@@ -3,15 +3,17 @@
 use onix_mapping::{Composite, Note};
 use std::alloc::AllocError;
 
-/// What takes the texts of the parts of a message, in order, and the notes on what is left out of it, in order.
+/// What takes the texts of the parts of a message, in order, and the notes on what is left out of
+/// it, in order.
 pub trait Target {
     ghost use Rattle.std.specs.Prelude.{◌≡◌, OnOk};
     ghost use Rattle.onix_mapping.specs.Notes.{note_view};
     ghost use Rattle.onix_conversion.specs.Keeping.{Keeping};
     ghost use Rattle.onix_conversion.specs.Packing.{ProductNote};
 
-    /// The values of this type are what it makes of parts. Where it is `Items<Items<u8>>` and `with_part` adds the text at
-    /// the end, the clause of `convert` says that just these parts were taken.
+    /// The values of this type are what it makes of parts. Where it is `Items<Items<u8>>` and
+    /// `with_part` adds the text at the end, the clause of `convert` says that just these parts
+    /// were taken.
     type Parts;
 
     /// The values of this type are what it makes of notes.
@@ -31,14 +33,15 @@ pub trait Target {
         ensures part { OnOk result (parts self.new ≡ keeping.with_part (parts self.old) text.now) }
         ensures notes { OnOk result (notes self.new ≡ notes self.old) };
 
-    /// Looks at a product that is wrong, or of which an identifier is, before the notes on it or the refusal for it. Of
-    /// several identifiers of a supplier the first of the preferred type counts, else the first. After an error nothing
-    /// more is handed to it.
+    /// Looks at a product that is wrong, or of which an identifier is, before the notes on it or
+    /// the refusal for it. Of several identifiers of a supplier the first of the preferred type
+    /// counts, else the first. After an error nothing more is handed to it.
     fn look_at(&mut self, product: Composite<'_>, preferred: &[u8]) -> Result<(), AllocError>
         ensures parts { OnOk result (parts self.new ≡ parts self.old) }
         ensures notes { OnOk result (notes self.new ≡ notes self.old) };
 
-    /// Takes the next note, which is on a product of this RecordReference. After an error nothing more is handed to it.
+    /// Takes the next note, which is on a product of this RecordReference. After an error nothing
+    /// more is handed to it.
     fn note(&mut self, reference: &[u8], note: Note<'_>) -> Result<(), AllocError>
         ensures note { OnOk result (notes self.new ≡ keeping.with_note (notes self.old)
             (record { reference = reference.now; note = note_view note.entry })) }

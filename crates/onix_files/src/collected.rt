@@ -11,8 +11,8 @@ use onix_mapping::{Composite, Note, Why};
 use onix_terms::items::Items;
 use std::alloc::AllocError;
 
-/// The parts of a message, the notes on what is left out of it, and whether a wrong product is. Where the
-/// parts cannot be kept, the fault.
+/// The parts of a message, the notes on what is left out of it, and whether a wrong product is.
+/// Where the parts cannot be kept, the fault.
 #[derive(Drop)]
 pub struct Collected<'a, S> {
     pub store: S,

@@ -39,10 +39,10 @@ fn write_lines<E: Write>(text: &str, errors: &mut E) {
 }
 
 // Says what ended a FILE.
-fn report_fault<E: Write>(alloc: Global, fault: &FileFault, errors: &mut E) -> Ended
+fn report_fault<E: Write>(fault: &FileFault, errors: &mut E) -> Ended
     ensures { result ≡ Ended.Fault }
 {
-    fault.report(alloc, errors);
+    fault.report(errors);
     Ended::Fault
 }
 
@@ -51,12 +51,8 @@ fn report_unread<E: Write>(alloc: Global, known: &Known<'_>, errors: &mut E) -> 
     ensures { result ≡ Ended.Fault }
 {
     match known.seen.fault() {
-        Some(fault) => report_fault(alloc, fault, errors),
-        None => report_fault(
-            alloc,
-            &FileFault::new(alloc, known.file, "cannot be read"),
-            errors,
-        ),
+        Some(fault) => report_fault(fault, errors),
+        None => report_fault(&FileFault::new(alloc, known.file, "cannot be read"), errors),
     }
 }
 
@@ -75,7 +71,7 @@ fn report_refusal<E: Write>(
             write_lines(line.as_str(), errors);
             Ended::Refused
         }
-        Err(AllocError) => report_fault(alloc, &FileFault::Memory, errors),
+        Err(AllocError) => report_fault(&FileFault::Memory, errors),
     }
 }
 
@@ -88,9 +84,9 @@ fn report_ended<E: Write>(alloc: Global, known: &Known<'_>, fault: &Fault, error
             report_unread(alloc, known, errors)
         }
         Fault::Unread(onix_outline::Fault::Document(xml_text::Fault::Memory), _) => {
-            report_fault(alloc, &FileFault::Memory, errors)
+            report_fault(&FileFault::Memory, errors)
         }
-        Fault::Memory => report_fault(alloc, &FileFault::Memory, errors),
+        Fault::Memory => report_fault(&FileFault::Memory, errors),
         _ => report_refusal(alloc, known, fault, errors),
     }
 }
@@ -114,7 +110,7 @@ fn report_stopped<E: Write>(
     ensures { IsUnconverted fault.now result }
 {
     match kept {
-        Some(kept) => report_fault(alloc, kept, errors),
+        Some(kept) => report_fault(kept, errors),
         None => report_ended(alloc, known, fault, errors),
     }
 }
@@ -180,8 +176,8 @@ fn read_into<'a, R: Read, S: Store + Drop, E: Write>(
     }
 }
 
-// Writes the notes of a FILE that was converted, and counts them. Where memory lacks for it, the summary
-// counts less.
+// Writes the notes of a FILE that was converted, and counts them. Where memory runs out, the
+// summary counts less.
 fn tell<E: Write>(notes: &Notes<'_>, summary: &mut Summary, errors: &mut E) {
     write_lines(notes.text(), errors);
     let _ = summary.add_all(notes.summary());
@@ -213,13 +209,12 @@ fn convert_out<R: Read, W: Write, E: Write>(
             tell(&notes, summary, errors);
             ended
         }
-        Err(fault) => report_fault(rt.alloc(), &fault, errors),
+        Err(fault) => report_fault(&fault, errors),
     }
 }
 
 // Gives the files of a FILE their names, where it was converted.
 fn place<E: Write>(
-    alloc: Global,
     store: &Folder<'_>,
     notes: &Notes<'_>,
     ended: Ended,
@@ -236,7 +231,7 @@ fn place<E: Write>(
             tell(notes, summary, errors);
             ended
         }
-        Err(fault) => report_fault(alloc, &fault, errors),
+        Err(fault) => report_fault(&fault, errors),
     }
 }
 
@@ -258,7 +253,7 @@ fn convert_into<R: Read, E: Write>(
         notes,
         ended,
     } = read_into(rt, file, reader, options, store, errors);
-    let ended = place(rt.alloc(), &store, &notes, ended, summary, errors);
+    let ended = place(&store, &notes, ended, summary, errors);
     store.discard();
     ended
 }
@@ -293,7 +288,7 @@ fn report_packed<E: Write>(alloc: Global, file: &str, errors: &mut E) -> Ended
             write_lines(line.as_str(), errors);
             Ended::Packed
         }
-        Err(AllocError) => report_fault(alloc, &FileFault::Memory, errors),
+        Err(AllocError) => report_fault(&FileFault::Memory, errors),
     }
 }
 
@@ -317,7 +312,7 @@ fn convert_named<W: Write, E: Write>(
         Ok(mut reader) => convert_read(rt, run, file, &mut reader, output, summary, errors),
         Err(error) => {
             let fault = FileFault::of(rt.alloc(), file, &error);
-            report_fault(rt.alloc(), &fault, errors)
+            report_fault(&fault, errors)
         }
     }
 }
@@ -345,7 +340,7 @@ fn convert_file<R: Read, W: Write, E: Write>(
     }
 }
 
-// Writes the summary of a run. Where memory lacks for it, it is lost.
+// Writes the summary of a run. Where memory runs out, it is lost.
 fn write_summary<E: Write>(alloc: Global, summary: &Summary, errors: &mut E) {
     let mut text = String::new(alloc);
     if let Ok(()) = summary.push_lines(PREFIX, &mut text) {
@@ -384,8 +379,9 @@ fn convert_each<R: Read, W: Write, E: Write>(
 }
 
 /// Converts each FILE in turn, where `-` is standard input, and gives the status: 0, or 1 where one
-/// was refused or a wrong product left out, or 3 where a file could not be read or written or memory
-/// ran out, which outweighs 1. What one ends in does not keep the others from being converted.
+/// was refused or a wrong product left out, or 3 where a file could not be read or written or
+/// memory ran out, which outweighs 1. What one ends in does not keep the others from being
+/// converted.
 pub fn convert_files<R: Read, W: Write, E: Write>(
     rt: &HostRuntime,
     run: &Run<'_>,
@@ -402,7 +398,7 @@ pub fn convert_files<R: Read, W: Write, E: Write>(
     let alloc = rt.alloc();
     if let Some(folder) = run.folder {
         if !is_folder(rt, folder) {
-            FileFault::new(alloc, folder, "no folder").report(alloc, errors);
+            FileFault::new(alloc, folder, "no folder").report(errors);
             return 3;
         }
     }

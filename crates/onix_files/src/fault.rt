@@ -1,15 +1,18 @@
 //! Files that cannot be read or written.
 
+ghost use Rattle.std.specs.Prelude.{◌≡◌, IfOk};
+
 use crate::notes::PREFIX;
 use crate::shown::push_shown;
 use std::alloc::{AllocError, AllocFailed, Global};
 use std::io::{Error, Write};
+use std::rt::HostRuntime;
 
 /// What ends a FILE with status 3.
 #[derive(Drop)]
 pub enum FileFault {
-    /// A file cannot be read or written: its name, and why.
-    File { name: String, why: String },
+    /// A file cannot be read or written: the line that says which, and why.
+    File(String),
     /// Memory ran out.
     Memory,
 }
@@ -27,52 +30,60 @@ impl<T: Drop> From<AllocFailed<T>> for FileFault {
 }
 
 // What the system says of an error, without its number.
-fn why_of(alloc: Global, error: &Error) -> Result<String, AllocError> {
-    let text = format!(in alloc; "{error}")?;
-    match text.as_str().split_once(" (os error ") {
-        Some((why, _)) => String::from_str(alloc, why),
-        None => String::from_str(alloc, text.as_str()),
+fn without_number(text: &str) -> &str {
+    match text.split_once(" (os error ") {
+        Some((why, _)) => why,
+        None => text,
     }
+}
+
+// Adds the line of a file of this name.
+fn push_line(line: &mut String, name: &str, why: &str) -> Result<(), AllocError> {
+    line.push_str(PREFIX)?;
+    push_shown(line, name)?;
+    line.push_str(": ")?;
+    line.push_str(why)?;
+    line.push_str("\n")
 }
 
 impl FileFault {
     /// That of a file of this name, by these words.
-    pub fn new(alloc: Global, name: &str, why: &str) -> FileFault {
-        match (String::from_str(alloc, name), String::from_str(alloc, why)) {
-            (Ok(name), Ok(why)) => FileFault::File { name, why },
-            _ => FileFault::Memory,
-        }
-    }
-
-    /// That of a file of this name, by what the system says.
-    pub fn of(alloc: Global, name: &str, error: &Error) -> FileFault {
-        match why_of(alloc, error) {
-            Ok(why) => FileFault::new(alloc, name, why.as_str()),
+    pub(crate) fn new(alloc: Global, name: &str, why: &str) -> FileFault {
+        let mut line = String::new(alloc);
+        match push_line(&mut line, name, why) {
+            Ok(()) => FileFault::File(line),
             Err(AllocError) => FileFault::Memory,
         }
     }
 
-    // Its line.
-    fn push_line(&self, line: &mut String) -> Result<(), AllocError> {
-        line.push_str(PREFIX)?;
-        match self {
-            FileFault::File { name, why } => {
-                push_shown(line, name.as_str())?;
-                line.push_str(": ")?;
-                line.push_str(why.as_str())?;
-            }
-            FileFault::Memory => line.push_str("memory")?,
+    /// That of a file of this name, by what the system says.
+    pub(crate) fn of(alloc: Global, name: &str, error: &Error) -> FileFault {
+        match format!(in alloc; "{error}") {
+            Ok(text) => FileFault::new(alloc, name, without_number(text.as_str())),
+            Err(AllocError) => FileFault::Memory,
         }
-        line.push_str("\n")
     }
 
     /// Writes its line. One that cannot be written is lost: there is nowhere left to say so.
-    pub fn report<E: Write>(&self, alloc: Global, errors: &mut E) {
-        let mut line = String::new(alloc);
-        let made = self.push_line(&mut line);
-        let _ = match made {
-            Ok(()) => errors.write_all(line.as_bytes()),
-            Err(AllocError) => errors.write_all(b"onixdesk: memory\n"),
+    pub(crate) fn report<E: Write>(&self, errors: &mut E) {
+        let line = match self {
+            FileFault::File(line) => line.as_str(),
+            FileFault::Memory => "onixdesk: memory\n",
         };
+        let _ = errors.write_all(line.as_bytes());
+    }
+}
+
+/// What a call on a file gave; where that is an error, the fault of the file of this name.
+pub(crate) fn or_fault<T>(
+    rt: &HostRuntime,
+    name: &str,
+    given: std::io::Result<T>,
+) -> Result<T, FileFault>
+    ensures { IfOk result (λ value. given ≡ Ok value) }
+{
+    match given {
+        Ok(value) => Ok(value),
+        Err(error) => Err(FileFault::of(rt.alloc(), name, &error)),
     }
 }

@@ -1,10 +1,12 @@
-//! The parts of a message as files of a folder: made beside their names, and named when all are whole.
+//! The parts of a message as files of a folder: made beside their names, and named when all are
+//! whole.
 
-use crate::fault::FileFault;
-use crate::files::{is_same, sync_folder, write_synced};
+use crate::fault::{FileFault, or_fault};
+use crate::files::{create_new, is_same, sync_folder, write_synced};
 use crate::hidden::Hidden;
 use crate::names::{part_name, path_in};
 use crate::store::Store;
+use std::alloc::AllocError;
 use std::fs::{self, File};
 use std::io::{Error, ErrorKind};
 use std::rt::HostRuntime;
@@ -32,12 +34,12 @@ fn taken(rt: &HostRuntime, target: &str) -> FileFault {
     FileFault::new(rt.alloc(), target, "is there, with other bytes")
 }
 
-// Whether a file that has a name already has the same bytes; a fault where it has others.
-fn has_same(rt: &HostRuntime, made: &Made) -> Result<(), FileFault> {
-    match is_same(rt, made.beside.as_str(), made.target.as_str()) {
-        Ok(true) => Ok(()),
-        _ => Err(taken(rt, made.target.as_str())),
+// A fault where the file that has a name already has other bytes.
+fn check_same(rt: &HostRuntime, made: &Made) -> Result<(), FileFault> {
+    if is_same(rt, made.beside.as_str(), made.target.as_str()) {
+        return Ok(());
     }
+    Err(taken(rt, made.target.as_str()))
 }
 
 // Whether a file system says so that gives no file a second name.
@@ -51,17 +53,12 @@ fn has_no_links(error: &Error) -> bool {
 // Renames a file where none can have two names. A renaming replaces what has the name, so that an
 // empty file of our own takes it first.
 fn rename(rt: &HostRuntime, made: &Made) -> Result<bool, FileFault> {
-    match File::create_new(rt, made.target.as_str()) {
-        Ok(_) => {}
-        Err(error) if error.kind() == ErrorKind::AlreadyExists => {
-            return Err(taken(rt, made.target.as_str()));
-        }
-        Err(error) => return Err(FileFault::of(rt.alloc(), made.target.as_str(), &error)),
+    let target = made.target.as_str();
+    if create_new(rt, target)?.is_none() {
+        return Err(taken(rt, target));
     }
-    match fs::rename(rt, made.beside.as_str(), made.target.as_str()) {
-        Ok(()) => Ok(true),
-        Err(error) => Err(FileFault::of(rt.alloc(), made.target.as_str(), &error)),
-    }
+    or_fault(rt, target, fs::rename(rt, made.beside.as_str(), target))?;
+    Ok(true)
 }
 
 // Gives a file its name too, unless a file with the same bytes has it. Whether it was given.
@@ -69,7 +66,7 @@ fn give_name(rt: &HostRuntime, made: &Made) -> Result<bool, FileFault> {
     match fs::hard_link(rt, made.beside.as_str(), made.target.as_str()) {
         Ok(()) => Ok(true),
         Err(error) if error.kind() == ErrorKind::AlreadyExists => {
-            has_same(rt, made)?;
+            check_same(rt, made)?;
             Ok(false)
         }
         Err(error) if has_no_links(&error) => rename(rt, made),
@@ -79,7 +76,12 @@ fn give_name(rt: &HostRuntime, made: &Made) -> Result<bool, FileFault> {
 
 impl<'a> Folder<'a> {
     /// No part yet, of a message in so many parts that is to have that name.
-    pub fn new(rt: &'a HostRuntime, folder: &'a str, name: &'a str, parts: u32) -> Folder<'a> {
+    pub(crate) fn new(
+        rt: &'a HostRuntime,
+        folder: &'a str,
+        name: &'a str,
+        parts: u32,
+    ) -> Folder<'a> {
         Folder {
             rt,
             folder,
@@ -90,26 +92,32 @@ impl<'a> Folder<'a> {
         }
     }
 
-    // The hidden names, which are taken for the first part.
-    fn hidden(&mut self) -> Result<Hidden, FileFault> {
-        match self.hidden.take() {
-            Some(hidden) => Ok(hidden),
-            None => Hidden::take(self.rt, self.folder, self.name),
-        }
+    // The name that the file of the part of a number is to have.
+    fn target(&self, number: u32) -> Result<String, AllocError> {
+        let alloc = self.rt.alloc();
+        let name = part_name(alloc, self.name, number, self.parts)?;
+        path_in(alloc, self.folder, name.as_str())
+    }
+
+    // A new file for the part of a number, and its hidden name. Those are taken for the first part.
+    fn beside(&mut self, number: u32) -> Result<(String, File), FileFault> {
+        let hidden = match self.hidden.take() {
+            Some(hidden) => hidden,
+            None => Hidden::take(self.rt, self.folder, self.name)?,
+        };
+        let made = hidden.make(self.rt, number);
+        self.hidden = Some(hidden);
+        made
     }
 
     // Makes the file of the next part beside its name.
     fn make(&mut self) -> Result<File, FileFault> {
-        let alloc = self.rt.alloc();
         let before = u32::try_from(self.made.len()).unwrap_or(u32::MAX);
         let number = before.saturating_add(1);
-        let file_name = part_name(alloc, self.name, number, self.parts)?;
-        let target = path_in(alloc, self.folder, file_name.as_str())?;
+        let target = self.target(number)?;
+        // Before there is a file, so that none is forgotten.
         self.made.reserve(1)?;
-        let hidden = self.hidden()?;
-        let made = hidden.make(self.rt, number);
-        self.hidden = Some(hidden);
-        let (beside, file) = made?;
+        let (beside, file) = self.beside(number)?;
         self.made.push(Made { beside, target })?;
         Ok(file)
     }
@@ -118,7 +126,7 @@ impl<'a> Folder<'a> {
     fn look(&self) -> Result<(), FileFault> {
         for made in self.made.iter() {
             if let Ok(true) = fs::exists(self.rt, made.target.as_str()) {
-                has_same(self.rt, made)?;
+                check_same(self.rt, made)?;
             }
         }
         Ok(())
@@ -144,7 +152,7 @@ impl<'a> Folder<'a> {
     }
 
     /// Gives the files their names, all of them or, with a fault, none.
-    pub fn place(&self) -> Result<(), FileFault> {
+    pub(crate) fn place(&self) -> Result<(), FileFault> {
         self.look()?;
         let mut given = Vec::new(self.rt.alloc());
         match self.give_names(&mut given) {
@@ -157,7 +165,7 @@ impl<'a> Folder<'a> {
     }
 
     /// Takes away what was made, but for what has its name.
-    pub fn discard(&self) {
+    pub(crate) fn discard(&self) {
         for made in self.made.iter() {
             let _ = fs::remove_file(self.rt, made.beside.as_str());
         }

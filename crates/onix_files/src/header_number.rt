@@ -45,8 +45,9 @@ impl Taker for Kept {
     }
 }
 
-/// The MessageNumber of the message that begins so, where its Header stands within these bytes and has one.
-pub fn number_in(alloc: Global, first: &[u8]) -> Option<Vec<u8>> {
+/// The MessageNumber of the message that begins so, where its Header stands within these bytes and
+/// has one.
+pub(crate) fn number_in(alloc: Global, first: &[u8]) -> Option<Vec<u8>> {
     let mut bytes = first;
     let kept = Kept {
         alloc,
@@ -64,7 +65,8 @@ fn value_of(text: Option<&[u8]>) -> Option<u64> {
     text.parse::<u64>().ok()
 }
 
-// The number of the message: the one that the caller gives, else that of the Header and what is added to it.
+// The number of the message: the one that the caller gives, else that of the Header and what is
+// added to it.
 fn message_number(text: Option<&[u8]>, choices: &Choices<'_>) -> Option<u64> {
     match choices.number {
         Some(number) => Some(number.value().into()),
@@ -112,8 +114,9 @@ fn push_last(line: &mut String, number: Option<u64>, parts: u32) -> Result<(), A
     line.push_str("above 999999999")
 }
 
-/// Adds why the number of a message is refused, whose MessageNumber is that text, where it is known.
-pub fn push_number(
+/// Adds why the number of a message is refused, whose MessageNumber is that text, where it is
+/// known.
+pub(crate) fn push_number(
     line: &mut String,
     refusal: Refusal,
     text: Option<&[u8]>,

@@ -66,7 +66,7 @@ fn is_web_page(head: &[u8]) -> bool {
 }
 
 /// What a file is that begins so, where that tells.
-pub fn other_kind(head: &[u8]) -> Option<&'static str> {
+pub(crate) fn other_kind(head: &[u8]) -> Option<&'static str> {
     match head {
         [] => Some("an empty file"),
         [b'P', b'K', 3, 4, ..] => Some("a zip, to be unpacked before"),

@@ -1,5 +1,6 @@
-//! The conversion of ONIX messages in files: FILEs are read in turn, the records of each are written to
-//! standard output or into files of a folder, and lines on standard error say what is left out or refused.
+//! The conversion of ONIX messages in files: FILEs are read in turn, the records of each are
+//! written to standard output or into files of a folder, and lines on standard error say what is
+//! left out or refused.
 #![tactic(auto)]
 
 mod causes;

@@ -1,6 +1,7 @@
-//! What the desk would call malformed in a product, by its lines: the first thing, in the order of the tree.
+//! What the desk would call malformed in a product, by its lines: the first thing, in the order of
+//! the tree.
 
-use crate::words::{Words, field, forbidden, needed, plain};
+use crate::words::{Words, absent, field, forbidden, plain};
 use csv_records::fields::FieldBuffer;
 use onix_mapping::{
     Area, Composite, Note, PRODUCT, Reason, SUPPLIER, Why, area_in, fill_supply, first_composite,
@@ -37,81 +38,52 @@ pub struct Wrong<'a> {
     pub text: &'a [u8],
 }
 
-// The words for a field that is absent, and those before its text.
+// What the text of a field has to be, beside what no field may have.
 #[derive(Clone, Copy)]
-struct Named {
-    absent: &'static str,
-    before: &'static str,
+enum Rule {
+    Text,
+    TextOrAbsent,
+    Code,
+    CodeOrAbsent,
 }
 
-const REFERENCE: Named = Named {
-    absent: "no RecordReference",
-    before: "RecordReference ",
-};
+// A field of a record: its element, the words for it, and the rule for its text.
+#[derive(Clone, Copy)]
+struct Field(&'static [u8], &'static str, Rule);
 
-const NOTIFICATION: Named = Named {
-    absent: "no NotificationType",
-    before: "NotificationType ",
-};
+// The fields of records, by the composite that they stand in, in the order in which they are looked
+// at.
+const OF_PRODUCT: [Field; 2] = [
+    Field(b"RecordReference", "RecordReference", Rule::Text),
+    Field(b"NotificationType", "NotificationType", Rule::Code),
+];
 
-const PRODUCT_TYPE: Named = Named {
-    absent: "no ProductIDType",
-    before: "ProductIDType ",
-};
+const OF_PRODUCT_IDENTIFIER: [Field; 2] = [
+    Field(b"ProductIDType", "ProductIDType", Rule::Code),
+    Field(b"IDValue", "IDValue of ProductIdentifier", Rule::Text),
+];
 
-const PRODUCT_VALUE: Named = Named {
-    absent: "no IDValue of ProductIdentifier",
-    before: "IDValue of ProductIdentifier ",
-};
+const OF_SUPPLIER_IDENTIFIER: [Field; 2] = [
+    Field(b"SupplierIDType", "SupplierIDType", Rule::Code),
+    Field(b"IDValue", "IDValue of SupplierIdentifier", Rule::Text),
+];
 
-const SUPPLIER_TYPE: Named = Named {
-    absent: "no SupplierIDType",
-    before: "SupplierIDType ",
-};
+const OF_SUPPLIER: [Field; 2] = [
+    Field(b"SupplierName", "SupplierName", Rule::TextOrAbsent),
+    Field(b"SupplierRole", "SupplierRole", Rule::Code),
+];
 
-const SUPPLIER_VALUE: Named = Named {
-    absent: "no IDValue of SupplierIdentifier",
-    before: "IDValue of SupplierIdentifier ",
-};
+const OF_DETAIL: [Field; 1] = [Field(b"ProductAvailability", "ProductAvailability", Rule::Code)];
 
-const ROLE: Named = Named {
-    absent: "no SupplierRole",
-    before: "SupplierRole ",
-};
+const UNPRICED: Field = Field(b"UnpricedItemType", "UnpricedItemType", Rule::CodeOrAbsent);
 
-const AVAILABILITY: Named = Named {
-    absent: "no ProductAvailability",
-    before: "ProductAvailability ",
-};
-
-const UNPRICED: Named = Named {
-    absent: "no UnpricedItemType",
-    before: "UnpricedItemType ",
-};
-
-// At this place, where there are words.
-fn at<'a>(place: Position, words: Option<Words>, text: &'a [u8]) -> Option<Wrong<'a>> {
-    match words {
-        Some(words) => Some(Wrong { place, words, text }),
-        None => None,
-    }
-}
-
-// At this place, without a text of the feed.
-fn without_text(place: Position, words: &'static str) -> Wrong<'static> {
+/// At this place, without a text of the feed.
+pub(crate) fn without_text(place: Position, words: &'static str) -> Wrong<'static> {
     Wrong {
         place,
         words: plain(words),
         text: b"",
     }
-}
-
-// What is wrong with a text that has to be there.
-fn wrong_text<'a>(place: Position, named: Named, text: &'a [u8]) -> Option<Wrong<'a>> {
-    if text.is_empty() {
-        return Some(without_text(place, named.absent));
-    }
-    at(place, forbidden(named.before, text), text)
 }
 
 fn is_code(text: &[u8]) -> bool {
@@ -121,50 +93,39 @@ fn is_code(text: &[u8]) -> bool {
     }
 }
 
-// What is wrong with a text that has to be a code.
-fn wrong_code<'a>(place: Position, named: Named, text: &'a [u8]) -> Option<Wrong<'a>> {
-    if is_code(text) {
-        return None;
-    }
-    let words = needed(named.absent, named.before, text, " is not two digits");
-    at(place, Some(words), text)
-}
-
-// The first of two that is wrong.
-fn former<'a>(one: Option<Wrong<'a>>, other: Option<Wrong<'a>>) -> Option<Wrong<'a>> {
-    match one {
-        Some(wrong) => Some(wrong),
-        None => other,
+// Of a text that breaks the rule for its field.
+fn broken(label: &'static str, rule: Rule, text: &[u8]) -> Option<Words> {
+    match rule {
+        Rule::Text | Rule::Code if text.is_empty() => Some(absent(label)),
+        Rule::Code | Rule::CodeOrAbsent if !text.is_empty() && !is_code(text) => {
+            Some(field(label, text, " is not two digits"))
+        }
+        _ => forbidden(label, text),
     }
 }
 
-// What is wrong with the type or the value of an identifier.
-fn wrong_pair<'a>(
-    identifier: Composite<'a>,
-    depth: usize,
-    type_name: &[u8],
-    of_type: Named,
-    of_value: Named,
-) -> Option<Wrong<'a>> {
-    let place = identifier.line.place;
-    let id_type = text_or_empty(depth, type_name, identifier.below);
-    let id_value = text_or_empty(depth, b"IDValue", identifier.below);
-    former(
-        wrong_code(place, of_type, id_type),
-        wrong_text(place, of_value, id_value),
-    )
+// What is wrong with the text of a field.
+fn wrong_text<'a>(place: Position, field: Field, text: &'a [u8]) -> Option<Wrong<'a>> {
+    match broken(field.1, field.2, text) {
+        Some(words) => Some(Wrong { place, words, text }),
+        None => None,
+    }
+}
+
+// The first of the fields of a composite that is wrong.
+fn wrong_fields<'a>(of: Composite<'a>, depth: usize, fields: &[Field]) -> Option<Wrong<'a>> {
+    for field in fields {
+        let text = text_or_empty(depth, field.0, of.below);
+        if let Some(wrong) = wrong_text(of.line.place, *field, text) {
+            return Some(wrong);
+        }
+    }
+    None
 }
 
 /// What is wrong with the type or the value of an identifier of a product.
-pub fn wrong_product_pair<'a>(identifier: Composite<'a>) -> Option<Wrong<'a>> {
-    let type_name = PRODUCT.type_name;
-    wrong_pair(
-        identifier,
-        IN_IDENTIFIER,
-        type_name,
-        PRODUCT_TYPE,
-        PRODUCT_VALUE,
-    )
+pub(crate) fn wrong_product_identifier<'a>(identifier: Composite<'a>) -> Option<Wrong<'a>> {
+    wrong_fields(identifier, IN_IDENTIFIER, &OF_PRODUCT_IDENTIFIER)
 }
 
 // What is wrong with the identifiers of a product.
@@ -172,7 +133,7 @@ fn wrong_identifiers<'a>(product: Composite<'a>) -> Option<Wrong<'a>> {
     let mut rest = product.below;
     let mut is_first = true;
     while let Some((identifier, behind)) = next_composite(PRODUCT.name, IN_PRODUCT, rest) {
-        if let Some(wrong) = wrong_product_pair(identifier) {
+        if let Some(wrong) = wrong_product_identifier(identifier) {
             return Some(wrong);
         }
         is_first = false;
@@ -197,31 +158,19 @@ fn chosen<'a>(supplier: Composite<'a>, preferred: &[u8]) -> Option<Composite<'a>
     first_composite(SUPPLIER.name, IN_SUPPLIER, supplier.below)
 }
 
-// What is wrong with the type or the value of an identifier of a supplier.
-fn wrong_supplier_pair<'a>(identifier: Composite<'a>) -> Option<Wrong<'a>> {
-    let type_name = SUPPLIER.type_name;
-    wrong_pair(
-        identifier,
-        IN_SUPPLIER_IDENTIFIER,
-        type_name,
-        SUPPLIER_TYPE,
-        SUPPLIER_VALUE,
-    )
-}
-
-// What is wrong with the identifier and the name of a supplier, of which one is needed.
-fn wrong_party<'a>(supplier: Composite<'a>, preferred: &[u8]) -> Option<Wrong<'a>> {
-    let place = supplier.line.place;
-    let name = text_or_empty(IN_SUPPLIER, b"SupplierName", supplier.below);
-    let wrong_name = at(place, forbidden("SupplierName ", name), name);
+// What is wrong with the identifier of a supplier, which needs one or a name.
+fn wrong_supplier_identifier<'a>(supplier: Composite<'a>, preferred: &[u8]) -> Option<Wrong<'a>> {
     match chosen(supplier, preferred) {
-        Some(identifier) => former(wrong_supplier_pair(identifier), wrong_name),
-        None => {
-            if name.is_empty() {
-                return Some(without_text(place, "Supplier without identifier and name"));
-            }
-            wrong_name
+        Some(identifier) => wrong_fields(
+            identifier,
+            IN_SUPPLIER_IDENTIFIER,
+            &OF_SUPPLIER_IDENTIFIER,
+        ),
+        None if text_in(IN_SUPPLIER, b"SupplierName", supplier.below).is_none() => {
+            let words = "Supplier without identifier and name";
+            Some(without_text(supplier.line.place, words))
         }
+        None => None,
     }
 }
 
@@ -230,11 +179,10 @@ fn wrong_supplier<'a>(detail: Composite<'a>, preferred: &[u8]) -> Option<Wrong<'
     let Some(supplier) = first_composite(b"Supplier", IN_DETAIL, detail.below) else {
         return Some(without_text(detail.line.place, "SupplyDetail without Supplier"));
     };
-    let role = text_or_empty(IN_SUPPLIER, b"SupplierRole", supplier.below);
-    former(
-        wrong_party(supplier, preferred),
-        wrong_code(supplier.line.place, ROLE, role),
-    )
+    match wrong_supplier_identifier(supplier, preferred) {
+        Some(wrong) => Some(wrong),
+        None => wrong_fields(supplier, IN_SUPPLIER, &OF_SUPPLIER),
+    }
 }
 
 // The UnpricedItemType of a Price without an amount.
@@ -262,18 +210,16 @@ fn unpriced_in<'a>(detail: Composite<'a>) -> Option<&'a [u8]> {
 
 // What is wrong with the record of a SupplyDetail.
 fn wrong_detail<'a>(detail: Composite<'a>, preferred: &[u8]) -> Option<Wrong<'a>> {
-    let place = detail.line.place;
-    let availability = text_or_empty(IN_DETAIL, b"ProductAvailability", detail.below);
-    let wrong_unpriced = match unpriced_in(detail) {
-        Some(text) => wrong_code(place, UNPRICED, text),
-        None => None,
-    };
-    former(
-        wrong_supplier(detail, preferred),
-        former(
-            wrong_code(place, AVAILABILITY, availability),
-            wrong_unpriced,
-        ),
+    if let Some(wrong) = wrong_supplier(detail, preferred) {
+        return Some(wrong);
+    }
+    if let Some(wrong) = wrong_fields(detail, IN_DETAIL, &OF_DETAIL) {
+        return Some(wrong);
+    }
+    wrong_text(
+        detail.line.place,
+        UNPRICED,
+        unpriced_in(detail).unwrap_or(b""),
     )
 }
 
@@ -310,14 +256,14 @@ fn wrong_countries<'a>(
         excluded: b"",
         regions_excluded: b"",
     };
-    let (before, text) = if is_market(alloc, &included)? {
-        ("CountriesExcluded ", area.excluded)
+    let (label, text) = if is_market(alloc, &included)? {
+        ("CountriesExcluded", area.excluded)
     } else {
-        ("CountriesIncluded ", area.included)
+        ("CountriesIncluded", area.included)
     };
     Ok(Wrong {
         place: line.place,
-        words: field(before, text, " is not countries of two capital letters"),
+        words: field(label, text, " is not countries of two capital letters"),
         text,
     })
 }
@@ -334,8 +280,8 @@ fn wrong_market<'a>(alloc: Global, market: Composite<'a>) -> Result<Option<Wrong
     Ok(Some(wrong_countries(alloc, line, &area)?))
 }
 
-// What is wrong with the Markets of a ProductSupply of which the desk would not take the record: one of
-// them, or what they are together.
+// What is wrong with the Markets of a ProductSupply of which the desk would not take the record:
+// one of them, or what they are together.
 fn wrong_markets<'a>(alloc: Global, supply: Composite<'a>) -> Result<Wrong<'a>, AllocError> {
     let mut rest = supply.below;
     while let Some((market, behind)) = next_composite(b"Market", IN_SUPPLY, rest) {
@@ -355,7 +301,8 @@ fn push_no_detail<'a>(notes: &mut Vec<Note<'a>>, line: &'a Line) -> Result<(), A
     Ok(())
 }
 
-// Whether a ProductSupply is left out, and notes on what is left out of it. `Wrong` where its Markets are.
+// Whether a ProductSupply is left out, and notes on what is left out of it. `Wrong` where its
+// Markets are.
 fn is_left_out<'a>(
     alloc: Global,
     supply: Composite<'a>,
@@ -370,79 +317,54 @@ fn is_left_out<'a>(
     Ok(!is_written)
 }
 
-// What is wrong with a ProductSupply, if that is not left out.
-fn wrong_supply<'a>(
-    alloc: Global,
-    supply: Composite<'a>,
-    preferred: &[u8],
-) -> Result<Option<Wrong<'a>>, AllocError> {
-    let mut notes = Vec::new(alloc);
-    match is_left_out(alloc, supply, &mut notes) {
-        Ok(true) => Ok(None),
-        Ok(false) => Ok(wrong_details(supply, preferred)),
-        Err(RowFault::Wrong) => Ok(Some(wrong_markets(alloc, supply)?)),
-        Err(RowFault::Memory) => Err(AllocError),
-    }
-}
-
-// What is wrong with the ProductSupplys of a product.
+// What is wrong with the ProductSupplys of a product. Where nothing is and all are left out, the
+// list takes the notes on it; where one is left, it is empty.
 fn wrong_supplies<'a>(
     alloc: Global,
     product: Composite<'a>,
     preferred: &[u8],
+    notes: &mut Vec<Note<'a>>,
 ) -> Result<Option<Wrong<'a>>, AllocError> {
     let mut rest = product.below;
+    let mut is_one_left = false;
     while let Some((supply, behind)) = next_composite(b"ProductSupply", IN_PRODUCT, rest) {
-        if let Some(wrong) = wrong_supply(alloc, supply, preferred)? {
-            return Ok(Some(wrong));
+        match is_left_out(alloc, supply, notes) {
+            Ok(true) => {}
+            Ok(false) => {
+                if let Some(wrong) = wrong_details(supply, preferred) {
+                    return Ok(Some(wrong));
+                }
+                is_one_left = true;
+            }
+            Err(RowFault::Wrong) => return Ok(Some(wrong_markets(alloc, supply)?)),
+            Err(RowFault::Memory) => return Err(AllocError),
         }
         rest = behind;
+    }
+    if is_one_left {
+        notes.clear();
     }
     Ok(None)
 }
 
 /// What is wrong with a product: the first thing that the desk would call malformed. Of several
-/// identifiers of a supplier the first of the preferred type counts, else the first. Below a deletion
-/// nothing is looked at.
-pub fn wrong_in<'a>(
+/// identifiers of a supplier the first of the preferred type counts, else the first. Below a
+/// deletion nothing is looked at. Where nothing is wrong and all its supplies are left out, the
+/// list, which is empty, takes the notes on it.
+pub(crate) fn wrong_in<'a>(
     alloc: Global,
     product: Composite<'a>,
     preferred: &[u8],
+    notes: &mut Vec<Note<'a>>,
 ) -> Result<Option<Wrong<'a>>, AllocError> {
-    let place = product.line.place;
-    let reference = text_or_empty(IN_PRODUCT, b"RecordReference", product.below);
-    let notification = text_or_empty(IN_PRODUCT, b"NotificationType", product.below);
-    let of_record = former(
-        wrong_text(place, REFERENCE, reference),
-        wrong_code(place, NOTIFICATION, notification),
-    );
-    if of_record.is_some() || notification == b"05".as_slice() {
-        return Ok(of_record);
+    if let Some(wrong) = wrong_fields(product, IN_PRODUCT, &OF_PRODUCT) {
+        return Ok(Some(wrong));
+    }
+    if text_or_empty(IN_PRODUCT, b"NotificationType", product.below) == b"05".as_slice() {
+        return Ok(None);
     }
     if let Some(wrong) = wrong_identifiers(product) {
         return Ok(Some(wrong));
     }
-    wrong_supplies(alloc, product, preferred)
-}
-
-/// The notes on what is left out of a product of which each ProductSupply is; none where one is left,
-/// or there is none.
-pub fn none_left<'a>(
-    alloc: Global,
-    product: Composite<'a>,
-) -> Result<Option<Vec<Note<'a>>>, AllocError> {
-    let mut notes = Vec::new(alloc);
-    let mut rest = product.below;
-    while let Some((supply, behind)) = next_composite(b"ProductSupply", IN_PRODUCT, rest) {
-        match is_left_out(alloc, supply, &mut notes) {
-            Ok(true) => {}
-            Err(RowFault::Memory) => return Err(AllocError),
-            Ok(false) | Err(RowFault::Wrong) => return Ok(None),
-        }
-        rest = behind;
-    }
-    if notes.is_empty() {
-        return Ok(None);
-    }
-    Ok(Some(notes))
+    wrong_supplies(alloc, product, preferred, notes)
 }

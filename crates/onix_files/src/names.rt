@@ -15,7 +15,7 @@ fn last_part(path: &str) -> &str {
 }
 
 /// The NAME of the files that a FILE gives: its last part without the last extension.
-pub fn name_of(file: &str) -> &str {
+pub(crate) fn name_of(file: &str) -> &str {
     if file == STANDARD_INPUT {
         return "message";
     }
@@ -26,8 +26,9 @@ pub fn name_of(file: &str) -> &str {
     }
 }
 
-/// Whether a FILE is packed by its name: it ends in `.gz` or `.zip`, in capital letters or small ones.
-pub fn is_packed(file: &str) -> bool {
+/// Whether a FILE is packed by its name: it ends in `.gz` or `.zip`, in capital letters or small
+/// ones.
+pub(crate) fn is_packed(file: &str) -> bool {
     match last_part(file).rsplit_once('.') {
         Some((_, extension)) => {
             extension.eq_ignore_ascii_case("gz") || extension.eq_ignore_ascii_case("zip")
@@ -37,7 +38,7 @@ pub fn is_packed(file: &str) -> bool {
 }
 
 /// How many digits the numbers of so many parts have in names: two, or as many as the greatest has.
-pub fn digits_of(parts: u32) -> usize {
+pub(crate) fn digits_of(parts: u32) -> usize {
     let mut digits = 2usize;
     let mut rest = parts / 100;
     for _ in 0..8 {
@@ -50,7 +51,7 @@ pub fn digits_of(parts: u32) -> usize {
 }
 
 /// The path of a file in a folder.
-pub fn path_in(alloc: Global, folder: &str, name: &str) -> Result<String, AllocError> {
+pub(crate) fn path_in(alloc: Global, folder: &str, name: &str) -> Result<String, AllocError> {
     if folder == "." {
         return String::from_str(alloc, name);
     }
@@ -75,7 +76,12 @@ fn push_number(text: &mut String, number: u32, digits: usize) -> Result<(), Allo
 }
 
 /// The name of the file of a part, which is the only one of its FILE or one of several.
-pub fn part_name(alloc: Global, name: &str, part: u32, parts: u32) -> Result<String, AllocError> {
+pub(crate) fn part_name(
+    alloc: Global,
+    name: &str,
+    part: u32,
+    parts: u32,
+) -> Result<String, AllocError> {
     let mut text = String::from_str(alloc, name)?;
     if parts > 1 {
         text.push_str(".part-")?;

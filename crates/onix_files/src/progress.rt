@@ -52,7 +52,7 @@ fn push_size(line: &mut String, bytes: u64) -> Result<(), AllocError> {
 
 impl<'a> Progress<'a> {
     /// No line yet.
-    pub fn new(rt: &'a HostRuntime, file: &'a str) -> Progress<'a> {
+    pub(crate) fn new(rt: &'a HostRuntime, file: &'a str) -> Progress<'a> {
         let is_shown = rt.stderr().is_terminal();
         Progress {
             rt,
@@ -87,7 +87,7 @@ impl<'a> Progress<'a> {
     }
 
     /// Shows that so many bytes were read, where the line has stood for 0.2 seconds.
-    pub fn show(&mut self, count: u64) {
+    pub(crate) fn show(&mut self, count: u64) {
         if self.next.is_none() || !self.is_due() {
             return;
         }
@@ -100,7 +100,7 @@ impl<'a> Progress<'a> {
     }
 
     /// Takes the line away.
-    pub fn clear(&mut self) {
+    pub(crate) fn clear(&mut self) {
         if self.has_line {
             self.has_line = false;
             let _ = self.rt.stderr().write_all(CLEAR.as_bytes());

@@ -2,9 +2,9 @@
 
 use crate::causes::Causes;
 use crate::header_number::{number_in, push_number};
-use crate::notes::PREFIX;
+use crate::notes::push_place;
 use crate::seen::Seen;
-use crate::shown::{push_reference, push_shown, push_shown_bytes};
+use crate::shown::{push_reference, push_shown_bytes};
 use crate::unread::{push_malformed, push_release, push_root};
 use crate::words::push_words;
 use onix_conversion::{Fault, Options, Rejection};
@@ -170,13 +170,12 @@ fn push_stopped(
 
 // Adds the beginning of the line of a refusal.
 fn push_start(line: &mut String, file: &str, place: Position) -> Result<(), AllocError> {
-    line.push_str(PREFIX)?;
-    push_shown(line, file)?;
-    write!(line, ":{}:{}: refused: ", place.line, place.column)
+    push_place(line, file, place)?;
+    line.push_str("refused: ")
 }
 
 /// Adds the line of a FILE that was not converted, unless memory ran out.
-pub fn push_refusal(
+pub(crate) fn push_refusal(
     line: &mut String,
     alloc: Global,
     known: &Known<'_>,
@@ -197,7 +196,7 @@ pub fn push_refusal(
 }
 
 /// Adds the line of a FILE that is packed by its name.
-pub fn push_packed(line: &mut String, file: &str) -> Result<(), AllocError> {
+pub(crate) fn push_packed(line: &mut String, file: &str) -> Result<(), AllocError> {
     push_start(line, file, Position::first())?;
     line.push_str("packed, to be unpacked before: ")?;
     line.push_str("a pipe hands it in by standard input\n")

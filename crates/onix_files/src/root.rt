@@ -4,8 +4,8 @@ use std::alloc::{AllocError, Global};
 use std::marker::Model;
 use xml_text::{Attributes, Piece, Sink, Token, read_document};
 
-/// What the tag of a root says, as far as first bytes have it, and the addresses by which the document tells what it
-/// is: what stands in its DOCTYPE, and the namespace of the root.
+/// What the tag of a root says, as far as first bytes have it, and the addresses by which the
+/// document tells what it is: what stands in its DOCTYPE, and the namespace of the root.
 #[derive(Drop)]
 pub struct Root {
     alloc: Global,
@@ -23,15 +23,22 @@ impl Model for Root {
     ghost view = { λ _. tt };
 }
 
-// A name without its prefix, and the attribute that declares the namespace of that.
-fn split_name(alloc: Global, name: &[u8]) -> Result<(Vec<u8>, Vec<u8>), AllocError> {
+// The prefix of a name, where it has one, and the name without it.
+fn split_name(name: &[u8]) -> (Option<&[u8]>, &[u8]) {
+    match name.iter().position(|b| *b == b':') {
+        Some(at) => (Some(&name[..at]), &name[at + 1..]),
+        None => (None, name),
+    }
+}
+
+// The attribute that declares the namespace of names with that prefix, or with none.
+fn declaration_of(alloc: Global, prefix: Option<&[u8]>) -> Result<Vec<u8>, AllocError> {
     let mut declaration = Vec::from_slice(alloc, b"xmlns")?;
-    let Some(at) = name.iter().position(|b| *b == b':') else {
-        return Ok((Vec::from_slice(alloc, name)?, declaration));
-    };
-    declaration.push(b':')?;
-    declaration.extend_from_slice(&name[..at])?;
-    Ok((Vec::from_slice(alloc, &name[at + 1..])?, declaration))
+    if let Some(prefix) = prefix {
+        declaration.push(b':')?;
+        declaration.extend_from_slice(prefix)?;
+    }
+    Ok(declaration)
 }
 
 impl Root {
@@ -44,22 +51,32 @@ impl Root {
         }
     }
 
-    // Takes the tag of an element, which is that of the root where none came before it.
-    fn take_tag(&mut self, name: &[u8], attributes: &Attributes<'_>) -> Result<(), AllocError> {
-        if self.name.is_some() {
-            return Ok(());
-        }
-        let (local, declaration) = split_name(self.alloc, name)?;
-        self.name = Some(local);
-        self.release = attributes.normalized_value_of(self.alloc, b"release")?;
+    // Takes the namespace of names with that prefix, or with none.
+    fn take_address(
+        &mut self,
+        prefix: Option<&[u8]>,
+        attributes: &Attributes<'_>,
+    ) -> Result<(), AllocError> {
+        let declaration = declaration_of(self.alloc, prefix)?;
         match attributes.normalized_value_of(self.alloc, &declaration)? {
             Some(address) => self.addresses.extend_from_slice(&address),
             None => Ok(()),
         }
     }
 
+    // Takes the tag of an element, which is that of the root where none came before it.
+    fn take_tag(&mut self, name: &[u8], attributes: &Attributes<'_>) -> Result<(), AllocError> {
+        if self.name.is_some() {
+            return Ok(());
+        }
+        let (prefix, local) = split_name(name);
+        self.name = Some(Vec::from_slice(self.alloc, local)?);
+        self.release = attributes.normalized_value_of(self.alloc, b"release")?;
+        self.take_address(prefix, attributes)
+    }
+
     /// The name without its prefix, where the first bytes have the tag.
-    pub fn name(&self) -> Option<&[u8]> {
+    pub(crate) fn name(&self) -> Option<&[u8]> {
         match &self.name {
             Some(name) => Some(name.as_slice()),
             None => None,
@@ -67,7 +84,7 @@ impl Root {
     }
 
     /// The release, where there is one.
-    pub fn release(&self) -> Option<&[u8]> {
+    pub(crate) fn release(&self) -> Option<&[u8]> {
         match &self.release {
             Some(release) => Some(release.as_slice()),
             None => None,
@@ -82,9 +99,9 @@ impl Root {
         }
     }
 
-    /// Whether it is the root of ONIX 2.1, as far as can be told: its release begins with 2, or it has none, and no
-    /// address is one of ONIX 3.
-    pub fn looks_old(&self) -> bool {
+    /// Whether it is the root of ONIX 2.1, as far as can be told: its release begins with 2, or it
+    /// has none, and no address is one of ONIX 3.
+    pub(crate) fn looks_old(&self) -> bool {
         match &self.release {
             Some(release) => matches!(release.as_slice(), [b'2', ..]),
             None => self.names_no_third(),
@@ -100,7 +117,7 @@ impl Root {
     }
 
     /// Whether it is that of a web page.
-    pub fn is_web_page(&self) -> bool {
+    pub(crate) fn is_web_page(&self) -> bool {
         self.is_named("html") || self.is_named("head") || self.is_named("body")
     }
 }
@@ -124,7 +141,7 @@ impl Sink for Root {
 }
 
 /// The root of the document that begins so.
-pub fn root_in(alloc: Global, first: &[u8]) -> Root {
+pub(crate) fn root_in(alloc: Global, first: &[u8]) -> Root {
     let mut root = Root::new(alloc);
     let mut bytes = first;
     let _ = read_document(alloc, &mut bytes, &mut root);

@@ -6,11 +6,12 @@ use std::alloc::Global;
 // How many of the first bytes are kept.
 const FIRST: usize = 65_536;
 
-// Within how many bytes the reader of XML looks for the name of the encoding, before it hands on what it has read.
+// Within how many bytes the reader of XML looks for the name of the encoding, before it hands on
+// what it has read.
 const ENCODING: u64 = 1_024;
 
-/// What was seen of a FILE while it was read: its first bytes, how many there were, how often its end was met, and why
-/// a read failed.
+/// What was seen of a FILE while it was read: its first bytes, how many there were, how often its
+/// end was met, and why a read failed.
 #[derive(Drop)]
 pub struct Seen {
     first: Vec<u8>,
@@ -21,7 +22,7 @@ pub struct Seen {
 
 impl Seen {
     /// Nothing yet.
-    pub fn new(alloc: Global) -> Seen {
+    pub(crate) fn new(alloc: Global) -> Seen {
         Seen {
             first: Vec::new(alloc),
             count: 0,
@@ -30,7 +31,8 @@ impl Seen {
         }
     }
 
-    // Keeps bytes that follow those that are kept, as far as there is room. Without memory none are kept any more.
+    // Keeps bytes that follow those that are kept, as far as there is room. Without memory none are
+    // kept any more.
     fn keep(&mut self, bytes: &[u8]) {
         if self.first.len() as u64 != self.count {
             return;
@@ -41,7 +43,7 @@ impl Seen {
     }
 
     /// Sees what a read gave, which is nothing at the end.
-    pub fn note(&mut self, bytes: &[u8]) {
+    pub(crate) fn note(&mut self, bytes: &[u8]) {
         if bytes.is_empty() {
             self.ends = self.ends.saturating_add(1);
             return;
@@ -51,33 +53,33 @@ impl Seen {
     }
 
     /// Sees why a read failed.
-    pub fn fail(&mut self, fault: FileFault) {
+    pub(crate) fn fail(&mut self, fault: FileFault) {
         self.fault = Some(fault);
     }
 
     /// The first bytes.
-    pub fn first(&self) -> &[u8] {
+    pub(crate) fn first(&self) -> &[u8] {
         self.first.as_slice()
     }
 
     /// How many bytes there were.
-    pub fn count(&self) -> u64 {
+    pub(crate) fn count(&self) -> u64 {
         self.count
     }
 
     /// Whether the first bytes are all that there were.
-    pub fn is_whole(&self) -> bool {
+    pub(crate) fn is_whole(&self) -> bool {
         self.first.len() as u64 == self.count
     }
 
-    /// Whether the reader of XML has handed on all that there was, and asked for more. It asks once for the first bytes,
-    /// and again once it has handed them on.
-    pub fn is_at_end(&self) -> bool {
+    /// Whether the reader of XML has handed on all that there was, and asked for more. It asks once
+    /// for the first bytes, and again once it has handed them on.
+    pub(crate) fn is_at_end(&self) -> bool {
         self.ends > 1 || self.ends == 1 && self.count >= ENCODING
     }
 
     /// Why a read failed.
-    pub fn fault(&self) -> Option<&FileFault> {
+    pub(crate) fn fault(&self) -> Option<&FileFault> {
         self.fault.as_ref()
     }
 }

@@ -36,7 +36,7 @@ fn push_escape(line: &mut String, c: char) -> Result<(), AllocError> {
 
 /// Adds a text as it is shown: at most 100 characters, and in place of each that moves or changes
 /// what stands on the line its escape.
-pub fn push_shown(line: &mut String, text: &str) -> Result<(), AllocError> {
+pub(crate) fn push_shown(line: &mut String, text: &str) -> Result<(), AllocError> {
     for (number, c) in text.chars().enumerate() {
         if number == SHOWN {
             return line.push_str("..");
@@ -51,7 +51,7 @@ pub fn push_shown(line: &mut String, text: &str) -> Result<(), AllocError> {
 }
 
 /// Adds bytes of a feed as a text is shown. The reader of XML gives no other than UTF-8.
-pub fn push_shown_bytes(line: &mut String, bytes: &[u8]) -> Result<(), AllocError> {
+pub(crate) fn push_shown_bytes(line: &mut String, bytes: &[u8]) -> Result<(), AllocError> {
     match std::str::from_utf8(bytes) {
         Ok(text) => push_shown(line, text),
         Err(_) => line.push_str("?"),
@@ -59,7 +59,7 @@ pub fn push_shown_bytes(line: &mut String, bytes: &[u8]) -> Result<(), AllocErro
 }
 
 /// Adds the RecordReference of a product, or that it has none.
-pub fn push_reference(line: &mut String, reference: &[u8]) -> Result<(), AllocError> {
+pub(crate) fn push_reference(line: &mut String, reference: &[u8]) -> Result<(), AllocError> {
     if reference.is_empty() {
         line.push_str("no RecordReference")
     } else {

@@ -1,12 +1,12 @@
-//! The parts of a message for standard output: the first of them in memory, those beyond in a file that
-//! has no name.
+//! The parts of a message for standard output: the first of them in memory, those beyond in a file
+//! that has no name.
 
 ghost use Rattle.std.specs.Prelude.{◌≡◌, ◌+◌, ◌++◌, ℕ, List, [], OnOk, None, Some, if◌then◌else◌, is_some, nat_le, true};
 ghost use Rattle.std.specs.Io.KnownBytes.{Appends};
 ghost use Rattle.csv_records.specs.RecordTexts.{limit};
 ghost use Rattle.onix_files.specs.Kept.{IsWritten, told_texts, with_text};
 
-use crate::fault::FileFault;
+use crate::fault::{FileFault, or_fault};
 use crate::files::create_beside;
 use crate::names::path_in;
 use crate::store::Store;
@@ -32,29 +32,27 @@ pub struct Spool<'a> {
     rest: Option<File>,
 }
 
-// A file that has no name, and so is gone with the program.
-fn temporary(rt: &HostRuntime) -> Result<File, FileFault> {
+// The path of a file for temporary use, which something may have.
+fn temporary_path(rt: &HostRuntime) -> Result<String, FileFault> {
     let alloc = rt.alloc();
-    let folder = match temp_dir(rt) {
-        Ok(folder) => folder,
-        Err(error) => return Err(FileFault::of(alloc, TEMPORARY, &error)),
-    };
+    let folder = or_fault(rt, TEMPORARY, temp_dir(rt))?;
     let process = std::process::id(rt.process());
     let name = format!(in alloc; ".onixdesk.{process}")?;
-    let path = path_in(alloc, folder.as_str(), name.as_str())?;
+    Ok(path_in(alloc, folder.as_str(), name.as_str())?)
+}
+
+// A file that has no name, and so is gone with the program.
+fn temporary(rt: &HostRuntime) -> Result<File, FileFault> {
+    let path = temporary_path(rt)?;
     let (name, file) = create_beside(rt, path.as_str())?;
-    match fs::remove_file(rt, name.as_str()) {
-        Ok(()) => Ok(file),
-        Err(error) => Err(FileFault::of(alloc, name.as_str(), &error)),
-    }
+    or_fault(rt, name.as_str(), fs::remove_file(rt, name.as_str()))?;
+    Ok(file)
 }
 
 // Writes to a file, and gives it back.
 fn append(rt: &HostRuntime, mut file: File, text: &[u8]) -> Result<File, FileFault> {
-    match file.write_all(text) {
-        Ok(()) => Ok(file),
-        Err(error) => Err(FileFault::of(rt.alloc(), TEMPORARY, &error)),
-    }
+    or_fault(rt, TEMPORARY, file.write_all(text))?;
+    Ok(file)
 }
 
 // Writes bytes to standard output.
@@ -112,7 +110,7 @@ fn has_room(before: usize, more: usize) -> bool
 
 impl<'a> Spool<'a> {
     /// No part yet.
-    pub fn new(rt: &'a HostRuntime) -> Spool<'a>
+    pub(crate) fn new(rt: &'a HostRuntime) -> Spool<'a>
         ensures { told_texts result.first.items result.rest ≡ Some [] }
     {
         Spool {
@@ -147,8 +145,9 @@ impl<'a> Spool<'a> {
     }
 
     /// Writes the texts, one after the other.
-    pub fn place<W: Write>(self, output: &mut W) -> Result<(), FileFault>
-        ensures { (written : List ℕ) × Appends (W.contents output.old) (W.contents output.new) written
+    pub(crate) fn place<W: Write>(self, output: &mut W) -> Result<(), FileFault>
+        ensures { (written : List ℕ)
+            × Appends (W.contents output.old) (W.contents output.new) written
             × IsWritten (told_texts self.entry.first.items self.entry.rest) result written }
     {
         let Spool { rt, first, rest } = self;

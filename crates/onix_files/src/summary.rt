@@ -12,7 +12,7 @@ struct Kind {
     code: Option<[u8; 2]>,
 }
 
-#[derive(Drop)]
+#[derive(Clone, Copy)]
 struct Counted {
     kind: Kind,
     count: u64,
@@ -37,7 +37,7 @@ fn code_of(text: &[u8]) -> Option<[u8; 2]> {
 }
 
 impl Summary {
-    pub fn new(alloc: Global) -> Summary {
+    pub(crate) fn new(alloc: Global) -> Summary {
         Summary {
             alloc,
             counts: Vec::new(alloc),
@@ -56,7 +56,7 @@ impl Summary {
     }
 
     /// Counts a note on what is left out, with the words of its reason and their text.
-    pub fn add(
+    pub(crate) fn add(
         &mut self,
         thing: &'static str,
         words: Words,
@@ -67,7 +67,7 @@ impl Summary {
     }
 
     /// Counts all that another has counted.
-    pub fn add_all(&mut self, other: &Summary) -> Result<(), AllocError> {
+    pub(crate) fn add_all(&mut self, other: &Summary) -> Result<(), AllocError> {
         for counted in other.counts.iter() {
             self.count(counted.kind, counted.count)?;
         }
@@ -83,31 +83,43 @@ impl Summary {
         total
     }
 
-    // The line of each reason, with what is to stand first first: the greater count, then the text.
+    // The line of a reason, with what is to stand first first: the greater count, then the text.
+    fn line_of(&self, counted: Counted) -> Result<(u64, String), AllocError> {
+        let mut text = String::new(self.alloc);
+        push_kind(&mut text, counted.kind)?;
+        Ok((u64::MAX - counted.count, text))
+    }
+
+    // The line of each reason, in order.
     fn lines(&self) -> Result<Vec<(u64, String)>, AllocError> {
         let mut lines = Vec::new(self.alloc);
         for counted in self.counts.iter() {
-            let mut text = String::new(self.alloc);
-            push_kind(&mut text, counted.kind)?;
-            lines.push((u64::MAX - counted.count, text))?;
+            lines.push(self.line_of(*counted)?)?;
         }
         lines.sort()?;
         Ok(lines)
     }
 
-    /// Adds the lines of the summary: one for each reason, the most frequent first, and the count of
-    /// all notes. None where there are no notes.
-    pub fn push_lines(&self, prefix: &str, text: &mut String) -> Result<(), AllocError> {
+    // Adds the line of each reason.
+    fn push_reasons(&self, prefix: &str, text: &mut String) -> Result<(), AllocError> {
         let lines = self.lines()?;
         for (rest, line) in lines.iter() {
             let count = u64::MAX - *rest;
             write!(text, "{prefix}{line}: {count}\n")?;
         }
-        match self.total() {
-            0 => Ok(()),
-            1 => write!(text, "{prefix}1 note\n"),
-            total => write!(text, "{prefix}{total} notes\n"),
+        Ok(())
+    }
+
+    /// Adds the lines of the summary: one for each reason, the most frequent first, and the count
+    /// of all notes. None where there are no notes.
+    pub(crate) fn push_lines(&self, prefix: &str, text: &mut String) -> Result<(), AllocError> {
+        self.push_reasons(prefix, text)?;
+        let total = self.total();
+        if total == 0 {
+            return Ok(());
         }
+        let notes = if total == 1 { "note" } else { "notes" };
+        write!(text, "{prefix}{total} {notes}\n")
     }
 }
 

@@ -23,8 +23,13 @@ fn push_cut(line: &mut String, seen: &Seen, root: &Root) -> Result<(), AllocErro
     }
 }
 
-/// Adds why a FILE is no document: what it is in the place of one, or that it ends too early, where that can be told.
-pub fn push_malformed(line: &mut String, alloc: Global, seen: &Seen) -> Result<(), AllocError> {
+/// Adds why a FILE is no document: what it is in the place of one, or that it ends too early, where
+/// that can be told.
+pub(crate) fn push_malformed(
+    line: &mut String,
+    alloc: Global,
+    seen: &Seen,
+) -> Result<(), AllocError> {
     match other_kind(seen.first()) {
         Some(kind) => write!(line, "no XML, but {kind}"),
         None if seen.is_at_end() => push_cut(line, seen, &root_in(alloc, seen.first())),
@@ -32,9 +37,8 @@ pub fn push_malformed(line: &mut String, alloc: Global, seen: &Seen) -> Result<(
     }
 }
 
-/// Adds that the root is another one, and which, where its tag stands within the first bytes.
-pub fn push_root(line: &mut String, alloc: Global, seen: &Seen) -> Result<(), AllocError> {
-    let root = root_in(alloc, seen.first());
+// Adds which root it is, where its tag was met, and that it is none of a message.
+fn push_other_root(line: &mut String, root: &Root) -> Result<(), AllocError> {
     line.push_str(if root.name().is_some() {
         "root "
     } else {
@@ -48,10 +52,14 @@ pub fn push_root(line: &mut String, alloc: Global, seen: &Seen) -> Result<(), Al
     Ok(())
 }
 
-/// Adds that the release is another one, and which, where the tag of the root stands within the first bytes; and that
-/// the message looks like ONIX 2.1.
-pub fn push_release(line: &mut String, alloc: Global, seen: &Seen) -> Result<(), AllocError> {
-    let root = root_in(alloc, seen.first());
+/// Adds that the root is another one, and which, where its tag stands within the first bytes.
+pub(crate) fn push_root(line: &mut String, alloc: Global, seen: &Seen) -> Result<(), AllocError> {
+    push_other_root(line, &root_in(alloc, seen.first()))
+}
+
+// Adds which release the root tells, where its tag was met, and that the message looks like ONIX
+// 2.1.
+fn push_other_release(line: &mut String, root: &Root) -> Result<(), AllocError> {
     match (root.name(), root.release()) {
         (None, _) => return line.push_str("its release is not 3.0 or 3.1"),
         (Some(_), None) => line.push_str("no release")?,
@@ -65,4 +73,14 @@ pub fn push_release(line: &mut String, alloc: Global, seen: &Seen) -> Result<(),
         line.push_str(OLD)?;
     }
     Ok(())
+}
+
+/// Adds that the release is another one, and which, where the tag of the root stands within the
+/// first bytes; and that the message looks like ONIX 2.1.
+pub(crate) fn push_release(
+    line: &mut String,
+    alloc: Global,
+    seen: &Seen,
+) -> Result<(), AllocError> {
+    push_other_release(line, &root_in(alloc, seen.first()))
 }

@@ -8,7 +8,8 @@ use crate::seen::Seen;
 use std::io::{Read, Result};
 use std::rt::HostRuntime;
 
-/// Gives what a reader gives, keeps what tells of a FILE that is refused, and shows on a terminal how far it is.
+/// Gives what a reader gives, keeps what tells of a FILE that is refused, and shows on a terminal
+/// how far it is.
 #[derive(Drop)]
 pub struct Watched<'a, R> {
     rt: &'a HostRuntime,
@@ -20,7 +21,7 @@ pub struct Watched<'a, R> {
 
 impl<'a, R: Read + Drop> Watched<'a, R> {
     /// A FILE of which nothing was read yet.
-    pub fn new(rt: &'a HostRuntime, file: &'a str, reader: R) -> Watched<'a, R>
+    pub(crate) fn new(rt: &'a HostRuntime, file: &'a str, reader: R) -> Watched<'a, R>
         ensures { result.reader ≡ reader }
     {
         Watched {
@@ -33,7 +34,7 @@ impl<'a, R: Read + Drop> Watched<'a, R> {
     }
 
     /// What was seen of it. The line on the terminal is taken away.
-    pub fn into_seen(self) -> Seen {
+    pub(crate) fn into_seen(self) -> Seen {
         let Watched {
             mut progress,
             seen,

@@ -1,22 +1,18 @@
--- What clap's getters give of the options and operands that were found.
+-- What clap's getters of numbers give of the options and operands that were found.
 use Rattle.std.proofs.Common.{◌≡◌, ◌∙◌, ℕ, List, Option, Some, None, Result, Ok, Err, IfSome, option_map, ap, ap₂, refl, sym, subst}
 use Rattle.std.specs.Str.Parse.{digits_value, without_leading_plus}
-use Rattle.clap.specs.Matches.{ReadsOne, TriesOne, first_value, one_text}
+use Rattle.clap.specs.Matches.{ReadsOne, TriesOne, one_text}
 use Rattle.clap.specs.Walk.{Text}
 use Rattle.clap.specs.declared.parser.matches.ArgMatches.{ArgMatches}
-use Rattle.clap.proofs.WalkLemmas.{first_value-rows, one_text-rows}
+use Rattle.clap.proofs.WalkLemmas.{one_text-rows}
 use Rattle.clap.specs.Matches.{found_of}
-use Rattle.onixdesk.specs.Asked.{number_in, text_in, words_in}
+use Rattle.onixdesk.specs.Words.{number_in, words_in}
 
 pub some_is : {X : Type 0} {x y : X} → Some x ≡ Some y → x ≡ y
 some_is e = cc e
 
 pub none_is_some : {X : Type 0} {x : X} → None ≡ Some x → ⊥
 none_is_some e = cc e
-
--- the text that was got, or none, is the option's
-pub text_got : {o : Option Text} (m : ArgMatches) (id : Text) → o ≡ first_value (found_of m) id → o ≡ text_in (words_in m) id
-text_got m id got = got ∙ first_value-rows (found_of m) id
 
 abbrev number_of : Text → ℕ
 number_of t = digits_value 10 (without_leading_plus t)

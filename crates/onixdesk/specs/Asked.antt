@@ -1,15 +1,11 @@
 -- What the words of the command line ask for.
-use Rattle.std.specs.Prelude.{◌≡◌, ⊤, ℕ, Bool, false, List, Option, Some, None, codes, is_some, map, option_map, true, unwrap_or}
-use Rattle.std.specs.Option.{option_map_or}
+use Rattle.std.specs.Prelude.{◌≡◌, ⊤, false, List, Option, Some, None, codes, is_some, map, option_map, true, unwrap_or}
 use Rattle.std.specs.Str.{bytes_eq}
-use Rattle.std.specs.Str.Parse.{digits_value, without_leading_plus}
-use Rattle.clap.specs.Matches.{found_of}
 use Rattle.clap.specs.Simple.{matches_of, subcommand_of}
-use Rattle.clap.specs.Walk.{Row, Text, all_of, first_of, one_of, rows_of}
-use Rattle.clap.specs.declared.parser.matches.ArgMatches.{ArgMatches}
-use Rattle.clap.specs.declared.parser.matches.Found.{Found}
+use Rattle.clap.specs.Walk.{Row, Text}
 use Rattle.onixdesk.specs.CommandLine.{onixdesk}
 use Rattle.onixdesk.specs.ConvertWords.{AsksFor, asked_view}
+use Rattle.onixdesk.specs.Words.{has_flag, number_in, text_in, texts_in}
 use Rattle.onixdesk.specs.declared.command_line.Action.{Action}
 use Rattle.onixdesk.specs.declared.command_line.Action.TheVariants.{Convert, InMemory, InFile, Migrate, Send}
 use Rattle.onixdesk.specs.declared.command_line.Database.{Database}
@@ -17,22 +13,7 @@ use Rattle.onixdesk.specs.declared.command_line.Invocation.{Invocation}
 use Rattle.onixdesk.specs.declared.command_line.Reading.{Reading}
 use Rattle.onixdesk.specs.declared.command_line.Reading.TheVariants as reading
 use Rattle.onixdesk.specs.declared.command_line.Task.{Task}
-use Rattle.onixdesk.specs.declared.convert_words.Conversion.{Conversion}
 use Rattle.onixdesk.specs.declared.command_line.Task.TheVariants as task
-
--- ---- what stands for an option or operand, by its name
-
--- the text of the option or operand
-abbrev pub text_in : List Row → Text → Option Text
-text_in words name = first_of name words
-
--- the number that its digits write
-abbrev pub number_in : List Row → Text → Option ℕ
-number_in words name = option_map (λ t. digits_value 10 (without_leading_plus t)) (one_of name words)
-
--- the option without a text is there
-abbrev pub has_flag : List Row → Text → Bool
-has_flag words name = option_map_or (λ t. bytes_eq t (codes "true")) (text_in words name) false
 
 -- ---- what a command asks for
 
@@ -40,7 +21,7 @@ has_flag words name = option_map_or (λ t. bytes_eq t (codes "true")) (text_in w
 abbrev pub IsTask : Text → List Row → Task → Type 0
 IsTask name own task.Batch = name ≡ codes "batch"
 IsTask name own (task.Deliver files) =
-    (name ≡ codes "deliver") × (all_of (codes "file") own ≡ Some (map (λ file. file.now) files.items))
+    (name ≡ codes "deliver") × (texts_in own (codes "file") ≡ Some (map (λ file. file.now) files.items))
 IsTask name own (task.Gaps series) =
     (name ≡ codes "gaps") × (text_in own (codes "name") ≡ Some series.now)
 IsTask name own (task.Serve port requests batches) =
@@ -55,11 +36,6 @@ IsDatabase top None = text_in top (codes "db") ≡ None
 IsDatabase top (Some db) =
     (text_in top (codes "db") ≡ Some db.name.now) × (db.is_existing ≡ has_flag top (codes "existing"))
 
--- the conversion is what clap's findings ask for, which are those options and operands
-abbrev pub IsConversion : List Row → Conversion → Type 0
-IsConversion own conversion =
-    (found : Found) × (rows_of found ≡ own) × AsksFor found (asked_view conversion)
-
 -- the action is that of the command `name`. Top: the options before it
 abbrev pub IsAction : List Row → Text → List Row → Action → Type 0
 IsAction top name own (InMemory task) =
@@ -71,7 +47,7 @@ IsAction top name own (Migrate db) =
 IsAction top name own (Send socket) =
     (name ≡ codes "batch") × (text_in top (codes "batches") ≡ Some socket.now)
 IsAction top name own (Convert conversion) =
-    (name ≡ codes "convert") × IsConversion own conversion × (text_in top (codes "batches") ≡ None)
+    (name ≡ codes "convert") × AsksFor own (asked_view conversion) × (text_in top (codes "batches") ≡ None)
 
 -- the rules file under which an action is done, where that one is named: a desk that is open has its
 -- own rules, and a conversion has none
@@ -108,7 +84,3 @@ ReadsWords top None _ = ⊥
 -- how these words read, of which the first is the program's name
 abbrev pub Reads : List Text → Reading → Type 0
 Reads words reading = ReadsWords (matches_of onixdesk words) (subcommand_of onixdesk words) reading
-
--- the options and operands that were found
-abbrev pub words_in : ArgMatches → List Row
-words_in m = rows_of (found_of m)

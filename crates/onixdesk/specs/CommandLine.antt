@@ -1,5 +1,5 @@
 -- The command line of the program: its options, and its commands with the options and operands of each.
-use Rattle.std.specs.Prelude.{◌≡◌, ◌∷◌, ℕ, true, false, List, [], Some, codes}
+use Rattle.std.specs.Prelude.{◌≡◌, ◌∷◌, ℕ, true, false, List, [], Result, Some, IfOk, IsOkAnd, codes}
 use Rattle.clap.specs.Lexer.{usize_max}
 use Rattle.clap.specs.Simple.{App, Shape, app_of, new_rule, new_shape}
 use Rattle.clap.specs.Walk.{Rule, Text, is_empty, rule_of}
@@ -141,3 +141,7 @@ IsProgram a c = (app_of c ≡ a) × ((fields_of c).has_globals ≡ false)
 -- the command is that, without commands of its own
 abbrev pub IsCommand : Shape → Command → Type 0
 IsCommand s c = IsProgram (record { top = s; subs = [] }) c
+
+-- where a program is the result, the option or command is there, and is added to the program before it
+abbrev pub AddsMade : {A E : Type 0} → (Command → A → Command → Type 0) → Command → Result A E → Result Command E → Type 0
+AddsMade adds program part result = IfOk result (λ made. IsOkAnd part (λ part. adds program part made))

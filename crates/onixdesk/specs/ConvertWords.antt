@@ -1,10 +1,8 @@
 -- What the words of the command `convert` ask for.
-use Rattle.std.specs.Prelude.{◌≡◌, ◌<◌, ℕ, List, [], ◌∷◌, Bool, false, true, Option, Some, None, ◌&&◌, ◌==◌, if◌then◌else◌, codes, is_some, length, map, nat_lt, option_map, unwrap_or}
+use Rattle.std.specs.Prelude.{◌≡◌, ◌<◌, ℕ, List, [], ◌∷◌, Bool, true, Option, Some, None, ◌&&◌, ◌==◌, if◌then◌else◌, codes, is_some, length, map, nat_lt, option_map, unwrap_or}
 use Rattle.std.specs.Char.{is_ascii_digit}
 use Rattle.std.specs.Option.{option_map_or}
-use Rattle.std.specs.Str.{bytes_eq}
-use Rattle.clap.specs.Matches.{first_value, matched_of, raw_values}
-use Rattle.clap.specs.declared.parser.matches.Found.{Found}
+use Rattle.clap.specs.Walk.{Row}
 use Rattle.onix_terms.specs.Code.{code2_of}
 use Rattle.onix_terms.specs.Digits.{digits_of}
 use Rattle.onix_terms.specs.Number.{number_of}
@@ -12,6 +10,7 @@ use Rattle.onix_message.specs.Fields.{is_clean}
 use Rattle.onix_mapping.specs.Parties.{Pair, pair}
 use Rattle.onix_conversion.specs.Conversion.{Options}
 use Rattle.onix_conversion.specs.Views.{options_view}
+use Rattle.onixdesk.specs.Words.{has_flag, text_in, texts_in}
 use Rattle.onixdesk.specs.declared.convert_words.BadWords.{BadWords}
 use Rattle.onixdesk.specs.declared.convert_words.BadWords.TheVariants as bad
 use Rattle.onixdesk.specs.declared.convert_words.Conversion.{Conversion}
@@ -44,56 +43,52 @@ identifier_of (first ∷ second ∷ comma ∷ value) =
 identifier_of other = None
 
 -- what the word of an option is read as, or the default where it has none
-abbrev pub word_or : {A : Type 0} → (List ℕ → Option A) → A → Found → List ℕ → Option A
-word_or read default found id = option_map_or read (first_value found id) (Some default)
+abbrev pub word_or : {A : Type 0} → (List ℕ → Option A) → A → List Row → List ℕ → Option A
+word_or read default own name = option_map_or read (text_in own name) (Some default)
 
 -- what the word of an option is read as, if it has one
-abbrev pub word_as : {A : Type 0} → (List ℕ → Option A) → Found → List ℕ → Option (Option A)
-word_as read found id = option_map_or (λ word. option_map Some (read word)) (first_value found id) (Some None)
-
--- an option is set
-abbrev pub is_set : Found → List ℕ → Bool
-is_set found id = option_map_or (λ word. bytes_eq word (codes "true")) (first_value found id) false
+abbrev pub word_as : {A : Type 0} → (List ℕ → Option A) → List Row → List ℕ → Option (Option A)
+word_as read own name = option_map_or (λ word. option_map Some (read word)) (text_in own name) (Some None)
 
 -- the FILEs that are named, or standard input
-abbrev pub files_named : Found → List (List ℕ)
-files_named found = unwrap_or (option_map raw_values (matched_of found (codes "file"))) (codes "-" ∷ [])
+abbrev pub files_named : List Row → List (List ℕ)
+files_named own = unwrap_or (texts_in own (codes "file")) (codes "-" ∷ [])
 
--- how each message is converted, by what clap found: each word is read by its rule, and has its default
-abbrev pub AreOptions : Found → Options → Type 0
-AreOptions found o =
-    (word_or digits_of 1 found (codes "parts") ≡ Some o.choices.parts)
-    × (word_as number_of found (codes "number") ≡ Some o.choices.number)
-    × (word_or digits_of 0 found (codes "number-offset") ≡ Some o.choices.offset)
-    × (word_as identifier_of found (codes "sender") ≡ Some o.choices.sender)
-    × (word_as identifier_of found (codes "addressee") ≡ Some o.choices.addressee)
-    × (word_or code2_of (codes "06") found (codes "id-type") ≡ Some o.choices.id_type)
-    × (o.leave_out_wrong ≡ is_set found (codes "leave-out-wrong"))
+-- how each message is converted, by the options and operands: each word is read by its rule, and has its default
+abbrev pub AreOptions : List Row → Options → Type 0
+AreOptions own o =
+    (word_or digits_of 1 own (codes "parts") ≡ Some o.choices.parts)
+    × (word_as number_of own (codes "number") ≡ Some o.choices.number)
+    × (word_or digits_of 0 own (codes "number-offset") ≡ Some o.choices.offset)
+    × (word_as identifier_of own (codes "sender") ≡ Some o.choices.sender)
+    × (word_as identifier_of own (codes "addressee") ≡ Some o.choices.addressee)
+    × (word_or code2_of (codes "06") own (codes "id-type") ≡ Some o.choices.id_type)
+    × (o.leave_out_wrong ≡ has_flag own (codes "leave-out-wrong"))
 
 -- several FILEs need a folder, and no number is for all of them
 abbrev pub AreForFiles : Asked → Type 0
 AreForFiles a = 1 < length a.files → (is_some a.folder ≡ true) × (a.options.choices.number ≡ None)
 
--- What words ask for, by what clap found of them.
-abbrev pub AsksFor : Found → Asked → Type 0
-AsksFor found a =
-    AreOptions found a.options
-    × (a.folder ≡ first_value found (codes "folder"))
-    × (a.files ≡ files_named found)
+-- What the options and operands ask for.
+abbrev pub AsksFor : List Row → Asked → Type 0
+AsksFor own a =
+    AreOptions own a.options
+    × (a.folder ≡ text_in own (codes "folder"))
+    × (a.files ≡ files_named own)
     × AreForFiles a
 
 -- this is the word of an option, and it is not read
-abbrev pub IsUnread : {A : Type 0} → (List ℕ → Option A) → Found → List ℕ → List ℕ → Type 0
-IsUnread read found id word = (first_value found id ≡ Some word) × (read word ≡ None)
+abbrev pub IsUnread : {A : Type 0} → (List ℕ → Option A) → List Row → List ℕ → List ℕ → Type 0
+IsUnread read own name word = (text_in own name ≡ Some word) × (read word ≡ None)
 
 -- this is the word of that option, and breaks its rule
-abbrev pub IsWrongWord : Found → OptionName → List ℕ → Type 0
-IsWrongWord found named.Parts word = IsUnread digits_of found (codes "parts") word
-IsWrongWord found named.Number word = IsUnread number_of found (codes "number") word
-IsWrongWord found named.NumberOffset word = IsUnread digits_of found (codes "number-offset") word
-IsWrongWord found named.Sender word = IsUnread identifier_of found (codes "sender") word
-IsWrongWord found named.Addressee word = IsUnread identifier_of found (codes "addressee") word
-IsWrongWord found named.IdType word = IsUnread code2_of found (codes "id-type") word
+abbrev pub IsWrongWord : List Row → OptionName → List ℕ → Type 0
+IsWrongWord own named.Parts word = IsUnread digits_of own (codes "parts") word
+IsWrongWord own named.Number word = IsUnread number_of own (codes "number") word
+IsWrongWord own named.NumberOffset word = IsUnread digits_of own (codes "number-offset") word
+IsWrongWord own named.Sender word = IsUnread identifier_of own (codes "sender") word
+IsWrongWord own named.Addressee word = IsUnread identifier_of own (codes "addressee") word
+IsWrongWord own named.IdType word = IsUnread code2_of own (codes "id-type") word
 
 -- words are refused for the word of that option, which is such
 abbrev pub IsOf : OptionName → (List ℕ → Type 0) → BadWords → Type 0
@@ -101,8 +96,8 @@ IsOf option such (bad.Value told word) = (told ≡ option) × such word.now
 IsOf option such other = ⊥
 
 -- Why words ask for nothing: one breaks its rule, or they are not for several FILEs; or memory ran out.
-abbrev pub AsksNothing : Found → BadWords → Type 0
-AsksNothing found (bad.Value option word) = IsWrongWord found option word.now
-AsksNothing found bad.NoFolder = (1 < length (files_named found)) × (first_value found (codes "folder") ≡ None)
-AsksNothing found bad.OneNumber = (1 < length (files_named found)) × (is_some (first_value found (codes "number")) ≡ true)
-AsksNothing found bad.Memory = Unit {0}
+abbrev pub AsksNothing : List Row → BadWords → Type 0
+AsksNothing own (bad.Value option word) = IsWrongWord own option word.now
+AsksNothing own bad.NoFolder = (1 < length (files_named own)) × (text_in own (codes "folder") ≡ None)
+AsksNothing own bad.OneNumber = (1 < length (files_named own)) × (is_some (text_in own (codes "number")) ≡ true)
+AsksNothing own bad.Memory = Unit {0}

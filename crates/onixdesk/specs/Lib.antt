@@ -10,6 +10,7 @@ pub mod Clients
 pub mod Sending
 pub mod TaskEnds
 pub mod FileViews
+pub mod Words
 pub mod ConvertWords
 pub mod ConvertEnds
 pub mod CommandLine

@@ -4,12 +4,14 @@ ghost use Rattle.std.specs.Prelude.{◌≡◌, ◌∷◌, ℕ, List, None, Optio
 ghost use Rattle.std.specs.Io.KnownBytes.{Appends};
 ghost use Rattle.clap.specs.Simple.{subcommand_rows_of};
 ghost use Rattle.clap.specs.Walk.{Row, Text};
-ghost use Rattle.onixdesk.specs.Asked.{IsDatabase, IsTask, Reads, ReadsAs, ReadsWords, has_flag, number_in, text_in, words_in};
+ghost use Rattle.onixdesk.specs.Asked.{IsDatabase, IsTask, Reads, ReadsAs, ReadsWords};
 ghost use Rattle.onixdesk.specs.FileEnds.{HelpEnds};
+ghost use Rattle.onixdesk.specs.Words.{number_in, text_in, words_in};
 
 use crate::commands::program;
 use crate::convert_words::{Conversion, conversion_of};
 use crate::fault::{Fault, report};
+use crate::words::{has_flag, text_in, texts_in};
 use clap::error::ErrorKind;
 use clap::{ArgMatches, Error};
 use csv_records::streams::{WriteFault, write_whole};
@@ -81,8 +83,9 @@ pub enum Reading<'a> {
 }
 
 // What clap could not read as an invocation.
-fn refused<'a>(alloc: Global, error: &Error) -> Reading<'a>
-    ensures { (top : List Row) (command : Option (Text × List Row)) → ReadsWords top command result }
+fn error_reading<'a>(alloc: Global, error: &Error) -> Reading<'a>
+    ensures { (top : List Row) (command : Option (Text × List Row))
+        → ReadsWords top command result }
 {
     if error.kind() == ErrorKind::OutOfMemory {
         return Reading::Memory;
@@ -97,21 +100,21 @@ fn refused<'a>(alloc: Global, error: &Error) -> Reading<'a>
     }
 }
 
-// The files of `deliver`.
-fn deliver<'a>(alloc: Global, words: &ArgMatches<'a>) -> Result<Option<Task<'a>>, AllocError>
+// The task of `deliver`: its files.
+fn deliver_task<'a>(alloc: Global, words: &ArgMatches<'a>) -> Result<Option<Task<'a>>, AllocError>
     ensures { IfOk result (λ task. IfSome task (IsTask (codes "deliver") (words_in words.now))) }
 {
-    let Some(files) = words.get_strs("file") else {
+    let Some(files) = texts_in(words, "file") else {
         return Ok(None);
     };
     Ok(Some(Task::Deliver(Vec::from_slice(alloc, files)?)))
 }
 
-// The name of `gaps`.
-fn gaps<'a>(words: &ArgMatches<'a>) -> Option<Task<'a>>
+// The task of `gaps`: its series.
+fn gaps_task<'a>(words: &ArgMatches<'a>) -> Option<Task<'a>>
     ensures { IfSome result (IsTask (codes "gaps") (words_in words.now)) }
 {
-    Some(Task::Gaps(words.get_str("name")?))
+    Some(Task::Gaps(text_in(words, "name")?))
 }
 
 // The port of `serve`.
@@ -132,14 +135,14 @@ fn requests(words: &ArgMatches<'_>) -> Option<u64>
     }
 }
 
-// The port, the number of connections and the socket of `serve`.
-fn serve<'a>(words: &ArgMatches<'a>) -> Option<Task<'a>>
+// The task of `serve`: its port, how many connections, and its socket.
+fn serve_task<'a>(words: &ArgMatches<'a>) -> Option<Task<'a>>
     ensures { IfSome result (IsTask (codes "serve") (words_in words.now)) }
 {
     Some(Task::Serve {
         port: port(words)?,
         requests: requests(words)?,
-        batches: words.get_str("batches"),
+        batches: text_in(words, "batches"),
     })
 }
 
@@ -153,20 +156,10 @@ fn task_of<'a>(
 {
     match name {
         "batch" => Ok(Some(Task::Batch)),
-        "deliver" => deliver(alloc, words),
-        "gaps" => Ok(gaps(words)),
-        "serve" => Ok(serve(words)),
+        "deliver" => deliver_task(alloc, words),
+        "gaps" => Ok(gaps_task(words)),
+        "serve" => Ok(serve_task(words)),
         _ => Ok(None),
-    }
-}
-
-// Whether an option without a text is there.
-fn has_flag(words: &ArgMatches<'_>, name: &str) -> bool
-    ensures { result ≡ has_flag (words_in words.now) name.now }
-{
-    match words.get_str(name) {
-        Some(text) => text == "true",
-        None => false,
     }
 }
 
@@ -174,13 +167,13 @@ fn has_flag(words: &ArgMatches<'_>, name: &str) -> bool
 fn database_of<'a>(matches: &ArgMatches<'a>) -> Option<Database<'a>>
     ensures { IsDatabase (words_in matches.now) result }
 {
-    let name = matches.get_str("db")?;
+    let name = text_in(matches, "db")?;
     let is_existing = has_flag(matches, "existing");
     Some(Database { name, is_existing })
 }
 
 // What a command over a desk asks for.
-fn over_desk<'a>(
+fn desk_reading<'a>(
     alloc: Global,
     matches: &ArgMatches<'a>,
     name: &str,
@@ -196,24 +189,24 @@ fn over_desk<'a>(
     };
     match database_of(matches) {
         Some(db) => Reading::Run(Invocation {
-            rules: matches.get_str("rules"),
+            rules: text_in(matches, "rules"),
             action: Action::InFile { db, task },
         }),
         None => Reading::Run(Invocation {
-            rules: matches.get_str("rules"),
+            rules: text_in(matches, "rules"),
             action: Action::InMemory(task),
         }),
     }
 }
 
 // What `migrate` asks for.
-fn migration<'a>(matches: &ArgMatches<'a>) -> Reading<'a>
+fn migrate_reading<'a>(matches: &ArgMatches<'a>) -> Reading<'a>
     ensures { (own : List Row) → text_in (words_in matches.now) (codes "batches") ≡ None
         → ReadsAs (words_in matches.now) (codes "migrate") own result }
 {
     match database_of(matches) {
         Some(db) => Reading::Run(Invocation {
-            rules: matches.get_str("rules"),
+            rules: text_in(matches, "rules"),
             action: Action::Migrate { db },
         }),
         None => Reading::NoDatabase,
@@ -221,7 +214,7 @@ fn migration<'a>(matches: &ArgMatches<'a>) -> Reading<'a>
 }
 
 // What a command asks for whose batch goes to the desk at a socket.
-fn sent<'a>(socket: &'a str, name: &str) -> Reading<'a>
+fn send_reading<'a>(socket: &'a str, name: &str) -> Reading<'a>
     ensures { (top own : List Row) → text_in top (codes "batches") ≡ Some socket.entry.now
         → ReadsAs top name.now own result }
 {
@@ -235,7 +228,7 @@ fn sent<'a>(socket: &'a str, name: &str) -> Reading<'a>
 }
 
 // What `convert` asks for.
-fn converted<'a>(alloc: Global, words: &ArgMatches<'a>) -> Reading<'a>
+fn convert_reading<'a>(alloc: Global, words: &ArgMatches<'a>) -> Reading<'a>
     ensures { (top : List Row) → text_in top (codes "batches") ≡ None
         → ReadsAs top (codes "convert") (words_in words.now) result }
 {
@@ -255,7 +248,7 @@ fn converted<'a>(alloc: Global, words: &ArgMatches<'a>) -> Reading<'a>
 }
 
 // What the command of that name asks for, behind the options that were found.
-fn asked_of<'a>(
+fn command_reading<'a>(
     alloc: Global,
     matches: &ArgMatches<'a>,
     name: &str,
@@ -263,22 +256,22 @@ fn asked_of<'a>(
 ) -> Reading<'a>
     ensures { ReadsAs (words_in matches.now) name.now (words_in words.now) result }
 {
-    if let Some(socket) = matches.get_str("batches") {
-        return sent(socket, name);
+    if let Some(socket) = text_in(matches, "batches") {
+        return send_reading(socket, name);
     }
     match name {
-        "convert" => converted(alloc, words),
-        "migrate" => migration(matches),
-        _ => over_desk(alloc, matches, name, words),
+        "convert" => convert_reading(alloc, words),
+        "migrate" => migrate_reading(matches),
+        _ => desk_reading(alloc, matches, name, words),
     }
 }
 
 // What words that clap let pass ask for.
-fn asked_for<'a>(alloc: Global, matches: &ArgMatches<'a>) -> Reading<'a>
+fn matched_reading<'a>(alloc: Global, matches: &ArgMatches<'a>) -> Reading<'a>
     ensures { ReadsWords (words_in matches.now) (subcommand_rows_of matches.now) result }
 {
     match matches.subcommand() {
-        Some((name, words)) => asked_of(alloc, matches, name, words),
+        Some((name, words)) => command_reading(alloc, matches, name, words),
         None => Reading::Wrong(String::new(alloc)),
     }
 }
@@ -292,8 +285,8 @@ pub fn read<'a>(alloc: Global, words: &'a [&'a str]) -> Reading<'a>
         return Reading::Memory;
     };
     match program.try_get_matches_from(words) {
-        Ok(matches) => asked_for(alloc, &matches),
-        Err(error) => refused(alloc, &error),
+        Ok(matches) => matched_reading(alloc, &matches),
+        Err(error) => error_reading(alloc, &error),
     }
 }
 

@@ -1,8 +1,8 @@
 //! The commands of the program and their options, as clap takes them, with their help.
 
-ghost use Rattle.std.specs.Prelude.{◌∷◌, ℕ, [], IfOk, IsOkAnd, codes};
+ghost use Rattle.std.specs.Prelude.{◌∷◌, ℕ, [], IfOk, codes};
 ghost use Rattle.clap.specs.Built.{AddsArg, AddsSubcommand};
-ghost use Rattle.onixdesk.specs.CommandLine.{IsCommand, IsProgram, IsWord, batch_command, convert_command, deliver_command, flag_option, gaps_command, migrate_command, needed, number_option, one_operand, onixdesk, program_of, program_options, serve_command, short_option, some_operands, text_option, tied};
+ghost use Rattle.onixdesk.specs.CommandLine.{AddsMade, IsCommand, IsProgram, IsWord, batch_command, convert_command, deliver_command, flag_option, gaps_command, migrate_command, needed, number_option, one_operand, onixdesk, program_of, program_options, serve_command, short_option, some_operands, text_option, tied};
 
 use clap::builder::ValueParser;
 use clap::{Arg, ArgAction, Command};
@@ -348,7 +348,7 @@ fn with_command<'a>(
     program: Command<'a>,
     command: Result<Command<'a>, AllocError>,
 ) -> Result<Command<'a>, AllocError>
-    ensures { IfOk result (λ made. IsOkAnd command.entry (λ command. AddsSubcommand program.entry command made)) }
+    ensures { AddsMade AddsSubcommand program.entry command.entry result }
 {
     program.subcommand(command?)
 }
@@ -358,7 +358,7 @@ fn with_arg<'a>(
     program: Command<'a>,
     option: Result<Arg<'a>, AllocError>,
 ) -> Result<Command<'a>, AllocError>
-    ensures { IfOk result (λ made. IsOkAnd option.entry (λ option. AddsArg program.entry option made)) }
+    ensures { AddsMade AddsArg program.entry option.entry result }
 {
     program.arg(option?)
 }

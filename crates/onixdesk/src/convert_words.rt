@@ -2,15 +2,16 @@
 
 ghost use Rattle.std.specs.Prelude.{◌≡◌, IfErr, IfOk, Some, codes, map, not, option_map};
 ghost use Rattle.std.specs.List.{list_all};
-ghost use Rattle.clap.specs.Matches.{found_of};
 ghost use Rattle.onix_terms.specs.Code.{code2_of};
 ghost use Rattle.onix_terms.specs.Digits.{digits_of};
 ghost use Rattle.onix_terms.specs.Number.{number_of};
 ghost use Rattle.onix_message.specs.Fields.{is_control};
 ghost use Rattle.onix_mapping.specs.PartyViews.{pair_view};
 ghost use Rattle.onix_conversion.specs.Views.{options_view};
-ghost use Rattle.onixdesk.specs.ConvertWords.{AreOptions, AsksFor, AsksNothing, IsOf, IsUnread, asked_view, files_named, identifier_of, is_set, is_value, word_as, word_or};
+ghost use Rattle.onixdesk.specs.ConvertWords.{AreOptions, AsksFor, AsksNothing, IsOf, IsUnread, asked_view, files_named, identifier_of, is_value, word_as, word_or};
+ghost use Rattle.onixdesk.specs.Words.{words_in};
 
+use crate::words::{has_flag, text_in, texts_in};
 use clap::ArgMatches;
 use onix_conversion::Options;
 use onix_files::{Run, STANDARD_INPUT};
@@ -115,15 +116,16 @@ impl<'a> BadWords<'a> {
 
 // The number that is given for an option, or the default.
 fn number_or<'a>(
-    matches: &ArgMatches<'a>,
-    id: &str,
+    words: &ArgMatches<'a>,
+    name: &str,
     option: OptionName,
     default: u32,
 ) -> Result<u32, BadWords<'a>>
-    ensures ok { IfOk result (λ n. word_or digits_of default (found_of matches.now) id.now ≡ Some n) }
-    ensures err { IfErr result (IsOf option (IsUnread digits_of (found_of matches.now) id.now)) }
+    ensures ok { IfOk result (λ n. word_or digits_of default (words_in words.now) name.now
+        ≡ Some n) }
+    ensures err { IfErr result (IsOf option (IsUnread digits_of (words_in words.now) name.now)) }
 {
-    let Some(word) = matches.get_str(id) else {
+    let Some(word) = text_in(words, name) else {
         return Ok(default);
     };
     match read_digits(word) {
@@ -133,12 +135,13 @@ fn number_or<'a>(
 }
 
 // The number of the message, where it is given.
-fn number_of<'a>(matches: &ArgMatches<'a>) -> Result<Option<Number>, BadWords<'a>>
-    ensures ok { IfOk result (λ n. word_as number_of (found_of matches.now) (codes "number") ≡ Some n) }
+fn number_of<'a>(words: &ArgMatches<'a>) -> Result<Option<Number>, BadWords<'a>>
+    ensures ok { IfOk result (λ n. word_as number_of (words_in words.now) (codes "number")
+        ≡ Some n) }
     ensures err { IfErr result (IsOf OptionName.Number
-        (IsUnread number_of (found_of matches.now) (codes "number"))) }
+        (IsUnread number_of (words_in words.now) (codes "number"))) }
 {
-    let Some(word) = matches.get_str("number") else {
+    let Some(word) = text_in(words, "number") else {
         return Ok(None);
     };
     match Number::read(word) {
@@ -182,15 +185,16 @@ fn identifier_of(word: &[u8]) -> Option<Pair<'_>>
 
 // The identifier that is given for an option.
 fn pair_of<'a>(
-    matches: &ArgMatches<'a>,
-    id: &str,
+    words: &ArgMatches<'a>,
+    name: &str,
     option: OptionName,
 ) -> Result<Option<Pair<'a>>, BadWords<'a>>
-    ensures ok { IfOk result (λ p. word_as identifier_of (found_of matches.now) id.now
+    ensures ok { IfOk result (λ p. word_as identifier_of (words_in words.now) name.now
         ≡ Some (option_map pair_view p)) }
-    ensures err { IfErr result (IsOf option (IsUnread identifier_of (found_of matches.now) id.now)) }
+    ensures err { IfErr result (IsOf option
+        (IsUnread identifier_of (words_in words.now) name.now)) }
 {
-    let Some(word) = matches.get_str(id) else {
+    let Some(word) = text_in(words, name) else {
         return Ok(None);
     };
     match identifier_of(word.as_bytes()) {
@@ -200,13 +204,13 @@ fn pair_of<'a>(
 }
 
 // The type of identifier that is preferred.
-fn id_type_of<'a>(matches: &ArgMatches<'a>) -> Result<&'a [u8], BadWords<'a>>
-    ensures ok { IfOk result (λ t. word_or code2_of (codes "06") (found_of matches.now)
+fn id_type_of<'a>(words: &ArgMatches<'a>) -> Result<&'a [u8], BadWords<'a>>
+    ensures ok { IfOk result (λ t. word_or code2_of (codes "06") (words_in words.now)
         (codes "id-type") ≡ Some t.now) }
     ensures err { IfErr result (IsOf OptionName.IdType
-        (IsUnread code2_of (found_of matches.now) (codes "id-type"))) }
+        (IsUnread code2_of (words_in words.now) (codes "id-type"))) }
 {
-    let Some(word) = matches.get_str("id-type") else {
+    let Some(word) = text_in(words, "id-type") else {
         return Ok(GLN);
     };
     match Code2::read(word) {
@@ -218,22 +222,12 @@ fn id_type_of<'a>(matches: &ArgMatches<'a>) -> Result<&'a [u8], BadWords<'a>>
     }
 }
 
-// Whether an option without a value is there.
-fn is_set(matches: &ArgMatches<'_>, id: &str) -> bool
-    ensures { result ≡ is_set (found_of matches.now) id.now }
-{
-    match matches.get_str(id) {
-        Some(word) => word == "true",
-        None => false,
-    }
-}
-
 // The files that are named, or standard input where none is.
-fn files_of<'a>(alloc: Global, matches: &ArgMatches<'a>) -> Result<Vec<&'a str>, AllocError>
+fn files_of<'a>(alloc: Global, words: &ArgMatches<'a>) -> Result<Vec<&'a str>, AllocError>
     ensures { IfOk result (λ files. map (λ name. name.now) files.items
-        ≡ files_named (found_of matches.now)) }
+        ≡ files_named (words_in words.now)) }
 {
-    match matches.get_strs("file") {
+    match texts_in(words, "file") {
         Some(files) => files.to_vec(alloc),
         None => {
             let mut files = Vec::new(alloc);
@@ -244,16 +238,16 @@ fn files_of<'a>(alloc: Global, matches: &ArgMatches<'a>) -> Result<Vec<&'a str>,
 }
 
 // How each message is converted.
-fn options_of<'a>(matches: &ArgMatches<'a>) -> Result<Options<'a>, BadWords<'a>>
-    ensures ok { IfOk result (λ o. AreOptions (found_of matches.now) (options_view o)) }
-    ensures err { IfErr result (AsksNothing (found_of matches.now)) }
+fn options_of<'a>(words: &ArgMatches<'a>) -> Result<Options<'a>, BadWords<'a>>
+    ensures ok { IfOk result (λ o. AreOptions (words_in words.now) (options_view o)) }
+    ensures err { IfErr result (AsksNothing (words_in words.now)) }
 {
-    let parts = number_or(matches, "parts", OptionName::Parts, 1)?;
-    let number = number_of(matches)?;
-    let offset = number_or(matches, "number-offset", OptionName::NumberOffset, 0)?;
-    let sender = pair_of(matches, "sender", OptionName::Sender)?;
-    let addressee = pair_of(matches, "addressee", OptionName::Addressee)?;
-    let id_type = id_type_of(matches)?;
+    let parts = number_or(words, "parts", OptionName::Parts, 1)?;
+    let number = number_of(words)?;
+    let offset = number_or(words, "number-offset", OptionName::NumberOffset, 0)?;
+    let sender = pair_of(words, "sender", OptionName::Sender)?;
+    let addressee = pair_of(words, "addressee", OptionName::Addressee)?;
+    let id_type = id_type_of(words)?;
     let choices = Choices {
         parts,
         number,
@@ -264,25 +258,26 @@ fn options_of<'a>(matches: &ArgMatches<'a>) -> Result<Options<'a>, BadWords<'a>>
     };
     Ok(Options {
         choices,
-        leave_out_wrong: is_set(matches, "leave-out-wrong"),
+        leave_out_wrong: has_flag(words, "leave-out-wrong"),
     })
 }
 
-/// What words that clap let pass ask of `convert`: each is read by its rule, and what is not there has its default. Of
-/// words that break their rules it tells one, and else that several FILEs need a folder or have no number in common.
+/// What words that clap let pass ask of `convert`: each is read by its rule, and what is not there has
+/// its default. Of words that break their rules it tells one, and else that several FILEs need a folder
+/// or have no number in common.
 pub fn conversion_of<'a>(
     alloc: Global,
-    matches: &ArgMatches<'a>,
+    words: &ArgMatches<'a>,
 ) -> Result<Conversion<'a>, BadWords<'a>>
-    ensures ok { IfOk result (λ c. AsksFor (found_of matches.now) (asked_view c)) }
-    ensures err { IfErr result (AsksNothing (found_of matches.now)) }
+    ensures ok { IfOk result (λ c. AsksFor (words_in words.now) (asked_view c)) }
+    ensures err { IfErr result (AsksNothing (words_in words.now)) }
 {
-    let options = match options_of(matches) {
+    let options = match options_of(words) {
         Ok(options) => options,
         Err(bad) => return Err(bad),
     };
-    let files = files_of(alloc, matches)?;
-    let folder = matches.get_str("folder");
+    let files = files_of(alloc, words)?;
+    let folder = text_in(words, "folder");
     if files.len() > 1 && folder.is_none() {
         return Err(BadWords::NoFolder);
     }

@@ -66,10 +66,7 @@ pub fn deliver_one<D: Desk, R: Read, W: Write>(
         (course precedence.now (D.seen desk.old) (D.seen desk.new)
         (Appends (W.contents writer.old) (W.contents writer.new))) text result }
 {
-    let request = match delivery_from_reader(alloc, reader) {
-        Ok(request) => request,
-        Err(fault) => return Err(fault),
-    };
+    let request = delivery_from_reader(alloc, reader)?;
     let outcome = run_request(alloc, desk, precedence, &request, writer);
     drop(request);
     match outcome {
@@ -154,8 +151,8 @@ fn refusal_status(has_refusal: bool) -> u8
 }
 
 /// Delivers the message of each file in turn, where `-` is standard input, and writes each answer
-/// before the next file is opened. Gives 0, or 1 where an answer was a refusal, or 3 after a fault, which is reported and
-/// ends the command.
+/// before the next file is opened. Gives 0, or 1 where an answer was a refusal, or 3 after a fault,
+/// which is reported and ends the command.
 pub fn run<D: Desk, R: Read, W: Write, E: Write>(
     rt: &HostRuntime,
     desk: &mut D,

@@ -148,11 +148,10 @@ impl<'a> Clients for Doors<'a> {
     type Writer = Timed<'a>;
 
     fn accept(&mut self) -> Result<Option<(Protocol, Timed<'a>, Timed<'a>)>, Fault> {
-        let (protocol, stream) = match self.next_client() {
-            Ok(Client::Port(stream)) => (Protocol::Exchange, Stream::Port(stream)),
-            Ok(Client::Batches(stream)) => (Protocol::Batch, Stream::Socket(stream)),
-            Ok(Client::Lost) => return Ok(None),
-            Err(fault) => return Err(fault),
+        let (protocol, stream) = match self.next_client()? {
+            Client::Port(stream) => (Protocol::Exchange, Stream::Port(stream)),
+            Client::Batches(stream) => (Protocol::Batch, Stream::Socket(stream)),
+            Client::Lost => return Ok(None),
         };
         match Timed::both(self.port.rt, stream, self.port.limit) {
             Some((reader, writer)) => Ok(Some((protocol, reader, writer))),

@@ -1,12 +1,10 @@
 //! The program `onixdesk`: the intake of a bookshop's buying desk on the command line. `command_line`
-//! reads its words by the `commands` of clap, `rules` reads the precedence table, `database` looks at the
-//! database file, and `fault` has the
-//! texts of what can go wrong. The commands are `batch`, `deliver`, `gaps` and `serve`, each over any
-//! desk; `program` gives them one in a database file, or in memory. `serve` is reached at a `port`, or
-//! at its `doors`;
-//! `sending` is a batch to a desk that is open. `migrate` brings a database file of
-//! an earlier version to the one that is kept now. What each request is answered is proved in
-//! `series_rules`.
+//! reads its words by the `commands` of clap, and `convert_words` those of `convert`, from the `words`
+//! that clap found; `rules` reads the precedence table, `database` looks at the database file, and
+//! `fault` has the texts of what can go wrong. The commands are `batch`, `deliver`, `gaps` and `serve`, each over any desk; `program` gives
+//! them one in a database file, or in memory. `serve` is reached at a `port`, or at its `doors`;
+//! `sending` is a batch to a desk that is open. `migrate` brings a database file of an earlier version
+//! to the one that is kept now. What each request is answered is proved in `series_rules`.
 #![tactic(auto)]
 
 mod batch;
@@ -30,6 +28,7 @@ mod sending;
 mod serve;
 mod sockets;
 mod timed;
+mod words;
 
 ghost use Rattle.std.specs.Prelude.{◌≤◌, IfOk};
 

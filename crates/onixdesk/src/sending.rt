@@ -206,14 +206,9 @@ fn send_batch<T: Write, S: Read, W: Write>(
         (Appends (T.contents to.old) (T.contents to.new))
         (Appends (W.contents output.old) (W.contents output.new)) result }
 {
-    let asked = match count_requests(alloc, text) {
-        Ok(asked) => asked,
-        Err(fault) => return Err(fault),
-    };
-    match send_text(text, to) {
-        Ok(()) => take_answers(alloc, asked, from, output),
-        Err(fault) => Err(fault),
-    }
+    let asked = count_requests(alloc, text)?;
+    send_text(text, to)?;
+    take_answers(alloc, asked, from, output)
 }
 
 // Sends a text to the desk at a socket.
@@ -227,13 +222,9 @@ fn send_to<W: Write>(
     ensures { SendFits text.now None (λ _. ⊤)
         (Appends (W.contents output.old) (W.contents output.new)) result }
 {
-    match connect(rt, socket) {
-        Ok(stream) => {
-            let mut to = Sender { stream: &stream };
-            send_batch(rt.alloc(), text, &mut to, &mut &stream, output)
-        }
-        Err(fault) => Err(fault),
-    }
+    let stream = connect(rt, socket)?;
+    let mut to = Sender { stream: &stream };
+    send_batch(rt.alloc(), text, &mut to, &mut &stream, output)
 }
 
 // The text of the input, up to the limit of a batch.

@@ -10,5 +10,5 @@ returns-in-Ok-try_get_matches_from c =
     let words : List Text = map (λ word. word.now) c.args.words.now in
     let is = c.in-Ok.ensures.0 in
     let found = c.in-Ok-try_get_matches_from.ensures.matches (ap is_simple is ∙ onixdesk_is_simple) in
-    subst₂ (λ top command. ReadsWords top command c.asked_for.result)
-    (found.0 ∙ ap (λ (a : App). matches_of a words) is) (found.1 ∙ ap (λ (a : App). subcommand_of a words) is) c.asked_for.ensures
+    subst₂ (λ top command. ReadsWords top command c.matched_reading.result)
+    (found.0 ∙ ap (λ (a : App). matches_of a words) is) (found.1 ∙ ap (λ (a : App). subcommand_of a words) is) c.matched_reading.ensures

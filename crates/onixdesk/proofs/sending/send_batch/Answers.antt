@@ -1,17 +1,20 @@
 use Rattle.std.proofs.Common.{[]}
 use Rattle.std.proofs.KnownBytes.{Appends-nil, Consumes-nil}
+use Rattle.std.proofs.lemmas.Result.{err_from_is_err_and}
 use Rattle.std.specs.Io.KnownBytes.{Appends}
 use Rattle.onixdesk.proofs.SendingLemmas.{wrote_came}
 use Rattle.onixdesk.proofs.sending.send_batch.Goals as goal
 
-pub returns-in-Err : goal.returns-in-Err
-returns-in-Err g c =
+pub returns-in_err-asked : goal.returns-in_err-asked
+returns-in_err-asked g c =
     let came = g.S.Read.remaining c.args.from.now in
     let held = g.W.Write.contents c.args.output.now in
-    wrote_came came came (Appends held held) [] (Consumes-nil came) (Appends-nil held)
+    let given = err_from_is_err_and c.from_residual.result c.from_residual.ensures.1 in
+    rw given.1 (wrote_came came came (Appends held held) [] (Consumes-nil came) (Appends-nil held))
 
-pub returns-in-Err-send_text : goal.returns-in-Err-send_text
-returns-in-Err-send_text g c =
+pub returns-in_err-send_text : goal.returns-in_err-send_text
+returns-in_err-send_text g c =
     let came = g.S.Read.remaining c.args.from.now in
     let held = g.W.Write.contents c.args.output.now in
-    wrote_came came came (Appends held held) [] (Consumes-nil came) (Appends-nil held)
+    let given = err_from_is_err_and c.from_residual-in_err-send_text.result c.from_residual-in_err-send_text.ensures.1 in
+    rw given.1 (wrote_came came came (Appends held held) [] (Consumes-nil came) (Appends-nil held))

@@ -21,13 +21,13 @@ use Rattle.desk_tables.specs.Rows.{DeskRows}
 use Rattle.desk_tables.specs.declared.records.RecordRow.{RecordRow}
 use Rattle.desk_tables.proofs.ManyRows.{mapped_behind}
 use Rattle.catalogue_store.specs.AppliedProducts.{IsProductApplied}
-use Rattle.catalogue_store.specs.EntryRows.{article_rows, detail_rows, has_minimum, price_rows_of, record_row}
+use Rattle.catalogue_store.specs.EntryRows.{article_rows, has_minimum, offer_rows_of, price_rows_of, record_row}
 use Rattle.catalogue_store.specs.Holding.{Became, HoldsCatalogue, HoldsEntry, other_catalogues}
 use Rattle.catalogue_store.specs.ReadRows.{is_there, Finds}
 use Rattle.catalogue_store.specs.Runs.{brings_new, is_replace, is_replaced, AreApplied, AreNew, IsNew}
 use Rattle.catalogue_store.specs.Storable.{IsStorableProduct}
 use Rattle.catalogue_store.specs.declared.reading.FoundRecord.{FoundRecord}
-use Rattle.catalogue_store.specs.WrittenRows.{articles_of, details_of, prices_of, records_of, with_identified, with_products, with_supplies}
+use Rattle.catalogue_store.specs.WrittenRows.{articles_of, offers_of, prices_of, records_of, with_identified, with_products, with_supplies}
 use Rattle.catalogue_store.proofs.BecameLemmas.{record_written}
 use Rattle.catalogue_store.proofs.HoldingLemmas.{catalogue_became, catalogues_kept}
 
@@ -50,7 +50,7 @@ written_first s p ps rows =
     λ i. record rows {
       records = sym (append_assoc rows.records (record_row s p.reference ∷ []) (records_of s ps)) i;
       articles = sym (append_assoc rows.articles (article_rows s p.reference p.ids) (articles_of s ps)) i;
-      offers = sym (mapped_behind offer_row rows.offers (detail_rows s p.reference p.supplies) (details_of s ps)) i;
+      offers = sym (mapped_behind offer_row rows.offers (offer_rows_of s p.reference p.supplies) (offers_of s ps)) i;
       prices = sym (mapped_behind price_row rows.prices prices (prices_of s ps)) i;
       minimums = minimums i;
     }

@@ -30,13 +30,13 @@ ChangesRows change rows _ after = after ≡ change rows
 
 -- ---- read
 
--- the prices of a SupplyDetail, which are read without minimums only where its record has none
+-- the prices of an offer, which are read without minimums only where its record has none
 abbrev pub HasPricesAs : Bool → typed.OfferRow → DeskRows → List Price → Type 0
-HasPricesAs with_minimums detail rows prices = (with_minimums ≡ false → has_minimums_of detail.series detail.reference rows ≡ false) → HasPricesOf rows detail prices
+HasPricesAs with_minimums offer rows prices = (with_minimums ≡ false → has_minimums_of offer.series offer.reference rows ≡ false) → HasPricesOf rows offer prices
 
--- the prices of each of the SupplyDetails, read so
+-- the prices of each of the offers, read so
 abbrev pub HavePricesAs : Bool → List typed.OfferRow → DeskRows → List (List Price) → Type 0
-HavePricesAs with_minimums details rows prices = AreReadAs with_minimums details rows → AllZip (HasPricesOf rows) details prices
+HavePricesAs with_minimums offers rows prices = AreReadAs with_minimums offers rows → AllZip (HasPricesOf rows) offers prices
 
 -- the entry of a record that is there
 abbrev pub IsEntryOf : RecordRow → DeskRows → Entry → Type 0

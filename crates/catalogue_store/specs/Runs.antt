@@ -17,7 +17,7 @@ use Rattle.catalogue_store.specs.EntryRows.{record_row}
 use Rattle.catalogue_store.specs.Holding.{HoldsCatalogue, other_catalogues}
 use Rattle.catalogue_store.specs.ReadRows.{is_there, Finds}
 use Rattle.catalogue_store.specs.Storable.{IsStorableProduct}
-use Rattle.catalogue_store.specs.WrittenRows.{articles_of, details_of, prices_of, records_of}
+use Rattle.catalogue_store.specs.WrittenRows.{articles_of, offers_of, prices_of, records_of}
 use Rattle.catalogue_store.specs.declared.reading.FoundRecord.{FoundRecord}
 use Rattle.catalogue_store.specs.declared.runs.Step.{Step}
 
@@ -59,7 +59,7 @@ abbrev pub with_identifiers_of : List ℕ → List Product → DeskRows → Desk
 with_identifiers_of series products rows = with_articles (articles_of series products) (with_records (records_of series products) rows)
 
 abbrev pub with_supplies_of : List ℕ → List Product → DeskRows → DeskRows
-with_supplies_of series products rows = with_prices (prices_of series products) (with_offers (details_of series products) rows)
+with_supplies_of series products rows = with_prices (prices_of series products) (with_offers (offers_of series products) rows)
 
 -- ---- applied
 

@@ -239,7 +239,7 @@ pub fn apply_message<S: Alter>(
 ) -> Result<Effect, StoreFault>
     ensures { Does S.Store (AppliesMessage series.now contents.now) work.old work.new result }
 {
-    contents.is_contents();
+    contents.can_be_read_back();
     let products = contents.products();
     let with_minimums = may_have_minimums(work, series, products)?;
     let mut done = 0;

@@ -8,8 +8,8 @@ ghost use Rattle.catalogue_store.specs.ReadRows.{is_there, Finds};
 ghost use Rattle.catalogue_store.specs.declared.reading.FoundRecord.{FoundRecord};
 
 use crate::assemble::entry_of;
-use crate::build::{article_rows, detail_rows};
-use crate::same::{same_articles, same_detail_prices, same_details};
+use crate::build::{article_rows, offer_rows};
+use crate::same::{same_articles, same_detail_prices, same_offers};
 use catalogue_rules::entry::Entry;
 use desk_tables::offers::OfferRow;
 use desk_tables::records::RecordRow;
@@ -20,35 +20,35 @@ use onix_terms::items::Items;
 use sqlite::Alter;
 use std::alloc::Global;
 
-// The prices of a SupplyDetail, with their minimums or as those of a record that has none.
+// The prices of an offer, with their minimums or as those of a record that has none.
 fn read_own_prices<S: Alter>(
     work: &mut Work<'_, S>,
-    detail: &OfferRow,
+    offer: &OfferRow,
     with_minimums: bool,
 ) -> Result<Items<Price>, StoreFault>
-    ensures { Does S.Store (KeepsRows (HasPricesAs with_minimums detail.now))
+    ensures { Does S.Store (KeepsRows (HasPricesAs with_minimums offer.now))
         work.old work.new result }
 {
     if with_minimums {
-        return work.offer_prices(detail);
+        return work.offer_prices(offer);
     }
-    work.offer_prices_without_minimums(detail)
+    work.offer_prices_without_minimums(offer)
 }
 
-// The prices of each of these SupplyDetails.
+// The prices of each of these offers.
 fn read_prices<S: Alter>(
     alloc: Global,
     work: &mut Work<'_, S>,
-    details: &[OfferRow],
+    offers: &[OfferRow],
     with_minimums: bool,
 ) -> Result<Vec<Items<Price>>, StoreFault>
     ensures { Does S.Store
-        (KeepsRows (λ rows prices. HavePricesAs with_minimums details.now rows prices.items))
+        (KeepsRows (λ rows prices. HavePricesAs with_minimums offers.now rows prices.items))
         work.old work.new result }
 {
     let mut prices = Vec::new(alloc);
-    for detail in details {
-        let own = read_own_prices(work, detail, with_minimums)?;
+    for offer in offers {
+        let own = read_own_prices(work, offer, with_minimums)?;
         if prices.push(own).is_err() {
             return Err(StoreFault::Memory);
         }
@@ -67,12 +67,12 @@ pub fn read_record<S: Alter>(
     ensures does { Does S.Store (KeepsRows (IsEntryOf row.now)) work.old work.new result }
 {
     let articles = work.record_articles(row)?;
-    let details = work.record_offers(row)?;
-    let prices = read_prices(alloc, work, details.as_slice(), true)?;
+    let offers = work.record_offers(row)?;
+    let prices = read_prices(alloc, work, offers.as_slice(), true)?;
     entry_of(
         alloc,
         articles.as_slice(),
-        details.as_slice(),
+        offers.as_slice(),
         prices.as_slice(),
     )
 }
@@ -145,12 +145,12 @@ pub fn has_supplies<S: Alter>(
     ensures { Does S.Store (KeepsRows (HoldsSuppliesAs with_minimums row.now supplies.now))
         work.old work.new result }
 {
-    let wanted = detail_rows(alloc, &row.series, &row.reference, supplies)?;
-    let details = work.record_offers(row)?;
-    let same = same_details(details.as_slice(), wanted.as_slice());
+    let wanted = offer_rows(alloc, &row.series, &row.reference, supplies)?;
+    let offers = work.record_offers(row)?;
+    let same = same_offers(offers.as_slice(), wanted.as_slice());
     if !same {
         return Ok(false);
     }
-    let prices = read_prices(alloc, work, details.as_slice(), with_minimums)?;
+    let prices = read_prices(alloc, work, offers.as_slice(), with_minimums)?;
     Ok(same_detail_prices(prices.as_slice(), supplies))
 }

@@ -4,7 +4,7 @@ ghost use Rattle.catalogue_store.specs.Achieves.{Does};
 ghost use Rattle.catalogue_store.specs.Calls.{ChangesRows, Writes, Removes, ReplacesSupplies};
 ghost use Rattle.catalogue_store.specs.WrittenRows.{with_identified, with_supplies};
 
-use crate::build::{article_rows, detail_rows, price_rows};
+use crate::build::{article_rows, offer_rows, price_rows};
 use desk_tables::records::RecordRow;
 use desk_tables::work::Work;
 use onix_message::StoreFault;
@@ -12,7 +12,7 @@ use onix_message::parts::{ProductIdentifier, ProductSupply};
 use sqlite::Alter;
 use std::alloc::Global;
 
-// Adds the SupplyDetails of the record, and their prices.
+// Adds the offers of the record, and their prices.
 fn put_supplies<S: Alter>(
     alloc: Global,
     work: &mut Work<'_, S>,
@@ -23,9 +23,9 @@ fn put_supplies<S: Alter>(
         (ChangesRows (with_supplies row.now.series row.now.reference supplies.now))
         work.old work.new result }
 {
-    let details = detail_rows(alloc, &row.series, &row.reference, supplies)?;
+    let offers = offer_rows(alloc, &row.series, &row.reference, supplies)?;
     let prices = price_rows(alloc, &row.series, &row.reference, supplies)?;
-    work.put_offers(alloc, details.as_slice())?;
+    work.put_offers(alloc, offers.as_slice())?;
     work.put_prices(alloc, prices.as_slice())
 }
 

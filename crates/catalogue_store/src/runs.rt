@@ -8,9 +8,9 @@ ghost use Rattle.catalogue_store.specs.Achieves.{Does};
 ghost use Rattle.catalogue_store.specs.Calls.{ChangesRows, KeepsRows};
 ghost use Rattle.catalogue_store.specs.EntryRows.{record_row};
 ghost use Rattle.catalogue_store.specs.Runs.{brings_new, is_replaced, with_identifiers_of, with_supplies_of, AppliesRun, AreNewIn, IsNewIn, IsStep};
-ghost use Rattle.catalogue_store.specs.WrittenRows.{articles_of, details_of, prices_of, records_of, with_products};
+ghost use Rattle.catalogue_store.specs.WrittenRows.{articles_of, offers_of, prices_of, records_of, with_products};
 
-use crate::build::{add_article_rows, add_detail_rows, add_price_rows};
+use crate::build::{add_article_rows, add_offer_rows, add_price_rows};
 use crate::reading::{FoundRecord, find_record};
 use catalogue_rules::change::Change;
 use desk_tables::articles::ArticleRow;
@@ -153,17 +153,17 @@ fn articles_of(
     Ok(rows)
 }
 
-fn details_of(
+fn offers_of(
     alloc: Global,
     series: &SeriesName,
     products: &[Product],
 ) -> Result<Vec<OfferRow>, StoreFault>
-    ensures { IfOk result (λ rows. rows.items ≡ details_of series.now products.now) }
+    ensures { IfOk result (λ rows. rows.items ≡ offers_of series.now products.now) }
 {
     let mut rows = Vec::new(alloc);
     for product in products {
         let supplies = product.supplies.as_slice();
-        add_detail_rows(alloc, series, &product.reference, supplies, &mut rows)?;
+        add_offer_rows(alloc, series, &product.reference, supplies, &mut rows)?;
     }
     Ok(rows)
 }
@@ -199,7 +199,7 @@ fn put_records_and_articles<S: Alter>(
     work.put_articles(alloc, articles.as_slice())
 }
 
-// Adds the SupplyDetails of the products and their prices.
+// Adds the offers of the products and their prices.
 fn put_offers_and_prices<S: Alter>(
     alloc: Global,
     work: &mut Work<'_, S>,
@@ -209,9 +209,9 @@ fn put_offers_and_prices<S: Alter>(
     ensures { Does S.Store (ChangesRows (with_supplies_of series.now products.now))
         work.old work.new result }
 {
-    let details = details_of(alloc, series, products)?;
+    let offers = offers_of(alloc, series, products)?;
     let prices = prices_of(alloc, series, products)?;
-    work.put_offers(alloc, details.as_slice())?;
+    work.put_offers(alloc, offers.as_slice())?;
     work.put_prices(alloc, prices.as_slice())
 }
 

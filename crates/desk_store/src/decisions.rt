@@ -1,4 +1,4 @@
-//! Requests in one transaction.
+//! What an agreement, a message or a waiver does inside its transaction.
 
 ghost use Rattle.std.specs.Prelude.{◌≡◌, List, Some, ℕ, if◌then◌else◌};
 ghost use Rattle.catalogue_store.specs.Achieves.{Achieves, Does};
@@ -83,7 +83,7 @@ pub(crate) fn deliver_in<S: Alter>(
             first,
         });
     }
-    contents.is_contents();
+    contents.can_be_read_back();
     deliver_at(alloc, work, &series, row.next, number, contents)
 }
 

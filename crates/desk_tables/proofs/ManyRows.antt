@@ -1,7 +1,7 @@
 -- Rows put into a table of the catalogues many at a time.
 use Rattle.std.proofs.Common.{◌≡◌, ℕ, zero, suc, ◌+◌, ◌-◌, ◌*◌, ◌/◌, ◌<◌, ◌≤◌, Bool, true, false, List, [], ◌∷◌, ◌++◌, length, map, drop, take, slice_range, Ok, Err, Result, lit<, arith, append-nil, refl, sym, ap, subst, ◌∙◌}
 use Rattle.std.specs.List.{flat_map}
-use Rattle.std.proofs.Math.Nat.{add_comm, mul-add, mul-one, mul_assoc, mul_comm, one-mul, suc-mul, zero-mul}
+use Rattle.std.proofs.Math.Nat.{add_comm, mul-add, mul-le-mul_left, mul-one, mul_assoc, mul_comm, one-mul, suc-mul, zero-mul}
 use Rattle.std.proofs.lemmas.Nat.{div-mul-add}
 use Rattle.std.proofs.Math.Seq.{drop-append-add, drop-nil, take-add, take-append-add, take-length, take-nil}
 use Rattle.std.proofs.lemmas.List.{append_assoc, drop-map, length-append, length-drop, length-map, length-take-le, map-append, take-map}
@@ -149,6 +149,12 @@ puts_text PriceMinimum true =
 
 -- ---- one statement after the other
 
+-- the values of a part
+part_bound : (values : List ValueRef) (start n : ℕ) → bound (slice_range values start (start + n)) ≡ take n (drop start (bound values))
+part_bound values start n =
+    let part : ◌≡◌ {A = ℕ} (start + n - start) n = omega arith in
+    ap (λ k. bound (take k (drop start values))) part ∙ sym (take-map _ n (drop start values)) ∙ ap (take n) (sym (drop-map _ start values))
+
 module _ (t : CatalogueTable) (eight : Bool) (xs : List (RowOf t)) (place : ℕ) where
   pub next_rows : many_of eight * (place + 1) ≡ many_of eight * place + many_of eight
   next_rows = mul-add (many_of eight) place 1 ∙ ap (λ n. many_of eight * place + n) (mul-one (many_of eight))
@@ -172,17 +178,23 @@ module _ (t : CatalogueTable) (eight : Bool) (xs : List (RowOf t)) (place : ℕ)
       subst (Holds new.now) behind (puts_text t eight ys long old new count (with_rows t (take from xs) rows) h (subst (λ (p : Row). Executes (text_of t eight) p old new (Ok count)) mine ran))
 
   -- which adds them
-  pub adds_next : (params values : Row) → values ≡ flat_map (columns_of t) xs → params ≡ take (many_of eight * width_of t) (drop (place * (many_of eight * width_of t)) values) → many_of eight * (place + 1) ≤ length xs
+  adds_next : (params values : Row) → values ≡ flat_map (columns_of t) xs → params ≡ take (many_of eight * width_of t) (drop (place * (many_of eight * width_of t)) values) → many_of eight * (place + 1) ≤ length xs
       → (sql : List ℕ) → sql ≡ text_of t eight → (old new : State) (r : Result ℕ StoreFault) → RunsIn sql params old new r → Adding (with_rows t (take (many_of eight * place) xs)) (with_rows t (take (many_of eight * (place + 1)) xs)) old new r
   adds_next params values are is within sql text old new r ran =
       let insert = inserts_text t eight in
       adding_ran (text_of t eight) _ insert.command insert.plain refl params old new r (subst (λ (s : List ℕ). RunsIn s params old new r) text ran) (λ count rows h x. puts_next params values are is within old new count rows h x)
 
--- the values of a part
-pub part_bound : (values : List ValueRef) (start n : ℕ) → bound (slice_range values start (start + n)) ≡ take n (drop start (bound values))
-part_bound values start n =
-    let part : ◌≡◌ {A = ℕ} (start + n - start) n = omega arith in
-    ap (λ k. bound (take k (drop start values))) part ∙ sym (take-map _ n (drop start values)) ∙ ap (take n) (sym (drop-map _ start values))
+  -- the same of the part of the values that it is given
+  pub adds_part : (values : List ValueRef) (many width to : ℕ) → many ≡ many_of eight → width ≡ width_of t → bound values ≡ flat_map (columns_of t) xs → place < to → many_of eight * to ≤ length xs
+      → (sql : List ℕ) → sql ≡ text_of t eight → (old new : State) (r : Result ℕ StoreFault) → RunsIn sql (bound (slice_range values (place * (many * width)) (place * (many * width) + many * width))) old new r
+      → Adding (with_rows t (take (many_of eight * place) xs)) (with_rows t (take (many_of eight * (place + 1)) xs)) old new r
+  adds_part values many width to many_is width_is are low within sql text old new r ran =
+      let n = many * width in
+      let long : n ≡ many_of eight * width_of t = ap (λ k. k * width) many_is ∙ ap (λ k. many_of eight * k) width_is in
+      let part = part_bound values (place * n) n ∙ ap (λ k. take k (drop (place * k) (bound values))) long in
+      let below : place + 1 ≤ to = omega (arith, low) in
+      let enough : many_of eight * (place + 1) ≤ length xs = let few = mul-le-mul_left (many_of eight) below in omega (arith, few, within) in
+      adds_next (bound (slice_range values (place * n) (place * n + n))) (bound values) are part enough sql text old new r ran
 
 -- ---- all rows
 

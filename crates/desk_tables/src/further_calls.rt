@@ -132,13 +132,7 @@ impl<S: Alter> Work<'_, S> {
                 return Err(fault);
             }
         };
-        if let Err(fault) = self.put_price_texts(
-            row,
-            texts.included.as_str(),
-            texts.excluded.as_str(),
-        ) {
-            return Err(fault);
-        }
+        self.put_price_texts(row, texts.included.as_str(), texts.excluded.as_str())?;
         if row.price.minimum.value() > 1 {
             return self.put_minimum(row);
         }
@@ -219,10 +213,7 @@ impl<S: Alter> Work<'_, S> {
         ensures { Asks S.Store (λ rows prices. ArePricesInOrder series.now rows prices.items)
             self.old self.new result }
     {
-        let minimums = match self.shown_minimums(series) {
-            Ok(minimums) => minimums,
-            Err(fault) => return Err(fault),
-        };
+        let minimums = self.shown_minimums(series)?;
         self.shown_prices(series, minimums.as_slice())
     }
 }

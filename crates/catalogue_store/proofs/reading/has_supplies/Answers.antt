@@ -15,17 +15,17 @@ returns g c =
     let new = state g.S.Store c.read_prices.new.work.tables.now.connection in
     let row = c.args.row.now in
     let minimums = c.args.with_minimums in
-    let details = c.in_ok-details.details in
+    let offers = c.in_ok-offers.offers in
     let prices = c.in_ok-prices.prices in
-    let Details : DeskRows → Vec _ _ → Type 0 = λ rows got. AreOfferRowsOf rows row got.items in
-    let First : DeskRows → Vec _ _ → DeskRows → Type 0 = λ rows got after. Details rows got × (after ≡ unchanged rows) in
+    let Offers : DeskRows → Vec _ _ → Type 0 = λ rows got. AreOfferRowsOf rows row got.items in
+    let First : DeskRows → Vec _ _ → DeskRows → Type 0 = λ rows got after. Offers rows got × (after ≡ unchanged rows) in
     let Second : DeskRows → Vec _ _ → DeskRows → Type 0 = λ rows got after. (after ≡ rows) × (AreReadAs minimums c.as_slice-3.result.now rows → AllZip (HasPricesOf rows) c.as_slice-3.result.now got.items) in
-    let Both : DeskRows → Vec _ _ → DeskRows → Type 0 = λ rows got after. (after ≡ rows) × AreOfferRowsOf rows row details.items × (AreReadAs minimums details.items rows → AllZip (HasPricesOf rows) details.items got.items) in
-    let alike : c.same_details-same.result ≡ true = search rules in
+    let Both : DeskRows → Vec _ _ → DeskRows → Type 0 = λ rows got after. (after ≡ rows) × AreOfferRowsOf rows row offers.items × (AreReadAs minimums offers.items rows → AllZip (HasPricesOf rows) offers.items got.items) in
+    let alike : c.same_offers-same.result ≡ true = search rules in
     does (search rules)
     (achieves_as Both (λ (rows : DeskRows) (b : Bool) (after : DeskRows). (after ≡ rows) × (IsReadAs minimums row rows → HoldsSupplies row c.args.supplies.now rows b)) old new prices c.same_detail_prices.result
-    (achieves_then First Second Both old mid new details (Ok prices)
-    (achieves_call Details unchanged old mid c.args.work.now.spent c.record_offers.new.self.spent (Ok details) c.in_ok-details.ensures.works) c.in_ok-prices.ensures.achieves
+    (achieves_then First Second Both old mid new offers (Ok prices)
+    (achieves_call Offers unchanged old mid c.args.work.now.spent c.record_offers.new.self.spent (Ok offers) c.in_ok-offers.ensures.works) c.in_ok-prices.ensures.achieves
     (λ rows between after got h m n a p. (
       p.0 ∙ a.1,
       a.0,
@@ -34,8 +34,8 @@ returns g c =
     )))
     (λ rows after h n a. (
       a.0,
-      supplies_held minimums row c.args.supplies.now rows details.items c.in_ok-wanted.wanted.items prices.items c.same_detail_prices.result a.1 c.in_ok-wanted.ensures
-          (sym c.as_slice.ensures.value ∙ c.same_details-same.ensures.0 alike ∙ c.as_slice-2.ensures.value) a.2
+      supplies_held minimums row c.args.supplies.now rows offers.items c.in_ok-wanted.wanted.items prices.items c.same_detail_prices.result a.1 c.in_ok-wanted.ensures
+          (sym c.as_slice.ensures.value ∙ c.same_offers-same.ensures.0 alike ∙ c.as_slice-2.ensures.value) a.2
           (λ true. sym c.as_slice-4.ensures.value ∙ c.same_detail_prices.ensures.0 true),
     )))
 
@@ -46,10 +46,10 @@ returns-in_err-prices g c =
     let new = state g.S.Store c.read_prices.new.work.tables.now.connection in
     let row = c.args.row.now in
     let minimums = c.args.with_minimums in
-    let details = c.in_ok-details.details in
-    let Details : DeskRows → Vec _ _ → Type 0 = λ rows got. AreOfferRowsOf rows row got.items in
-    let First : DeskRows → Vec _ _ → DeskRows → Type 0 = λ rows got after. Details rows got × (after ≡ unchanged rows) in
+    let offers = c.in_ok-offers.offers in
+    let Offers : DeskRows → Vec _ _ → Type 0 = λ rows got. AreOfferRowsOf rows row got.items in
+    let First : DeskRows → Vec _ _ → DeskRows → Type 0 = λ rows got after. Offers rows got × (after ≡ unchanged rows) in
     let Second : DeskRows → Vec _ _ → DeskRows → Type 0 = λ rows got after. (after ≡ rows) × (AreReadAs minimums c.as_slice-3.result.now rows → AllZip (HasPricesOf rows) c.as_slice-3.result.now got.items) in
     handed_on (search rules) (search rules)
-    (achieves_failed {C = Bool} First Second _ old mid new details c.in_err-prices.field-0.0
-    (achieves_call Details unchanged old mid c.args.work.now.spent c.record_offers.new.self.spent (Ok details) c.in_ok-details.ensures.works) c.in_err-prices.ensures.achieves)
+    (achieves_failed {C = Bool} First Second _ old mid new offers c.in_err-prices.field-0.0
+    (achieves_call Offers unchanged old mid c.args.work.now.spent c.record_offers.new.self.spent (Ok offers) c.in_ok-offers.ensures.works) c.in_err-prices.ensures.achieves)

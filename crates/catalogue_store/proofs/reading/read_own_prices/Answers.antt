@@ -11,7 +11,7 @@ pub returns-then-with_minimums : goal.returns-then-with_minimums
 returns-then-with_minimums g c =
     let old = state g.S.Store c.args.work.now.tables.now.connection in
     let new = state g.S.Store c.offer_prices.new.self.tables.now.connection in
-    let x = c.args.detail.now in
+    let x = c.args.offer.now in
     let Prices : DeskRows → List Price → Type 0 = λ rows prices. HasPricesOf rows x prices in
     does (search rules)
     (achieves_also (λ rows prices after. Prices rows prices × (after ≡ unchanged rows)) _ old new c.offer_prices.result
@@ -22,7 +22,7 @@ pub returns : goal.returns
 returns g c =
     let old = state g.S.Store c.args.work.now.tables.now.connection in
     let new = state g.S.Store c.offer_prices_without_minimums.new.self.tables.now.connection in
-    let x = c.args.detail.now in
+    let x = c.args.offer.now in
     let Prices : DeskRows → List Price → Type 0 = λ rows prices. has_minimums_of x.series x.reference rows ≡ false → HasPricesOf rows x prices in
     does (search rules)
     (achieves_also (λ rows prices after. Prices rows prices × (after ≡ unchanged rows)) _ old new c.offer_prices_without_minimums.result

@@ -12,13 +12,13 @@ returns g c =
     let mid = state g.S.Store c.put_offers.new.self.tables.now.connection in
     let new = state g.S.Store c.put_prices.new.self.tables.now.connection in
     let row = c.args.row.now in
-    let details = c.as_slice.result.now in
+    let offers = c.as_slice.result.now in
     let prices = c.as_slice-2.result.now in
-    let First : DeskRows → Unit {0} → DeskRows → Type 0 = λ rows _ after. after ≡ with_offers details rows in
+    let First : DeskRows → Unit {0} → DeskRows → Type 0 = λ rows _ after. after ≡ with_offers offers rows in
     let Second : DeskRows → Unit {0} → DeskRows → Type 0 = λ rows _ after. after ≡ with_prices prices rows in
     does (search rules)
     (achieves_then First Second _ old mid new tt c.put_prices.result (achieves_added c.in_ok-put_offers.ensures.adds) (achieves_added c.put_prices.ensures.adds)
-    (λ rows between after b h m n one two. supplies_put row.series row.reference c.args.supplies.now details prices rows between after (c.as_slice.ensures.value ∙ c.in_ok-details.ensures) (c.as_slice-2.ensures.value ∙ c.in_ok-prices.ensures) one two))
+    (λ rows between after b h m n one two. supplies_put row.series row.reference c.args.supplies.now offers prices rows between after (c.as_slice.ensures.value ∙ c.in_ok-offers.ensures) (c.as_slice-2.ensures.value ∙ c.in_ok-prices.ensures) one two))
 
 pub returns-in_err-put_offers : goal.returns-in_err-put_offers
 returns-in_err-put_offers g c =

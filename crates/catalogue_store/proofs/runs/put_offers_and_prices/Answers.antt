@@ -3,7 +3,7 @@ use Rattle.sqlite.specs.Held.{state}
 use Rattle.desk_tables.specs.RecordChanges.{with_offers, with_prices}
 use Rattle.desk_tables.specs.Rows.{DeskRows}
 use Rattle.catalogue_store.specs.AchievesLemmas.{achieves_added, achieves_stopped, achieves_then, does, handed_on}
-use Rattle.catalogue_store.specs.WrittenRows.{details_of}
+use Rattle.catalogue_store.specs.WrittenRows.{offers_of}
 use Rattle.catalogue_store.proofs.runs.put_offers_and_prices.Goals as goal
 
 pub returns : goal.returns
@@ -11,15 +11,15 @@ returns g c =
     let old = state g.S.Store c.args.work.now.tables.now.connection in
     let mid = state g.S.Store c.put_offers.new.self.tables.now.connection in
     let new = state g.S.Store c.put_prices.new.self.tables.now.connection in
-    let details = c.as_slice.result.now in
+    let offers = c.as_slice.result.now in
     let prices = c.as_slice-2.result.now in
-    let First : DeskRows → Unit {0} → DeskRows → Type 0 = λ rows _ after. after ≡ with_offers details rows in
+    let First : DeskRows → Unit {0} → DeskRows → Type 0 = λ rows _ after. after ≡ with_offers offers rows in
     let Second : DeskRows → Unit {0} → DeskRows → Type 0 = λ rows _ after. after ≡ with_prices prices rows in
     does (search rules)
     (achieves_then First Second _ old mid new tt c.put_prices.result (achieves_added c.in_ok-put_offers.ensures.adds) (achieves_added c.put_prices.ensures.adds)
     (λ rows between after b h m n one two.
-    two ∙ ap (with_prices prices) one ∙ ap (λ l. with_prices prices (with_offers l rows)) (c.as_slice.ensures.value ∙ c.in_ok-details.ensures)
-    ∙ ap (λ l. with_prices l (with_offers (details_of c.args.series.now c.args.products.now) rows)) (c.as_slice-2.ensures.value ∙ c.in_ok-prices.ensures)))
+    two ∙ ap (with_prices prices) one ∙ ap (λ l. with_prices prices (with_offers l rows)) (c.as_slice.ensures.value ∙ c.in_ok-offers.ensures)
+    ∙ ap (λ l. with_prices l (with_offers (offers_of c.args.series.now c.args.products.now) rows)) (c.as_slice-2.ensures.value ∙ c.in_ok-prices.ensures)))
 
 pub returns-in_err-put_offers : goal.returns-in_err-put_offers
 returns-in_err-put_offers g c =

@@ -1,12 +1,9 @@
-use Rattle.std.proofs.Common.{◌≡◌, ◌+◌, ◌*◌, ◌≤◌, ℕ, List, length, take, drop, slice_range, Ok, Err, rules, arith, refl, ap, sym, subst, ◌∙◌}
-use Rattle.std.specs.List.{flat_map}
-use Rattle.std.proofs.Math.Nat.{mul-le-mul_left}
+use Rattle.std.proofs.Common.{◌≡◌, ◌*◌, take, Ok, Err, rules, arith, refl, subst}
 use Rattle.sqlite.specs.Held.{state}
-use Rattle.sqlite.specs.Values.{bound}
-use Rattle.desk_tables.specs.ManyRows.{columns_of, many_of, width_of, with_rows}
+use Rattle.desk_tables.specs.ManyRows.{many_of, with_rows}
 use Rattle.desk_tables.specs.Transactions.{Adding}
 use Rattle.desk_tables.proofs.Addings.{adding_as, adding_none, adding_then, adds_done, adds_failed}
-use Rattle.desk_tables.proofs.ManyRows.{adds_next, part_bound}
+use Rattle.desk_tables.proofs.ManyRows.{adds_part}
 use Rattle.desk_tables.proofs.work.Work.insert_each.Goals as goal
 
 pub loop-place-init : goal.loop-place-init
@@ -21,35 +18,18 @@ loop-place-preserved g c = record {
   same_reference = search rules;
   unspent = search rules;
   so_far = λ xs are within.
-      let t = c.args.table in
-      let eight = c.args.eight in
-      let place = c.loop-place.place in
-      let values = c.args.values.now in
-      let n = c.many.result * c.width.result in
       let mid = state g.S.Store c.loop-place.self.tables.now.connection in
       let new = state g.S.Store c.run.new.self.tables.now.connection in
-      let long : n ≡ many_of eight * width_of t = ap (λ k. k * c.width.result) c.many.ensures ∙ ap (λ k. many_of eight * k) c.width.ensures in
-      let part = part_bound values (place * n) n ∙ ap (λ k. take k (drop (place * k) (bound values))) long in
-      let below : place + 1 ≤ c.args.to = omega (arith, c.loop-place-test.true) in
-      let enough : many_of eight * (place + 1) ≤ length xs = let low = mul-le-mul_left (many_of eight) below in omega (arith, low, within) in
-      adding_then (c.loop-place.invariant.so_far xs are within) (adding_as tt (adds_next t eight xs place _ (bound values) are part enough c.text-sql.result.now c.text-sql.ensures mid new (Ok c.in_ok-run.field-0) c.in_ok-run.ensures.runs));
+      adding_then (c.loop-place.invariant.so_far xs are within)
+      (adding_as tt (adds_part c.args.table c.args.eight xs c.loop-place.place c.args.values.now c.many.result c.width.result c.args.to c.many.ensures c.width.ensures are c.loop-place-test.true within c.text-sql.result.now c.text-sql.ensures mid new (Ok c.in_ok-run.field-0) c.in_ok-run.ensures.runs));
 }
 
 pub returns-in_err-run : goal.returns-in_err-run
 returns-in_err-run g c = λ xs are within.
-    let t = c.args.table in
-    let eight = c.args.eight in
-    let place = c.loop-place.place in
-    let values = c.args.values.now in
-    let n = c.many.result * c.width.result in
     let mid = state g.S.Store c.loop-place.self.tables.now.connection in
     let new = state g.S.Store c.run.new.self.tables.now.connection in
-    let long : n ≡ many_of eight * width_of t = ap (λ k. k * c.width.result) c.many.ensures ∙ ap (λ k. many_of eight * k) c.width.ensures in
-    let part = part_bound values (place * n) n ∙ ap (λ k. take k (drop (place * k) (bound values))) long in
-    let below : place + 1 ≤ c.args.to = omega (arith, c.loop-place-test.true) in
-    let enough : many_of eight * (place + 1) ≤ length xs = let low = mul-le-mul_left (many_of eight) below in omega (arith, low, within) in
     adds_failed (search rules) c.loop-place.invariant.same_reference (search rules) (c.loop-place.invariant.so_far xs are within) c.in_err-run.ensures
-    (adds_next t eight xs place _ (bound values) are part enough c.text-sql.result.now c.text-sql.ensures mid new (Err c.in_err-run.field-0.0) c.in_err-run.ensures.runs)
+    (adds_part c.args.table c.args.eight xs c.loop-place.place c.args.values.now c.many.result c.width.result c.args.to c.many.ensures c.width.ensures are c.loop-place-test.true within c.text-sql.result.now c.text-sql.ensures mid new (Err c.in_err-run.field-0.0) c.in_err-run.ensures.runs)
 
 pub returns : goal.returns
 returns g c = λ xs are within.

@@ -13,7 +13,7 @@ from tools.root import ROOT
 REFERENCE = re.compile(r"`(\w+)::([a-z]\w*(?:::[a-z]\w*)*)::(?:([A-Z]\w+)::)?(?:(\w+)|{([\w, ]+)})(?:: ([\w, ]+))?`")
 
 # A record of the definitions, and a field of one.
-RECORD = re.compile(r"^ *pub record (\w+)\b.*?\bwhere\n((?:[ ]+.*\n|\n)*)", re.MULTILINE)
+RECORD = re.compile(r"^ *pub record (\w+)\b(?:.|\n +)*?\bwhere\n((?:[ ]+.*\n|\n)*)", re.MULTILINE)
 FIELD = re.compile(r"^ +pub (\w+) :", re.MULTILINE)
 
 CRATES = crates(ROOT)

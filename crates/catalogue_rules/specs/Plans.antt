@@ -9,7 +9,7 @@ use Rattle.catalogue_rules.specs.Records.{ByReference}
 use Rattle.onix_message.specs.declared.effects.Effect.{Effect}
 use Rattle.catalogue_rules.specs.declared.entry.Entry.{Entry}
 
--- the bytes of a reference that a product lends
+-- the bytes of a reference that is borrowed from a product
 abbrev pub str_bytes : Bor (List ℕ) → List ℕ
 str_bytes reference = reference.now
 
@@ -26,7 +26,7 @@ abbrev pub entry_now : Option Entry → Option (Option Entry) → Option Entry
 entry_now was None = was
 entry_now was (Some now) = now
 
--- a reference that is to have an entry has one already, so that the new one takes no memory
+-- a reference that is to have an entry has one already, so that the new one needs no allocation
 abbrev pub IsReady : Option Entry → Option (Option Entry) → Type 0
 IsReady was None = Unit {0}
 IsReady was (Some now) = IsSome now → IsSome was

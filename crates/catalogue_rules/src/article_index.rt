@@ -20,9 +20,9 @@ use price_rules::offer::Offer;
 use std::alloc::{AllocError, Global};
 use std::collections::BTreeSet;
 
-/// The references of records, each at the values of its identifiers of types 03 and 15, in one ordered
-/// set. A listing stays where its record no longer has the identifier, so whoever asks looks at each
-/// record.
+/// The references of records, each at the values of its identifiers of types 03 and 15, in one
+/// ordered set. A listing stays where its record no longer has the identifier, so a caller has to
+/// look at each listed record.
 #[derive(Drop)]
 pub struct ArticleIndex {
     alloc: Global,
@@ -50,7 +50,7 @@ fn add_listed(
 }
 
 impl ArticleIndex {
-    /// An index that lists nothing. It takes no memory.
+    /// An index that lists nothing. It does not allocate.
     pub fn new(alloc: Global) -> ArticleIndex
         ensures { IsIndexOf result map.empty }
     {
@@ -96,8 +96,9 @@ impl ArticleIndex {
         Ok(())
     }
 
-    /// Lists the products of a message, whatever they ask for, so that an index of a catalogue is one
-    /// of the catalogue after the message. Where memory runs out, it stays one of the catalogue.
+    /// Lists the products of a message, whatever they ask for, so that an index of a catalogue is
+    /// one of the catalogue after the message. Where memory runs out, it stays one of the
+    /// catalogue.
     pub fn list(&mut self, contents: &Contents) -> Result<(), AllocError>
         ensures ok { (m : ByReference) → IsIndexOf self.old m
             → OnOk result (IsIndexOf self.new (after m contents.now)) }
@@ -110,8 +111,8 @@ impl ArticleIndex {
         Ok(())
     }
 
-    /// The article's offers under the name of a series, as the catalogue gives them, by a look at the
-    /// listed records alone.
+    /// The article's offers under the name of a series, as the catalogue gives them, by a look at
+    /// the listed records alone.
     pub fn offers_of(
         &self,
         catalogue: &Catalogue,

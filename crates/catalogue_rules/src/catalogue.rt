@@ -49,7 +49,7 @@ impl Model for Catalogue {
 impl Clone for Catalogue {
     ghost is_clone = { λ x y. y ≡ x };
 
-    /// The same records again, in one walk.
+    /// A copy of the records, made in one pass.
     fn clone(&self) -> Result<Catalogue, AllocError> {
         Ok(Catalogue {
             alloc: self.alloc,
@@ -59,7 +59,7 @@ impl Clone for Catalogue {
 }
 
 impl Catalogue {
-    /// A catalogue without records. It takes no memory.
+    /// A catalogue without records. It does not allocate.
     pub fn new(alloc: Global) -> Catalogue
         ensures { result ≡ map.empty }
     {
@@ -89,8 +89,8 @@ impl Catalogue {
         Ok(())
     }
 
-    // Puts the entry in the place of the one that the reference has, which keeps its key and takes no
-    // memory.
+    // Puts the entry in the place of the one that the reference has, which keeps its key and does
+    // not allocate.
     fn replace(&mut self, reference: &str, entry: Entry)
         requires there { IsSome (map.get self.old reference.now) }
         requires few { HasFewDetails entry }
@@ -99,14 +99,14 @@ impl Catalogue {
         *self.records.get_mut(reference).unwrap() = entry;
     }
 
-    // Takes out what the reference had.
+    // Removes what the reference had.
     fn remove(&mut self, reference: &str)
         ensures { self.new ≡ map.remove self.old reference.now }
     {
         self.records.remove(reference);
     }
 
-    // Puts an empty entry at each of these references, as far as memory goes.
+    // Puts an empty entry at each of these references, as far as memory allows.
     fn put_all(&mut self, alloc: Global, new_references: &[&str]) -> Result<(), AllocError>
         ensures others { (q : List ℕ) → (Contains (all_bytes new_references.now) q → ⊥)
             → map.get self.new q ≡ map.get self.old q }
@@ -125,7 +125,7 @@ impl Catalogue {
         Ok(())
     }
 
-    // Takes out what these references had.
+    // Removes what these references had.
     fn remove_all(&mut self, new_references: &[&str])
         ensures others { (q : List ℕ) → (Contains (all_bytes new_references.now) q → ⊥)
             → map.get self.new q ≡ map.get self.old q }
@@ -153,7 +153,7 @@ impl Catalogue {
         Ok(())
     }
 
-    // Carries out the changes, which takes no memory where each new reference has its place.
+    // Carries out the changes, which does not allocate where each new reference has its place.
     fn apply_draft(&mut self, draft: EntryChanges<'_>)
         requires ready { (q : List ℕ) → IsReady (map.get self.old q) (map.get draft q) }
         requires few { EachHas (λ w. IfSome w HasFewDetails) draft }

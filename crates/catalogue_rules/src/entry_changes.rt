@@ -9,8 +9,8 @@ use std::alloc::{AllocError, Global};
 use std::collections::BTreeMap;
 use std::marker::Model;
 
-/// What is to become of some references: the entry that each then has, or none. The products lend
-/// the references, so that none is copied.
+/// What is to become of some references: the entry that each then has, or none. The references are
+/// borrowed from the products, so that none is copied.
 #[derive(Drop)]
 pub struct EntryChanges<'a> {
     changes: BTreeMap<&'a str, Option<Entry>>,
@@ -32,7 +32,7 @@ impl<'a> Model for EntryChanges<'a> {
 }
 
 impl<'a> EntryChanges<'a> {
-    /// No change. It takes no memory.
+    /// No change. It does not allocate.
     pub fn new(alloc: Global) -> EntryChanges<'a>
         ensures { result ≡ map.empty }
     {
@@ -48,7 +48,7 @@ impl<'a> EntryChanges<'a> {
         self.changes.get(reference)
     }
 
-    /// Puts down what is to become of a reference, in the place of what was put down before.
+    /// Sets what is to become of a reference, in place of what was set before.
     pub fn set(&mut self, reference: &'a str, change: Option<Entry>) -> Result<(), AllocError>
         ensures { OnOk result (self.new ≡ map.insert self.old reference.now change) }
     {
@@ -56,7 +56,7 @@ impl<'a> EntryChanges<'a> {
         Ok(())
     }
 
-    /// Takes one change out.
+    /// Removes one change and gives it, or `None` where there is none.
     pub fn pop(&mut self) -> Option<(&'a str, Option<Entry>)>
         ensures none { IfNone result ((q : List ℕ) → map.get self.old q ≡ None) }
         ensures some { IfSome result (λ p. map.get self.old p.0.now ≡ Some p.1) }

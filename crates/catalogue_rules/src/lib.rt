@@ -1,7 +1,9 @@
-//! The catalogue of a series: its records by their references, what a message does to them, and
-//! the offers that they make of an article. A message is planned before anything is changed, so
-//! that want of memory leaves the catalogue. Each record has at most 20,000 SupplyDetails. An index
-//! tells which records may be of an article, so that not all have to be looked at.
+//! The catalogue of a series: its records by their references, what a message does to them, and the
+//! offers that they make of an article. A message is planned before anything is changed, so that
+//! the catalogue stays as it was where memory runs out. Each record has at most 20,000
+//! SupplyDetails. An index tells which records may be of an article, so that not all have to be
+//! looked at.
+//!
 //! The definitions are in `specs/Records.antt` (a catalogue as a finite map), `specs/Effects.antt`
 //! (the effect of a message), `specs/Plans.antt` (what a plan promises), `specs/Offers.antt`
 //! (the offers of an article) and `specs/ArticleIndex.antt` (which records an index lists).

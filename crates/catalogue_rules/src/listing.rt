@@ -9,8 +9,8 @@ ghost use Rattle.catalogue_rules.specs.Listings.{is_same_listing, listing_cmp, l
 use onix_terms::text::Text;
 use std::cmp::Ordering;
 
-/// A reference of a record at an article that the record may have. Listings are in order of article,
-/// and those of an article in order of reference.
+/// A reference of a record at an article that the record may have. Listings are in order of
+/// article, and those of an article in order of reference.
 #[derive(Drop)]
 pub(crate) struct Listing {
     pub(crate) isbn: Text,

@@ -16,7 +16,7 @@ use onix_message::parts::Product;
 use std::alloc::{AllocError, Global};
 
 /// What products are to change of a catalogue, which stays as it is while the plan is made. The
-/// products lend the references.
+/// references are borrowed from the products.
 #[derive(Drop)]
 pub struct Plan<'a> {
     /// The changes.
@@ -89,7 +89,7 @@ impl<'a> Plan<'a> {
         catalogue.get(reference).is_none() && self.draft.get(reference).is_none()
     }
 
-    /// Puts down what is to become of a reference.
+    /// Sets what is to become of a reference.
     fn put(
         &mut self,
         catalogue: &Catalogue,

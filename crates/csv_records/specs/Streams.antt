@@ -13,7 +13,7 @@ IsTold (Some known) text = known ≡ text
 abbrev pub TakesAtMost : ℕ → Option (List ℕ) → Option (List ℕ) → Type 0
 TakesAtMost most old new = (taken : List ℕ) × Consumes old new taken × (length taken ≤ most)
 
--- a fault of reading a text that may have so many bytes: too large only where it has more; of a failed read and of want of memory nothing is said
+-- a fault of reading a text that may have so many bytes: too large only where it has more; of a failed read, and where memory ran out, nothing is said
 abbrev pub InputFits : ℕ → List ℕ → InputFault → Type 0
 InputFits most text fault.Read = ⊤
 InputFits most text fault.TooLarge = most < length text

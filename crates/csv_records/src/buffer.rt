@@ -12,7 +12,7 @@ use csv::StringRecord;
 use std::alloc::{AllocError, Global};
 use std::marker::Model;
 
-// Ends a record, or lets go of its fields, which begin at this index.
+// Ends a record, or removes its fields, which begin at this index.
 fn end_record(
     fields: &mut FieldBuffer,
     ends: &mut Vec<usize>,
@@ -49,7 +49,7 @@ impl Model for RecordBuffer {
 }
 
 impl RecordBuffer {
-    /// No records. It takes no memory.
+    /// No records. It does not allocate.
     pub fn new(alloc: Global) -> RecordBuffer
         ensures { result ≡ [] }
     {
@@ -59,7 +59,7 @@ impl RecordBuffer {
         }
     }
 
-    /// No records, with room for so many, of so many fields and bytes in all.
+    /// No records, with capacity for this many records, fields and bytes.
     pub fn with_capacity(
         alloc: Global,
         records: usize,
@@ -87,7 +87,7 @@ impl RecordBuffer {
         self.len() == 0
     }
 
-    /// Adds a record of these fields. Without memory for it the records stay as they were.
+    /// Adds a record of these fields. Where memory runs out, the records stay as they were.
     pub fn push_fields(&mut self, fields: &[&str]) -> Result<(), AllocError>
         ensures ok { OnOk result (self.new ≡ self.old ++ map (λ f. f.now) fields.now ∷ []) }
         ensures err { OnErr result (self.new ≡ self.old) }
@@ -98,7 +98,7 @@ impl RecordBuffer {
         Ok(())
     }
 
-    /// Adds a copy of a record. Without memory for it the records stay as they were.
+    /// Adds a copy of a record. Where memory runs out, the records stay as they were.
     pub fn push(&mut self, from: &Record<'_>) -> Result<(), AllocError>
         ensures ok { OnOk result (self.new ≡ self.old ++ from.now ∷ []) }
         ensures err { OnErr result (self.new ≡ self.old) }
@@ -109,7 +109,7 @@ impl RecordBuffer {
         Ok(())
     }
 
-    /// Adds a copy of a record that csv read. Without memory for it the records stay as they were.
+    /// Adds a copy of a record that csv read. Where memory runs out, the records stay as they were.
     pub fn push_read(&mut self, from: &StringRecord) -> Result<(), AllocError>
         ensures ok { OnOk result (self.new ≡ self.old ++ fields_of from.now ∷ []) }
         ensures err { OnErr result (self.new ≡ self.old) }
@@ -120,7 +120,7 @@ impl RecordBuffer {
         Ok(())
     }
 
-    /// Lets go of the records from this index on, counted from 0. It keeps the memory.
+    /// Removes the records from this index on, counted from 0. It keeps the capacity.
     pub fn truncate(&mut self, count: usize)
         ensures { self.new ≡ take count self.old }
     {
@@ -131,7 +131,7 @@ impl RecordBuffer {
         }
     }
 
-    /// The record at an index that there is, counted from 0.
+    /// The record at an index within range, counted from 0.
     pub fn record(&self, index: usize) -> Record<'_>
         requires { index < length self.now }
         ensures { slice_get self.now index ≡ Some result }

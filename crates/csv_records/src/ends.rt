@@ -22,8 +22,8 @@ pub(crate) fn span(ends: &Vec<usize>, index: usize) -> (usize, usize)
     (end_of(ends, index), ends[index])
 }
 
-// Adds ends of parts that began at `first`, as ends of parts that begin at `start`, all of them,
-// or none where there is no memory.
+// Adds ends of parts that began at `first`, as ends of parts that begin at `start`, all of them, or
+// none where memory runs out.
 pub(crate) fn add_ends(
     ends: &mut Vec<usize>,
     added: &[usize],

@@ -29,7 +29,7 @@ impl Model for FieldBuffer {
 }
 
 impl FieldBuffer {
-    /// No fields. It takes no memory.
+    /// No fields. It does not allocate.
     pub fn new(alloc: Global) -> FieldBuffer
         ensures { result ≡ [] }
     {
@@ -39,7 +39,7 @@ impl FieldBuffer {
         }
     }
 
-    /// No fields, with room for so many, of so many bytes in all.
+    /// No fields, with capacity for this many fields and bytes.
     pub fn with_capacity(
         alloc: Global,
         fields: usize,
@@ -59,7 +59,7 @@ impl FieldBuffer {
         self.ends.len()
     }
 
-    /// Adds a field at the end. Without memory for it the fields stay as they were.
+    /// Adds a field at the end. Where memory runs out, the fields stay as they were.
     pub fn push(&mut self, text: &str) -> Result<(), AllocError>
         ensures ok { OnOk result (self.new ≡ self.old ++ text.now ∷ []) }
         ensures err { OnErr result (self.new ≡ self.old) }
@@ -74,7 +74,7 @@ impl FieldBuffer {
         Ok(())
     }
 
-    /// Adds these fields at the end, all of them, or none where there is no memory.
+    /// Adds these fields at the end, all of them, or none where memory runs out.
     pub fn push_all(&mut self, fields: &[&str]) -> Result<(), AllocError>
         ensures ok { OnOk result (self.new ≡ self.old ++ map (λ f. f.now) fields.now) }
         ensures err { OnErr result (self.new ≡ self.old) }
@@ -89,7 +89,7 @@ impl FieldBuffer {
         Ok(())
     }
 
-    /// Adds the fields of a record at the end, all of them, or none where there is no memory.
+    /// Adds the fields of a record at the end, all of them, or none where memory runs out.
     pub fn push_record(&mut self, from: &Record<'_>) -> Result<(), AllocError>
         ensures ok { OnOk result (self.new ≡ self.old ++ from.now) }
         ensures err { OnErr result (self.new ≡ self.old) }
@@ -98,7 +98,7 @@ impl FieldBuffer {
     }
 
     // Adds the fields of another buffer from one index to before another, all of them, or none
-    // where there is no memory. Their bytes are copied at once.
+    // where memory runs out. Their bytes are copied at once.
     pub(crate) fn push_part(
         &mut self,
         from: &FieldBuffer,
@@ -122,7 +122,7 @@ impl FieldBuffer {
         Ok(())
     }
 
-    // Adds the fields of a record that csv read, all of them, or none where there is no memory.
+    // Adds the fields of a record that csv read, all of them, or none where memory runs out.
     pub(crate) fn push_read(&mut self, from: &StringRecord) -> Result<(), AllocError>
         ensures ok { OnOk result (self.new ≡ self.old ++ fields_of from.now) }
         ensures err { OnErr result (self.new ≡ self.old) }
@@ -139,7 +139,7 @@ impl FieldBuffer {
         Ok(())
     }
 
-    /// Lets go of the fields from this index on, counted from 0. It keeps the memory.
+    /// Removes the fields from this index on, counted from 0. It keeps the capacity.
     pub fn truncate(&mut self, count: usize)
         ensures { self.new ≡ take count self.old }
     {
@@ -150,7 +150,7 @@ impl FieldBuffer {
         }
     }
 
-    /// Lets go of all fields. It keeps the memory.
+    /// Removes all fields. It keeps the capacity.
     pub fn clear(&mut self)
         ensures { self.new ≡ [] }
     {
@@ -167,7 +167,7 @@ impl FieldBuffer {
         Some(self.at(index))
     }
 
-    // The field at an index that there is, counted from 0.
+    // The field at an index within range, counted from 0.
     pub(crate) fn at(&self, index: usize) -> &str
         requires { index < length self.now }
         ensures { slice_get self.now index ≡ Some result.now }

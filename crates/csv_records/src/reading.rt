@@ -19,7 +19,7 @@ pub enum RecordFault {
     /// More than 4,194,304 bytes.
     #[error("more than 4,194,304 bytes")]
     TooLarge,
-    /// No valid UTF-8.
+    /// The bytes are not valid UTF-8.
     #[error("not UTF-8")]
     NotUtf8,
     /// Memory ran out.
@@ -55,7 +55,7 @@ impl<'a> Model for RecordReader<'a> {
 }
 
 impl<'a> RecordReader<'a> {
-    /// A reader of a text of any length. It takes no memory until it reads.
+    /// A reader of a text of any length. It does not allocate until it reads.
     pub fn of_text(alloc: Global, text: &'a str) -> RecordReader<'a>
         ensures { result ≡ records_of text.now }
     {
@@ -69,8 +69,8 @@ impl<'a> RecordReader<'a> {
         }
     }
 
-    /// A reader of a text of at most 4,194,304 bytes. `TooLarge` exactly above that, `NotUtf8` exactly
-    /// where within it the bytes are no text.
+    /// A reader of a text of at most 4,194,304 bytes. `TooLarge` exactly above that, else `NotUtf8`
+    /// exactly where the bytes are not valid UTF-8.
     pub fn new(alloc: Global, bytes: &'a [u8]) -> Result<RecordReader<'a>, RecordFault>
         ensures records { IfOk result
             (λ reader. (length bytes.now ≤ limit) × IsUtf8 bytes.now
@@ -91,8 +91,8 @@ impl<'a> RecordReader<'a> {
         Ok(RecordReader::of_text(alloc, text))
     }
 
-    /// Reads the next record in place of what `into` held, or tells that there is none. One
-    /// `into` serves all records of a text. Without memory the reader has no records left.
+    /// Reads the next record in place of what `into` held, or tells that there is none. One `into`
+    /// serves all records of a text. Where memory runs out, the reader has no records left.
     pub fn read(&mut self, into: &mut StringRecord) -> Result<bool, AllocError>
         ensures found { IfOk result
             (λ found. found ≡ true → self.old ≡ fields_of into.new ∷ self.new) }
@@ -104,7 +104,7 @@ impl<'a> RecordReader<'a> {
             Stage::Ended => return Ok(false),
             Stage::Failed => return Err(AllocError),
         }
-        // A text in memory is read without another fault than want of memory.
+        // A text in memory is read with no fault but out of memory.
         let Ok(found) = self.rdr.read_record(into) else {
             self.stage = Stage::Failed;
             return Err(AllocError);
@@ -133,7 +133,7 @@ fn append_each(
     Ok(())
 }
 
-/// Adds all records that a reader has left. Without memory for them the buffer's records stay as
+/// Adds all records that a reader has left. Where memory runs out, the buffer's records stay as
 /// they were, and how many the reader has left is not said.
 pub fn append_records(
     alloc: Global,

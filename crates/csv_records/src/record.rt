@@ -1,4 +1,4 @@
-//! One record that is lent.
+//! One borrowed record.
 
 ghost use Rattle.std.specs.Prelude.{◌≡◌, ◌≤◌, ◌<◌, ◌-◌, ◌++◌, ◌∷◌, [], OnOk, OnErr, IfSome, IfNone, Some, length, take, drop, map, slice_get, option_map};
 ghost use Rattle.std.specs.List.{flat_map};
@@ -7,7 +7,7 @@ use crate::fields::FieldBuffer;
 use std::alloc::AllocError;
 use std::marker::Model;
 
-/// A record, lent from the buffer in which it lies. Contracts see the list of its fields.
+/// A record, borrowed from the buffer that holds it. Contracts see the list of its fields.
 #[derive(Drop)]
 pub struct Record<'a> {
     fields: &'a FieldBuffer,
@@ -51,7 +51,7 @@ impl<'a> Record<'a> {
         Some(self.at(index))
     }
 
-    /// The field at an index that there is, counted from 0.
+    /// The field at an index within range, counted from 0.
     pub fn at(&self, index: usize) -> &'a str
         requires { index < length self.now }
         ensures { slice_get self.now index ≡ Some result.now }
@@ -67,7 +67,7 @@ impl<'a> Record<'a> {
         self.fields.bytes_of(self.start, self.end)
     }
 
-    // Adds the fields to others, all of them, or none where there is no memory.
+    // Adds the fields to others, all of them, or none where memory runs out.
     pub(crate) fn copy_to(&self, to: &mut FieldBuffer) -> Result<(), AllocError>
         ensures ok { OnOk result (to.new ≡ to.old ++ self.now) }
         ensures err { OnErr result (to.new ≡ to.old) }
@@ -99,8 +99,8 @@ impl<'a> Record<'a> {
     }
 
     /// Puts the fields into a list, in place of what it held, so that they can be taken apart by a
-    /// pattern. One list serves all records of a text. Without memory what the list holds is not
-    /// said.
+    /// pattern. One list serves all records of a text. Where memory runs out, what the list holds
+    /// is not said.
     pub fn fill(&self, list: &mut Vec<&'a str>) -> Result<(), AllocError>
         ensures { OnOk result (map (λ f. f.now) list.new.items ≡ self.now) }
     {

@@ -1,4 +1,4 @@
-//! Records that are lent.
+//! Borrowed records.
 
 ghost use Rattle.std.specs.Prelude.{◌≡◌, ◌≤◌, ◌<◌, ◌-◌, ◌∷◌, [], ◌↔◌, IfSome, IfNone, IsTrue, Some, length, take, drop, slice_get};
 ghost use Rattle.std.specs.List.{flat_map};
@@ -7,7 +7,8 @@ use crate::buffer::RecordBuffer;
 use crate::record::Record;
 use std::marker::Model;
 
-/// Records that lie one after the other in a buffer, lent from it. Contracts see the list of them.
+/// Records that lie one after the other in a buffer, borrowed from it. Contracts see the list of
+/// them.
 #[derive(Drop)]
 pub struct Records<'a> {
     buffer: &'a RecordBuffer,
@@ -48,7 +49,7 @@ impl<'a> Records<'a> {
         self.len() == 0
     }
 
-    /// The record at an index that there is, counted from 0.
+    /// The record at an index within range, counted from 0.
     pub fn record(&self, index: usize) -> Record<'a>
         requires { index < length self.now }
         ensures { slice_get self.now index ≡ Some result }

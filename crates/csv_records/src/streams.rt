@@ -11,7 +11,7 @@ use thiserror::Error;
 /// Why a stream was not read.
 #[derive(Debug, Drop, Error)]
 pub enum InputFault {
-    /// A read failed. None is tried again.
+    /// A read failed. It is not retried.
     #[error("the input cannot be read")]
     Read,
     /// There are more bytes than may be read.
@@ -22,7 +22,7 @@ pub enum InputFault {
     Memory,
 }
 
-/// A write failed or took nothing. None is tried again.
+/// A write failed or wrote nothing. It is not retried.
 #[derive(Debug, Drop, Error)]
 #[error("the output cannot be written")]
 pub struct WriteFault;
@@ -30,7 +30,7 @@ pub struct WriteFault;
 // How many bytes are read at once.
 const CHUNK: usize = 4096;
 
-/// Reads to the end, or to one byte past `most` bytes. Whatever it ends in, no more is taken.
+/// Reads to the end, or to one byte past `most` bytes. It never reads more, even where it fails.
 pub fn read_input<R: Read>(
     alloc: Global,
     reader: &mut R,

@@ -32,8 +32,10 @@ RecordsFit text record_fault.NotUtf8 = (length text ≤ limit) × ¬ (IsUtf8 tex
 RecordsFit text record_fault.Memory = ⊤
 
 -- how the requests rs after L can end. Written: these bytes were written. Stands: the desk stands for that list
-abbrev pub RunFits : List Rule → List Request → List Request → (List ℕ → Type 0) → (List Request → Type 0) → Result ℕ BatchFault → Type 0
-RunFits rules L rs written stands (Ok n) = (n ≡ refusals rules L rs) × written (output rules L rs) × stands (followed_by L rs)
+abbrev pub RunFits : List Rule → List Request → List Request → (List ℕ → Type 0) → (List Request → Type 0)
+    → Result ℕ BatchFault → Type 0
+RunFits rules L rs written stands (Ok n) =
+    (n ≡ refusals rules L rs) × written (output rules L rs) × stands (followed_by L rs)
 RunFits rules L rs written stands (Err (fault.Store done f)) =
     (done < length rs) × written (output rules L (take done rs)) × stands (followed_by L (take done rs))
 RunFits rules L rs written stands (Err (fault.Write done)) =
@@ -41,13 +43,17 @@ RunFits rules L rs written stands (Err (fault.Write done)) =
     × ((part rest : List ℕ) × (output rules L (take (done - 1) rs) ++ (part ++ rest) ≡ output rules L (take done rs)) × written (output rules L (take (done - 1) rs) ++ part))
     × stands (followed_by L (take done rs))
 RunFits rules L rs written stands (Err (fault.Memory done)) =
-    (0 < done) × (done ≤ length rs) × written (output rules L (take (done - 1) rs)) × stands (followed_by L (take done rs))
+    (0 < done) × (done ≤ length rs) × written (output rules L (take (done - 1) rs))
+    × stands (followed_by L (take done rs))
 RunFits rules L rs written stands (Err (fault.Records f)) = ⊥
 RunFits rules L rs written stands (Err fault.Read) = ⊥
 
--- how a batch of that text after L can end: all answers written, with how many are refusals; a storage fault behind so many answers; a failed write, where the answers to all but the last request that took effect are written, and a first part of that one; want of memory for an answer; or nothing asked and nothing written. Written: these bytes were written. Stands: the desk stands for that list
-abbrev pub BatchFits : List Rule → List Request → List ℕ → (List ℕ → Type 0) → (List Request → Type 0) → Result ℕ BatchFault → Type 0
+-- how a batch of that text after L can end: all answers written, with how many are refusals; a storage fault behind so many answers; a failed write, where the answers to all but the last request that took effect are written, and a first part of that one; memory ran out for an answer; or nothing asked and nothing written. Written: these bytes were written. Stands: the desk stands for that list
+abbrev pub BatchFits : List Rule → List Request → List ℕ → (List ℕ → Type 0) → (List Request → Type 0)
+    → Result ℕ BatchFault → Type 0
 BatchFits rules L text written stands (Err (fault.Records f)) = RecordsFit text f × written [] × stands L
 BatchFits rules L text written stands (Err fault.Read) = written [] × stands L
-BatchFits rules L text written stands (Ok n) = (length text ≤ limit) × IsUtf8 text × RunFits rules L (requests_of text) written stands (Ok n)
-BatchFits rules L text written stands (Err f) = (length text ≤ limit) × IsUtf8 text × RunFits rules L (requests_of text) written stands (Err f)
+BatchFits rules L text written stands (Ok n) =
+    (length text ≤ limit) × IsUtf8 text × RunFits rules L (requests_of text) written stands (Ok n)
+BatchFits rules L text written stands (Err f) =
+    (length text ≤ limit) × IsUtf8 text × RunFits rules L (requests_of text) written stands (Err f)

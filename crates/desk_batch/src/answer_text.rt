@@ -18,7 +18,7 @@ use onix_terms::series_name::SeriesName;
 use series_rules::answers::{AgreeAnswer, Answer, DeliveryAnswer, WaiveAnswer};
 use std::alloc::{AllocError, Global};
 
-// Each function that fills puts the fields of a record in place of what the list had.
+// Each `fill_` function replaces the fields of the list by those of a record.
 
 // A refusal that has nothing to add to its reason.
 fn fill_refusal(out: &mut FieldBuffer, reason: &str) -> Result<(), AllocError>

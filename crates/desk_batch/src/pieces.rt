@@ -39,7 +39,7 @@ fn begins_piece(from: &StringRecord) -> bool
     }
 }
 
-// Puts a piece behind others, unless it has no record.
+// Appends a piece, unless it has no record.
 fn close_piece(cut: &mut Items<RecordBuffer>, piece: RecordBuffer) -> Result<(), AllocError>
     ensures { OnOk result (cut.new ≡ cut.old ++ closed piece) }
 {
@@ -50,8 +50,8 @@ fn close_piece(cut: &mut Items<RecordBuffer>, piece: RecordBuffer) -> Result<(),
 }
 
 /// Cuts the records that a reader has left before each that begins a request. Each piece has a
-/// buffer of its own, so that it can be let go of when its request is answered. With `Ok` nothing is
-/// left to read; without memory how much is left is not said.
+/// buffer of its own, so that it can be dropped when its request is answered. With `Ok` nothing is
+/// left to read; where memory runs out, how much is left is not said.
 pub fn read_pieces(
     alloc: Global,
     reader: &mut RecordReader<'_>,

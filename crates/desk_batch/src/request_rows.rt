@@ -87,7 +87,8 @@ fn read_series(fields: &[&str]) -> Option<SeriesName>
     SeriesName::read(series)
 }
 
-// The prices on a day that these fields ask for. The last of them, how many copies, may be left out.
+// The prices on a day that these fields ask for. The last of them, how many copies, may be left
+// out.
 #[tactic(auto, unfolding(crate::specs::RequestRows::prices_on))]
 fn read_prices(day: &str, fields: &[&str]) -> Option<PriceQuery>
     ensures { result ≡ prices_on day.now (map (λ f. f.now) fields.now) }
@@ -221,7 +222,7 @@ pub fn read_request(alloc: Global, piece: RecordBuffer) -> Result<Request, Alloc
 }
 
 /// The requests of the records that a reader has left, in order. With `Ok` nothing is left to read;
-/// without memory how much is left is not said.
+/// where memory runs out, how much is left is not said.
 pub fn read_requests(
     alloc: Global,
     reader: &mut RecordReader<'_>,

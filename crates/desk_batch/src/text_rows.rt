@@ -1,5 +1,5 @@
-//! Records made of texts and numbers. The fields of each lie in one list, which is lent and used
-//! again for the next.
+//! Records made of texts and numbers. The fields of each are put into one borrowed list, which is
+//! used again for the next.
 
 ghost use Rattle.std.specs.Prelude.{◌≡◌, ◌++◌, ◌∷◌, [], OnOk, map};
 ghost use Rattle.std.specs.Fmt.{decimal};

@@ -59,7 +59,7 @@ module _ {D : Type 0} {k : DeskKind} (seen : D → View k) (rules : List Rule) (
       let asked = one_asked seen rules steps r (Err are_to.0) old new are_to.1 trace in
       ([], r ∷ [], faulted (are_to.0, asked.fault, asks, subst (IsRepliedBy e.received e.outcome false) are_to.2 replied), fault_step are_to.1)
 
-  -- without a reply, for want of memory
+  -- without a reply, since memory ran out
   unsent_by : (sent received : Option (List ℕ)) (wanted : Wanted) (taken : Bool) → IfSome sent (λ input. AsksFor input wanted) → AreAsked wanted taken steps → IfSome received (λ bytes. bytes ≡ [])
       → Exchanged (record { sent = sent; received = received; outcome = Err (fault.Memory taken) })
   unsent_by sent received (Refused why) true asks are_asked nothing = absurd are_asked

@@ -114,7 +114,7 @@ module _ {D : Type 0} {k : DeskKind} (seen : D → View k) (rules : List Rule) (
       go (inl is) = ([], omega arith, λ x may. inl (subst (λ d. (seen d).may_leave x) (none_asked seen rules it.asked.0 old new is it.asked.1) may))
       go (inr (r, o, is)) = (r ∷ [], omega arith, λ x may. added r x ((one_asked seen rules it.asked.0 r o old new is it.asked.1).crash L stood sound x may))
 
--- where the output tells its bytes, they stay as they were after a failed read, and for want of memory
+-- where the output tells its bytes, they stay as they were after a failed read, and where memory ran out
 module _ {D : Type 0} {k : DeskKind} (seen : D → View k) (rules : List Rule) (sent : Option (List ℕ)) (old new : D) (held holds : Option (List ℕ)) where
   pub unread : (result : Result ℕ HttpFault) → Serves seen rules sent old new (Appends held holds) result → OnRead result (Keeps held holds)
   unread (Ok status) it = tt

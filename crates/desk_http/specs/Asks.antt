@@ -18,7 +18,7 @@ use Rattle.desk_http.specs.Questions.{calendar_asked, prices_asked, series_asked
 use Rattle.desk_http.specs.Routing.{path_of, query_of, route_asked}
 use Rattle.http_requests.specs.Steps.{◌>>=◌}
 
--- the question of a GET, by its route, the part of the path that stands for itself, and the query.
+-- the question of a GET, by its route, the variable part of the path, and the query.
 -- The path of messages asks no question
 abbrev pub question_of : Route → List ℕ → List ℕ → Result Request Refusal
 question_of route.Messages part query = Err refusal.NotFound

@@ -53,10 +53,12 @@ abbrev pub Unsent : List Request → Option (List ℕ) → (List Request → Typ
 Unsent L sent stands false = stands L
 Unsent L sent stands true = (r : Request) × IfSome sent (λ input. AsksFor input (Asked r)) × stands (r ∷ L)
 
--- how an exchange after L can end: with a reply (`Served`), or a first part of it; with nothing written after a failed read, where L stands; or so for want of memory (`Unsent`)
-abbrev pub ServeFits : {k : DeskKind} → List Rule → List Request → Option (List ℕ) → (List Request → Type 0) → View k → View k → (List ℕ → Type 0) → Result ℕ HttpFault → Type 0
+-- how an exchange after L can end: with a reply (`Served`), or a first part of it; with nothing written after a failed read, where L stands; or with nothing written where memory ran out (`Unsent`)
+abbrev pub ServeFits : {k : DeskKind} → List Rule → List Request → Option (List ℕ) → (List Request → Type 0)
+    → View k → View k → (List ℕ → Type 0) → Result ℕ HttpFault → Type 0
 ServeFits {k} rules L sent stands was left written (Ok status) = Served rules (IsFaultOf k) L sent stands was left written status
-ServeFits {k} rules L sent stands was left written (Err (fault.Write status)) = Served rules (IsFaultOf k) L sent stands was left (WritesFront written) status
+ServeFits {k} rules L sent stands was left written (Err (fault.Write status)) =
+    Served rules (IsFaultOf k) L sent stands was left (WritesFront written) status
 ServeFits rules L sent stands was left written (Err fault.Read) = stands L × written []
 ServeFits rules L sent stands was left written (Err (fault.Memory taken)) = Unsent L sent stands taken × written []
 

@@ -9,7 +9,7 @@ use Rattle.series_rules.specs.declared.answers.Answer.{Answer}
 use Rattle.series_rules.specs.declared.requests.Request.{Request}
 use Rattle.desk_http.specs.declared.exchange.HttpFault.{HttpFault}
 use Rattle.desk_http.specs.declared.exchange.HttpFault.TheVariants as fault
-use Rattle.desk_http.specs.declared.exchange.ReplyText.{ReplyText}
+use Rattle.desk_http.specs.declared.exchange.PreparedReply.{PreparedReply}
 use Rattle.desk_http.specs.declared.exchange.Wanted.{Wanted}
 use Rattle.desk_http.specs.declared.exchange.Wanted.TheVariants.{Asked, Refused}
 use Rattle.desk_http.specs.AnswerReply.{reply_of_answer, reply_of_fault}
@@ -18,8 +18,8 @@ use Rattle.desk_http.specs.Refusals.{reply_of_refusal}
 use Rattle.desk_http.specs.Reply.{Reply, reply_text}
 use Rattle.desk_http.specs.Writing.{WritesFront}
 
--- what a reply on its way is
-abbrev pub reply_view : ReplyText → Reply
+-- the reply that is to be written
+abbrev pub reply_view : PreparedReply → Reply
 reply_view r = record { status = r.status; allow = option_map (λ m. m.now) r.allow; body = string_bytes r.body }
 
 -- the desk was asked what is asked for, and of a refusal nothing. Taken: it answered; else, where it was asked, it had a fault
@@ -37,19 +37,20 @@ AreRepliedTo (Refused why) true steps reply = ⊥
 AreRepliedTo (Refused why) false steps reply = (steps ≡ []) × (reply ≡ reply_of_refusal why)
 
 -- how asking can end
-abbrev pub AskFits : Wanted → List (Request × Result Answer StoreFault) → Result ReplyText HttpFault → Type 0
+abbrev pub AskFits : Wanted → List (Request × Result Answer StoreFault) → Result PreparedReply HttpFault → Type 0
 AskFits wanted steps (Ok reply) = AreRepliedTo wanted reply.taken steps (reply_view reply)
 AskFits wanted steps (Err fault.Read) = ⊥
 AskFits wanted steps (Err (fault.Write status)) = ⊥
 AskFits wanted steps (Err (fault.Memory taken)) = AreAsked wanted taken steps
 
 -- the desk was asked what is asked for, as any desk is
-abbrev pub AsksWanted : {D : Type 0} → {k : DeskKind} → (D → View k) → List Rule → Wanted → D → D → Result ReplyText HttpFault → Type 0
+abbrev pub AsksWanted : {D : Type 0} → {k : DeskKind} → (D → View k) → List Rule → Wanted → D → D → Result PreparedReply HttpFault → Type 0
 AsksWanted seen rules wanted old new result =
     (steps : List (Request × Result Answer StoreFault)) × Trace seen rules steps old new × AskFits wanted steps result
 
 -- a client was replied to, by these steps. Sent: what the client sent, where that is known. Written: this text was written
-pub record IsReplied (sent : Option (List ℕ)) (steps : List (Request × Result Answer StoreFault)) (written : List ℕ → Type 0) (status : ℕ) : Type 0 where
+pub record IsReplied (sent : Option (List ℕ)) (steps : List (Request × Result Answer StoreFault))
+    (written : List ℕ → Type 0) (status : ℕ) : Type 0 where
   pub wanted : Wanted
   pub taken : Bool
   pub reply : Reply
@@ -61,7 +62,8 @@ pub record IsReplied (sent : Option (List ℕ)) (steps : List (Request × Result
 -- memory ran out before the desk was asked, for what it was asked, or for the reply
 abbrev pub IsUnsent : Option (List ℕ) → List (Request × Result Answer StoreFault) → Bool → Type 0
 IsUnsent sent steps true = (wanted : Wanted) × IfSome sent (λ input. AsksFor input wanted) × AreAsked wanted true steps
-IsUnsent sent steps false = (steps ≡ []) ⊎ ((wanted : Wanted) × IfSome sent (λ input. AsksFor input wanted) × AreAsked wanted false steps)
+IsUnsent sent steps false =
+    (steps ≡ []) ⊎ ((wanted : Wanted) × IfSome sent (λ input. AsksFor input wanted) × AreAsked wanted false steps)
 
 -- the steps of an exchange that ended so: at most one, which asks the desk what the client's bytes ask for
 abbrev pub AreStepsOf : Option (List ℕ) → (List ℕ → Type 0) → List (Request × Result Answer StoreFault) → Result ℕ HttpFault → Type 0

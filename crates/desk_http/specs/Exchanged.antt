@@ -28,7 +28,7 @@ WasSent e text = IfSome e.received (λ bytes. bytes ≡ text)
 abbrev pub AskedFor : Exchange → Wanted → Type 0
 AskedFor e wanted = IfSome e.sent (λ input. AsksFor input wanted)
 
--- the reply was sent whole, or a first part of it where a write failed, or nothing for want of memory. Taken: the desk had answered
+-- the reply was sent whole, or a first part of it where a write failed, or nothing where memory ran out. Taken: the desk had answered
 abbrev pub IsRepliedBy : Option (List ℕ) → Result ℕ HttpFault → Bool → Reply → Type 0
 IsRepliedBy received (Ok status) taken reply = (status ≡ reply.status) × IfSome received (λ bytes. bytes ≡ reply_text reply)
 IsRepliedBy received (Err (fault.Write status)) taken reply =
@@ -48,10 +48,13 @@ IsAnswered rules L r e = AskedFor e (Asked r) × IsRepliedBy e.received e.outcom
 
 -- the client asked for the request r, and was replied to with a fault of the store
 abbrev pub IsFaulted : (StoreFault → Type 0) → Request → Exchange → Type 0
-IsFaulted may_give r e = (f : StoreFault) × may_give f × AskedFor e (Asked r) × IsRepliedBy e.received e.outcome false (reply_of_fault f)
+IsFaulted may_give r e =
+    (f : StoreFault) × may_give f × AskedFor e (Asked r)
+    × IsRepliedBy e.received e.outcome false (reply_of_fault f)
 
 -- an exchange was served by a desk that stood for L: these requests of it were answered, and these had a fault of the store
-pub data WasExchanged (rules : List Rule) (may_give : StoreFault → Type 0) (L : List Request) (e : Exchange) : List Request → List Request → Type 0 where
+pub data WasExchanged (rules : List Rule) (may_give : StoreFault → Type 0) (L : List Request) (e : Exchange)
+    : List Request → List Request → Type 0 where
   unasked : IsUnasked e → WasExchanged rules may_give L e [] []
   answered : {r : Request} → IsAnswered rules L r e → WasExchanged rules may_give L e (r ∷ []) []
   faulted : {r : Request} → IsFaulted may_give r e → WasExchanged rules may_give L e [] (r ∷ [])

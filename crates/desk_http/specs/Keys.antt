@@ -59,7 +59,7 @@ route_at path = option_map route_of_key (key_at path)
 abbrev pub segment_behind : List ℕ → List ℕ → List ℕ
 segment_behind front path = if starts_with nat_eq path front then before_slash (drop (length front) path) else []
 
--- the segment of a path that stands for itself
+-- the variable segment of a path
 abbrev pub part_at : Route → List ℕ → List ℕ
 part_at r.Messages path = []
 part_at r.Price path = segment_behind (codes "/articles/") path

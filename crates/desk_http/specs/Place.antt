@@ -3,7 +3,7 @@ use Rattle.std.specs.Prelude.{◌≡◌, ◌≢◌, ℕ, ◌<◌, List, [], ◌+
 use Rattle.desk_http.specs.declared.routes.Route.{Route}
 use Rattle.desk_http.specs.declared.routes.Route.TheVariants as r
 
--- a place, with the part of the path that stands for itself
+-- a place, with the variable part of its path
 pub data Place : Type 0 where
   messages : Place
   price choice calendar gaps catalogue : List ℕ → Place
@@ -45,7 +45,7 @@ route_of (calendar isbn) = r.Calendar
 route_of (gaps name) = r.Gaps
 route_of (catalogue name) = r.Catalogue
 
--- the part of a place's path that stands for itself
+-- the variable part of a place's path
 abbrev pub part_of : Place → List ℕ
 part_of messages = []
 part_of (price isbn) = isbn

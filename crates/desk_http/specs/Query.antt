@@ -1,4 +1,4 @@
--- The query of a request, as a web form: its names and values, and the value of a key.
+-- The query of a request, as application/x-www-form-urlencoded: its names and values, and the value of a key.
 use Rattle.std.specs.Prelude.{ℕ, List, [], ◌∷◌, map, nat_eq, if◌then◌else◌, Option, Some, None, Result, Ok, Err}
 use Rattle.std.specs.Cmp.Lexicographic.{pointwise}
 use Rattle.std.specs.Str.Lossy.{utf8_lossy}

@@ -13,7 +13,7 @@ pub record Reply : Type 0 where
 abbrev pub line_end : List ℕ
 line_end = 13 ∷ 10 ∷ []
 
--- the phrase of a status
+-- the reason phrase of a status
 abbrev pub phrase_of : ℕ → List ℕ
 phrase_of status =
     if status == 200 then codes "OK"
@@ -36,7 +36,7 @@ abbrev pub allow_line : Option (List ℕ) → List ℕ
 allow_line None = []
 allow_line (Some method) = codes "Allow: " ++ method ++ line_end
 
--- the text of a reply: the status line, the lines of the fields, an empty line and the body
+-- the text of a reply: the status line, the header fields, an empty line and the body
 unfoldable pub reply_text : Reply → List ℕ
 reply_text r =
     codes "HTTP/1.1 " ++ decimal r.status ++ codes " " ++ phrase_of r.status ++ line_end

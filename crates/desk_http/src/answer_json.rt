@@ -258,8 +258,8 @@ fn answer_json(alloc: Global, answer: &Answer) -> Result<Value, AllocError>
     }
 }
 
-/// The text of an answer's JSON. Whoever reads it as JSON gets the answer's data. Only want of
-/// memory refuses it.
+/// The text of an answer's JSON. Whoever reads it as JSON gets the answer's data. Fails only
+/// where memory runs out.
 pub fn answer_text(alloc: Global, answer: &Answer) -> Result<String, AllocError>
     ensures text { IfOk result
         (λ text. string_bytes text ≡ compact_text (json.answer_json answer.now)) }

@@ -61,8 +61,8 @@ fn status_of(answer: &Answer) -> u16
 }
 
 /// The status of the reply to an answer, and its body: JSON without spaces, the keys of each
-/// object in the order of their bytes. Whoever reads the body as JSON gets the answer's data. Only
-/// want of memory refuses it.
+/// object in the order of their bytes. Whoever reads the body as JSON gets the answer's data.
+/// Fails only where memory runs out.
 #[tactic(auto, unfolding(crate::specs::AnswerReply::reply_of_answer))]
 pub fn reply_of(alloc: Global, answer: &Answer) -> Result<(u16, String), AllocError>
     ensures status { IfOk result (λ r. r.0 ≡ (reply_of_answer answer.now).status) }

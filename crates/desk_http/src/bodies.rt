@@ -11,7 +11,7 @@ use crate::members::object_of;
 use serde_json::Value;
 use std::alloc::{AllocError, Global};
 
-/// The JSON of a refusal that has nothing to say but its reason. Only want of memory refuses it.
+/// The JSON of a refusal that has nothing to say but its reason. Fails only where memory runs out.
 pub(crate) fn refused_json(alloc: Global, reason: &str) -> Result<Value, AllocError>
     ensures { IfOk result (λ v. view v ≡ json.refused reason.now) }
 {
@@ -22,8 +22,8 @@ pub(crate) fn refused_json(alloc: Global, reason: &str) -> Result<Value, AllocEr
     object_of(alloc, &members)
 }
 
-/// The body of a refusal that has nothing to say but its reason, such as `not-found`. Only want
-/// of memory refuses it.
+/// The body of a refusal that has nothing to say but its reason, such as `not-found`. Fails only
+/// where memory runs out.
 pub fn refused_body(alloc: Global, reason: &str) -> Result<String, AllocError>
     ensures { IfOk result (λ text. string_bytes text ≡ compact_text (json.refused reason.now)) }
 {
@@ -42,7 +42,7 @@ fn fault_json(alloc: Global, kind: &str) -> Result<Value, AllocError>
 }
 
 /// The body of the reply to a request that met a fault of storage of this kind, such as `disk`.
-/// Only want of memory refuses it.
+/// Fails only where memory runs out.
 pub fn fault_body(alloc: Global, kind: &str) -> Result<String, AllocError>
     ensures { IfOk result (λ text. string_bytes text ≡ compact_text (json.fault kind.now)) }
 {

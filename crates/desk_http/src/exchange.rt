@@ -19,7 +19,7 @@ pub enum HttpFault {
     /// A read failed. Nothing was asked of the desk and nothing written.
     #[error("the request cannot be read")]
     Read,
-    /// A write failed or took nothing. The request has had the effect that the status of its reply
+    /// A write failed or wrote nothing. The request has had the effect that the status of its reply
     /// tells, and what was written is a part of the reply, from its first byte on.
     #[error("the reply with status {status} cannot be written")]
     Write { status: u16 },
@@ -29,9 +29,9 @@ pub enum HttpFault {
     Memory { taken: bool },
 }
 
-/// A reply on its way.
+/// A reply that is not yet written.
 #[derive(Drop)]
-pub(crate) struct ReplyText {
+pub(crate) struct PreparedReply {
     pub(crate) status: u16,
     pub(crate) allow: Option<&'static str>,
     pub(crate) body: String,

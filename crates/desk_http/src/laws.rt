@@ -13,13 +13,13 @@ pub fn asks_once()
     ensures { AsksOnce }
 {}
 
-/// No input asks for nothing: each that begins with no head is refused, and each head is of some
-/// request or is refused.
+/// Each input asks for something: one that begins with no head is refused, and each head is that of
+/// a request or is refused.
 pub fn asks_something()
     ensures { AsksSomething }
 {}
 
-/// Of no input more than 16,384 bytes of a head and 4,194,304 of a body are wanted.
+/// Of no input are more than 16,384 bytes of a head and 4,194,304 of a body looked at.
 pub fn wanted_is_bounded()
     ensures { WantedIsBounded }
 {}

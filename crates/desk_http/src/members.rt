@@ -1,6 +1,6 @@
 //! Objects, written from lists of members. A member borrows its term, so a function that writes an
-//! object owns no value of a member while others are written, and has no way out where one would
-//! have to be let go.
+//! object owns no value of a member while others are written, and has no early return where one
+//! would have to be dropped.
 
 ghost use Rattle.std.specs.Prelude.{◌≡◌, IfOk};
 ghost use Rattle.serde_json.specs.Data.{no_members, object, put};
@@ -66,15 +66,15 @@ fn map_of(alloc: Global, members: &[Member]) -> Result<Map<String, Value>, Alloc
     Ok(map)
 }
 
-/// The object of these members. Only want of memory refuses it.
+/// The object of these members. Fails only where memory runs out.
 pub(crate) fn object_of(alloc: Global, members: &[Member]) -> Result<Value, AllocError>
     ensures { IfOk result (λ v. view v ≡ object (json.put_all members.now no_members)) }
 {
     Ok(Value::Object(map_of(alloc, members)?))
 }
 
-/// The object of these members and of one whose value is made already. Only want of memory
-/// refuses it.
+/// The object of these members and of one whose value is made already. Fails only where
+/// memory runs out.
 pub(crate) fn object_with(
     alloc: Global,
     members: &[Member],

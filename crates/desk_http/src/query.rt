@@ -1,4 +1,4 @@
-//! The query of a request, as a web form.
+//! The query of a request, as `application/x-www-form-urlencoded`.
 
 ghost use Rattle.std.specs.Prelude.{◌≡◌, Err, IfErr, IfOk, Ok, option_map};
 ghost use Rattle.desk_http.specs.Query.{needed_value, pairs_of, value_of};
@@ -39,7 +39,8 @@ impl<'q> Form<'q> {
     /// The value of a key that may be there once.
     #[tactic(auto, unfolding(crate::specs::Query::value_of))]
     pub(crate) fn value(&self, key: &str) -> Result<Option<&str>, Refusal>
-        ensures value { IfOk result (λ found. value_of key.now self.now ≡ Ok (option_map (λ v. v.now) found)) }
+        ensures value { IfOk result
+            (λ found. value_of key.now self.now ≡ Ok (option_map (λ v. v.now) found)) }
         ensures refusal { IfErr result (λ why. value_of key.now self.now ≡ Err why) }
     {
         let mut found: Option<&str> = None;

@@ -1,4 +1,4 @@
-//! The text of a reply, as RFC 9112 has messages of HTTP/1.1.
+//! The text of a reply, in the message format of RFC 9112.
 
 ghost use Rattle.std.specs.Prelude.{◌≡◌, IfOk, option_copied};
 ghost use Rattle.std.specs.String.{string_bytes};
@@ -6,7 +6,7 @@ ghost use Rattle.desk_http.specs.Reply.{allow_line, phrase_of, reply_text};
 
 use std::alloc::{AllocError, Global};
 
-/// The phrase of a status, as RFC 9110 names it. A status that no reply has gives the empty
+/// The reason phrase of a status, as RFC 9110 names it. A status that no reply has gives the empty
 /// phrase, which a status line may have.
 pub fn phrase_of(status: u16) -> &'static str
     ensures { result.now ≡ phrase_of status }
@@ -39,9 +39,8 @@ fn allow_line(alloc: Global, allow: Option<&str>) -> Result<String, AllocError>
     }
 }
 
-/// The text of a reply: the status line, the lines of the fields, an empty line and the body.
-/// `allow` is the method that the path takes, where the request had another. Only want of memory
-/// refuses it.
+/// The text of a reply: the status line, the header fields, an empty line and the body. `allow` is
+/// the method that the path takes, where the request had another. Fails only where memory runs out.
 #[tactic(auto, unfolding(crate::specs::Reply::reply_text))]
 pub fn reply_text(
     alloc: Global,
@@ -49,8 +48,8 @@ pub fn reply_text(
     allow: Option<&str>,
     body: &str,
 ) -> Result<String, AllocError>
-    ensures { IfOk result (λ text. string_bytes text
-        ≡ reply_text (record { status = status; allow = option_copied allow.entry; body = body.now })) }
+    ensures { IfOk result (λ text. string_bytes text ≡ reply_text
+        (record { status = status; allow = option_copied allow.entry; body = body.now })) }
 {
     let phrase = phrase_of(status);
     let allow = allow_line(alloc, allow)?;

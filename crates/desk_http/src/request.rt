@@ -60,16 +60,17 @@ fn read_at<R: Read>(
     behind: &[u8],
     route: Route,
 ) -> Result<Request, InputFault>
-    ensures gives { (h : RequestHead) → IsHeadOf head.now h → IfSome (R.remaining reader.old) (λ more.
-        Gives result (request_at h (behind.now ++ more) route)) }
-    ensures taken { (h : RequestHead) → IsHeadOf head.now h →
-        TakesAtMost (most_at h route - length behind.now) (R.remaining reader.old) (R.remaining reader.new) }
+    ensures gives { (h : RequestHead) → IsHeadOf head.now h → IfSome (R.remaining reader.old)
+        (λ more. Gives result (request_at h (behind.now ++ more) route)) }
+    ensures taken { (h : RequestHead) → IsHeadOf head.now h
+        → TakesAtMost (most_at h route - length behind.now)
+        (R.remaining reader.old) (R.remaining reader.new) }
 {
     match route {
-        Route::Messages => match read_posted(alloc, reader, head, behind) {
-            Ok(records) => Ok(Request::Deliver(records)),
-            Err(fault) => Err(fault),
-        },
+        Route::Messages => {
+            let records = read_posted(alloc, reader, head, behind)?;
+            Ok(Request::Deliver(records))
+        }
         Route::Price | Route::Choice | Route::Calendar | Route::Gaps | Route::Catalogue => {
             ask_at(alloc, route, head.target_text())
         }
@@ -84,10 +85,11 @@ fn read_behind<R: Read>(
     head: &Head,
     behind: &[u8],
 ) -> Result<Request, InputFault>
-    ensures gives { (h : RequestHead) → IsHeadOf head.now h → IfSome (R.remaining reader.old) (λ more.
-        Gives result (asks_of h (behind.now ++ more))) }
-    ensures taken { (h : RequestHead) → IsHeadOf head.now h →
-        TakesAtMost (most_behind h - length behind.now) (R.remaining reader.old) (R.remaining reader.new) }
+    ensures gives { (h : RequestHead) → IsHeadOf head.now h → IfSome (R.remaining reader.old)
+        (λ more. Gives result (asks_of h (behind.now ++ more))) }
+    ensures taken { (h : RequestHead) → IsHeadOf head.now h
+        → TakesAtMost (most_behind h - length behind.now)
+        (R.remaining reader.old) (R.remaining reader.new) }
 {
     match read_route(routes, head) {
         Ok(route) => read_at(alloc, reader, head, behind, route),
@@ -96,7 +98,8 @@ fn read_behind<R: Read>(
 }
 
 /// Reads the request that an input asks for: its head, and the body of a POST that gets so far. A
-/// refusal comes as soon as the bytes that were read decide it, and no byte behind the body is read.
+/// refusal comes as soon as the bytes that were read decide it, and no byte behind the body is
+/// read.
 pub(crate) fn read_request<R: Read>(
     alloc: Global,
     routes: &Routes,
@@ -105,8 +108,6 @@ pub(crate) fn read_request<R: Read>(
     ensures asks { IfSome (R.remaining reader.old) (λ input. IfDecided result (AsksFor input)) }
     ensures taken { TakesWanted (R.remaining reader.old) (R.remaining reader.new) }
 {
-    match read_head(alloc, reader) {
-        Ok(head) => read_behind(alloc, routes, reader, &head, head.behind()),
-        Err(fault) => Err(fault),
-    }
+    let head = read_head(alloc, reader)?;
+    read_behind(alloc, routes, reader, &head, head.behind())
 }

@@ -27,7 +27,7 @@ fn add(router: &mut Router<Route>, text: &str, route: Route) -> Result<(), Inser
     router.insert(text, route)
 }
 
-// Adds all routes, to a router that is lent, so that no way out lets go of one.
+// Adds all routes, to a borrowed router, so that no early return drops it.
 fn add_all(router: &mut Router<Route>) -> Result<(), InsertError>
     ensures { router.old ≡ [] → OnOk result (router.new ≡ table) }
 {
@@ -48,7 +48,7 @@ pub struct Routes {
 }
 
 impl Routes {
-    /// Makes them. They are refused for want of memory.
+    /// Builds the routes. Fails only where memory runs out.
     pub fn new(alloc: Global) -> Result<Routes, InsertError> {
         let mut router = Router::new(alloc);
         add_all(&mut router)?;
@@ -89,7 +89,7 @@ fn segment_behind<'p>(front: &str, path: &'p str) -> &'p str
     }
 }
 
-/// The segment of a path that stands for itself: the article or the series.
+/// The variable segment of a path: the article or the series.
 pub fn part(route: Route, path: &str) -> &str
     ensures { result.now ≡ part_at route path.now }
 {
@@ -100,9 +100,12 @@ pub fn part(route: Route, path: &str) -> &str
     }
 }
 
-/// The desk takes the paths of its places, each to its own route, and no others.
+/// Exactly the paths of the desk's places have a route, each its own.
 pub fn takes_places_alone()
-    ensures takes { (place : Place) → HasSegment place → route_at (path_text place) ≡ Some (route_of place) }
-    ensures part { (place : Place) → HasSegment place → part_at (route_of place) (path_text place) ≡ part_of place }
-    ensures only { (path : List ℕ) (route : Route) → route_at path ≡ Some route → (place : Place) × IsPathOf path place × (route_of place ≡ route) }
+    ensures takes { (place : Place) → HasSegment place
+        → route_at (path_text place) ≡ Some (route_of place) }
+    ensures part { (place : Place) → HasSegment place
+        → part_at (route_of place) (path_text place) ≡ part_of place }
+    ensures only { (path : List ℕ) (route : Route) → route_at path ≡ Some route
+        → (place : Place) × IsPathOf path place × (route_of place ≡ route) }
 {}

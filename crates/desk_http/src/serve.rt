@@ -15,7 +15,7 @@ ghost use Rattle.desk_http.specs.declared.exchange.Wanted.TheVariants.{Asked};
 
 use crate::answer_reply::{fault_kind, reply_of};
 use crate::bodies::{fault_body, refused_body};
-use crate::exchange::{HttpFault, ReplyText, Wanted};
+use crate::exchange::{HttpFault, PreparedReply, Wanted};
 use crate::reply::reply_text;
 use crate::request::read_request;
 use crate::routes::Routes;
@@ -32,9 +32,12 @@ use std::alloc::{AllocError, Global};
 use std::io::{Read, Write};
 
 // The status of a refusal, its reason, and the method that the path takes where another was asked.
-fn terms_of(why: Refusal) -> (u16, &'static str, Option<&'static str>)
-    ensures { reply_of_refusal why
-        ≡ record { status = result.0; allow = option_map (λ m. m.now) result.2; body = compact_text (refused result.1.now) } }
+fn refusal_parts(why: Refusal) -> (u16, &'static str, Option<&'static str>)
+    ensures { reply_of_refusal why ≡ record {
+      status = result.0;
+      allow = option_map (λ m. m.now) result.2;
+      body = compact_text (refused result.1.now);
+    } }
 {
     match why {
         Refusal::TargetTooLong => (414, "target-too-long", None),
@@ -56,12 +59,12 @@ fn terms_of(why: Refusal) -> (u16, &'static str, Option<&'static str>)
 }
 
 // The reply to a refusal.
-fn refuse(alloc: Global, why: Refusal) -> Result<ReplyText, AllocError>
+fn refuse(alloc: Global, why: Refusal) -> Result<PreparedReply, AllocError>
     ensures reply { IfOk result (λ r. reply_view r ≡ reply_of_refusal why) }
     ensures taken { IfOk result (λ r. r.taken ≡ false) }
 {
-    let (status, reason, allow) = terms_of(why);
-    Ok(ReplyText {
+    let (status, reason, allow) = refusal_parts(why);
+    Ok(PreparedReply {
         status,
         allow,
         body: refused_body(alloc, reason)?,
@@ -70,11 +73,11 @@ fn refuse(alloc: Global, why: Refusal) -> Result<ReplyText, AllocError>
 }
 
 // The reply to a fault of storage.
-fn reply_of_fault(alloc: Global, fault: &StoreFault) -> Result<ReplyText, AllocError>
+fn reply_of_fault(alloc: Global, fault: &StoreFault) -> Result<PreparedReply, AllocError>
     ensures reply { IfOk result (λ r. reply_view r ≡ reply_of_fault fault.now) }
     ensures taken { IfOk result (λ r. r.taken ≡ false) }
 {
-    Ok(ReplyText {
+    Ok(PreparedReply {
         status: 503,
         allow: None,
         body: fault_body(alloc, fault_kind(fault))?,
@@ -84,7 +87,8 @@ fn reply_of_fault(alloc: Global, fault: &StoreFault) -> Result<ReplyText, AllocE
 
 // Reads what is asked for.
 fn read_wanted<R: Read>(alloc: Global, routes: &Routes, reader: &mut R) -> Result<Wanted, HttpFault>
-    ensures asks { IfOk result (λ wanted. IfSome (R.remaining reader.old) (λ input. AsksFor input wanted)) }
+    ensures asks { IfOk result
+        (λ wanted. IfSome (R.remaining reader.old) (λ input. AsksFor input wanted)) }
     ensures taken { TakesWanted (R.remaining reader.old) (R.remaining reader.new) }
     ensures write { IfWrite result (λ _. ⊥) }
     ensures memory { IfMemory result (λ taken. taken ≡ false) }
@@ -103,12 +107,12 @@ fn ask<D: Desk>(
     desk: &mut D,
     precedence: &Precedence,
     request: &Request,
-) -> Result<ReplyText, HttpFault>
+) -> Result<PreparedReply, HttpFault>
     ensures { AsksWanted D.seen precedence.now (Asked request.now) desk.old desk.new result }
 {
     match answer(alloc, desk, precedence, request) {
         Ok(answer) => match reply_of(alloc, &answer) {
-            Ok((status, body)) => Ok(ReplyText {
+            Ok((status, body)) => Ok(PreparedReply {
                 status,
                 allow: None,
                 body,
@@ -129,7 +133,7 @@ fn perform<D: Desk>(
     desk: &mut D,
     precedence: &Precedence,
     wanted: &Wanted,
-) -> Result<ReplyText, HttpFault>
+) -> Result<PreparedReply, HttpFault>
     ensures { AsksWanted D.seen precedence.now wanted.now desk.old desk.new result }
 {
     match wanted {
@@ -142,13 +146,16 @@ fn perform<D: Desk>(
 }
 
 // Writes a reply.
-fn send<W: Write>(alloc: Global, writer: &mut W, reply: &ReplyText) -> Result<(), HttpFault>
-    ensures ok { OnOk result (Appends (W.contents writer.old) (W.contents writer.new) (reply_text (reply_view reply.now))) }
+fn send<W: Write>(alloc: Global, writer: &mut W, reply: &PreparedReply) -> Result<(), HttpFault>
+    ensures ok { OnOk result (Appends (W.contents writer.old) (W.contents writer.new)
+        (reply_text (reply_view reply.now))) }
     ensures read { OnRead result ⊥ }
-    ensures write { IfWrite result (λ status. (status ≡ reply.now.status) × WritesFront
-        (Appends (W.contents writer.old) (W.contents writer.new)) (reply_text (reply_view reply.now))) }
+    ensures write { IfWrite result (λ status. (status ≡ reply.now.status)
+        × WritesFront (Appends (W.contents writer.old) (W.contents writer.new))
+        (reply_text (reply_view reply.now))) }
     ensures memory { IfMemory result (λ taken. taken ≡ reply.now.taken) }
-    ensures unsent { IfMemory result (λ _. Appends (W.contents writer.old) (W.contents writer.new) []) }
+    ensures unsent { IfMemory result
+        (λ _. Appends (W.contents writer.old) (W.contents writer.new) []) }
 {
     let Ok(text) = reply_text(alloc, reply.status, reply.allow, &reply.body) else {
         return Err(HttpFault::Memory { taken: reply.taken });
@@ -161,14 +168,15 @@ fn send<W: Write>(alloc: Global, writer: &mut W, reply: &ReplyText) -> Result<()
 }
 
 /// Serves one connection: reads a request, asks the desk under a precedence table, writes one
-/// reply, and gives its status. A refusal that the bytes decide is replied before the desk is
-/// asked; a fault of the desk's store is replied with status 503 and leaves what the desk stands
-/// for. Whatever this ends in, the desk is asked what the bytes ask for, once and as any desk is, or
-/// nothing: so where a crash left only what the desk stood for, it leaves each request that is
-/// answered, and an answer that changed something is kept whatever it left before.
+/// reply, and gives its status. A refusal that the bytes decide is sent without asking the desk; a
+/// fault of the desk's store is replied to with status 503 and leaves what the desk stands for.
+/// Whatever the result, the desk is asked what the bytes ask for, once and as any desk is, or
+/// nothing. So where a crash before could leave only what the desk stood for, a crash after leaves
+/// each request that was answered, and an answer that changed something is kept whatever a crash
+/// before could leave.
 ///
-/// No more of the input is taken than a head may have, or than the head and its body. Bytes behind
-/// the request are not looked at, and the writer is not flushed.
+/// It reads no more of the input than a head may have, or than the head and its body. Bytes behind
+/// the request are ignored, and the writer is not flushed.
 pub fn serve_one<D: Desk, R: Read, W: Write>(
     alloc: Global,
     routes: &Routes,
@@ -181,16 +189,8 @@ pub fn serve_one<D: Desk, R: Read, W: Write>(
         (Appends (W.contents writer.old) (W.contents writer.new)) result }
     ensures taken { TakesWanted (R.remaining reader.old) (R.remaining reader.new) }
 {
-    let wanted = match read_wanted(alloc, routes, reader) {
-        Ok(wanted) => wanted,
-        Err(fault) => return Err(fault),
-    };
-    let reply = match perform(alloc, desk, precedence, &wanted) {
-        Ok(reply) => reply,
-        Err(fault) => return Err(fault),
-    };
-    match send(alloc, writer, &reply) {
-        Ok(()) => Ok(reply.status),
-        Err(fault) => Err(fault),
-    }
+    let wanted = read_wanted(alloc, routes, reader)?;
+    let reply = perform(alloc, desk, precedence, &wanted)?;
+    send(alloc, writer, &reply)?;
+    Ok(reply.status)
 }

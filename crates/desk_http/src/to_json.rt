@@ -12,12 +12,12 @@ use std::alloc::{AllocError, Global};
 pub(crate) trait ToJson {
     ghost json_of: { Self → Data };
 
-    /// The JSON of the value. Only want of memory refuses it.
+    /// The JSON of the value. Fails only where memory runs out.
     fn to_json(&self, alloc: Global) -> Result<Value, AllocError>
         ensures { IfOk result (λ v. view v ≡ json_of self.now) };
 }
 
-/// The array of the JSON of each item. Only want of memory refuses it.
+/// The array of the JSON of each item. Fails only where memory runs out.
 pub(crate) fn array_of<T: ToJson>(alloc: Global, items: &[T]) -> Result<Value, AllocError>
     ensures { IfOk result (λ v. view v ≡ list_of T.json_of items.now) }
 {

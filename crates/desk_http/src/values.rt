@@ -18,7 +18,7 @@ use onix_terms::party::Party;
 use serde_json::{Value, json};
 use std::alloc::{AllocError, Global};
 
-/// A number, or null where there is none. It takes no memory.
+/// A number, or null where there is none. It does not allocate.
 pub(crate) fn number_or_null(number: &Option<Number>) -> Value
     ensures { view result ≡ json.count_or_null number.now }
 {

@@ -41,7 +41,7 @@ with_standing f n h k = option_or (f k) (if nat_eq n k then Some h else None)
 abbrev pub place_in_order : List Series → List ℕ → ℕ
 place_in_order kept name = position_or_len (λ s. is_lt (slice_cmp nat_cmp name s.agreement.name)) kept
 
--- their names rise
+-- their names are in ascending order
 abbrev pub AreInOrder : List Series → Type 0
 AreInOrder kept = T (is_sorted (slice_cmp nat_cmp) (with_names (kept_agreements kept)))
 

@@ -22,8 +22,8 @@ use series_rules::requests::Standing;
 use std::alloc::{AllocError, Global};
 use std::collections::BTreeMap;
 
-/// The articles of what stands at the first numbers of a series, each message listed once, as far as
-/// questions about prices needed it.
+/// The articles of what stands at the first numbers of a series, each message listed once, as far
+/// as questions about prices needed it.
 #[derive(Drop)]
 pub(crate) struct Articles {
     pub(crate) index: ArticleIndex,
@@ -44,7 +44,7 @@ fn list_standing(index: &mut ArticleIndex, standing: &Standing) -> Result<(), Al
 }
 
 impl Articles {
-    /// Those of nothing. It takes no memory.
+    /// Those of nothing. It does not allocate.
     pub(crate) fn new(alloc: Global, from: Number) -> Articles
         ensures { IsListed from [] result }
     {
@@ -66,7 +66,7 @@ impl Articles {
         Ok(())
     }
 
-    /// Goes on up to that number, as far as memory goes.
+    /// Goes on up to that number, as far as memory allows.
     pub(crate) fn go_on(&mut self, numbers: &BTreeMap<Number, Standing>, until: u32)
         ensures { (from : ℕ) (hs : List Standing) → BeginsWith (get nat_cmp numbers.now) from hs
             → until ≡ from + length hs → IsListed from hs self.old → IsListed from hs self.new }

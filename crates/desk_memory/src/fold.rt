@@ -35,8 +35,8 @@ fn apply_standing(catalogue: &mut Catalogue, standing: &Standing) -> Result<Effe
     }
 }
 
-// Where a walk that is to reach `next` may begin: there, or where no message has that number, at the
-// first number of the series.
+// Where a loop that goes on up to `next` may begin: there, or where no message can have that
+// number, at the first number of the series.
 fn start_of(next: u32, from: Number) -> Number
     requires { from ≤ next }
     ensures { result ≤ next }
@@ -59,7 +59,7 @@ pub(crate) struct Fold {
 }
 
 impl Fold {
-    /// The fold of nothing. It takes no memory.
+    /// The fold of nothing. It does not allocate.
     pub(crate) fn new(alloc: Global, from: Number) -> Fold
         ensures { IsFold from [] result }
     {
@@ -86,7 +86,7 @@ impl Fold {
         Ok(())
     }
 
-    /// Goes on up to the first number that has nothing, or as far as memory goes.
+    /// Goes on up to the first number that has nothing, or as far as memory allows.
     pub(crate) fn go_on(
         &mut self,
         numbers: &BTreeMap<Number, Standing>,
@@ -125,7 +125,7 @@ impl Fold {
         }
     }
 
-    /// Lists the articles of what is folded, as far as memory goes.
+    /// Lists the articles of what is folded, as far as memory allows.
     pub(crate) fn list_articles(&mut self, numbers: &BTreeMap<Number, Standing>)
         ensures { (from : ℕ) → IsFolded (get nat_cmp numbers.now) from self.old
             → IsFolded (get nat_cmp numbers.now) from self.new }
@@ -174,8 +174,8 @@ impl Fold {
         }
     }
 
-    /// Goes on, and answers a delivery whose contents stand at this number. Without memory to
-    /// fold that number it stays unfolded.
+    /// Goes on, and answers a delivery whose contents stand at this number. Where memory runs out,
+    /// that number stays unfolded.
     pub(crate) fn place(
         &mut self,
         numbers: &BTreeMap<Number, Standing>,

@@ -4,8 +4,8 @@
 //!
 //! What it promises is the trait `Desk` of `series_rules`, which says for which lists of requests
 //! it stands by `specs/Stands.antt`. `specs/KeptSeries.antt` is a series as contracts see it, and
-//! `specs/Folded.antt` what the fold of its first numbers is, and `specs/Listed.antt` which articles
-//! are listed.
+//! `specs/Folded.antt` what the fold of its first numbers is, and `specs/Listed.antt` which
+//! articles are listed.
 #![tactic(auto)]
 
 mod articles;

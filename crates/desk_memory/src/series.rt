@@ -54,7 +54,7 @@ impl Model for Series {
         × NoneBelow (get nat_cmp s.numbers) s.agreement.first };
 }
 
-// Takes out what stands at a number.
+// Removes what stands at a number.
 fn take_out(numbers: &mut BTreeMap<Number, Standing>, number: Number)
     ensures { (n : ℕ)
         → get nat_cmp numbers.new n
@@ -158,7 +158,7 @@ fn waive_at(
 }
 
 impl Series {
-    /// An agreed series at whose numbers nothing stands. It takes no memory.
+    /// An agreed series at whose numbers nothing stands. It does not allocate.
     pub(crate) fn new(alloc: Global, agreement: Agreement) -> Series
         ensures agreement { result.agreement ≡ agreement }
         ensures nothing { (n : ℕ) → stands_at result.numbers n ≡ None }
@@ -177,7 +177,8 @@ impl Series {
         &self.agreement
     }
 
-    /// Puts contents at a number, unless something stands there, and gives the answer to the delivery.
+    /// Puts contents at a number, unless something stands there, and gives the answer to the
+    /// delivery.
     pub(crate) fn deliver(
         &mut self,
         number: Number,
@@ -266,8 +267,8 @@ impl Series {
         self.fold_anew(alloc)
     }
 
-    /// Lists the articles of its catalogue, as far as memory goes, so that `offers_of` need not look at
-    /// each record.
+    /// Lists the articles of its catalogue, as far as memory allows, so that `offers_of` need not
+    /// look at each record.
     pub(crate) fn list_articles(&mut self)
         ensures { self.new ≡ self.old }
     {

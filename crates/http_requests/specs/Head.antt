@@ -5,7 +5,7 @@ use Rattle.httparse.specs.Grammar.{RequestHead, ReadsRequest, print_request}
 use Rattle.http_requests.specs.declared.refusal.Refusal.{Refusal}
 use Rattle.http_requests.specs.declared.refusal.Refusal.TheVariants.{TargetTooLong, HeadTooLarge, BadHead}
 
--- the most bytes that a head may have
+-- the maximum length of a head, in bytes
 abbrev pub head_limit : ℕ
 head_limit = 16384
 

@@ -29,6 +29,6 @@ IfRefused (Err (fault.Refused why)) P = P why
 IfRefused (Err fault.Read) P = ⊤
 IfRefused (Err fault.Memory) P = ⊤
 
--- where a call fails, it is by a read or by want of memory
+-- where a call fails, a read failed or memory ran out
 abbrev pub RefusesNothing : {A : Type 0} → Result A InputFault → Type 0
 RefusesNothing result = IfRefused result (λ why. ⊥)

@@ -17,11 +17,11 @@ use csv_records::reading::{RecordFault, read_records};
 use std::alloc::{AllocError, Global};
 use std::io::Read;
 
-// How many bytes of a body there is room for at first.
+// The initial capacity for a body, in bytes.
 const FIRST_ROOM: usize = 16384;
 
 // Makes room behind the filled bytes of a body, where there is none: twice as much, as far as the
-// body goes. So a client takes no more memory than it sends bytes for, whatever it says of them.
+// body goes. So memory grows with the bytes that a client sends, whatever its Content-Length says.
 fn make_room(body: &mut Vec<u8>, filled: usize, size: usize) -> Result<(), AllocError>
     requires most { size ≤ limit }
     requires short { filled < size }
@@ -37,8 +37,8 @@ fn make_room(body: &mut Vec<u8>, filled: usize, size: usize) -> Result<(), Alloc
     body.resize(size.min(FIRST_ROOM.max(filled * 2)), 0)
 }
 
-// Reads behind the bytes of a body that are there, to its end or to that of the input, and gives how
-// many are filled then. No more than the body has are taken, whatever it ends in.
+// Reads behind the bytes of a body that are there, to its end or to that of the input, and gives
+// how many are filled then. It never reads past the body, even where it fails.
 fn fill_body<R: Read>(reader: &mut R, body: &mut Vec<u8>, size: usize) -> Result<usize, InputFault>
     requires most { size ≤ limit }
     requires within { vec_len body.old ≤ size }
@@ -61,8 +61,8 @@ fn fill_body<R: Read>(reader: &mut R, body: &mut Vec<u8>, size: usize) -> Result
     Ok(filled)
 }
 
-// The first bytes, at most so many, of those that were read behind the head and of those that follow
-// them in the input.
+// The first bytes, at most so many, of those that were read behind the head and of those that
+// follow them in the input.
 fn read_front<R: Read>(
     alloc: Global,
     reader: &mut R,
@@ -110,19 +110,15 @@ fn read_body_records<R: Read>(
     ensures taken { TakesAtMost (size - length behind.now) (R.remaining reader.old)
         (R.remaining reader.new) }
 {
-    let body = match read_front(alloc, reader, behind, size) {
-        Ok(body) => body,
-        Err(fault) => return Err(fault),
-    };
+    let body = read_front(alloc, reader, behind, size)?;
     if body.len() < size {
         return Err(InputFault::Refused(Refusal::ShortBody));
     }
     records_in(alloc, body.as_slice())
 }
 
-/// The records that a POST delivers, by its head, the bytes that were read behind it and those
-/// that follow in the input. Whatever it ends in, no byte behind the body is taken, and none where
-/// the head refuses it.
+/// The records that a POST delivers, by its head, the bytes that were read behind it and those that
+/// follow in the input. It never reads past the body, and nothing where the head is refused.
 pub fn read_posted<R: Read>(
     alloc: Global,
     reader: &mut R,

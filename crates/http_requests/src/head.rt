@@ -23,10 +23,10 @@ use httparse::spans::{EMPTY_HEADER_SPAN, HeaderSpan, RequestSpans, parse_request
 use std::alloc::{AllocError, Global};
 use std::io::Read;
 
-/// The most bytes that a head may have.
+/// The maximum length of a head, in bytes.
 const HEAD_LIMIT: usize = 16384;
 
-// A field takes three bytes at least.
+// A field has at least three bytes.
 const MOST_FIELDS: usize = 5461;
 
 impl Head {
@@ -174,8 +174,8 @@ fn field_spans(alloc: Global) -> Result<Vec<HeaderSpan>, AllocError>
     vec![in alloc; EMPTY_HEADER_SPAN; MOST_FIELDS]
 }
 
-/// Reads until the head is whole or a refusal is decided. Whatever it ends in, no more is taken than a
-/// head may have.
+/// Reads until the head is whole or a refusal is decided. It never reads more bytes than a head may
+/// have, even where it fails.
 pub fn read_head<R: Read>(alloc: Global, reader: &mut R) -> Result<Head, InputFault>
     ensures whole { IfOk result (λ head. (h : RequestHead) × IsHeadOf head h) }
     ensures limit { IfOk result (λ head. length (head_text head) ≤ HEAD_LIMIT) }

@@ -53,4 +53,6 @@ minimum_fields m = if nat_lt 1 m then decimal m ∷ [] else []
 
 -- a price's row, with all defaults filled in
 abbrev pub price_record : Price → List (List ℕ)
-price_record p = codes "Price" ∷ p.price_type ∷ amount_text p.amount ∷ p.currency ∷ (territory_fields p.territory ++ (day_field p.from ∷ day_field p.until ∷ minimum_fields p.minimum))
+price_record p =
+    codes "Price" ∷ p.price_type ∷ amount_text p.amount ∷ p.currency
+    ∷ (territory_fields p.territory ++ (day_field p.from ∷ day_field p.until ∷ minimum_fields p.minimum))

@@ -66,7 +66,7 @@ fn records_of_contents(alloc: Global, products: &[Product]) -> Result<RecordBuff
 }
 
 /// The contents text: one record for each part, in order, with each value written in its one
-/// way. Its only fault is want of memory.
+/// way. Fails only where memory runs out.
 #[tactic(auto, unfolding(crate::specs::ContentsText::contents_text))]
 pub fn write_contents(alloc: Global, contents: &Contents) -> Result<String, AllocError>
     ensures { IfOk result (λ text. string_bytes text ≡ contents_text contents.now) }
@@ -76,7 +76,7 @@ pub fn write_contents(alloc: Global, contents: &Contents) -> Result<String, Allo
 }
 
 // Puts the records of a text between a Message record without defaults and the right end, into a
-// buffer that is lent, so that no way out lets go of it.
+// borrowed buffer, so that no early return drops it.
 #[tactic(auto, unfolding(crate::specs::ContentsText::framed))]
 fn frame(alloc: Global, whole: &mut RecordBuffer, text: &str) -> Result<(), AllocError>
     ensures { whole.old ≡ [] → OnOk result (whole.new ≡ framed (records_of text.now)) }
@@ -138,7 +138,7 @@ pub fn read_contents(alloc: Global, text: &str) -> Result<Contents, ContentsFaul
         Err(ContentsFault::NotContents) => return Err(ContentsFault::NotContents),
         Err(ContentsFault::Memory) => return Err(ContentsFault::Memory),
     };
-    contents.is_contents();
+    contents.can_be_read_back();
     let same = has_text(alloc, &contents, text)?;
     if same {
         Ok(contents)
@@ -181,8 +181,9 @@ impl Contents {
         Contents { products }
     }
 
-    /// It is contents whatever it was read from, so its text can be read back.
-    pub fn is_contents(&self)
+    /// A law, with nothing to run: the records of contents are those of a message, so their text
+    /// can be read back.
+    pub fn can_be_read_back(&self)
         ensures { IsContents self.now }
     {
         let _products = &self.products;

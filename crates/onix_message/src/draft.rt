@@ -1,5 +1,5 @@
-//! A message that is being read, row by row. What is left over where a row is refused is dropped by a
-//! call, and not where it goes out of scope: docs/DECISIONS.md says why.
+//! A message that is being read, row by row. What is left over where a row is refused is dropped by
+//! a call, and not where it goes out of scope: docs/DECISIONS.md says why.
 
 ghost use Rattle.std.specs.Prelude.{◌≡◌, ◌≢◌, ◌++◌, [], IfOk, IfErr, OnOk, Some, true};
 ghost use Rattle.std.specs.List.{AllByRecursion, flat_map};
@@ -148,8 +148,8 @@ fn close_to_products(products: &mut Items<Product>, part: Part) -> Result<(), St
     }
 }
 
-// What stood open is let go of by `drop` here and below: an assignment would do it part by part,
-// which is dear to prove.
+// What stood open is dropped by `drop` here and below: an assignment would drop it part by part,
+// which costs more to prove.
 pub(crate) fn add_product(draft: &mut Draft, product: Product) -> Result<(), StepFault>
     requires bare { product.supplies ≡ [] }
     requires details { DraftHasDetails draft.old }

@@ -24,7 +24,7 @@ fn is_control_byte(byte: u8) -> bool
     byte < 32 || byte == 127
 }
 
-// It goes on after a control character, since a walk without a way out in the middle is the faster.
+// It goes on after a control character, since a loop without an early exit is faster.
 fn has_no_control(bytes: &[u8]) -> bool
     ensures { result ≡ list_all (λ b. not (is_control b)) bytes.now }
 {
@@ -53,7 +53,7 @@ pub fn read_fields<'a>(from: &Record<'a>, fields: &mut Vec<&'a str>) -> Result<(
     if !are_short(fields.as_slice()) {
         return Err(RowFault::Wrong);
     }
-    // The bytes of all fields lie side by side, so one walk tests them.
+    // The bytes of all fields lie side by side, so one pass tests them.
     if has_no_control(from.as_bytes()) {
         Ok(())
     } else {

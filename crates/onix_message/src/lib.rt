@@ -1,16 +1,16 @@
-//! ONIX messages as CSV: what each record says, read of its fields and written as such, the message that
-//! records are, and the one text of contents. It stands on `csv_records` for records and on `onix_terms`
-//! for the values of fields.
+//! ONIX messages as CSV: what each record says, read of its fields and written as such, the message
+//! that records are, and the one text of contents. It stands on `csv_records` for records and on
+//! `onix_terms` for the values of fields.
 //!
-//! `parts` has what a message is made of. `specs/Row.antt` says what row a record is, and a file for
-//! each thing (`Opening`, `Product`, `Supply`, `Detail`, `Price`) what its fields say and how it is
-//! written. `specs/Grammar.antt` says which records are a message, over `specs/PartRows.antt`, which rows
-//! contents have. `specs/Message.antt` computes the same, and `laws` ties both.
-//! `specs/ContentsText.antt` has the text of contents. `specs/private/` is what private functions say
-//! to one another.
+//! `parts` has what a message is made of. `specs/Row.antt` says what row a record is, and a file
+//! for each thing (`Opening`, `Product`, `Supply`, `Detail`, `Price`) what its fields say and how
+//! it is written. `specs/Grammar.antt` says which records are a message, over
+//! `specs/PartRows.antt`, which rows contents have. `specs/Message.antt` computes the same, and
+//! `laws` ties both. `specs/ContentsText.antt` has the text of contents. `specs/private/` is what
+//! private functions say to one another.
 //!
-//! What every desk shares is here too: `agreements` has what a shop and a wholesaler agreed, `effects`
-//! what the products of a message did, and `faults` why a store could not answer.
+//! What every desk shares is here too: `agreements` has what a shop and a wholesaler agreed,
+//! `effects` what the products of a message did, and `faults` why a store could not answer.
 #![tactic(auto)]
 
 pub mod agreements;

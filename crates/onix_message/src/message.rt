@@ -42,7 +42,7 @@ fn has_ended(part: &Part) -> bool
     }
 }
 
-// The contents of a draft, where its last row was an end. Otherwise what is missing is missing at
+// The contents of a draft, where its last row was an end. Otherwise the message is malformed at
 // this row.
 fn close(draft: Draft, row: u32) -> Result<Contents, MessageFault>
     requires { has_ended draft.part ≡ true → IsContents draft.products }

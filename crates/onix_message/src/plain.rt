@@ -38,8 +38,8 @@ impl Plain for Supplier {
         (decides-both (option-decides party.eq_decides-law x.party y.party) (bytes_decides x.name y.name))) };
 }
 
-// A derived clone has a way out at each field. In a price and in a detail only what owns memory may
-// fail, and the other fields are copied: that is less to prove.
+// A derived clone may return early at each field. In a price and in a detail only what owns memory
+// can fail, and the other fields are copied: that is less to prove.
 impl Clone for Price {
     ghost is_clone = { λ x y. y ≡ x };
 

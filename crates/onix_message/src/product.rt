@@ -73,8 +73,8 @@ fn push_identifier(fields: &mut FieldBuffer, id: &ProductIdentifier) -> Result<(
     fields.push_all(&[id.id_type.as_str(), id.id_value.as_str()])
 }
 
-/// Appends the types and values of identifiers to the fields of a record, pair after pair. Without
-/// memory for them the fields stay as they were.
+/// Appends the types and values of identifiers to the fields of a record, pair after pair. Where
+/// memory runs out, the fields stay as they were.
 pub fn push_identifiers(
     fields: &mut FieldBuffer,
     ids: &[ProductIdentifier],
@@ -103,9 +103,9 @@ fn fill_product(fields: &mut FieldBuffer, product: &Product) -> Result<(), Alloc
     push_identifiers(fields, product.ids.as_slice())
 }
 
-/// Appends the records of a product: its own, and those of its supplies. Without memory for them
-/// the records stay as they were. The list of fields is used for each record in turn, and what it
-/// holds is lost.
+/// Appends the records of a product: its own, and those of its supplies. Where memory runs out, the
+/// records stay as they were. The list of fields is used for each record in turn, and what it holds
+/// is lost.
 #[tactic(auto, unfolding(crate::specs::Product::product_records))]
 pub fn append_product(
     alloc: Global,

@@ -1,5 +1,5 @@
-//! One step of reading a message: the row that a record is joins the rows so far. Each kind of row is
-//! added where it is read, since a value that may be of any kind is large.
+//! One step of reading a message: the row that a record is joins the rows so far. Each kind of row
+//! is added where it is read, since a value that may be of any kind is large.
 
 ghost use Rattle.std.specs.Prelude.{◌≡◌, ℕ, map, option_map};
 ghost use Rattle.onix_message.specs.Detail.{detail_of};

@@ -40,7 +40,7 @@ fn fill_supply(
     push_territory(alloc, fields, &supply.market)
 }
 
-// Appends the records of a supply: its own, and those of its details. Without memory for them the
+// Appends the records of a supply: its own, and those of its details. Where memory runs out, the
 // records stay as they were.
 #[tactic(auto, unfolding(crate::specs::Supply::supply_records))]
 fn append_supply(
@@ -64,9 +64,9 @@ fn append_supply(
     Ok(())
 }
 
-/// Appends the records of a product's supplies: those of each supply and its details. Without
-/// memory for them the records stay as they were. The list of fields is used for each record in
-/// turn, and what it holds is lost.
+/// Appends the records of a product's supplies: those of each supply and its details. Where memory
+/// runs out, the records stay as they were. The list of fields is used for each record in turn, and
+/// what it holds is lost.
 #[tactic(auto, unfolding(crate::specs::Supply::supplies_records))]
 pub fn append_supplies(
     alloc: Global,

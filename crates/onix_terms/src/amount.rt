@@ -55,7 +55,7 @@ impl Amount {
         }
     }
 
-    /// The amount of so many thousandths, or `None` where they are above 999,999,999,999.
+    /// The amount of this many thousandths, or `None` where they are above 999,999,999,999.
     pub fn from_thousandths(thousandths: u64) -> Option<Amount>
         ensures { result ≡ amount_from thousandths }
     {
@@ -73,7 +73,7 @@ impl Amount {
         self.thousandths
     }
 
-    /// The text that `write` appends. Only want of memory refuses it.
+    /// The text that `write` appends. Fails only where memory runs out.
     pub fn text(self, alloc: Global) -> Result<Text, Memory>
         ensures { IfOk result (λ t. t ≡ amount_text self) }
     {
@@ -85,8 +85,8 @@ impl Amount {
         Ok(text)
     }
 
-    /// Appends the whole part without needless zeros, a point and three decimals. Only want of
-    /// memory refuses it, and the `String` is then as it was.
+    /// Appends the whole part without needless zeros, a point and three decimals. Fails only
+    /// where memory runs out, and the `String` is then as it was.
     pub fn write(self, out: &mut String) -> Result<(), Memory>
         ensures ok { OnOk result (string_bytes out.new ≡ string_bytes out.old ++ amount_text self) }
         ensures err { OnErr result (string_bytes out.new ≡ string_bytes out.old) }

@@ -10,7 +10,7 @@ use crate::territory::TermFault;
 use crate::text::Text;
 use std::alloc::{AllocError, Global};
 
-// The codes with one more, in its place.
+// The codes with one more, inserted in order.
 fn add_code(mut codes: Items<Country>, code: Country) -> Result<Items<Country>, AllocError>
     ensures { IfOk result (λ new. new ≡ with_code codes code) }
 {
@@ -117,7 +117,7 @@ pub fn read_world(text: &str) -> Result<bool, TermFault>
     Err(TermFault::NotATerm)
 }
 
-/// The codes of countries with one space between them. Only want of memory refuses it.
+/// The codes of countries with one space between them. Fails only where memory runs out.
 pub fn countries_text(alloc: Global, countries: &[Country]) -> Result<Text, AllocError>
     ensures { IfOk result (λ t. t ≡ countries_text countries.now) }
 {

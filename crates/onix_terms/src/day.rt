@@ -66,7 +66,7 @@ impl Day {
         self.number
     }
 
-    /// The date as YYYYMMDD. It takes no memory.
+    /// The date as YYYYMMDD. It does not allocate.
     pub fn text(self, alloc: Global) -> Result<Text, Memory>
         ensures text { IfOk result (λ t. t ≡ day_text self) }
         ensures inline { IsOk result }
@@ -74,8 +74,8 @@ impl Day {
         Text::from_str(alloc, text_of(&eight_digits(date_of(self))))
     }
 
-    /// Appends the date as YYYYMMDD. Only want of memory refuses it, and the `String` is then as
-    /// it was.
+    /// Appends the date as YYYYMMDD. Fails only where memory runs out, and the `String` is then
+    /// as it was.
     pub fn write(self, out: &mut String) -> Result<(), Memory>
         ensures ok { OnOk result (string_bytes out.new ≡ string_bytes out.old ++ day_text self) }
         ensures err { OnErr result (string_bytes out.new ≡ string_bytes out.old) }
@@ -91,7 +91,7 @@ impl Day {
         Day::from_number(self.number() + 1)
     }
 
-    /// The day that lies so many days later.
+    /// The day this many days later.
     pub fn after(self, days: u32) -> Day
         requires { IsDayNumber (self +ℤ pos days) }
         ensures { result ≡ self +ℤ pos days }
@@ -101,7 +101,7 @@ impl Day {
         }
     }
 
-    /// How many days lie from this day to one that is not before it.
+    /// The number of days from this day to one that is not before it.
     pub fn days_to(self, last: Day) -> u32
         requires { self ≤ℤ last }
         ensures sum { self +ℤ pos result ≡ last }
@@ -111,7 +111,7 @@ impl Day {
         (last.number - self.number) as u32
     }
 
-    /// The day before this one, which an earlier day shows to be there.
+    /// The day before this one, which exists since `earlier` is before this one.
     pub fn day_before(self, earlier: Day) -> Day
         requires { earlier <ℤ self }
         ensures { result +ℤ pos 1 ≡ self }

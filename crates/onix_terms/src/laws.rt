@@ -1,4 +1,5 @@
-//! What the definitions of the terms come to. Each law is the contract of a function that does nothing.
+//! What the definitions of the terms come to. Each law is the contract of a function that does
+//! nothing.
 
 ghost use Rattle.std.specs.Prelude.{◌≡◌, ◌↔◌, ◌<◌, ◌≤◌, Bool, true, Contains, List, length, ℕ, ℤ, Some, decimal};
 ghost use Rattle.std.specs.List.{list_all};

@@ -8,6 +8,6 @@ use crate::text::Text;
 pub struct Party {
     /// The type of the identifier, such as `06` for a GLN.
     pub id_type: Code2,
-    /// The identifier, compared as it stands.
+    /// The identifier, compared byte by byte.
     pub id_value: Text,
 }

@@ -28,7 +28,7 @@ pub trait Plain: Clone + PartialEq {
 
     ghost eq_decides: { (x y : Self) → Decides (Self.eq x y) (x ≡ y) };
 
-    /// The same value again. Only want of memory refuses it.
+    /// A copy of the value. Fails only where memory runs out.
     final fn duplicate(&self) -> Result<Self, AllocError>
         ensures { IfOk result (λ d. d ≡ self.now) }
     {

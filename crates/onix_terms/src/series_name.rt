@@ -17,8 +17,8 @@ use std::cmp::Ordering;
 use std::marker::Model;
 use std::str::FromStr;
 
-/// The name of a series: 1 to 32 characters of `a` to `z`, `0` to `9` and `-`, which contracts
-/// see as its bytes. It lies inline and takes no memory.
+/// The name of a series: 1 to 32 characters of `a` to `z`, `0` to `9` and `-`, which contracts see
+/// as its bytes. It is stored inline, without an allocation.
 #[derive(Clone, Copy, Debug)]
 pub struct SeriesName {
     bytes: [u8; 32],

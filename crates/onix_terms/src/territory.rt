@@ -34,7 +34,7 @@ pub struct Territory {
     pub included: Items<Country>,
     /// Whether all countries are included.
     pub world: bool,
-    /// The countries that are out even so.
+    /// The countries that are excluded even so.
     pub excluded: Items<Country>,
 }
 

@@ -17,7 +17,7 @@ abbrev pub keys_pass : (List ℕ → Bool) → Members → Bool
 keys_pass passes no_members = true
 keys_pass passes (member key value rest) = passes key && keys_pass passes rest
 
--- the only key that the top table may have
+-- the only key that the top-level table may have
 abbrev pub is_top_key : List ℕ → Bool
 is_top_key key = bytes_eq key (codes "rule")
 
@@ -85,7 +85,7 @@ abbrev pub items_at : Option Data → Option Items
 items_at None = Some no_items
 items_at (Some value) = as_array value
 
--- the items of the array `rule` of a top table that holds nothing else
+-- the items of the array `rule` of a top-level table that holds nothing else
 abbrev pub top_items : Members → Option Items
 top_items members = if keys_pass is_top_key members then items_at (get_member (codes "rule") members) else None
 
@@ -98,7 +98,7 @@ rules_of (Some items) = rules_from 1 items
 unfoldable pub precedence_of : List ℕ → Result (List Rule) PrecedenceFault
 precedence_of text = rules_of (parse_document text >>= top_items)
 
--- a call failed as reading does, or for want of memory
+-- a call failed as reading does, or where memory ran out
 abbrev pub Explains : Result (List Rule) PrecedenceFault → PrecedenceFault → Type 0
 Explains read e = (e ≡ fault.Memory) ⊎ (read ≡ Err e)
 

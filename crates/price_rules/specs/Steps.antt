@@ -11,7 +11,7 @@ IsTurn Passes Before x None new = (Passes x × (new ≡ Some x)) ⊎ ((Passes x 
 IsTurn Passes Before x (Some best) new =
     (Passes x × Before x best × (new ≡ Some x)) ⊎ ((Passes x → Before x best → ⊥) × (new ≡ Some best))
 
--- a span goes on where the open one ends: the two are joined where their amounts are equal, else the open one is put down
+-- a span goes on where the open one ends: the two are joined where their amounts are equal, else the open one is pushed
 abbrev pub IsJoined : Span → Span → List Span → List Span → Span → Type 0
 IsJoined before span old new after =
     ((before.amount ≡ span.amount) × (new ≡ old) × (after ≡ record before { last = span.last }))

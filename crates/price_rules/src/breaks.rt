@@ -42,8 +42,8 @@ fn put_end(days: &mut Vec<Day>, until: Option<Day>, from: Day, to: Day) -> Resul
     }
 }
 
-// The first day, and each later day of the range on which one of the prices begins or the day before
-// which it ended, as the prices come.
+// The first day, and each later day of the range on which one of the prices begins or the day
+// before which it ended, as the prices come.
 fn gather_days(alloc: Global, prices: &[Price], from: Day, to: Day) -> Result<Vec<Day>, AllocError>
     ensures { IfOk result (λ days. days.items ≡ from ∷ flat_map (breaks_of from to) prices.now) }
 {

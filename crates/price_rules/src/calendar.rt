@@ -81,7 +81,8 @@ pub(crate) fn amount_on(offer: &Offer, query: &CalendarQuery, day: Day) -> Optio
     current_price(offer, &query)
 }
 
-/// Joins the span to the open one where their amounts are equal, else puts the open one down.
+/// Extends `before` by `span` where their amounts are equal, else pushes `before`. Gives the span
+/// that is open then.
 pub(crate) fn join(spans: &mut Items<Span>, before: Span, span: Span) -> Result<Span, AllocError>
     ensures { IfOk result (λ after. IsJoined before span spans.old spans.new after) }
 {

@@ -127,9 +127,9 @@ fn choose_by(rule: &Rule, number: u32, offers: &[Offer], query: &PriceQuery) -> 
     best
 }
 
-/// The choice of the shop: of the first rule that takes an offer, the offer with the least
-/// current price, then the first by series, reference, place and index. It is none where no rule
-/// takes an offer.
+/// The choice of the shop: of the first rule that takes an offer, the offer with the least current
+/// price, then the first by series, reference, place and index. `None` where no rule takes an
+/// offer.
 pub fn choose(precedence: &Precedence, offers: &[Offer], query: &PriceQuery) -> Option<Choice>
     ensures meaning { IsChoice precedence.now offers.now query.now result }
     ensures value { result ≡ choice precedence.now offers.now query.now }

@@ -24,8 +24,8 @@ pub struct Rule {
 /// Why a text is no precedence table.
 #[derive(Debug, Drop, Error)]
 pub enum PrecedenceFault {
-    /// The text is no TOML document, or its top table has another key than `rule`, or `rule` is
-    /// no array.
+    /// The text is no TOML document, or its top-level table has another key than `rule`, or `rule`
+    /// is no array.
     #[error("not TOML")]
     NotToml,
     /// This item of the array `rule`, counted from 1, is the first that is past number 1,000 or
@@ -79,7 +79,7 @@ impl Precedence {
     ghost use Rattle.std.specs.Prelude.{IfOk, IfErr, Ok};
     ghost use Rattle.price_rules.specs.RulesFile.{Explains, precedence_of};
 
-    /// The table without rules, which takes no memory.
+    /// The table without rules. It does not allocate.
     pub fn none(alloc: Global) -> Precedence
         ensures { result ≡ [] }
     {
@@ -100,9 +100,9 @@ impl Precedence {
     /// of a series, or `*` for all), `codes` (one or more availability codes) and optionally
     /// `max` (an amount), all texts. An empty text has no rules.
     ///
-    /// `NotToml` comes exactly where the text is no TOML document, or its top table has another
-    /// key than `rule`, or `rule` is no array. Else `BadRule` names the first item, from 1, that
-    /// is past number 1,000 or is no such table. `Memory` comes only where memory ran out.
+    /// `NotToml` comes exactly where the text is no TOML document, or its top-level table has
+    /// another key than `rule`, or `rule` is no array. Else `BadRule` names the first item, from 1,
+    /// that is past number 1,000 or is no such table. `Memory` comes only where memory ran out.
     pub fn read(alloc: Global, text: &str) -> Result<Precedence, PrecedenceFault>
         ensures rules { IfOk result (λ p. precedence_of text.now ≡ Ok p) }
         ensures fault { IfErr result (Explains (precedence_of text.now)) }

@@ -23,7 +23,7 @@ fn has_rule_keys(table: &Table) -> bool
     })
 }
 
-// Whether the table has no key but that of the top table.
+// Whether the table has no key but that of the top-level table.
 fn has_top_keys(table: &Table) -> bool
     ensures { result ≡ keys_pass is_top_key (table_view table.now) }
 {
@@ -72,7 +72,7 @@ fn code_of(value: &Value) -> Option<Code2>
     Code2::read(value.as_str()?)
 }
 
-// The availability codes that values are, or `None` where one of them is none.
+// The availability codes that values are, or `None` where one of them is not one.
 fn read_codes(alloc: Global, items: &[Value]) -> Result<Option<Items<Code2>>, AllocError>
     ensures { IfOk result (λ found. found ≡ codes_of (items_view items.now)) }
 {
@@ -147,7 +147,7 @@ fn read_items(alloc: Global, items: &[Value]) -> Result<Vec<Rule>, PrecedenceFau
     Ok(rules)
 }
 
-// The rules that the top table has.
+// The rules that the top-level table has.
 fn rules_in(alloc: Global, table: &Table) -> Result<Vec<Rule>, PrecedenceFault>
     ensures rules { IfOk result
         (λ rules. rules_of (top_items (table_view table.now)) ≡ Ok rules.items) }

@@ -49,7 +49,7 @@ abbrev pub with_number : ℕ → List (ℕ × ℕ) → List (ℕ × ℕ)
 with_number n [] = (n, n) ∷ []
 with_number n (p ∷ ps) = if nat_eq p.0 (n + 1) then (n, p.1) ∷ ps else (n, n) ∷ p ∷ ps
 
--- rising numbers as ranges of which no two touch, each by its first and its last number
+-- ascending numbers as ranges of which no two touch, each by its first and its last number
 abbrev pub ranges_of : List ℕ → List (ℕ × ℕ)
 ranges_of [] = []
 ranges_of (n ∷ ns) = with_number n (ranges_of ns)
@@ -83,7 +83,7 @@ abbrev pub IsInRanges : ℕ → List (ℕ × ℕ) → Type 0
 IsInRanges n [] = ⊥
 IsInRanges n (p ∷ ps) = ((p.0 ≤ n) × (n ≤ p.1)) ⊎ IsInRanges n ps
 
--- the ranges rise, from a number on, and no two touch
+-- the ranges ascend, from a number on, and no two touch
 abbrev pub AreRangesFrom : ℕ → List (ℕ × ℕ) → Type 0
 AreRangesFrom n [] = Unit {0}
 AreRangesFrom n (p ∷ ps) = (n ≤ p.0) × (p.0 ≤ p.1) × AreRangesFrom (p.1 + 2) ps

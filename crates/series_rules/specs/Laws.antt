@@ -27,7 +27,9 @@ pub record FrontIsExact : Type 0 where
 
 -- lists that come to the same are answered the same, and come to the same after one more request
 abbrev pub ByContentAlone : Type 0
-ByContentAlone = (rules : List Rule) (L M : List Request) (r : Request) → SameContent L M → (answer_to rules L r ≡ answer_to rules M r) × SameContent (r ∷ L) (r ∷ M)
+ByContentAlone =
+    (rules : List Rule) (L M : List Request) (r : Request) → SameContent L M →
+    (answer_to rules L r ≡ answer_to rules M r) × SameContent (r ∷ L) (r ∷ M)
 
 -- an agreed series stays agreed, what stands below its first gap stays, and what a message did there never changes
 abbrev pub FrontOnlyGrows : Type 0

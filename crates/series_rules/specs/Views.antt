@@ -14,7 +14,7 @@ pub record DeskKind : Type 1 where
   pub comes_to : Left → List Request → Type 0
   -- it is so of each list that comes to the same
   pub by_content : (x : Left) (L M : List Request) → SameContent L M → comes_to x L → comes_to x M
-  -- the faults that its calls may give beside want of memory
+  -- the faults that its calls may give beside Memory
   pub may_give : StoreFault → Type 0
 
 -- what is seen of a desk at one moment
@@ -42,25 +42,30 @@ LeavesEither {k} desk L M = (x : k.Left) → desk.may_leave x → k.comes_to x L
 abbrev pub Stays : {k : DeskKind} → View k → View k → Type 0
 Stays {k} old new = (x : k.Left) → (old.holds x → new.holds x) × (new.may_leave x → old.may_leave x)
 
--- the fault is want of memory or one of the store's
+-- the fault is Memory or one that the desk may give
 abbrev pub IsFaultOf : DeskKind → StoreFault → Type 0
 IsFaultOf k f = (f ≡ fault.Memory) ⊎ k.may_give f
 
 -- A desk was asked the request r, with that answer after each list. With `Ok` it stands for the list with r, and after a fault for what it did.
-pub record Asks {A : Type 0} {k : DeskKind} (r : Request) (answer : List Request → A) (old new : View k) (result : Result A StoreFault) : Type 0 where
+pub record Asks {A : Type 0} {k : DeskKind} (r : Request) (answer : List Request → A) (old new : View k)
+    (result : Result A StoreFault) : Type 0 where
   pub premise : new.sound → old.sound
-  pub ok : (L : List Request) → old.stands_for L → new.sound → IfOk result (λ a. (a ≡ answer L) × new.stands_for (r ∷ L))
+  pub ok : (L : List Request) → old.stands_for L → new.sound
+      → IfOk result (λ a. (a ≡ answer L) × new.stands_for (r ∷ L))
   pub err : (L : List Request) → old.stands_for L → new.sound → OnErr result (new.stands_for L)
   -- a crash leaves what it could leave before, or the list with a request that is no question
-  pub crash : (L : List Request) → old.stands_for L → new.sound → (x : k.Left) → new.may_leave x → old.may_leave x ⊎ ((is_question r ≡ false) × k.comes_to x (r ∷ L))
+  pub crash : (L : List Request) → old.stands_for L → new.sound → (x : k.Left) → new.may_leave x
+      → old.may_leave x ⊎ ((is_question r ≡ false) × k.comes_to x (r ∷ L))
   -- once it is answered and changed something, the list with the request alone
-  pub changed : (L : List Request) → old.stands_for L → new.sound → changes L r ≡ true → OnOk result (LeavesOnly new (r ∷ L))
+  pub changed : (L : List Request) → old.stands_for L → new.sound → changes L r ≡ true
+      → OnOk result (LeavesOnly new (r ∷ L))
   -- a question changes nothing
   pub question : is_question r ≡ true → new.sound → Stays old new
   pub fault : IfErr result (IsFaultOf k)
 
 -- A desk was asked a question, with that answer after each list. It stands for what it did, and nothing changed
-pub record Tells {A : Type 0} {k : DeskKind} (answer : List Request → A) (old new : View k) (result : Result A StoreFault) : Type 0 where
+pub record Tells {A : Type 0} {k : DeskKind} (answer : List Request → A) (old new : View k)
+    (result : Result A StoreFault) : Type 0 where
   pub premise : new.sound → old.sound
   pub ok : (L : List Request) → old.stands_for L → new.sound → IfOk result (λ a. a ≡ answer L)
   pub left : (L : List Request) → old.stands_for L → new.sound → new.stands_for L

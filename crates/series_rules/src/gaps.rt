@@ -72,7 +72,7 @@ fn missing_numbers(
 
 /// The report on a series that has nothing below its first number, where `next` is the least number
 /// from the first on that has nothing, and `held` are the numbers from there on that have
-/// something, in order. Its only error is want of memory.
+/// something, in order. Fails only where memory runs out.
 pub fn gap_report(
     alloc: Global,
     series: SeriesName,

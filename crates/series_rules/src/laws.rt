@@ -6,8 +6,8 @@ ghost use Rattle.series_rules.specs.PriceLaws.{CalendarsAreTrue, ChoiceIsTrue, P
 
 use price_rules::laws::{calendar_is_exact, choice_is_exact, current_is_exact};
 
-/// No two agreements share a name, nor a sender and addressee. What is found by its name is found by
-/// its sender and addressee too, and the other way round.
+/// No two agreements share a name, nor a sender and addressee. What is found by its name is found
+/// by its sender and addressee too, and the other way round.
 pub fn agreements_are_distinct()
     ensures { AgreementsAreDistinct }
 {}

@@ -36,6 +36,6 @@ pub enum Request {
 pub enum Standing {
     /// The contents of a message.
     Message(Contents),
-    /// The mark that the number will never come.
+    /// A waiver: the number will never come.
     Waived,
 }

@@ -11,4 +11,4 @@ returns-else-same-clause-none c = λ _.
     read-other (record { read = c.one_text.ensures.read; only = c.one_text.ensures.only }) c.args.text.now found.0 c.in-Ok.contents found.1 (sym c.in_ok-same.ensures ∙ c.if-same.false)
 
 pub returns-then-same-clause-contents : goal.returns-then-same-clause-contents
-returns-then-same-clause-contents c = read-same c.args.text.now c.in-Ok.contents c.is_contents.ensures (sym c.in_ok-same.ensures ∙ c.if-same.true)
+returns-then-same-clause-contents c = read-same c.args.text.now c.in-Ok.contents c.can_be_read_back.ensures (sym c.in_ok-same.ensures ∙ c.if-same.true)

@@ -1,6 +1,6 @@
 use Rattle.std.proofs.Common.{subst}
 use Rattle.onix_message.specs.ContentsText.{IsContents}
-use Rattle.onix_message.proofs.contents.Contents.is_contents.Goals as goal
+use Rattle.onix_message.proofs.contents.Contents.can_be_read_back.Goals as goal
 
 pub returns : goal.returns
 returns c = subst IsContents c.self.view_is c.self.invariant

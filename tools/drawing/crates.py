@@ -16,11 +16,9 @@ LAYERS = {
         "from XML to messages",
         [
             "xml_text",
-            "xml_verdicts",
             "onix_outline",
-            "outline_verdicts",
             "onix_mapping",
-            "mapping_verdicts",
+            "feed_tests",
             "onix_conversion",
             "onix_files",
         ],

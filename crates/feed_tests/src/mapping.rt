@@ -1,0 +1,22 @@
+//! A test of `onix_mapping`: what is made of a paragraph that is read as a message, as records and notes.
+
+mod choosing;
+mod shown;
+
+use crate::mapping::choosing::message_in;
+use crate::mapping::shown::Shown;
+use onix_outline::read_message;
+use std::io;
+
+/// Reads a message, and writes what is made of it.
+pub fn tell(rt: HostRuntime, paragraph: &[u8]) -> io::Result<()> {
+    let mut reader = message_in(paragraph);
+    let shown = Shown::new(rt.alloc(), paragraph)?;
+    match read_message(rt.alloc(), &mut reader, shown) {
+        Ok(shown) => {
+            let text = shown.as_text();
+            print!(rt; "{text}")
+        }
+        Err(_) => println!(rt; "no message"),
+    }
+}

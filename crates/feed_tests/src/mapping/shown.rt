@@ -1,0 +1,166 @@
+//! What is shown of a message.
+
+use crate::mapping::choosing::choices_in;
+use csv_records::buffer::RecordBuffer;
+use csv_records::fields::FieldBuffer;
+use csv_records::writing::write_records;
+use onix_mapping::{Composite, HeaderFault, Note, add_product, read_heading};
+use onix_message::row::{Opening, RowFault};
+use onix_outline::{Line, Taker};
+use std::alloc::{AllocError, Global};
+use std::marker::Model;
+
+/// What was made of a message so far. No contract speaks of it.
+#[derive(Drop)]
+pub struct Shown {
+    alloc: Global,
+    paragraph: Vec<u8>,
+    opening: Option<Opening>,
+    text: String,
+}
+
+impl Model for Shown {
+    ghost Value = { Unit {0} };
+
+    ghost view = { λ s. tt };
+}
+
+// The record of a Header and what it says, or why the message is refused.
+fn header_record<'a>(
+    alloc: Global,
+    paragraph: &'a [u8],
+    lines: &'a [Line],
+) -> Result<(String, Opening), HeaderFault> {
+    let choices = choices_in(paragraph);
+    let mut fields = FieldBuffer::new(alloc);
+    let heading = read_heading(alloc, &choices, 1, lines, &mut fields)?;
+    match record_text(alloc, &fields) {
+        Ok(text) => Ok((text, heading.opening)),
+        Err(_) => Err(HeaderFault::Memory),
+    }
+}
+
+// The text of a record.
+fn record_text(alloc: Global, fields: &FieldBuffer) -> Result<String, AllocError> {
+    let mut records = RecordBuffer::new(alloc);
+    records.push(&fields.as_record())?;
+    write_records(alloc, &records.as_records())
+}
+
+// The records of a Product, and notes on what is left out of it.
+fn product_records<'a>(
+    alloc: Global,
+    preferred: &[u8],
+    opening: &Opening,
+    product: Composite<'a>,
+    notes: &mut Vec<Note<'a>>,
+) -> Result<String, RowFault> {
+    let mut fields = FieldBuffer::new(alloc);
+    let mut records = RecordBuffer::new(alloc);
+    add_product(
+        alloc,
+        opening,
+        preferred,
+        1,
+        product,
+        &mut fields,
+        &mut records,
+        notes,
+    )?;
+    Ok(write_records(alloc, &records.as_records())?)
+}
+
+impl Shown {
+    /// Nothing, of a paragraph that chooses this.
+    pub fn new(alloc: Global, paragraph: &[u8]) -> Result<Shown, AllocError> {
+        Ok(Shown {
+            alloc,
+            paragraph: Vec::from_slice(alloc, paragraph)?,
+            opening: None,
+            text: String::new(alloc),
+        })
+    }
+
+    /// The text.
+    pub fn as_text(&self) -> &str {
+        self.text.as_str()
+    }
+
+    // A line with the name of what came of something.
+    fn push_name(&mut self, name: &str) -> Result<(), AllocError> {
+        self.text.push_str(name)?;
+        self.text.push_str("\n")
+    }
+
+    // A line with the place of what a note speaks of, the reason and its text.
+    fn push_note(&mut self, note: &Note<'_>) -> Result<(), AllocError> {
+        let place = note.line.place;
+        let why = note.reason.why;
+        let text = match std::str::from_utf8(note.reason.text) {
+            Ok(text) => text,
+            Err(_) => "(no text)",
+        };
+        let line = format!(in self.alloc; "{}:{} {why:?}({text})\n", place.line, place.column)?;
+        self.text.push_str(line.as_str())
+    }
+
+    fn push_notes(&mut self, notes: &[Note<'_>]) -> Result<(), AllocError> {
+        for note in notes {
+            self.push_note(note)?;
+        }
+        Ok(())
+    }
+
+    // The record of a Header, or why the message is refused.
+    fn take_header(&mut self, lines: &[Line]) -> Result<(), AllocError> {
+        match header_record(self.alloc, &self.paragraph, lines) {
+            Ok((text, opening)) => {
+                self.opening = Some(opening);
+                self.text.push_str(text.as_str())
+            }
+            Err(HeaderFault::Refused(refusal)) => {
+                let name = format!(in self.alloc; "{refusal:?}")?;
+                self.push_name(name.as_str())
+            }
+            Err(HeaderFault::Memory) => Err(AllocError),
+        }
+    }
+
+    // The records of a Product and the notes on it, or that it is wrong.
+    fn take_product(&mut self, line: &Line, below: &[Line]) -> Result<(), AllocError> {
+        let mut notes = Vec::new(self.alloc);
+        let found = match &self.opening {
+            None => return self.push_name("no header"),
+            Some(opening) => product_records(
+                self.alloc,
+                choices_in(&self.paragraph).id_type,
+                opening,
+                Composite { line, below },
+                &mut notes,
+            ),
+        };
+        match found {
+            Ok(text) => {
+                self.text.push_str(text.as_str())?;
+                self.push_notes(&notes)
+            }
+            Err(RowFault::Wrong) => self.push_name("wrong"),
+            Err(RowFault::Memory) => Err(AllocError),
+        }
+    }
+}
+
+impl Taker for Shown {
+    ghost after = { λ s lines. tt };
+
+    fn take(&mut self, lines: &[Line]) -> Result<(), AllocError> {
+        let [line, below @ ..] = lines else {
+            return Ok(());
+        };
+        if line.name == b"Header".as_slice() {
+            self.take_header(below)
+        } else {
+            self.take_product(line, below)
+        }
+    }
+}

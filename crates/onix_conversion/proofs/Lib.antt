@@ -1,5 +1,6 @@
 pub mod TextLaws
 pub mod PackingLaws
+pub mod KeptLaws
 pub mod StageLaws
 pub mod OutcomeLaws
 pub mod PartLaws

@@ -1,5 +1,5 @@
 -- How a conversion ends, by how its reading did.
-use Rattle.std.proofs.Common.{◌≡◌, ℕ, List, fold, refl, sym, ap, ◌∙◌}
+use Rattle.std.proofs.Common.{◌≡◌, ℕ, List, [], fold, refl, sym, ap, ◌∙◌}
 use Rattle.std.specs.Prelude.{Option, Result, Ok, Err, IfErr, IfOk}
 use Rattle.xml_text.specs.declared.position.Position.{Position}
 use Rattle.xml_text.specs.EncodingNames.{IsTextOf}
@@ -15,14 +15,14 @@ use Rattle.onix_conversion.specs.Conversion.{Options, conversion}
 use Rattle.onix_conversion.specs.Keeping.{Keeping}
 use Rattle.onix_conversion.specs.Outcomes.{Ends, ExplainsFault, Says}
 use Rattle.onix_conversion.specs.Packing.{Converted}
-use Rattle.onix_conversion.specs.Stages.{State, Taken, finished}
+use Rattle.onix_conversion.specs.Stages.{State, Taken, finished, taken}
 use Rattle.onix_conversion.proofs.PackingLaws.{behind, result_map}
 use Rattle.onix_conversion.proofs.StageLaws.{Tell, after_lines, conversion_is, start}
 
 -- what the contract of a conversion says
-abbrev pub Comes : {P N : Type 0} → Keeping P N → Option (List ℕ) → Options → Taken P N → Result (Unit {0}) Fault → Taken P N → Type 0
-Comes k bytes o before ended taken =
-    IfOk ended (λ u. (made : Converted) × Says bytes o (Ok made) × (taken.parts ≡ fold k.with_part before.parts made.parts) × (taken.notes ≡ fold k.with_note before.notes made.notes))
+abbrev pub Comes : {P N : Type 0} → Keeping P N → Option (List ℕ) → Options → Taken P N → Result ℕ Fault → P → N → Type 0
+Comes k bytes o before ended parts notes =
+    IfOk ended (λ wrong. (made : Converted) × Says bytes o (Ok made) × (wrong ≡ made.wrong) × (parts ≡ fold k.with_part before.parts made.parts) × (notes ≡ fold k.with_note before.notes made.notes))
     × IfErr ended (λ e. ExplainsFault bytes o e)
 
 value : {A E : Type 0} → A → Result A E → A
@@ -33,29 +33,29 @@ reason : {A E : Type 0} → E → Result A E → E
 reason other (Ok x) = other
 reason other (Err e) = e
 
-comes : {P N : Type 0} (k : Keeping P N) (bytes : Option (List ℕ)) (o : Options) (before taken : Taken P N) (ended : Result (Unit {0}) Fault) (told : Result Converted Rejection)
+comes : {P N : Type 0} (k : Keeping P N) (bytes : Option (List ℕ)) (o : Options) (before : Taken P N) (parts : P) (notes : N) (ended : Result ℕ Fault) (told : Result Converted Rejection)
     → ((found : Result Converted Rejection) → told ≡ found → Says bytes o found)
-    → Ends ended taken (result_map (behind k before) told) → Comes k bytes o before ended taken
+    → Ends ended parts notes (result_map (behind k before) told) → Comes k bytes o before ended parts notes
 unfolding value reason
-comes {P} {N} k bytes o before taken (Ok u) (Ok made) says e =
-    let is : taken ≡ behind k before made = sym (ap (value taken) e) in (
-      (made, says (Ok made) refl, ap (λ (c : Taken P N). c.parts) is, ap (λ (c : Taken P N). c.notes) is),
+comes {P} {N} k bytes o before parts notes (Ok wrong) (Ok made) says e =
+    let is : taken parts notes wrong ≡ behind k before made = sym (ap (value (taken parts notes wrong)) e) in (
+      (made, says (Ok made) refl, ap (λ (c : Taken P N). c.wrong) is, ap (λ (c : Taken P N). c.parts) is, ap (λ (c : Taken P N). c.notes) is),
       tt,
     )
-comes k bytes o before taken (Ok u) (Err wrong) says e = absurd cc
-comes k bytes o before taken (Err (fault.Refused rejection)) (Ok made) says e = absurd cc
-comes k bytes o before taken (Err (fault.Refused rejection)) (Err wrong) says e = (tt, says (Err rejection) (ap Err (ap (reason rejection) e)))
-comes k bytes o before taken (Err (fault.Unread unread place)) told says e = absurd e
-comes k bytes o before taken (Err fault.Memory) told says e = (tt, tt)
+comes k bytes o before parts notes (Ok wrong) (Err refused) says e = absurd cc
+comes k bytes o before parts notes (Err (fault.Refused rejection)) (Ok made) says e = absurd cc
+comes k bytes o before parts notes (Err (fault.Refused rejection)) (Err refused) says e = (tt, says (Err rejection) (ap Err (ap (reason rejection) e)))
+comes k bytes o before parts notes (Err (fault.Unread unread place)) told says e = absurd e
+comes k bytes o before parts notes (Err fault.Memory) told says e = (tt, tt)
 
-pub read : {P N : Type 0} (k : Keeping P N) → Tell → (bytes : Option (List ℕ)) (o : Options) (before taken : Taken P N) (text : List ℕ) (d : Dialect) (place : Position) (inside : Content)
+pub read : {P N : Type 0} (k : Keeping P N) → Tell → (bytes : Option (List ℕ)) (o : Options) (before : Taken P N) (parts : P) (notes : N) (text : List ℕ) (d : Dialect) (place : Position) (inside : Content)
     → IsTextOf bytes text → IsMessage text d place inside
-    → (first s : State P N) → first ≡ start o before → s ≡ fold (after_lines k) first (parts_of (nodes_in d place inside))
-    → (ended : Result (Unit {0}) Fault) → Ends ended taken (finished k s) → Comes k bytes o before ended taken
-read {P} {N} k tell bytes o before taken text d place inside encoded message first s begins is ended e =
-    let told : finished k s ≡ result_map (behind k before) (conversion o (nodes_in d place inside)) =
-    ap (finished k) (is ∙ ap (λ (t : State P N). fold (after_lines k) t (parts_of (nodes_in d place inside))) begins) ∙ conversion_is k tell o before (nodes_in d place inside) in
-    comes k bytes o before taken ended (conversion o (nodes_in d place inside))
+    → (first s : State P N) → first ≡ start o before → s ≡ fold (after_lines k) first (parts_of (nodes_in d [] place inside))
+    → (ended : Result ℕ Fault) → Ends ended parts notes (finished k s) → Comes k bytes o before ended parts notes
+read {P} {N} k tell bytes o before parts notes text d place inside encoded message first s begins is ended e =
+    let told : finished k s ≡ result_map (behind k before) (conversion o (nodes_in d [] place inside)) =
+    ap (finished k) (is ∙ ap (λ (t : State P N). fold (after_lines k) t (parts_of (nodes_in d [] place inside))) begins) ∙ conversion_is k tell o before (nodes_in d [] place inside) in
+    comes k bytes o before parts notes ended (conversion o (nodes_in d [] place inside))
     (λ found same. record {
       text = text;
       dialect = d;

@@ -1,7 +1,7 @@
 -- The program packs as it is defined.
 use Rattle.std.proofs.Common.{◌≡◌, ◌<◌, ℕ, zero, suc, ◌+◌, ◌-◌, Bool, true, false, ltb, List, [], ◌∷◌, ◌++◌, length, length-append, option_map, refl, sym, ap, ◌∙◌, fold, arith}
 use Rattle.std.specs.Prelude.{Option, Some, None, Result, Ok, Err, take, drop}
-use Rattle.std.specs.Option.{ok_or}
+use Rattle.std.specs.Option.{unwrap_or}
 use Rattle.std.proofs.lemmas.Bool.{lt-ltb}
 use Rattle.std.proofs.lemmas.List.Sums.{fold-append, fold_push}
 use Rattle.xml_text.specs.declared.position.Position.{Position}
@@ -9,19 +9,20 @@ use Rattle.csv_records.specs.RecordTexts.{records_text}
 use Rattle.onix_outline.specs.Nodes.{Nodes}
 use Rattle.onix_mapping.specs.Elements.{Composite}
 use Rattle.onix_mapping.specs.Header.{Heading}
-use Rattle.onix_mapping.specs.Notes.{Note, note}
-use Rattle.onix_mapping.specs.ProductRecords.{all_notes, product_records}
+use Rattle.onix_mapping.specs.Notes.{Note, note, wrong}
+use Rattle.onix_mapping.specs.ProductRecords.{Form, forms}
 use Rattle.onix_mapping.specs.Products.{reference_in}
-use Rattle.onix_mapping.specs.declared.notes.Why.{Why}
-use Rattle.onix_mapping.specs.declared.notes.Why.TheVariants.{ProductTooLarge}
+use Rattle.onix_mapping.specs.declared.notes.Wrong.TheVariants.{TooLarge}
 use Rattle.onix_conversion.specs.Conversion.{Options, first_record, terms}
 use Rattle.onix_conversion.specs.Keeping.{Keeping}
 use Rattle.onix_conversion.specs.Messages.{empty_messages, fits, message_text}
-use Rattle.onix_conversion.specs.Packing.{Converted, Terms, Work, place_of, product_notes}
+use Rattle.onix_conversion.specs.Packing.{Converted, Terms, Work, product_notes}
 use Rattle.onix_conversion.specs.Packing as defined
 use Rattle.onix_conversion.specs.Stages.{Begun, Held, Taken, empty_parts, end_text, first_fields, first_text, has_room, held, kept, taken, with_part}
 use Rattle.onix_conversion.specs.Stages.{after_product as product_taken}
 use Rattle.onix_conversion.specs.Stages as run
+use Rattle.onix_conversion.specs.Tallies.{place_of, refused_for}
+use Rattle.onix_conversion.specs.declared.rejection.Rejection.{Rejection}
 use Rattle.onix_conversion.proofs.TextLaws.{closed, grown, room, text_first}
 
 -- what f makes of a value, if there is one
@@ -39,6 +40,7 @@ seen_begun h header w = record {
   count = 1 + length w.begun;
   text = records_text (first_record h header w.full ∷ w.begun);
   beyond = w.beyond;
+  tally = w.tally;
 }
 
 -- what the program keeps of this work, where the target had taken something before
@@ -98,41 +100,30 @@ kept_is k o h header before w place records =
 
 -- ---- products
 
-noted_is : {P N : Type 0} (k : Keeping P N) (h : Heading) (header : Nodes) (before : Taken P N) (w : Work) (reference : List ℕ) (notes : List Note)
-    → run.noted k reference notes (seen k h header before w) ≡ seen k h header before (defined.noted reference notes w)
-noted_is k h header before w reference notes = rw (fold-append k.with_note before.notes w.notes (product_notes reference notes)) refl
+noted_is : {P N : Type 0} (k : Keeping P N) (h : Heading) (header : Nodes) (before : Taken P N) (c : Composite) (notes : List Note) (w : Work)
+    → run.noted k c notes (seen k h header before w) ≡ seen k h header before (defined.noted c notes w)
+noted_is k h header before c notes w = rw (fold-append k.with_note before.notes w.notes (product_notes (reference_in c.below) notes)) refl
 
-left_out_is : {P N : Type 0} (k : Keeping P N) (o : Options) (h : Heading) (header : Nodes) (before : Taken P N) (w : Work) (c : Composite) (wrong : Why)
-    → run.left_out k o (seen k h header before w) c wrong ≡ result_map (seen k h header before) (defined.settled (terms o h header) w c (Err wrong))
-left_out_is k o h header before w c wrong = go o.leave_out_wrong refl
-  where
-    go : (lenient : Bool) → o.leave_out_wrong ≡ lenient
-        → run.left_out k o (seen k h header before w) c wrong ≡ result_map (seen k h header before) (defined.settled (terms o h header) w c (Err wrong))
-    go true e = rw e (ap Ok (noted_is k h header before w (reference_in c.below) (note c.element wrong [] ∷ [])))
-    go false e = rw e refl
+-- one form that was kept, or another
+form_is : {P N : Type 0} (k : Keeping P N) (h : Heading) (header : Nodes) (before : Taken P N) (c : Composite) (notes : List Note) (packed : Option Work) (other : Work) (rest : Held P N)
+    → rest ≡ seen k h header before other
+    → unwrap_or (option_map (run.noted k c notes) (option_map (seen k h header before) packed)) rest
+    ≡ seen k h header before (unwrap_or (option_map (defined.noted c notes) packed) other)
+form_is k h header before c notes None other rest is = is
+form_is k h header before c notes (Some w) other rest is = noted_is k h header before c notes w
 
-settled_is : {P N : Type 0} (k : Keeping P N) (o : Options) (h : Heading) (header : Nodes) (before : Taken P N) (w : Work) (c : Composite) (after : Result Work Why)
-    → run.settled k o (seen k h header before w) c (result_map (seen k h header before) after)
-    ≡ result_map (seen k h header before) (defined.settled (terms o h header) w c after)
-settled_is k o h header before w c (Ok after) = ap Ok (noted_is k h header before after (reference_in c.below) (all_notes h.opening o.choices.id_type c))
-settled_is k o h header before w c (Err wrong) = left_out_is k o h header before w c wrong
-
-with_records_is : {P N : Type 0} (k : Keeping P N) (o : Options) (h : Heading) (header : Nodes) (before : Taken P N) (w : Work) (place : Position) (records : Option (List (List (List ℕ))))
-    → run.with_records k o (seen k h header before w) place records ≡ result_map (seen k h header before) (defined.with_records (terms o h header) w place records)
-with_records_is k o h header before w place None = refl
-with_records_is k o h header before w place (Some records) =
-    rw (kept_is k o h header before w place records) (go (defined.packed (terms o h header) w place records))
-  where
-    go : (packed : Option Work) → ok_or (option_map (seen k h header before) packed) ProductTooLarge ≡ result_map (seen k h header before) (ok_or packed ProductTooLarge)
-    go None = refl
-    go (Some after) = refl
+forms_are : {P N : Type 0} (k : Keeping P N) (o : Options) (h : Heading) (header : Nodes) (before : Taken P N) (w : Work) (c : Composite) (fs : List Form)
+    → run.with_forms k o.choices.parts (seen k h header before w) c fs ≡ seen k h header before (defined.with_forms (terms o h header) w c fs)
+forms_are k o h header before w c [] = noted_is k h header before c (note c.element (wrong TooLarge []) ∷ []) w
+forms_are {P} {N} k o h header before w c (f ∷ fs) =
+    ap (λ (x : Option (Held P N)). unwrap_or (option_map (run.noted k c f.notes) x) (run.with_forms k o.choices.parts (seen k h header before w) c fs))
+    (kept_is k o h header before w (place_of c) f.records)
+    ∙ form_is k h header before c f.notes (defined.packed (terms o h header) w (place_of c) f.records) (defined.with_forms (terms o h header) w c fs) _ (forms_are k o h header before w c fs)
 
 pub product_is : {P N : Type 0} (k : Keeping P N) (o : Options) (h : Heading) (header : Nodes) (before : Taken P N) (w : Work) (c : Composite)
-    → product_taken k o (seen k h header before w) c ≡ result_map (seen k h header before) (defined.after_product (terms o h header) w c)
+    → product_taken k o (seen k h header before w) c ≡ seen k h header before (defined.after_product (terms o h header) w c)
 unfolding product_taken
-product_is k o h header before w c =
-    ap (run.settled k o (seen k h header before w) c) (with_records_is k o h header before w (place_of c) (product_records h.opening o.choices.id_type c.below))
-    ∙ settled_is k o h header before w c (defined.with_records (terms o h header) w (place_of c) (product_records h.opening o.choices.id_type c.below))
+product_is k o h header before w c = forms_are k o h header before w c (forms h.opening o.choices.id_type c)
 
 -- ---- the end
 
@@ -159,7 +150,7 @@ one_more {P} {N} k b most before old new all text lt is added rest =
 
 -- what the target makes of what comes of a message, behind what it had taken before
 abbrev pub behind : {P N : Type 0} → Keeping P N → Taken P N → Converted → Taken P N
-behind k before made = taken (fold k.with_part before.parts made.parts) (fold k.with_note before.notes made.notes)
+behind k before made = taken (fold k.with_part before.parts made.parts) (fold k.with_note before.notes made.notes) made.wrong
 
 all_written_is : {P N : Type 0} (k : Keeping P N) (o : Options) (h : Heading) (header : Nodes) (before : Taken P N) (w : Work)
     → run.all_written k o.choices.parts (seen k h header before w) ≡ fold k.with_part before.parts (defined.all_written (terms o h header) w)
@@ -169,15 +160,16 @@ all_written_is {P} {N} k o h header before w =
     ∙ sym (fold-append k.with_part before.parts (defined.written (terms o h header) w) (empty_messages (first_record h header) (w.full + 1) (o.choices.parts - (w.full + 1))))
 
 pub ended_is : {P N : Type 0} (k : Keeping P N) (o : Options) (h : Heading) (header : Nodes) (before : Taken P N) (w : Work)
-    → run.ended k o.choices.parts (seen k h header before w) ≡ result_map (behind k before) (defined.ended (terms o h header) w)
-ended_is {P} {N} k o h header before w = go w.beyond refl
+    → run.ended k o (seen k h header before w) ≡ result_map (behind k before) (defined.ended (terms o h header) w)
+ended_is {P} {N} k o h header before w = by (refused_for o.wrong w.tally)
   where
     go : (beyond : Option Position) → w.beyond ≡ beyond
-        → run.ended k o.choices.parts (seen k h header before w) ≡ result_map (behind k before) (defined.ended (terms o h header) w)
-    go (Some place) e =
-        ap (run.ended_at k o.choices.parts (seen k h header before w)) e
-        ∙ sym (ap (λ (b : Option Position). result_map (behind k before) (defined.ended_at (terms o h header) w b)) e)
+        → run.ended_at k o.choices.parts (seen k h header before w) w.beyond ≡ result_map (behind k before) (defined.ended_at (terms o h header) w w.beyond)
+    go (Some place) e = rw e refl
     go None e =
-        ap (run.ended_at k o.choices.parts (seen k h header before w)) e
-        ∙ ap (λ (ps : P). Ok (taken ps (fold k.with_note before.notes w.notes))) (all_written_is k o h header before w)
-        ∙ sym (ap (λ (b : Option Position). result_map (behind k before) (defined.ended_at (terms o h header) w b)) e)
+        rw e (ap (λ (ps : P). Ok (taken ps (fold k.with_note before.notes w.notes) w.tally.wrong)) (all_written_is k o h header before w))
+
+    by : (refused : Option Rejection)
+        → run.ended_by k o.choices.parts (seen k h header before w) refused ≡ result_map (behind k before) (defined.ended_by (terms o h header) w refused)
+    by (Some rejection) = refl
+    by None = go w.beyond refl

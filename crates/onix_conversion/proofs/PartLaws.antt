@@ -1,7 +1,7 @@
--- The products of a message stand in its parts, one after the other, or are left out.
-use Rattle.std.proofs.Common.{◌≡◌, ℕ, ◌+◌, ◌-◌, ◌*◌, Bool, true, false, ltb, subst, List, [], ◌∷◌, ◌++◌, length, length-append, map, refl, sym, ap, ◌∙◌, append-nil, append_assoc, arith}
+-- The products of a message stand in its parts, one after the other, each in its right form.
+use Rattle.std.proofs.Common.{◌≡◌, ℕ, ◌+◌, ◌*◌, Bool, true, false, ltb, subst, List, [], ◌∷◌, ◌++◌, length, length-append, map, refl, sym, ap, ◌∙◌, append-nil, append_assoc, arith, inl, inr}
 use Rattle.std.specs.Prelude.{Option, Some, None, Result, Ok, Err, codes}
-use Rattle.std.specs.List.{flat_map}
+use Rattle.std.specs.List.{AllByRecursion, flat_map}
 use Rattle.std.proofs.lemmas.Bool.{ltb-false}
 use Rattle.std.proofs.lemmas.Grind.{flat_map-append}
 use Rattle.xml_text.specs.declared.position.Position.{Position}
@@ -9,139 +9,185 @@ use Rattle.onix_outline.specs.Composites.{text_in}
 use Rattle.onix_outline.specs.Nodes.{Nodes}
 use Rattle.onix_mapping.specs.Elements.{Composite}
 use Rattle.onix_mapping.specs.Header.{◌>>=◌, Choices, Heading, added, addressee_pair, first_number, heading_in, number_in, number_or, sender_in}
-use Rattle.onix_mapping.specs.Notes.{note}
-use Rattle.onix_mapping.specs.ProductRecords.{all_notes, product_records}
-use Rattle.onix_mapping.specs.Products.{reference_in}
-use Rattle.onix_mapping.specs.Supplies.{all_records}
+use Rattle.onix_mapping.specs.Notes.{note, wrong}
+use Rattle.onix_mapping.specs.ProductRecords.{Form, forms}
 use Rattle.onix_mapping.specs.declared.header.Refusal.{Refusal}
 use Rattle.onix_mapping.specs.declared.header.Refusal.TheVariants as denied
-use Rattle.onix_mapping.specs.declared.notes.Why.{Why}
-use Rattle.onix_mapping.specs.declared.notes.Why.TheVariants.{ProductTooLarge, WrongProduct}
+use Rattle.onix_mapping.specs.declared.notes.Wrong.TheVariants.{TooLarge}
 use Rattle.onix_conversion.specs.declared.rejection.Rejection.{Rejection}
-use Rattle.onix_conversion.specs.Messages.{empty_messages, fits, message_text}
-use Rattle.onix_conversion.specs.Conversion.{Options, by_heading, conversion, header_in, packed_products, products_in, terms}
-use Rattle.onix_conversion.specs.Packing.{Converted, ProductNote, Terms, Work, after_product, after_products, all_written, beyond_at, converted, ended_at, joined, no_work, noted, place_of, settled, turned, with_part, with_records, written}
-use Rattle.onix_conversion.specs.Parts.{AreParts, Fate, Part, fate_notes, part_texts, standing}
-
-abbrev pub made_of : Terms → Composite → Option (List (List (List ℕ)))
-made_of t c = product_records t.opening t.preferred c.below
-
--- ---- records of products
-
-abbrev found : {A : Type 0} → A → Option A → A
-found other None = other
-found other (Some x) = x
-
-all_append : (f : Composite → Option (List (List (List ℕ)))) (xs : List Composite) (c : Composite) (a b : List (List (List ℕ))) → all_records f xs ≡ Some a → f c ≡ Some b
-    → all_records f (xs ++ c ∷ []) ≡ Some (a ++ b)
-all_append f [] c a b all one =
-    let none : a ≡ [] = sym (ap (found a) all) in rw (one, none) (ap Some (append-nil b))
-all_append f (x ∷ xs) c a b all one = go (f x) refl (all_records f xs) refl (λ m e. all_append f xs c m b e one)
-  where
-    go : (r : Option (List (List (List ℕ)))) → f x ≡ r → (m : Option (List (List (List ℕ)))) → all_records f xs ≡ m
-        → ((m : List (List (List ℕ))) → all_records f xs ≡ Some m → all_records f (xs ++ c ∷ []) ≡ Some (m ++ b)) → all_records f (x ∷ xs ++ c ∷ []) ≡ Some (a ++ b)
-    go None e m h later = let no = rw e at all in absurd cc
-    go (Some r) e None h later = let no = rw (e, h) at all in absurd cc
-    go (Some r) e (Some m) h later =
-        let all' : Some (r ++ m) ≡ Some a = rw (e, h) at all in
-        let is : r ++ m ≡ a = ap (found a) all' in
-        rw (e, later m h) (ap Some (sym (append_assoc r m b) ∙ ap (λ (k : List (List (List ℕ))). k ++ b) is))
+use Rattle.onix_conversion.specs.Messages.{fits, message_text}
+use Rattle.onix_conversion.specs.Packing.{Converted, ProductNote, Terms, Work, after_product, after_products, all_written, beyond_at, converted, ended, ended_at, ended_by, joined, noted, turned, with_forms, with_part, written}
+use Rattle.onix_conversion.specs.Parts.{AreFit, AreFull, Fate, IsFirst, IsFull, IsRight, Placed, fate_notes, part_texts, placed, placed_records, standing}
+use Rattle.onix_conversion.specs.Tallies.{place_of, refused_for}
 
 -- ---- texts of parts
 
-texts_append : (t : Terms) (k : ℕ) (parts : List (Part t)) (p : Part t)
-    → part_texts t k (parts ++ p ∷ []) ≡ part_texts t k parts ++ message_text (t.first (k + length parts)) p.records ∷ []
+records_append : (xs ys : List Placed) → placed_records (xs ++ ys) ≡ placed_records xs ++ placed_records ys
+records_append xs ys = flat_map-append (λ p. p.form.records) xs ys
+
+one_record : (p : Placed) → placed_records (p ∷ []) ≡ p.form.records
+one_record p = append-nil p.form.records
+
+texts_append : (t : Terms) (k : ℕ) (parts : List (List Placed)) (p : List Placed)
+    → part_texts t k (parts ++ p ∷ []) ≡ part_texts t k parts ++ message_text (t.first (k + length parts)) (placed_records p) ∷ []
 texts_append t k [] p =
-    let here : k ≡ k + 0 = omega arith in ap (λ (n : ℕ). message_text (t.first n) p.records ∷ []) here
+    let here : k ≡ k + 0 = omega arith in ap (λ (n : ℕ). message_text (t.first n) (placed_records p) ∷ []) here
 texts_append t k (q ∷ parts) p =
     let next : k + 1 + length parts ≡ k + length (q ∷ parts) = omega arith in
-    ap (λ (ts : List (List ℕ)). message_text (t.first k) q.records ∷ ts) (texts_append t (k + 1) parts p)
-    ∙ ap (λ (n : ℕ). message_text (t.first k) q.records ∷ (part_texts t (k + 1) parts ++ message_text (t.first n) p.records ∷ [])) next
+    ap (λ (ts : List (List ℕ)). message_text (t.first k) (placed_records q) ∷ ts) (texts_append t (k + 1) parts p)
+    ∙ ap (λ (n : ℕ). message_text (t.first k) (placed_records q) ∷ (part_texts t (k + 1) parts ++ message_text (t.first n) (placed_records p) ∷ [])) next
+
+-- ---- full parts
+
+-- one more product in the last part
+full-joined : (t : Terms) (k : ℕ) (parts : List (List Placed)) (begun : List Placed) (p : Placed) → AreFull t k (parts ++ begun ∷ []) → AreFull t k (parts ++ (begun ++ p ∷ []) ∷ [])
+full-joined t k [] begun p full = tt
+full-joined t k (q ∷ []) [] p full = absurd full.0
+full-joined t k (q ∷ []) (b ∷ begun) p full = (full.0, tt)
+full-joined t k (q ∷ r ∷ parts) begun p full = (full.0, full-joined t (k + 1) (r ∷ parts) begun p full.1)
+
+-- one more part behind one that has no room
+full-turned : (t : Terms) (k : ℕ) (parts : List (List Placed)) (begun : List Placed) (p : Placed) → AreFull t k (parts ++ begun ∷ []) → IsFull t (k + length parts) begun (p ∷ [])
+    → AreFull t k ((parts ++ begun ∷ []) ++ (p ∷ []) ∷ [])
+full-turned t k [] begun p full lacks =
+    let here : k + 0 ≡ k = omega arith in (subst (λ (n : ℕ). IsFull t n begun (p ∷ [])) here lacks, tt)
+full-turned t k (q ∷ []) begun p full lacks =
+    let here : k + length (q ∷ []) ≡ k + 1 = omega arith in (full.0, (subst (λ (n : ℕ). IsFull t n begun (p ∷ [])) here lacks, tt))
+full-turned t k (q ∷ r ∷ parts) begun p full lacks =
+    let here : k + length (q ∷ r ∷ parts) ≡ k + 1 + length (r ∷ parts) = omega arith in
+    (full.0, full-turned t (k + 1) (r ∷ parts) begun p full.1 (subst (λ (n : ℕ). IsFull t n begun (p ∷ [])) here lacks))
+
+-- ---- parts that are not too large
+
+fit-joined : (t : Terms) (k : ℕ) (parts : List (List Placed)) (begun : List Placed) (more : List Placed) → AreFit t k (parts ++ begun ∷ []) → fits (t.first (k + length parts)) (placed_records more) ≡ true
+    → AreFit t k (parts ++ more ∷ [])
+fit-joined t k [] begun more fit own =
+    let here : k + 0 ≡ k = omega arith in (subst (λ (n : ℕ). fits (t.first n) (placed_records more) ≡ true) here own, tt)
+fit-joined t k (q ∷ parts) begun more fit own =
+    let here : k + length (q ∷ parts) ≡ k + 1 + length parts = omega arith in
+    (fit.0, fit-joined t (k + 1) parts begun more fit.1 (subst (λ (n : ℕ). fits (t.first n) (placed_records more) ≡ true) here own))
+
+fit-turned : (t : Terms) (k : ℕ) (parts : List (List Placed)) (next : List Placed) → AreFit t k parts → fits (t.first (k + length parts)) (placed_records next) ≡ true
+    → AreFit t k (parts ++ next ∷ [])
+fit-turned t k [] next fit own =
+    let here : k + 0 ≡ k = omega arith in (subst (λ (n : ℕ). fits (t.first n) (placed_records next) ≡ true) here own, tt)
+fit-turned t k (q ∷ parts) next fit own =
+    let here : k + length (q ∷ parts) ≡ k + 1 + length parts = omega arith in
+    (fit.0, fit-turned t (k + 1) parts next fit.1 (subst (λ (n : ℕ). fits (t.first n) (placed_records next) ≡ true) here own))
 
 -- ---- one product
 
 -- this work has come of products that have become of so
 pub record Holds (t : Terms) (w : Work) (fates : List Fate) : Type 0 where
   pub more : ltb w.full t.most ≡ true
-  pub parts : List (Part t)
+  pub parts : List (List Placed)
   pub texts : part_texts t 0 parts ≡ w.parts
   pub count : length parts ≡ w.full
-  pub begun : Part t
-  pub records : begun.records ≡ w.begun
-  pub stand : flat_map (λ p. p.products) parts ++ begun.products ≡ flat_map standing fates
-  pub notes : flat_map (fate_notes t) fates ≡ w.notes
+  pub begun : List Placed
+  pub records : placed_records begun ≡ w.begun
+  pub stand : flat_map (λ p. p) (parts ++ begun ∷ []) ≡ flat_map standing fates
+  pub full : AreFull t 0 (parts ++ begun ∷ [])
+  pub fit : AreFit t 0 (parts ++ begun ∷ [])
+  pub notes : flat_map fate_notes fates ≡ w.notes
+  pub right : AllByRecursion (IsRight t) fates
 
-abbrev fate : Composite → Option Why → Fate
-fate c wrong = record { product = c; wrong = wrong }
+abbrev fate : Composite → Option Form → Fate
+fate c written = record { product = c; written = written }
 
-one_more_note : (t : Terms) (fates : List Fate) (f : Fate) (notes : List ProductNote) → flat_map (fate_notes t) fates ≡ notes
-    → flat_map (fate_notes t) (fates ++ f ∷ []) ≡ notes ++ fate_notes t f
-one_more_note t fates f notes is =
-    flat_map-append (fate_notes t) fates (f ∷ []) ∙ ap (λ (ns : List ProductNote). ns ++ (fate_notes t f ++ [])) is
-    ∙ ap (λ (ns : List ProductNote). notes ++ ns) (append-nil (fate_notes t f))
+one_more_note : (fates : List Fate) (f : Fate) (notes : List ProductNote) → flat_map fate_notes fates ≡ notes
+    → flat_map fate_notes (fates ++ f ∷ []) ≡ notes ++ fate_notes f
+one_more_note fates f notes is =
+    flat_map-append fate_notes fates (f ∷ []) ∙ ap (λ (ns : List ProductNote). ns ++ (fate_notes f ++ [])) is
+    ∙ ap (λ (ns : List ProductNote). notes ++ ns) (append-nil (fate_notes f))
 
-one_more_stands : (fates : List Fate) (f : Fate) (cs : List Composite) → cs ≡ flat_map standing fates → cs ++ standing f ≡ flat_map standing (fates ++ f ∷ [])
-one_more_stands fates f cs is =
-    ap (λ (k : List Composite). k ++ standing f) is ∙ ap (λ (k : List Composite). flat_map standing fates ++ k) (sym (append-nil (standing f)))
+one_more_right : (t : Terms) (fates : List Fate) (f : Fate) → AllByRecursion (IsRight t) fates → IsRight t f → AllByRecursion (IsRight t) (fates ++ f ∷ [])
+one_more_right t [] f all is = (is, tt)
+one_more_right t (g ∷ fates) f all is = (all.0, one_more_right t fates f all.1 is)
+
+stand_append : (parts : List (List Placed)) (begun : List Placed) → flat_map (λ p. p) (parts ++ begun ∷ []) ≡ flat_map (λ p. p) parts ++ begun
+stand_append parts begun =
+    flat_map-append (λ (p : List Placed). p) parts (begun ∷ []) ∙ ap (λ (k : List Placed). flat_map (λ p. p) parts ++ k) (append-nil begun)
+
+one_more_stands : (fates : List Fate) (f : Fate) (ps : List Placed) → ps ≡ flat_map standing fates → ps ++ standing f ≡ flat_map standing (fates ++ f ∷ [])
+one_more_stands fates f ps is =
+    ap (λ (k : List Placed). k ++ standing f) is ∙ ap (λ (k : List Placed). flat_map standing fates ++ k) (sym (append-nil (standing f)))
     ∙ sym (flat_map-append standing fates (f ∷ []))
 
-left_holds : (t : Terms) (w : Work) (fates : List Fate) (c : Composite) (wrong : Why) → Holds t w fates
-    → Holds t (noted (reference_in c.below) (note c.element wrong [] ∷ []) w) (fates ++ fate c (Some wrong) ∷ [])
-left_holds t w fates c wrong h = record {
+left_holds : (t : Terms) (w : Work) (fates : List Fate) (c : Composite) → Holds t w fates → IsRight t (fate c None)
+    → Holds t (noted c (note c.element (wrong TooLarge []) ∷ []) w) (fates ++ fate c None ∷ [])
+left_holds t w fates c h is = record {
   more = h.more;
   parts = h.parts;
   texts = h.texts;
   count = h.count;
   begun = h.begun;
   records = h.records;
-  stand = sym (append-nil (flat_map (λ p. p.products) h.parts ++ h.begun.products)) ∙ one_more_stands fates (fate c (Some wrong)) _ h.stand;
-  notes = one_more_note t fates (fate c (Some wrong)) w.notes h.notes;
+  stand = sym (append-nil (flat_map (λ p. p) (h.parts ++ h.begun ∷ []))) ∙ one_more_stands fates (fate c None) _ h.stand;
+  full = h.full;
+  fit = h.fit;
+  notes = one_more_note fates (fate c None) w.notes h.notes;
+  right = one_more_right t fates (fate c None) h.right is;
 }
 
-joined_holds : (t : Terms) (w : Work) (fates : List Fate) (c : Composite) (records : List (List (List ℕ))) → made_of t c ≡ Some records → Holds t w fates
-    → Holds t (noted (reference_in c.below) (all_notes t.opening t.preferred c) (joined w records)) (fates ++ fate c None ∷ [])
-joined_holds t w fates c records made h = record {
+joined_records : (t : Terms) (w : Work) (fates : List Fate) (h : Holds t w fates) (c : Composite) (f : Form) → placed_records (h.begun ++ placed c f ∷ []) ≡ w.begun ++ f.records
+joined_records t w fates h c f =
+    records_append h.begun (placed c f ∷ []) ∙ ap (λ (k : List (List (List ℕ))). k ++ placed_records (placed c f ∷ [])) h.records
+    ∙ ap (λ (k : List (List (List ℕ))). w.begun ++ k) (one_record (placed c f))
+
+joined_holds : (t : Terms) (w : Work) (fates : List Fate) (c : Composite) (f : Form) → fits (t.first w.full) (w.begun ++ f.records) ≡ true → Holds t w fates → IsRight t (fate c (Some f))
+    → Holds t (noted c f.notes (joined w f.records)) (fates ++ fate c (Some f) ∷ [])
+joined_holds t w fates c f room h is = record {
   more = h.more;
   parts = h.parts;
   texts = h.texts;
   count = h.count;
-  begun = record {
-    products = h.begun.products ++ c ∷ [];
-    records = h.begun.records ++ records;
-    made = all_append (made_of t) h.begun.products c h.begun.records records h.begun.made made;
-  };
-  records = ap (λ (k : List (List (List ℕ))). k ++ records) h.records;
-  stand = sym (append_assoc (flat_map (λ p. p.products) h.parts) h.begun.products (c ∷ [])) ∙ one_more_stands fates (fate c None) _ h.stand;
-  notes = one_more_note t fates (fate c None) w.notes h.notes;
+  begun = h.begun ++ placed c f ∷ [];
+  records = joined_records t w fates h c f;
+  stand = stand_append h.parts (h.begun ++ placed c f ∷ []) ∙ sym (append_assoc (flat_map (λ p. p) h.parts) h.begun (placed c f ∷ []))
+      ∙ ap (λ (k : List Placed). k ++ placed c f ∷ []) (sym (stand_append h.parts h.begun)) ∙ one_more_stands fates (fate c (Some f)) _ h.stand;
+  full = full-joined t 0 h.parts h.begun (placed c f) h.full;
+  fit = fit-joined t 0 h.parts h.begun (h.begun ++ placed c f ∷ []) h.fit
+      (let there : 0 + length h.parts ≡ w.full = omega (arith, h.count) in
+      ap (λ (n : ℕ). fits (t.first n) (placed_records (h.begun ++ placed c f ∷ []))) there ∙ ap (λ (k : List (List (List ℕ))). fits (t.first w.full) k) (joined_records t w fates h c f) ∙ room);
+  notes = one_more_note fates (fate c (Some f)) w.notes h.notes;
+  right = one_more_right t fates (fate c (Some f)) h.right is;
 }
 
-written_count : (t : Terms) (w : Work) (fates : List Fate) (h : Holds t w fates) → length (h.parts ++ h.begun ∷ []) ≡ w.full + 1
+pub written_count : (t : Terms) (w : Work) (fates : List Fate) (h : Holds t w fates) → length (h.parts ++ h.begun ∷ []) ≡ w.full + 1
 written_count t w fates h = length-append h.parts (h.begun ∷ []) ∙ ap (λ (n : ℕ). n + 1) h.count
 
 -- with the part that was begun
-written_texts : (t : Terms) (w : Work) (fates : List Fate) (h : Holds t w fates) → part_texts t 0 (h.parts ++ h.begun ∷ []) ≡ written t w
+pub written_texts : (t : Terms) (w : Work) (fates : List Fate) (h : Holds t w fates) → part_texts t 0 (h.parts ++ h.begun ∷ []) ≡ written t w
 written_texts t w fates h =
     let there : 0 + length h.parts ≡ w.full = omega (arith, h.count) in
     let written_is : with_part t.most w.full (message_text (t.first w.full) w.begun) w.parts ≡ w.parts ++ message_text (t.first w.full) w.begun ∷ [] = rw h.more refl in
-    texts_append t 0 h.parts h.begun ∙ ap (λ (ts : List (List ℕ)). ts ++ message_text (t.first (0 + length h.parts)) h.begun.records ∷ []) h.texts
-    ∙ ap (λ (n : ℕ). w.parts ++ message_text (t.first n) h.begun.records ∷ []) there
+    texts_append t 0 h.parts h.begun ∙ ap (λ (ts : List (List ℕ)). ts ++ message_text (t.first (0 + length h.parts)) (placed_records h.begun) ∷ []) h.texts
+    ∙ ap (λ (n : ℕ). w.parts ++ message_text (t.first n) (placed_records h.begun) ∷ []) there
     ∙ ap (λ (k : List (List (List ℕ))). w.parts ++ message_text (t.first w.full) k ∷ []) h.records ∙ sym written_is
 
-written_stand : (t : Terms) (parts : List (Part t)) (begun : Part t) → flat_map (λ (p : Part t). p.products) (parts ++ begun ∷ []) ≡ flat_map (λ (p : Part t). p.products) parts ++ begun.products
-written_stand t parts begun =
-    flat_map-append (λ (p : Part t). p.products) parts (begun ∷ []) ∙ ap (λ (k : List Composite). flat_map (λ (p : Part t). p.products) parts ++ k) (append-nil begun.products)
+-- the part that was begun has no room
+no_room : (t : Terms) (w : Work) (fates : List Fate) (h : Holds t w fates) (c : Composite) (f : Form) → fits (t.first w.full) (w.begun ++ f.records) ≡ false
+    → IsFull t (0 + length h.parts) h.begun (placed c f ∷ [])
+no_room t w fates h c f lacks =
+    let there : 0 + length h.parts ≡ w.full = omega (arith, h.count) in
+    ap (λ (n : ℕ). fits (t.first n) (placed_records h.begun ++ f.records)) there ∙ ap (λ (k : List (List (List ℕ))). fits (t.first w.full) (k ++ f.records)) h.records ∙ lacks
 
-turned_holds : (t : Terms) (w : Work) (fates : List Fate) (c : Composite) (records : List (List (List ℕ))) → made_of t c ≡ Some records → ltb (w.full + 1) t.most ≡ true → Holds t w fates
-    → Holds t (noted (reference_in c.below) (all_notes t.opening t.preferred c) (turned t w (place_of c) records)) (fates ++ fate c None ∷ [])
-turned_holds t w fates c records made less h = record {
+turned_holds : (t : Terms) (w : Work) (fates : List Fate) (c : Composite) (f : Form) → ltb (w.full + 1) t.most ≡ true → fits (t.first w.full) (w.begun ++ f.records) ≡ false
+    → fits (t.first (w.full + 1)) f.records ≡ true → Holds t w fates → IsRight t (fate c (Some f)) → Holds t (noted c f.notes (turned t w (place_of c) f.records)) (fates ++ fate c (Some f) ∷ [])
+turned_holds t w fates c f less lacks room h is = record {
   more = less;
   parts = h.parts ++ h.begun ∷ [];
   texts = written_texts t w fates h;
   count = written_count t w fates h;
-  begun = record { products = c ∷ []; records = records; made = all_append (made_of t) [] c [] records refl made };
-  records = refl;
-  stand = ap (λ (k : List Composite). k ++ c ∷ []) (written_stand t h.parts h.begun) ∙ one_more_stands fates (fate c None) _ h.stand;
-  notes = one_more_note t fates (fate c None) w.notes h.notes;
+  begun = placed c f ∷ [];
+  records = one_record (placed c f);
+  stand = stand_append (h.parts ++ h.begun ∷ []) (placed c f ∷ []) ∙ one_more_stands fates (fate c (Some f)) _ h.stand;
+  full = full-turned t 0 h.parts h.begun (placed c f) h.full (no_room t w fates h c f lacks);
+  fit = fit-turned t 0 (h.parts ++ h.begun ∷ []) (placed c f ∷ []) h.fit
+      (let there : 0 + length (h.parts ++ h.begun ∷ []) ≡ w.full + 1 = omega (arith, written_count t w fates h) in
+      ap (λ (n : ℕ). fits (t.first n) (placed_records (placed c f ∷ []))) there ∙ ap (λ (k : List (List (List ℕ))). fits (t.first (w.full + 1)) k) (one_record (placed c f)) ∙ room);
+  notes = one_more_note fates (fate c (Some f)) w.notes h.notes;
+  right = one_more_right t fates (fate c (Some f)) h.right is;
 }
 
 -- ---- all products
@@ -163,72 +209,58 @@ pub record Step (t : Terms) (w : Work) (c : Composite) (v : Work) (fates : List 
   pub none : w.beyond ≡ None
   pub holds : Holds t w fates → (f : Fate) × (f.product ≡ c) × Holds t v (fates ++ f ∷ [])
 
-moved : (t : Terms) (u v : Work) (fates : List Fate) → u ≡ v → Holds t u fates → Holds t v fates
-moved t u v fates is h = subst (λ (x : Work). Holds t x fates) is h
-
-left_step : (t : Terms) (w : Work) (c : Composite) (v : Work) (fates : List Fate) (wrong : Why) (lenient : Bool) → t.lenient ≡ lenient → settled t w c (Err wrong) ≡ Ok v → v.beyond ≡ None
-    → Step t w c v fates
-left_step t w c v fates wrong true l e none =
-    let now : Ok (noted (reference_in c.below) (note c.element wrong [] ∷ []) w) ≡ Ok v = rw l at e in
-    let is : noted (reference_in c.below) (note c.element wrong [] ∷ []) w ≡ v = ap (value w) now in record {
-      none = ap (λ (u : Work). u.beyond) is ∙ none;
-      holds = λ h. (fate c (Some wrong), refl, moved t (noted (reference_in c.below) (note c.element wrong [] ∷ []) w) v (fates ++ fate c (Some wrong) ∷ []) is (left_holds t w fates c wrong h));
-    }
-left_step t w c v fates wrong false l e none = let no = rw l at e in absurd cc
-
-made_step : (t : Terms) (w : Work) (c : Composite) (v : Work) (fates : List Fate) (made : Option (List (List (List ℕ)))) → made_of t c ≡ made
-    → settled t w c (with_records t w (place_of c) made) ≡ Ok v → v.beyond ≡ None → Step t w c v fates
-made_step t w c v fates None m e none = left_step t w c v fates WrongProduct t.lenient refl e none
-made_step t w c v fates (Some records) m e none = go (fits (t.first w.full) (w.begun ++ records)) refl (fits (t.first (w.full + 1)) records) refl
+-- where the forms so far are too large for the next part, one of the others is the first that is not
+forms_step : (t : Terms) (w : Work) (c : Composite) (fates : List Fate) (fs : List Form)
+    → ((f : Option Form) → IsFirst t (w.full + 1) f fs → IsRight t (fate c f)) → (with_forms t w c fs).beyond ≡ None → Step t w c (with_forms t w c fs) fates
+forms_step t w c fates [] right none = record {
+  none = none;
+  holds = λ h. (fate c None, refl, left_holds t w fates c h (right None refl));
+}
+forms_step t w c fates (f ∷ fs) right none =
+    go (fits (t.first w.full) (w.begun ++ f.records)) refl (fits (t.first (w.full + 1)) f.records) refl none (forms_step t w c fates fs)
   where
-    go : (a : Bool) → fits (t.first w.full) (w.begun ++ records) ≡ a → (b : Bool) → fits (t.first (w.full + 1)) records ≡ b → Step t w c v fates
-    go true f b g =
-        let now : Ok (noted (reference_in c.below) (all_notes t.opening t.preferred c) (joined w records)) ≡ Ok v = rw f at e in
-        let is : noted (reference_in c.below) (all_notes t.opening t.preferred c) (joined w records) ≡ v = ap (value w) now in record {
-          none = ap (λ (u : Work). u.beyond) is ∙ none;
-          holds = λ h. (fate c None, refl, moved t (noted (reference_in c.below) (all_notes t.opening t.preferred c) (joined w records)) v (fates ++ fate c None ∷ []) is (joined_holds t w fates c records m h));
-        }
-    go false f true g =
-        let now : Ok (noted (reference_in c.below) (all_notes t.opening t.preferred c) (turned t w (place_of c) records)) ≡ Ok v = rw (f, g) at e in
-        let is : noted (reference_in c.below) (all_notes t.opening t.preferred c) (turned t w (place_of c) records) ≡ v = ap (value w) now in
-        let before = beyond_none t.most (w.full + 1) w.beyond (place_of c) (ap (λ (u : Work). u.beyond) is ∙ none) in record {
-          none = before.0;
-          holds = λ h. (
-            fate c None,
-            refl,
-            moved t (noted (reference_in c.below) (all_notes t.opening t.preferred c) (turned t w (place_of c) records)) v (fates ++ fate c None ∷ []) is (turned_holds t w fates c records m before.1 h),
-          );
-        }
-    go false f false g =
-        let now : settled t w c (Err ProductTooLarge) ≡ Ok v = rw (f, g) at e in left_step t w c v fates ProductTooLarge t.lenient refl now none
+    own : IsRight t (fate c (Some f))
+    own = right (Some f) (inl refl)
+
+    go : (a : Bool) → fits (t.first w.full) (w.begun ++ f.records) ≡ a → (b : Bool) → fits (t.first (w.full + 1)) f.records ≡ b
+        → (with_forms t w c (f ∷ fs)).beyond ≡ None
+        → (((g : Option Form) → IsFirst t (w.full + 1) g fs → IsRight t (fate c g)) → (with_forms t w c fs).beyond ≡ None → Step t w c (with_forms t w c fs) fates)
+        → Step t w c (with_forms t w c (f ∷ fs)) fates
+    go true here b next last later =
+        let before : w.beyond ≡ None = rw here at last in
+        rw here (record { none = before; holds = λ h. (fate c (Some f), refl, joined_holds t w fates c f here h own) })
+    go false here true next last later =
+        let now : beyond_at t.most (w.full + 1) w.beyond (place_of c) ≡ None = rw (here, next) at last in
+        let before = beyond_none t.most (w.full + 1) w.beyond (place_of c) now in
+        rw (here, next) (record { none = before.0; holds = λ h. (fate c (Some f), refl, turned_holds t w fates c f before.1 here next h own) })
+    go false here false next last later =
+        let now : (with_forms t w c fs).beyond ≡ None = rw (here, next) at last in
+        rw (here, next) (later (λ g is. right g (inr (next, is))) now)
+
+product_step : (t : Terms) (w : Work) (c : Composite) (fates : List Fate) → (after_product t w c).beyond ≡ None → Step t w c (after_product t w c) fates
+product_step t w c fates none = forms_step t w c fates (forms t.opening t.preferred c) (λ f is. (w.full + 1, is)) none
 
 -- with no product beyond at the end, there was none before, and it has become of all what it has
 pub record Walk (t : Terms) (w : Work) (cs : List Composite) (z : Work) : Type 0 where
   pub none : w.beyond ≡ None
   pub holds : (fates : List Fate) → Holds t w fates → (more : List Fate) × (map (λ f. f.product) more ≡ cs) × Holds t z (fates ++ more)
 
-pub walk : (t : Terms) (cs : List Composite) (w z : Work) → after_products t w cs ≡ Ok z → z.beyond ≡ None → Walk t w cs z
-walk t [] w z e none =
-    let is : w ≡ z = ap (value w) e in record {
-      none = ap (λ (u : Work). u.beyond) is ∙ none;
-      holds = λ fates h. ([], refl, moved t w z (fates ++ []) is (subst (λ (fs : List Fate). Holds t w fs) (sym (append-nil fates)) h));
+pub walk : (t : Terms) (cs : List Composite) (w : Work) → (after_products t w cs).beyond ≡ None → Walk t w cs (after_products t w cs)
+walk t [] w none = record {
+  none = none;
+  holds = λ fates h. ([], refl, subst (λ (fs : List Fate). Holds t w fs) (sym (append-nil fates)) h);
+}
+walk t (c ∷ cs) w none =
+    let rest = walk t cs (after_product t w c) none in record {
+      none = (product_step t w c [] rest.none).none;
+      holds = λ fates h.
+          let one = (product_step t w c fates rest.none).holds h in
+          let others = rest.holds (fates ++ one.0 ∷ []) one.2 in (
+            one.0 ∷ others.0,
+            ap (λ (k : List Composite). k ++ map (λ (f : Fate). f.product) others.0) (ap (λ (p : Composite). p ∷ []) one.1) ∙ ap (λ (k : List Composite). c ∷ k) others.1,
+            subst (λ (fs : List Fate). Holds t (after_products t w (c ∷ cs)) fs) (append_assoc fates (one.0 ∷ []) others.0) others.2,
+          );
     }
-walk t (c ∷ cs) w z e none = go (after_product t w c) refl (λ v l. walk t cs v z l none)
-  where
-    go : (r : Result Work Rejection) → after_product t w c ≡ r → ((v : Work) → after_products t v cs ≡ Ok z → Walk t v cs z) → Walk t w (c ∷ cs) z
-    go (Err rejection) f later = let no = rw f at e in absurd cc
-    go (Ok v) f later =
-        let now : after_products t v cs ≡ Ok z = rw f at e in
-        let rest = later v now in record {
-          none = (made_step t w c v [] (made_of t c) refl f rest.none).none;
-          holds = λ fates h.
-              let one = (made_step t w c v fates (made_of t c) refl f rest.none).holds h in
-              let others = rest.holds (fates ++ one.0 ∷ []) one.2 in (
-                one.0 ∷ others.0,
-                ap (λ (k : List Composite). k ++ map (λ (f : Fate). f.product) others.0) (ap (λ (p : Composite). p ∷ []) one.1) ∙ ap (λ (k : List Composite). c ∷ k) others.1,
-                subst (λ (fs : List Fate). Holds t z fs) (append_assoc fates (one.0 ∷ []) others.0) others.2,
-              );
-        }
 
 -- ---- the whole message
 
@@ -254,55 +286,14 @@ part_there c nodes h e = go (ltb 0 c.parts) refl
         let no : first_number 0 m.0 ≡ Ok n.0 = ap (λ (k : ℕ). first_number k m.0) (sym zero_parts) ∙ m.2 in
         let other : Err denied.LastNumberTooGreat ≡ Ok n.0 = sym (no_part m.0) ∙ no in absurd cc
 
-whole : (o : Options) (nodes : Nodes) (made : Converted) (header : Composite) (h : Heading) (z : Work) → header_in nodes ≡ Some header → heading_in o.choices header.below ≡ Ok h
-    → after_products (terms o h header.below) no_work (products_in nodes) ≡ Ok z → z.beyond ≡ None → converted (all_written (terms o h header.below) z) z.notes ≡ made → AreParts o nodes made
-whole o nodes made header h z counts says e none is =
-    let t = terms o h header.below in
-    let start : Holds t no_work [] = record {
-      more = part_there o.choices header.below h says;
-      parts = [];
-      texts = refl;
-      count = refl;
-      begun = record { products = []; records = []; made = refl };
-      records = refl;
-      stand = refl;
-      notes = refl;
-    } in
-    let all = (walk t (products_in nodes) no_work z e none).holds [] start in
-    let there = all.2 in record {
-      header = header;
-      counts = counts;
-      heading = h;
-      says = says;
-      fates = all.0;
-      all = all.1;
-      notes = there.notes ∙ ap (λ (c : Converted). c.notes) is;
-      parts = there.parts ++ there.begun ∷ [];
-      stand = written_stand t there.parts there.begun ∙ there.stand;
-      texts = sym (ap (λ (c : Converted). c.parts) is)
-          ∙ ap (λ (ts : List (List ℕ)). ts ++ empty_messages t.first (z.full + 1) (t.most - (z.full + 1))) (sym (written_texts t z all.0 there))
-          ∙ ap (λ (k : ℕ). part_texts t 0 (there.parts ++ there.begun ∷ []) ++ empty_messages t.first k (t.most - k)) (sym (written_count t z all.0 there));
-    }
-
-pub parts_are : (o : Options) (nodes : Nodes) (made : Converted) → conversion o nodes ≡ Ok made → AreParts o nodes made
-parts_are o nodes made e = go (header_in nodes) refl
+-- ended well: no product is beyond the parts
+pub ended_ok : (t : Terms) (z : Work) (made : Converted) → ended t z ≡ Ok made → (z.beyond ≡ None) × (converted (all_written t z) z.notes z.tally.wrong ≡ made)
+ended_ok t z made e = by (refused_for t.allowed z.tally) e
   where
-    last : (header : Composite) (h : Heading) (z : Work) (beyond : Option Position) → z.beyond ≡ beyond → header_in nodes ≡ Some header → heading_in o.choices header.below ≡ Ok h
-        → after_products (terms o h header.below) no_work (products_in nodes) ≡ Ok z → ended_at (terms o h header.below) z beyond ≡ Ok made → AreParts o nodes made
-    last header h z (Some place) b counts says walked now = absurd cc
-    last header h z None b counts says walked now =
-        whole o nodes made header h z counts says walked b (ap (value (converted (all_written (terms o h header.below) z) z.notes)) now)
+    last : (beyond : Option Position) → z.beyond ≡ beyond → ended_at t z beyond ≡ Ok made → (z.beyond ≡ None) × (converted (all_written t z) z.notes z.tally.wrong ≡ made)
+    last (Some place) b now = absurd cc
+    last None b now = (b, ap (value (converted (all_written t z) z.notes z.tally.wrong)) now)
 
-    products : (header : Composite) (h : Heading) (r : Result Work Rejection) → after_products (terms o h header.below) no_work (products_in nodes) ≡ r
-        → header_in nodes ≡ Some header → heading_in o.choices header.below ≡ Ok h → packed_products (terms o h header.below) (products_in nodes) ≡ Ok made → AreParts o nodes made
-    products header h (Err rejection) f counts says now = let no = rw f at now in absurd cc
-    products header h (Ok z) f counts says now = last header h z z.beyond refl counts says f (rw f at now)
-
-    headed : (header : Composite) (r : Result Heading Refusal) → heading_in o.choices header.below ≡ r → header_in nodes ≡ Some header
-        → by_heading o (products_in nodes) header r ≡ Ok made → AreParts o nodes made
-    headed header (Err refusal) f counts now = absurd cc
-    headed header (Ok h) f counts now = products header h (after_products (terms o h header.below) no_work (products_in nodes)) refl counts f now
-
-    go : (r : Option Composite) → header_in nodes ≡ r → AreParts o nodes made
-    go None f = let no = rw f at e in absurd cc
-    go (Some header) f = headed header (heading_in o.choices header.below) refl f (rw f at e)
+    by : (refused : Option Rejection) → ended_by t z refused ≡ Ok made → (z.beyond ≡ None) × (converted (all_written t z) z.notes z.tally.wrong ≡ made)
+    by (Some rejection) now = absurd cc
+    by None now = last z.beyond refl now

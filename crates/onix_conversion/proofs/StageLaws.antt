@@ -1,9 +1,13 @@
 -- What the program keeps of a message, element by element, comes to what the message is defined to say.
-use Rattle.std.proofs.Common.{◌≡◌, ℕ, ◌+◌, Bool, true, false, List, [], ◌∷◌, fold, refl, ap, ◌∙◌, arith}
-use Rattle.std.specs.Prelude.{Some, None, Result, Ok, Err, codes, decimal, take, drop}
+use Rattle.std.proofs.Common.{◌≡◌, ℕ, ◌+◌, Bool, true, false, List, [], ◌∷◌, fold, refl, sym, ap, ◌∙◌, arith}
+use Rattle.std.specs.Prelude.{Option, Some, None, Result, Ok, Err, codes, decimal, option_map, take, drop}
+use Rattle.std.specs.Option.{option_or}
+use Rattle.std.specs.Result.{result_err}
 use Rattle.std.specs.Str.{bytes_eq}
 use Rattle.std.proofs.lemmas.Slice.Eq.{bytes_eq-Decides}
 use Rattle.csv_records.specs.RecordTexts.{records_text}
+use Rattle.onix_outline.specs.Composites.{has_stranger}
+use Rattle.onix_outline.specs.Names.{stranger}
 use Rattle.onix_outline.specs.Nodes.{Nodes, Tag, no_nodes, node}
 use Rattle.onix_outline.specs.Outline.{Line, part, parts_of}
 use Rattle.onix_outline.specs.Outlined.{outlined}
@@ -12,11 +16,12 @@ use Rattle.onix_mapping.specs.Header.{Heading, heading_in, message_fields}
 use Rattle.onix_mapping.specs.declared.header.Refusal.{Refusal}
 use Rattle.onix_conversion.specs.declared.rejection.Rejection.{Rejection}
 use Rattle.onix_conversion.specs.declared.rejection.Rejection.TheVariants as why
-use Rattle.onix_conversion.specs.Conversion.{Options, by_heading, composite, conversion, products_in, terms}
+use Rattle.onix_conversion.specs.Conversion.{Options, by_heading, by_refusal, composite, conversion, first_refusal, header_in, products_in, terms}
 use Rattle.onix_conversion.specs.Keeping.{Keeping}
-use Rattle.onix_conversion.specs.Packing.{Work, ◌>>=◌, after_products, no_work, place_of}
+use Rattle.onix_conversion.specs.Packing.{Converted, Work, after_products, no_work}
+use Rattle.onix_conversion.specs.Tallies.{no_tally, place_of}
 use Rattle.onix_conversion.specs.Packing as defined
-use Rattle.onix_conversion.specs.Stages.{Held, Stage, State, Taken, after_element, after_nodes, at_stage, begun_by, finished, first_fields, first_state, held, refused, stage_after_header, with_held, with_product, within}
+use Rattle.onix_conversion.specs.Stages.{Held, Stage, State, Taken, after_element, after_nodes, at_stage, begun_by, finished, first_fields, first_state, held, refused, stage_after_header, stage_after_stranger, with_held, with_product, within}
 use Rattle.onix_conversion.specs.Stages as run
 use Rattle.onix_conversion.proofs.PackingLaws.{behind, ended_is, product_is, result_map, seen}
 
@@ -38,28 +43,33 @@ apart name e = ap (λ (n : List ℕ). bytes_eq n (codes "Header")) ((bytes_eq-De
 -- ---- refused
 
 element_refused : {P N : Type 0} (k : Keeping P N) (s : State P N) (e : Rejection) (c : Composite) → s.stage ≡ refused e → (after_element k s c).stage ≡ refused e
-element_refused k s e c is = go (bytes_eq c.element.name (codes "Header")) refl (bytes_eq c.element.name (codes "Product")) refl
+element_refused {P} {N} k s e c is =
+    go (bytes_eq c.element.name (codes "Header")) refl (bytes_eq c.element.name (codes "Product")) refl (bytes_eq c.element.name stranger) refl
   where
-    go : (h : Bool) → bytes_eq c.element.name (codes "Header") ≡ h → (p : Bool) → bytes_eq c.element.name (codes "Product") ≡ p → (after_element k s c).stage ≡ refused e
-    go true f p g = rw f (ap (λ (stage : Stage). stage_after_header stage s.options c) is)
-    go false f true g = rw (f, g) (ap (λ (stage : Stage). (with_product k stage s c).stage) is ∙ is)
-    go false f false g = rw (f, g) is
+    go : (h : Bool) → bytes_eq c.element.name (codes "Header") ≡ h → (p : Bool) → bytes_eq c.element.name (codes "Product") ≡ p → (x : Bool) → bytes_eq c.element.name stranger ≡ x
+        → (after_element k s c).stage ≡ refused e
+    go true f p g x i = rw f (ap (λ (stage : Stage). stage_after_header stage s.options c) is)
+    go false f true g x i = rw (f, g) (ap (λ (stage : Stage). (with_product k stage s c).stage) is ∙ is)
+    go false f false g true i = rw (f, g, i) (ap (λ (stage : Stage). stage_after_stranger stage c) is)
+    go false f false g false i = rw (f, g, i) is
 
 refused_stays : {P N : Type 0} (k : Keeping P N) → Tell → (s : State P N) (e : Rejection) (nodes : Nodes) → s.stage ≡ refused e → (fold (after_lines k) s (parts_of nodes)).stage ≡ refused e
 refused_stays k tell s e no_nodes is = is
 refused_stays {P} {N} k tell s e (node name tag text below rest) is =
-    go (bytes_eq name (codes "Product")) refl (bytes_eq name (codes "Header")) refl (refused_stays k tell s e rest is) (refused_stays k tell (after_lines k s (part name tag text below)) e rest next)
+    go (bytes_eq name (codes "Product")) refl (bytes_eq name (codes "Header")) refl (bytes_eq name stranger) refl (refused_stays k tell s e rest is)
+    (refused_stays k tell (after_lines k s (part name tag text below)) e rest next)
   where
     next : (after_lines k s (part name tag text below)).stage ≡ refused e
     next = ap (λ (t : State P N). t.stage) (lines_tell k tell s name tag text below) ∙ element_refused k s e (composite name tag text below) is
 
-    go : (p : Bool) → bytes_eq name (codes "Product") ≡ p → (h : Bool) → bytes_eq name (codes "Header") ≡ h
+    go : (p : Bool) → bytes_eq name (codes "Product") ≡ p → (h : Bool) → bytes_eq name (codes "Header") ≡ h → (x : Bool) → bytes_eq name stranger ≡ x
         → (fold (after_lines k) s (parts_of rest)).stage ≡ refused e
         → (fold (after_lines k) (after_lines k s (part name tag text below)) (parts_of rest)).stage ≡ refused e
         → (fold (after_lines k) s (parts_of (node name tag text below rest))).stage ≡ refused e
-    go true f h g skipped taken = rw f taken
-    go false f true g skipped taken = rw (f, g) taken
-    go false f false g skipped taken = rw (f, g) skipped
+    go true f h g x i skipped taken = rw f taken
+    go false f true g x i skipped taken = rw (f, g) taken
+    go false f false g true i skipped taken = rw (f, g, i) taken
+    go false f false g false i skipped taken = rw (f, g, i) skipped
 
 -- ---- in its parts
 
@@ -67,60 +77,48 @@ abbrev pub state_of : {P N : Type 0} → Options → Held P N → State P N
 state_of o h = record { options = o; parts = h.parts; notes = h.notes; stage = within h.begun }
 
 -- a state is that of this work, or refused so
-abbrev pub IsState : {P N : Type 0} → Keeping P N → Options → Heading → Nodes → Taken P N → State P N → Result Work Rejection → Type 0
-IsState k o h header before s (Ok w) = s ≡ state_of o (seen k h header before w)
-IsState k o h header before s (Err e) = s.stage ≡ refused e
+abbrev pub IsAt : {P N : Type 0} → Keeping P N → Options → Heading → Nodes → Taken P N → State P N → Option Rejection → Work → Type 0
+IsAt k o h header before s (Some e) w = s.stage ≡ refused e
+IsAt k o h header before s None w = s ≡ state_of o (seen k h header before w)
 
-taken : {P N : Type 0} (k : Keeping P N) → Tell → (o : Options) (h : Heading) (header : Nodes) (before : Taken P N) (rest : Nodes) (s : State P N) (after : Result Work Rejection) (t : State P N)
-    → t ≡ with_held s (result_map (seen k h header before) after) → s.options ≡ o
-    → ((v : Work) → IsState k o h header before (fold (after_lines k) (state_of o (seen k h header before v)) (parts_of rest)) (after_products (terms o h header) v (products_in rest)))
-    → IsState k o h header before (fold (after_lines k) t (parts_of rest)) (after >>= λ v. after_products (terms o h header) v (products_in rest))
-taken k tell o h header before rest s (Ok v) t is same later =
-    let there : t ≡ state_of o (seen k h header before v) =
-    is ∙ ap (λ (p : Options). record { options = p; parts = (seen k h header before v).parts; notes = (seen k h header before v).notes; stage = within (seen k h header before v).begun }) same in
-    rw there (later v)
-taken {P} {N} k tell o h header before rest s (Err wrong) t is same later = refused_stays k tell t wrong rest (ap (λ (u : State P N). u.stage) is)
-
-passed : {P N : Type 0} (k : Keeping P N) (o : Options) (h : Heading) (header : Nodes) (before : Taken P N) (rest : Nodes) (t s : State P N) (r : Result Work Rejection) → t ≡ s
-    → IsState k o h header before (fold (after_lines k) s (parts_of rest)) r → IsState k o h header before (fold (after_lines k) t (parts_of rest)) r
-passed k o h header before rest t s r is later = rw is later
+passed : {P N : Type 0} (k : Keeping P N) (o : Options) (h : Heading) (header : Nodes) (before : Taken P N) (rest : Nodes) (t s : State P N) (r : Option Rejection) (w : Work) → t ≡ s
+    → IsAt k o h header before (fold (after_lines k) s (parts_of rest)) r w → IsAt k o h header before (fold (after_lines k) t (parts_of rest)) r w
+passed k o h header before rest t s r w is later = rw is later
 
 pub products_are : {P N : Type 0} (k : Keeping P N) → Tell → (o : Options) (h : Heading) (header : Nodes) (before : Taken P N) (nodes : Nodes) (w : Work)
-    → IsState k o h header before (fold (after_lines k) (state_of o (seen k h header before w)) (parts_of nodes)) (after_products (terms o h header) w (products_in nodes))
+    → IsAt k o h header before (fold (after_lines k) (state_of o (seen k h header before w)) (parts_of nodes)) (first_refusal o true nodes) (after_products (terms o h header) w (products_in nodes))
 products_are k tell o h header before no_nodes w = refl
-products_are k tell o h header before (node name tag text below rest) w =
-    go (bytes_eq name (codes "Product")) refl (bytes_eq name (codes "Header")) refl (λ v. products_are k tell o h header before rest v)
+products_are {P} {N} k tell o h header before (node name tag text below rest) w =
+    go (bytes_eq name (codes "Product")) refl (bytes_eq name (codes "Header")) refl (bytes_eq name stranger) refl (λ v. products_are k tell o h header before rest v)
   where
-    go : (p : Bool) → bytes_eq name (codes "Product") ≡ p → (x : Bool) → bytes_eq name (codes "Header") ≡ x
-        → ((v : Work) → IsState k o h header before (fold (after_lines k) (state_of o (seen k h header before v)) (parts_of rest)) (after_products (terms o h header) v (products_in rest)))
-        → IsState k o h header before (fold (after_lines k) (state_of o (seen k h header before w)) (parts_of (node name tag text below rest)))
+    go : (p : Bool) → bytes_eq name (codes "Product") ≡ p → (x : Bool) → bytes_eq name (codes "Header") ≡ x → (y : Bool) → bytes_eq name stranger ≡ y
+        → ((v : Work) → IsAt k o h header before (fold (after_lines k) (state_of o (seen k h header before v)) (parts_of rest)) (first_refusal o true rest) (after_products (terms o h header) v (products_in rest)))
+        → IsAt k o h header before (fold (after_lines k) (state_of o (seen k h header before w)) (parts_of (node name tag text below rest))) (first_refusal o true (node name tag text below rest))
         (after_products (terms o h header) w (products_in (node name tag text below rest)))
-    go true f x g later =
+    go true f x g y i later =
         let other : bytes_eq name (codes "Header") ≡ false = apart name f in
         let one : after_element k (state_of o (seen k h header before w)) (composite name tag text below)
         ≡ with_held (state_of o (seen k h header before w)) (run.after_product k o (seen k h header before w) (composite name tag text below)) = rw (other, f) refl in
         let step : after_lines k (state_of o (seen k h header before w)) (part name tag text below)
-        ≡ with_held (state_of o (seen k h header before w)) (result_map (seen k h header before) (defined.after_product (terms o h header) w (composite name tag text below))) =
+        ≡ state_of o (seen k h header before (defined.after_product (terms o h header) w (composite name tag text below))) =
         lines_tell k tell (state_of o (seen k h header before w)) name tag text below ∙ one
         ∙ ap (with_held (state_of o (seen k h header before w))) (product_is k o h header before w (composite name tag text below)) in
-        rw f
-        (taken k tell o h header before rest (state_of o (seen k h header before w)) (defined.after_product (terms o h header) w (composite name tag text below))
-        (after_lines k (state_of o (seen k h header before w)) (part name tag text below)) step refl later)
-    go false f true g later =
-        let one : after_element k (state_of o (seen k h header before w)) (composite name tag text below) ≡ state_of o (seen k h header before w) = rw g refl in
-        let step : after_lines k (state_of o (seen k h header before w)) (part name tag text below) ≡ state_of o (seen k h header before w) =
-        lines_tell k tell (state_of o (seen k h header before w)) name tag text below ∙ one in
-        rw (f, g)
-        (passed k o h header before rest (after_lines k (state_of o (seen k h header before w)) (part name tag text below)) (state_of o (seen k h header before w))
-        (after_products (terms o h header) w (products_in rest)) step (later w))
-    go false f false g later = rw (f, g) (later w)
+        rw (other, f)
+        (passed k o h header before rest (after_lines k (state_of o (seen k h header before w)) (part name tag text below)) (state_of o (seen k h header before (defined.after_product (terms o h header) w (composite name tag text below))))
+        (first_refusal o true rest) (after_products (terms o h header) (defined.after_product (terms o h header) w (composite name tag text below)) (products_in rest)) step (later (defined.after_product (terms o h header) w (composite name tag text below))))
+    go false f true g y i later =
+        let one : (after_element k (state_of o (seen k h header before w)) (composite name tag text below)).stage ≡ refused (why.SecondHeader tag.place) = rw g refl in
+        let step : (after_lines k (state_of o (seen k h header before w)) (part name tag text below)).stage ≡ refused (why.SecondHeader tag.place) =
+        ap (λ (s : State P N). s.stage) (lines_tell k tell (state_of o (seen k h header before w)) name tag text below) ∙ one in
+        rw (f, g) (refused_stays k tell (after_lines k (state_of o (seen k h header before w)) (part name tag text below)) (why.SecondHeader tag.place) rest step)
+    go false f false g true i later =
+        let one : (after_element k (state_of o (seen k h header before w)) (composite name tag text below)).stage ≡ refused (why.OtherNamespace tag.place) = rw (g, f, i) refl in
+        let step : (after_lines k (state_of o (seen k h header before w)) (part name tag text below)).stage ≡ refused (why.OtherNamespace tag.place) =
+        ap (λ (s : State P N). s.stage) (lines_tell k tell (state_of o (seen k h header before w)) name tag text below) ∙ one in
+        rw (f, g, i) (refused_stays k tell (after_lines k (state_of o (seen k h header before w)) (part name tag text below)) (why.OtherNamespace tag.place) rest step)
+    go false f false g false i later = rw (f, g, i) (later w)
 
 -- ---- the whole message
-
-finished_is : {P N : Type 0} (k : Keeping P N) (o : Options) (h : Heading) (header : Nodes) (before : Taken P N) (s : State P N) (r : Result Work Rejection) → IsState k o h header before s r
-    → finished k s ≡ result_map (behind k before) (r >>= λ work. defined.ended (terms o h header) work)
-finished_is k o h header before s (Ok w) is = ap (finished k) is ∙ ended_is k o h header before w
-finished_is k o h header before s (Err e) is = ap (λ (stage : Stage). run.finished_at k stage s) is
 
 abbrev pub start : {P N : Type 0} → Options → Taken P N → State P N
 start o before = first_state o before.parts before.notes
@@ -136,6 +134,7 @@ begun_at o h header number before = state_of o (held (record {
   count = 1;
   text = records_text ((codes "Message" ∷ message_fields h.sender h.addressee (decimal number) header) ∷ []);
   beyond = None;
+  tally = no_tally;
 }) before.parts before.notes)
 
 begun_is : {P N : Type 0} (k : Keeping P N) (o : Options) (h : Heading) (header : Nodes) (before : Taken P N) → at_stage (start o before) (within (run.first_begun h header)) ≡ state_of o (seen k h header before no_work)
@@ -143,39 +142,89 @@ begun_is k o h header before =
     let number : h.number ≡ h.number + 0 = omega arith in
     ap (λ (n : ℕ). begun_at o h header n before) number
 
+-- what comes of elements where this refuses them, or nothing does
+came : {P N : Type 0} (k : Keeping P N) (o : Options) (h : Heading) (header : Nodes) (before : Taken P N) (s : State P N) (r : Option Rejection) (w : Work) → IsAt k o h header before s r w
+    → (whole : Option Rejection → Result Converted Rejection) → ((e : Rejection) → whole (Some e) ≡ Err e) → whole None ≡ defined.ended (terms o h header) w
+    → finished k s ≡ result_map (behind k before) (whole r)
+came {P} {N} k o h header before s (Some e) w is whole some none = ap (λ (stage : Stage). run.finished_at k stage s) is ∙ ap (result_map (behind k before)) (sym (some e))
+came {P} {N} k o h header before s None w is whole some none = ap (finished k) is ∙ ended_is k o h header before w ∙ ap (result_map (behind k before)) (sym none)
+
+-- a message that is refused at once
+refused_here : {P N : Type 0} (k : Keeping P N) → Tell → (rest : Nodes) (t : State P N) (e : Rejection) → t.stage ≡ refused e → finished k (fold (after_lines k) t (parts_of rest)) ≡ Err e
+refused_here k tell rest t e is = ap (λ (stage : Stage). run.finished_at k stage (fold (after_lines k) t (parts_of rest))) (refused_stays k tell t e rest is)
+
+-- what comes of a Header with these elements behind it
+abbrev headed_by : Options → Composite → Nodes → Result Heading Refusal → Option Rejection
+headed_by o c rest heading = option_or (option_map (λ refusal. why.Header refusal (place_of c)) (result_err heading)) (first_refusal o true rest)
+
+abbrev whole_by : Options → List Composite → Composite → Result Heading Refusal → Option Rejection → Result Converted Rejection
+whole_by o products c heading (Some e) = Err e
+whole_by o products c heading None = by_heading o products c heading
+
 headed : {P N : Type 0} (k : Keeping P N) → Tell → (o : Options) (before : Taken P N) (c : Composite) (rest : Nodes) (heading : Result Heading Refusal) (t : State P N) → t ≡ at_stage (start o before) (begun_by c heading)
-    → finished k (fold (after_lines k) t (parts_of rest)) ≡ result_map (behind k before) (by_heading o (products_in rest) c heading)
-headed {P} {N} k tell o before c rest (Err refusal) t is =
-    ap (λ (stage : Stage). run.finished_at k stage (fold (after_lines k) t (parts_of rest)))
-    (refused_stays k tell t (why.Header refusal (place_of c)) rest (ap (λ (u : State P N). u.stage) is))
+    → finished k (fold (after_lines k) t (parts_of rest)) ≡ result_map (behind k before) (whole_by o (products_in rest) c heading (headed_by o c rest heading))
+headed {P} {N} k tell o before c rest (Err refusal) t is = refused_here k tell rest t (why.Header refusal (place_of c)) (ap (λ (u : State P N). u.stage) is)
 headed {P} {N} k tell o before c rest (Ok h) t is =
     ap (λ (u : State P N). finished k (fold (after_lines k) u (parts_of rest))) (is ∙ begun_is k o h c.below before)
-    ∙ finished_is k o h c.below before (fold (after_lines k) (state_of o (seen k h c.below before no_work)) (parts_of rest)) (after_products (terms o h c.below) no_work (products_in rest))
-    (products_are k tell o h c.below before rest no_work)
+    ∙ came k o h c.below before (fold (after_lines k) (state_of o (seen k h c.below before no_work)) (parts_of rest)) (first_refusal o true rest) (after_products (terms o h c.below) no_work (products_in rest))
+    (products_are k tell o h c.below before rest no_work) (whole_by o (products_in rest) c (Ok h)) (λ e. refl) refl
+
+whole_is : (o : Options) (nodes : Nodes) (c : Composite) (products : List Composite) → products_in nodes ≡ products → header_in nodes ≡ Some c → (r : Option Rejection)
+    → by_refusal o nodes r ≡ whole_by o products c (heading_in o.choices c.below) r
+whole_is o nodes c products ps hs (Some e) = refl
+whole_is o nodes c products ps hs None = rw (ps, hs) refl
+
+passed_over : (o : Options) (name : List ℕ) (tag : Tag) (text : List ℕ) (below rest : Nodes) → bytes_eq name (codes "Product") ≡ false → bytes_eq name (codes "Header") ≡ false → bytes_eq name stranger ≡ false
+    → conversion o (node name tag text below rest) ≡ conversion o rest
+passed_over o name tag text below rest f g i =
+    let refusal : first_refusal o false (node name tag text below rest) ≡ first_refusal o false rest = rw (g, f, i) refl in
+    ap (by_refusal o (node name tag text below rest)) refusal ∙ go (first_refusal o false rest)
+  where
+    go : (r : Option Rejection) → by_refusal o (node name tag text below rest) r ≡ by_refusal o rest r
+    go (Some e) = refl
+    go None = rw (f, g) refl
 
 pub conversion_is : {P N : Type 0} (k : Keeping P N) → Tell → (o : Options) (before : Taken P N) (nodes : Nodes)
     → finished k (fold (after_lines k) (start o before) (parts_of nodes)) ≡ result_map (behind k before) (conversion o nodes)
 conversion_is k tell o before no_nodes = refl
 conversion_is {P} {N} k tell o before (node name tag text below rest) =
-    go (bytes_eq name (codes "Product")) refl (bytes_eq name (codes "Header")) refl (conversion_is k tell o before rest)
+    go (bytes_eq name (codes "Product")) refl (bytes_eq name (codes "Header")) refl (bytes_eq name stranger) refl (has_stranger below) refl (conversion_is k tell o before rest)
   where
-    go : (p : Bool) → bytes_eq name (codes "Product") ≡ p → (x : Bool) → bytes_eq name (codes "Header") ≡ x
+    go : (p : Bool) → bytes_eq name (codes "Product") ≡ p → (x : Bool) → bytes_eq name (codes "Header") ≡ x → (y : Bool) → bytes_eq name stranger ≡ y → (z : Bool) → has_stranger below ≡ z
         → finished k (fold (after_lines k) (start o before) (parts_of rest)) ≡ result_map (behind k before) (conversion o rest)
         → finished k (fold (after_lines k) (start o before) (parts_of (node name tag text below rest))) ≡ result_map (behind k before) (conversion o (node name tag text below rest))
-    go true f x g later =
+    go true f x g y i z j later =
         let other : bytes_eq name (codes "Header") ≡ false = apart name f in
-        let one : after_element k (start o before) (composite name tag text below) ≡ at_stage (start o before) (refused (why.NoHeader (Some tag.place))) = rw (other, f) refl in
-        let step : after_lines k (start o before) (part name tag text below) ≡ at_stage (start o before) (refused (why.NoHeader (Some tag.place))) =
-        lines_tell k tell (start o before) name tag text below ∙ one in
-        rw (f, other)
-        (ap (λ (stage : Stage). run.finished_at k stage (fold (after_lines k) (after_lines k (start o before) (part name tag text below)) (parts_of rest)))
-        (refused_stays k tell (after_lines k (start o before) (part name tag text below)) (why.NoHeader (Some tag.place)) rest (ap (λ (u : State P N). u.stage) step)))
-    go false f true g later =
+        let one : (after_element k (start o before) (composite name tag text below)).stage ≡ refused (why.NoHeader (Some tag.place)) = rw (other, f) refl in
+        let step : (after_lines k (start o before) (part name tag text below)).stage ≡ refused (why.NoHeader (Some tag.place)) =
+        ap (λ (s : State P N). s.stage) (lines_tell k tell (start o before) name tag text below) ∙ one in
+        rw (other, f) (refused_here k tell rest (after_lines k (start o before) (part name tag text below)) (why.NoHeader (Some tag.place)) step)
+    go false f true g y i true j later =
+        let one : (after_element k (start o before) (composite name tag text below)).stage ≡ refused (why.OtherNamespace tag.place) = rw (g, j) refl in
+        let step : (after_lines k (start o before) (part name tag text below)).stage ≡ refused (why.OtherNamespace tag.place) =
+        ap (λ (s : State P N). s.stage) (lines_tell k tell (start o before) name tag text below) ∙ one in
+        rw (f, g, j) (refused_here k tell rest (after_lines k (start o before) (part name tag text below)) (why.OtherNamespace tag.place) step)
+    go false f true g y i false j later =
+        let c = composite name tag text below in
         let one : after_element k (start o before) (composite name tag text below)
-        ≡ at_stage (start o before) (begun_by (composite name tag text below) (heading_in o.choices below)) = rw g refl in
+        ≡ at_stage (start o before) (begun_by (composite name tag text below) (heading_in o.choices below)) = rw (g, j) refl in
         let step : after_lines k (start o before) (part name tag text below)
         ≡ at_stage (start o before) (begun_by (composite name tag text below) (heading_in o.choices below)) =
         lines_tell k tell (start o before) name tag text below ∙ one in
-        rw (f, g)
-        (headed k tell o before (composite name tag text below) rest (heading_in o.choices below) (after_lines k (start o before) (part name tag text below)) step)
-    go false f false g later = rw (f, g) later
+        let products : products_in (node name tag text below rest) ≡ products_in rest = rw f refl in
+        let first : header_in (node name tag text below rest) ≡ Some (composite name tag text below) = rw g refl in
+        let refusal : first_refusal o false (node name tag text below rest) ≡ headed_by o (composite name tag text below) rest (heading_in o.choices below) = rw (g, j) refl in
+        let defined_is : conversion o (node name tag text below rest) ≡ whole_by o (products_in rest) (composite name tag text below) (heading_in o.choices below) (headed_by o (composite name tag text below) rest (heading_in o.choices below)) =
+        ap (by_refusal o (node name tag text below rest)) refusal ∙ whole_is o (node name tag text below rest) (composite name tag text below) (products_in rest) products first (headed_by o (composite name tag text below) rest (heading_in o.choices below)) in
+        let run_is : finished k (fold (after_lines k) (start o before) (parts_of (node name tag text below rest))) ≡ finished k (fold (after_lines k) (after_lines k (start o before) (part name tag text below)) (parts_of rest)) = rw (f, g) refl in
+        run_is ∙ headed k tell o before (composite name tag text below) rest (heading_in o.choices below) (after_lines k (start o before) (part name tag text below)) step
+        ∙ ap (result_map (behind k before)) (sym defined_is)
+    go false f false g true i z j later =
+        let one : (after_element k (start o before) (composite name tag text below)).stage ≡ refused (why.OtherNamespace tag.place) = rw (g, f, i) refl in
+        let step : (after_lines k (start o before) (part name tag text below)).stage ≡ refused (why.OtherNamespace tag.place) =
+        ap (λ (s : State P N). s.stage) (lines_tell k tell (start o before) name tag text below) ∙ one in
+        rw (f, g, i) (refused_here k tell rest (after_lines k (start o before) (part name tag text below)) (why.OtherNamespace tag.place) step)
+    go false f false g false i z j later =
+        let same : conversion o (node name tag text below rest) ≡ conversion o rest = passed_over o name tag text below rest f g i in
+        let run_is : finished k (fold (after_lines k) (start o before) (parts_of (node name tag text below rest))) ≡ finished k (fold (after_lines k) (start o before) (parts_of rest)) = rw (f, g, i) refl in
+        run_is ∙ later ∙ ap (result_map (behind k before)) (sym same)

@@ -1,12 +1,12 @@
--- The desk takes each part of a message.
-use Rattle.std.proofs.Common.{◌≡◌, ◌≤◌, ◌<◌, ℕ, zero, suc, ◌+◌, ◌-◌, Bool, true, false, ltb, subst, List, [], ◌∷◌, ◌++◌, map, length, length-append, refl, sym, ap, ◌∙◌, arith}
+-- What has come of a message, and that the desk takes each part of it.
+use Rattle.std.proofs.Common.{◌≡◌, ◌≤◌, ◌<◌, ℕ, zero, suc, ◌+◌, ◌-◌, true, false, subst, List, [], ◌∷◌, ◌++◌, map, length, refl, sym, ap, ◌∙◌, arith, inl, inr}
 use Rattle.std.specs.Prelude.{Option, Some, None, Result, Ok, Err, nat_le}
-use Rattle.std.specs.List.{list_all}
+use Rattle.std.specs.List.{AllByRecursion, flat_map, list_all}
 use Rattle.std.specs.Str.{is_utf8}
 use Rattle.std.proofs.lemmas.Bool.{and_parts, leb-true, ltb-true}
+use Rattle.std.proofs.lemmas.List.{map-append}
 use Rattle.csv.specs.Reading.{strip_bom}
 use Rattle.csv_records.specs.RecordTexts.{AllFilled, limit, records_of, records_text}
-use Rattle.xml_text.specs.declared.position.Position.{Position}
 use Rattle.onix_outline.specs.Nodes.{Nodes}
 use Rattle.onix_message.specs.Grammar.{IsMessage, most_records}
 use Rattle.onix_message.specs.Opening.{opening_of}
@@ -15,22 +15,19 @@ use Rattle.onix_message.specs.declared.parts.Product.{Product}
 use Rattle.onix_message.specs.declared.row.Opening.{Opening}
 use Rattle.onix_mapping.specs.Elements.{Composite}
 use Rattle.onix_mapping.specs.Header.{Choices, Heading, heading_in}
-use Rattle.onix_mapping.specs.Notes.{note}
-use Rattle.onix_mapping.specs.ProductRecords.{all_notes, product_records}
-use Rattle.onix_mapping.specs.Products.{reference_in}
-use Rattle.onix_mapping.specs.Rows.{AreProducts, message_records, numbered, part_record, with_number}
+use Rattle.onix_mapping.specs.ProductRecords.{Form, forms}
+use Rattle.onix_mapping.specs.Rows.{AreOf, AreProducts, message_records, numbered, part_record, references_of, with_number}
 use Rattle.onix_mapping.specs.declared.header.Refusal.{Refusal}
-use Rattle.onix_mapping.specs.declared.notes.Why.{Why}
-use Rattle.onix_mapping.specs.declared.notes.Why.TheVariants.{ProductTooLarge, WrongProduct}
+use Rattle.onix_conversion.specs.Conversion.{Options, by_header, by_heading, by_refusal, conversion, first_refusal, header_in, products_in, terms}
 use Rattle.onix_conversion.specs.declared.rejection.Rejection.{Rejection}
-use Rattle.onix_conversion.specs.Conversion.{Options, by_heading, conversion, header_in, packed_products, products_in, terms}
 use Rattle.onix_conversion.specs.Messages.{empty_messages, fits, message, message_text}
-use Rattle.onix_conversion.specs.Packing.{Converted, Terms, Work, after_product, after_products, all_written, converted, ended_at, joined, no_work, noted, place_of, settled, turned, with_records, written}
-use Rattle.onix_conversion.specs.Taken.{AreTaken, IsTaken, PartsAreTaken}
+use Rattle.onix_conversion.specs.Packing.{Converted, Terms, Work, after_products, all_written, converted, no_work}
+use Rattle.onix_conversion.specs.Parts.{AreFit, AreParts, Fate, IsFirst, IsRight, Placed, part_texts, placed_by, placed_records, references_in, standing}
+use Rattle.onix_conversion.specs.Taken.{AreTaken, IsTaken}
 use Rattle.onix_conversion.proofs.FirstRecords.{empty_fits, filled_message, no_mark}
-use Rattle.onix_conversion.proofs.PartLaws.{beyond_none, made_of, part_there, value, walk}
-use Rattle.onix_conversion.proofs.Utf8Records.{first_utf8, message_utf8, product_utf8}
-use Rattle.onix_conversion.proofs.Utf8Texts.{are_utf8, joined_utf8, text_utf8}
+use Rattle.onix_conversion.proofs.PartLaws.{Holds, ended_ok, part_there, walk, written_count, written_texts}
+use Rattle.onix_conversion.proofs.Utf8Records.{first_utf8, message_utf8}
+use Rattle.onix_conversion.proofs.Utf8Texts.{text_utf8}
 
 -- ---- what other laws say
 
@@ -39,8 +36,7 @@ pub record Laws : Type 0 where
   pub opening : (c : Choices) (header : Nodes) (h : Heading) → heading_in c header ≡ Ok h → (before : ℕ) → before < c.parts
       → opening_of (part_record h header before) ≡ Some (numbered (h.number + before) h.opening)
   pub rows : (n : ℕ) (o : Opening) (fields : List (List ℕ)) → row_of (numbered n o) fields ≡ row_of o fields
-  pub one : (o : Opening) (preferred : List ℕ) (nodes : Nodes) (records : List (List (List ℕ))) → product_records o preferred nodes ≡ Some records
-      → (p : Product) × (p.reference ≡ reference_in nodes) × AreProducts o records (p ∷ [])
+  pub one : (o : Opening) (preferred : List ℕ) (c : Composite) → AllByRecursion (λ f. AreOf o f.records (references_of c.below)) (forms o preferred c)
   pub none : (o : Opening) → AreProducts o [] []
   pub joined : (o : Opening) (a b : List (List (List ℕ))) (c d : List Product) → AreProducts o a c → AreProducts o b d → AreProducts o (a ++ b) (c ++ d)
   pub message : (o : Opening) (first : List (List ℕ)) (records : List (List (List ℕ))) (products : List Product) → opening_of first ≡ Some o → AreProducts o records products
@@ -60,146 +56,106 @@ same_rows l n o [] = refl
 same_rows l n o (r ∷ records) =
     ap (λ x. x ∷ map (row_of (numbered n o)) records) (l.rows n o r) ∙ ap (λ xs. row_of o r ∷ xs) (same_rows l n o records)
 
-part_taken : (l : Laws) (t : Terms) (number : ℕ) → Firsts t number → (k : ℕ) → k < t.most → (records : List (List (List ℕ))) (products : List Product) → AreProducts t.opening records products
-    → are_utf8 records ≡ true → fits (t.first k) records ≡ true → IsTaken (number + k) (message_text (t.first k) records)
+part_taken : (l : Laws) (t : Terms) (number : ℕ) → Firsts t number → (k : ℕ) → k < t.most → (records : List (List (List ℕ))) (references : List (List ℕ)) → AreOf t.opening records references
+    → fits (t.first k) records ≡ true → IsTaken (number + k) (message_text (t.first k) records) references
 unfolding fits
-part_taken l t number f k less records products are utf8 room =
+part_taken l t number f k less records references (products, named, are) room =
     let p = and_parts (nat_le (length (message (t.first k) records)) most_records) (nat_le (length (message_text (t.first k) records)) limit) room in
     let few = leb-true (length (message (t.first k) records)) most_records p.0 in
-    let here : AreProducts (numbered (number + k) t.opening) records products = record { reads = same_rows l (number + k) t.opening records ∙ are.reads; details = are.details } in
+    let here : AreProducts (numbered (number + k) t.opening) records products = record { reads = same_rows l (number + k) t.opening records ∙ are.reads; details = are.details; utf8 = are.utf8 } in
     let header = with_number (number + k) t.opening.header in
     let is : IsMessage (message (t.first k) records) header products = l.message (numbered (number + k) t.opening) (t.first k) records products (f.says k less) here few in
     let same : records_of (message_text (t.first k) records) ≡ message (t.first k) records =
     l.read (message (t.first k) records) (filled_message (message (t.first k) records) header products is) (f.no_mark k _) in
     record {
-      utf8 = text_utf8 (message (t.first k) records) (message_utf8 (t.first k) records (f.utf8 k less) utf8 few);
+      utf8 = text_utf8 (message (t.first k) records) (message_utf8 (t.first k) records (f.utf8 k less) are.utf8 few);
       within = leb-true (length (message_text (t.first k) records)) limit p.1;
       header = header;
       products = products;
       message = subst (λ (rs : List (List (List ℕ))). IsMessage rs header products) (sym same) is;
       numbered = refl;
+      named = named;
     }
 
 -- ---- several
 
-taken_at : (n m : ℕ) (texts : List (List ℕ)) → n ≡ m → AreTaken n texts → AreTaken m texts
-taken_at n m texts same are = subst (λ (k : ℕ). AreTaken k texts) same are
+taken_at : (n m : ℕ) (texts : List (List ℕ)) (references : List (List (List ℕ))) → n ≡ m → AreTaken n texts references → AreTaken m texts references
+taken_at n m texts references same are = subst (λ (k : ℕ). AreTaken k texts references) same are
 
-taken_append : (n : ℕ) (xs ys : List (List ℕ)) → AreTaken n xs → AreTaken (n + length xs) ys → AreTaken n (xs ++ ys)
-taken_append n [] ys a b = taken_at (n + 0) n ys (omega arith) b
-taken_append n (x ∷ xs) ys a b = (a.0, taken_append (suc n) xs ys a.1 (taken_at (n + length (x ∷ xs)) (suc n + length xs) ys (omega arith) b))
-
-empty_taken : (l : Laws) (t : Terms) (number : ℕ) → Firsts t number → (k more : ℕ) → k + more ≤ t.most → AreTaken (number + k) (empty_messages t.first k more)
+empty_taken : (l : Laws) (t : Terms) (number : ℕ) → Firsts t number → (k more : ℕ) → k + more ≤ t.most → AreTaken (number + k) (empty_messages t.first k more) []
 empty_taken l t number f k zero low = tt
 empty_taken l t number f k (suc more) low =
     let less : k < t.most = omega (arith, low) in (
-      part_taken l t number f k less [] [] (l.none t.opening) refl (f.fits_alone k less),
-      taken_at (number + suc k) (suc (number + k)) (empty_messages t.first (suc k) more) (omega arith) (empty_taken l t number f (suc k) more (omega (arith, low))),
+      part_taken l t number f k less [] [] ([], refl, l.none t.opening) (f.fits_alone k less),
+      taken_at (number + suc k) (suc (number + k)) (empty_messages t.first (suc k) more) [] (omega arith) (empty_taken l t number f (suc k) more (omega (arith, low))),
     )
 
--- ---- one product
+-- products in parts, each of which is the rows of its own
+abbrev IsOwn : Terms → Placed → Type 0
+IsOwn t p = AreOf t.opening p.form.records (references_of p.product.below)
 
--- the desk takes the parts of this work that are full, and the one that was begun with its end
-pub record Sound (t : Terms) (number : ℕ) (w : Work) : Type 0 where
-  pub more : ltb w.full t.most ≡ true
-  pub taken : AreTaken number w.parts
-  pub count : length w.parts ≡ w.full
-  pub products : List Product
-  pub are : AreProducts t.opening w.begun products
-  pub utf8 : are_utf8 w.begun ≡ true
-  pub room : fits (t.first w.full) w.begun ≡ true
+all_append : {A : Type 0} (P : A → Type 0) (xs ys : List A) → AllByRecursion P xs → AllByRecursion P ys → AllByRecursion P (xs ++ ys)
+all_append P [] ys f g = g
+all_append P (x ∷ xs) ys f g = (f.0, all_append P xs ys f.1 g)
 
-written_is : (t : Terms) (number : ℕ) (w : Work) → Sound t number w → written t w ≡ w.parts ++ message_text (t.first w.full) w.begun ∷ []
-written_is t number w s = rw s.more refl
+all_front : {A : Type 0} (P : A → Type 0) (xs ys : List A) → AllByRecursion P (xs ++ ys) → AllByRecursion P xs
+all_front P [] ys f = tt
+all_front P (x ∷ xs) ys f = (f.0, all_front P xs ys f.1)
 
-written_taken : (l : Laws) (t : Terms) (number : ℕ) → Firsts t number → (w : Work) → Sound t number w → AreTaken number (written t w)
-written_taken l t number f w s =
-    let text = message_text (t.first w.full) w.begun in
-    let one : AreTaken (number + w.full) (text ∷ []) = (part_taken l t number f w.full (ltb-true w.full t.most s.more) w.begun s.products s.are s.utf8 s.room, tt) in
-    subst (λ (ts : List (List ℕ)). AreTaken number ts) (sym (written_is t number w s))
-    (taken_append number w.parts (text ∷ []) s.taken (taken_at (number + w.full) (number + length w.parts) (text ∷ []) (ap (λ (n : ℕ). number + n) (sym s.count)) one))
+all_back : {A : Type 0} (P : A → Type 0) (xs ys : List A) → AllByRecursion P (xs ++ ys) → AllByRecursion P ys
+all_back P [] ys f = f
+all_back P (x ∷ xs) ys f = all_back P xs ys f.1
 
-written_count : (t : Terms) (number : ℕ) (w : Work) → Sound t number w → length (written t w) ≡ w.full + 1
-written_count t number w s =
-    ap length (written_is t number w s) ∙ length-append w.parts (message_text (t.first w.full) w.begun ∷ []) ∙ ap (λ (n : ℕ). n + 1) s.count
-
-moved : (t : Terms) (number : ℕ) (u v : Work) → u ≡ v → Sound t number u → Sound t number v
-moved t number u v is s = subst (λ (x : Work). Sound t number x) is s
-
-left_sound : (t : Terms) (number : ℕ) (w v : Work) (c : Composite) (wrong : Why) (lenient : Bool) → t.lenient ≡ lenient → settled t w c (Err wrong) ≡ Ok v → Sound t number w → Sound t number v
-left_sound t number w v c wrong true e is s =
-    let now : Ok (noted (reference_in c.below) (note c.element wrong [] ∷ []) w) ≡ Ok v = rw e at is in
-    moved t number (noted (reference_in c.below) (note c.element wrong [] ∷ []) w) v (ap (value w) now)
-    (record { more = s.more; taken = s.taken; count = s.count; products = s.products; are = s.are; utf8 = s.utf8; room = s.room })
-left_sound t number w v c wrong false e is s = let no = rw e at is in absurd cc
-
-step_sound : (l : Laws) (t : Terms) (number : ℕ) → Firsts t number → (w : Work) (c : Composite) (v : Work) (made : Option (List (List (List ℕ)))) → made_of t c ≡ made
-    → settled t w c (with_records t w (place_of c) made) ≡ Ok v → v.beyond ≡ None → Sound t number w → Sound t number v
-step_sound l t number f w c v None m e none s = left_sound t number w v c WrongProduct t.lenient refl e s
-step_sound l t number f w c v (Some records) m e none s = go (fits (t.first w.full) (w.begun ++ records)) refl (fits (t.first (w.full + 1)) records) refl
+-- a form of a product is one of its forms
+first_own : (t : Terms) (before : ℕ) (f : Form) (fs : List Form) (P : Form → Type 0) → IsFirst t before (Some f) fs → AllByRecursion P fs → P f
+first_own t before f [] P is all = absurd cc
+first_own t before f (g ∷ fs) P (inl same) all = subst P (sym (ap (found f) same)) all.0
   where
-    is_one : (p : Product) × (p.reference ≡ reference_in c.below) × AreProducts t.opening records (p ∷ [])
-    is_one = l.one t.opening t.preferred c.below records m
+    found : Form → Option Form → Form
+    found other None = other
+    found other (Some x) = x
+first_own t before f (g ∷ fs) P (inr rest) all = first_own t before f fs P rest.1 all.1
 
-    own : are_utf8 records ≡ true
-    own = product_utf8 t.opening t.preferred c.below records m
+fate_own : (l : Laws) (t : Terms) (c : Composite) (written : Option Form) (before : ℕ) → IsFirst t before written (forms t.opening t.preferred c) → AllByRecursion (IsOwn t) (placed_by written c)
+fate_own l t c None before is = tt
+fate_own l t c (Some f) before is = (first_own t before f (forms t.opening t.preferred c) (λ g. AreOf t.opening g.records (references_of c.below)) is (l.one t.opening t.preferred c), tt)
 
-    go : (a : Bool) → fits (t.first w.full) (w.begun ++ records) ≡ a → (b : Bool) → fits (t.first (w.full + 1)) records ≡ b → Sound t number v
-    go true here b next =
-        let after = noted (reference_in c.below) (all_notes t.opening t.preferred c) (joined w records) in
-        let now : Ok after ≡ Ok v = rw here at e in
-        moved t number after v (ap (value w) now)
-        (record {
-          more = s.more;
-          taken = s.taken;
-          count = s.count;
-          products = s.products ++ is_one.0 ∷ [];
-          are = l.joined t.opening w.begun records s.products (is_one.0 ∷ []) s.are is_one.2;
-          utf8 = joined_utf8 w.begun records s.utf8 own;
-          room = here;
-        })
-    go false here true next =
-        let after = noted (reference_in c.below) (all_notes t.opening t.preferred c) (turned t w (place_of c) records) in
-        let now : Ok after ≡ Ok v = rw (here, next) at e in
-        let is : after ≡ v = ap (value w) now in
-        moved t number after v is
-        (record {
-          more = (beyond_none t.most (w.full + 1) w.beyond (place_of c) (ap (λ (u : Work). u.beyond) is ∙ none)).1;
-          taken = written_taken l t number f w s;
-          count = written_count t number w s;
-          products = is_one.0 ∷ [];
-          are = is_one.2;
-          utf8 = own;
-          room = next;
-        })
-    go false here false next =
-        let now : settled t w c (Err ProductTooLarge) ≡ Ok v = rw (here, next) at e in left_sound t number w v c ProductTooLarge t.lenient refl now s
+fates_own : (l : Laws) (t : Terms) (fates : List Fate) → AllByRecursion (IsRight t) fates → AllByRecursion (IsOwn t) (flat_map standing fates)
+fates_own l t [] right = tt
+fates_own l t (f ∷ fates) right = all_append (IsOwn t) (standing f) (flat_map standing fates) (fate_own l t f.product f.written right.0.0 right.0.1) (fates_own l t fates right.1)
 
--- ---- all products
+-- the products of a part are the rows of its records
+part_own : (l : Laws) (t : Terms) (part : List Placed) → AllByRecursion (IsOwn t) part → AreOf t.opening (placed_records part) (references_in part)
+part_own l t [] own = ([], refl, l.none t.opening)
+part_own l t (p ∷ part) own =
+    let (ps, named, are) = own.0 in
+    let (qs, others, rest) = part_own l t part own.1 in (
+      ps ++ qs,
+      map-append (λ (q : Product). q.reference) ps qs ∙ ap (λ (k : List (List ℕ)). k ++ map (λ (q : Product). q.reference) qs) named
+          ∙ ap (λ (k : List (List ℕ)). references_of p.product.below ++ k) others,
+      l.joined t.opening p.form.records (placed_records part) ps qs are rest,
+    )
 
-all_sound : (l : Laws) (t : Terms) (number : ℕ) → Firsts t number → (cs : List Composite) (w z : Work) → after_products t w cs ≡ Ok z → z.beyond ≡ None → Sound t number w → Sound t number z
-all_sound l t number f [] w z e none s = moved t number w z (ap (value w) e) s
-all_sound l t number f (c ∷ cs) w z e none s = go (after_product t w c) refl (λ v now. all_sound l t number f cs v z now none)
-  where
-    go : (r : Result Work Rejection) → after_product t w c ≡ r → ((v : Work) → after_products t v cs ≡ Ok z → Sound t number v → Sound t number z) → Sound t number z
-    go (Err rejection) is later = let no = rw is at e in absurd cc
-    go (Ok v) is later =
-        let now : after_products t v cs ≡ Ok z = rw is at e in
-        later v now (step_sound l t number f w c v (made_of t c) refl is (walk t cs v z now none).none s)
-
-all_taken : (l : Laws) (t : Terms) (number : ℕ) → Firsts t number → (z : Work) → Sound t number z → AreTaken number (all_written t z)
-all_taken l t number f z s =
-    let less = ltb-true z.full t.most s.more in
-    let left = empty_messages t.first (z.full + 1) (t.most - (z.full + 1)) in
-    let rest : AreTaken (number + (z.full + 1)) left = empty_taken l t number f (z.full + 1) (t.most - (z.full + 1)) (omega (arith, less)) in
-    taken_append number (written t z) left (written_taken l t number f z s)
-    (taken_at (number + (z.full + 1)) (number + length (written t z)) left (ap (λ (n : ℕ). number + n) (sym (written_count t number z s))) rest)
+parts_taken_from : (l : Laws) (t : Terms) (number : ℕ) → Firsts t number → (k : ℕ) (parts : List (List Placed)) → k + length parts ≤ t.most → AllByRecursion (IsOwn t) (flat_map (λ p. p) parts)
+    → AreFit t k parts → AreTaken (number + k) (part_texts t k parts ++ empty_messages t.first (k + length parts) (t.most - (k + length parts))) (map references_in parts)
+parts_taken_from l t number f k [] low own fit =
+    taken_at (number + (k + 0)) (number + k) (empty_messages t.first (k + 0) (t.most - (k + 0))) [] (omega arith)
+    (empty_taken l t number f (k + 0) (t.most - (k + 0)) (omega (arith, low)))
+parts_taken_from l t number f k (p ∷ parts) low own fit =
+    let less : k < t.most = omega (arith, low) in
+    let here : k + 1 + length parts ≡ k + length (p ∷ parts) = omega arith in
+    let rest = parts_taken_from l t number f (k + 1) parts (omega (arith, low)) (all_back (IsOwn t) p (flat_map (λ q. q) parts) own) fit.1 in (
+      part_taken l t number f k less (placed_records p) (references_in p) (part_own l t p (all_front (IsOwn t) p (flat_map (λ q. q) parts) own)) fit.0,
+      taken_at (number + (k + 1)) (suc (number + k)) (part_texts t (k + 1) parts ++ empty_messages t.first (k + length (p ∷ parts)) (t.most - (k + length (p ∷ parts)))) (map references_in parts) (omega arith)
+          (subst (λ (n : ℕ). AreTaken (number + (k + 1)) (part_texts t (k + 1) parts ++ empty_messages t.first n (t.most - n)) (map references_in parts)) here rest),
+    )
 
 -- ---- the whole message
 
-whole : (l : Laws) (o : Options) (nodes : Nodes) (made : Converted) (header : Composite) (h : Heading) (z : Work) → header_in nodes ≡ Some header → heading_in o.choices header.below ≡ Ok h
-    → after_products (terms o h header.below) no_work (products_in nodes) ≡ Ok z → z.beyond ≡ None → converted (all_written (terms o h header.below) z) z.notes ≡ made → PartsAreTaken o nodes made
-whole l o nodes made header h z counts says e none is =
+whole : (l : Laws) (o : Options) (nodes : Nodes) (made : Converted) (header : Composite) (h : Heading) → header_in nodes ≡ Some header → heading_in o.choices header.below ≡ Ok h
+    → (z : Work) → after_products (terms o h header.below) no_work (products_in nodes) ≡ z → z.beyond ≡ None
+    → converted (all_written (terms o h header.below) z) z.notes z.tally.wrong ≡ made → AreParts o nodes made
+whole l o nodes made header h counts says z walked none is =
     let t = terms o h header.below in
     let firsts : Firsts t h.number = record {
       says = l.opening o.choices header.below h says;
@@ -208,41 +164,63 @@ whole l o nodes made header h z counts says e none is =
       no_mark = no_mark h header.below;
     } in
     let there = part_there o.choices header.below h says in
-    let start : Sound t h.number no_work = record {
+    let start : Holds t no_work [] = record {
       more = there;
-      taken = tt;
+      parts = [];
+      texts = refl;
       count = refl;
-      products = [];
-      are = l.none h.opening;
-      utf8 = refl;
-      room = firsts.fits_alone 0 (ltb-true 0 o.choices.parts there);
-    } in record {
+      begun = [];
+      records = refl;
+      stand = refl;
+      full = tt;
+      fit = (firsts.fits_alone 0 (ltb-true 0 o.choices.parts there), tt);
+      notes = refl;
+      right = tt;
+    } in
+    let all = (walk t (products_in nodes) no_work (ap (λ (w : Work). w.beyond) walked ∙ none)).holds [] start in
+    let held : Holds t z all.0 = subst (λ (w : Work). Holds t w all.0) walked all.2 in
+    let parts = held.parts ++ held.begun ∷ [] in
+    let count : length parts ≡ z.full + 1 = written_count t z all.0 held in
+    let less : z.full < t.most = ltb-true z.full t.most held.more in
+    let own : AllByRecursion (IsOwn t) (flat_map (λ p. p) parts) = subst (λ (ps : List Placed). AllByRecursion (IsOwn t) ps) (sym held.stand) (fates_own l t all.0 held.right) in
+    let texts : made.parts ≡ part_texts t 0 parts ++ empty_messages t.first (length parts) (t.most - length parts) =
+    sym (ap (λ (c : Converted). c.parts) is)
+    ∙ ap (λ (ts : List (List ℕ)). ts ++ empty_messages t.first (z.full + 1) (t.most - (z.full + 1))) (sym (written_texts t z all.0 held))
+    ∙ ap (λ (k : ℕ). part_texts t 0 parts ++ empty_messages t.first k (t.most - k)) (sym count) in
+    let zero_there : 0 + length parts ≡ length parts = omega arith in
+    let taken = parts_taken_from l t h.number firsts 0 parts (omega (arith, count, less)) own held.fit in record {
       header = header;
       counts = counts;
       heading = h;
       says = says;
-      taken = subst (λ (m : Converted). AreTaken h.number m.parts) is (all_taken l t h.number firsts z (all_sound l t h.number firsts (products_in nodes) no_work z e none start));
+      fates = all.0;
+      all = all.1;
+      right = held.right;
+      notes = held.notes ∙ ap (λ (c : Converted). c.notes) is;
+      parts = parts;
+      stand = held.stand;
+      full = held.full;
+      texts = texts;
+      taken = subst (λ (ts : List (List ℕ)). AreTaken h.number ts (map references_in parts)) (sym texts)
+          (taken_at (h.number + 0) h.number (part_texts t 0 parts ++ empty_messages t.first (length parts) (t.most - length parts)) (map references_in parts) (omega arith)
+          (subst (λ (n : ℕ). AreTaken (h.number + 0) (part_texts t 0 parts ++ empty_messages t.first n (t.most - n)) (map references_in parts)) zero_there taken));
     }
 
-pub parts_taken : (l : Laws) (o : Options) (nodes : Nodes) (made : Converted) → conversion o nodes ≡ Ok made → PartsAreTaken o nodes made
-parts_taken l o nodes made e = go (header_in nodes) refl
+pub parts_are : (l : Laws) (o : Options) (nodes : Nodes) (made : Converted) → conversion o nodes ≡ Ok made → AreParts o nodes made
+parts_are l o nodes made e = by (first_refusal o false nodes) e
   where
-    last : (header : Composite) (h : Heading) (z : Work) (beyond : Option Position) → z.beyond ≡ beyond → header_in nodes ≡ Some header → heading_in o.choices header.below ≡ Ok h
-        → after_products (terms o h header.below) no_work (products_in nodes) ≡ Ok z → ended_at (terms o h header.below) z beyond ≡ Ok made → PartsAreTaken o nodes made
-    last header h z (Some place) b counts says walked now = absurd cc
-    last header h z None b counts says walked now =
-        whole l o nodes made header h z counts says walked b (ap (value (converted (all_written (terms o h header.below) z) z.notes)) now)
-
-    products : (header : Composite) (h : Heading) (r : Result Work Rejection) → after_products (terms o h header.below) no_work (products_in nodes) ≡ r
-        → header_in nodes ≡ Some header → heading_in o.choices header.below ≡ Ok h → packed_products (terms o h header.below) (products_in nodes) ≡ Ok made → PartsAreTaken o nodes made
-    products header h (Err rejection) f counts says now = let no = rw f at now in absurd cc
-    products header h (Ok z) f counts says now = last header h z z.beyond refl counts says f (rw f at now)
-
     headed : (header : Composite) (r : Result Heading Refusal) → heading_in o.choices header.below ≡ r → header_in nodes ≡ Some header
-        → by_heading o (products_in nodes) header r ≡ Ok made → PartsAreTaken o nodes made
+        → by_heading o (products_in nodes) header r ≡ Ok made → AreParts o nodes made
     headed header (Err refusal) f counts now = absurd cc
-    headed header (Ok h) f counts now = products header h (after_products (terms o h header.below) no_work (products_in nodes)) refl counts f now
+    headed header (Ok h) f counts now =
+        let t = terms o h header.below in
+        let (none, is) = ended_ok t (after_products t no_work (products_in nodes)) made now in
+        whole l o nodes made header h counts f (after_products t no_work (products_in nodes)) refl none is
 
-    go : (r : Option Composite) → header_in nodes ≡ r → PartsAreTaken o nodes made
-    go None f = let no = rw f at e in absurd cc
-    go (Some header) f = headed header (heading_in o.choices header.below) refl f (rw f at e)
+    go : (r : Option Composite) → header_in nodes ≡ r → by_header o (products_in nodes) r ≡ Ok made → AreParts o nodes made
+    go None f now = absurd cc
+    go (Some header) f now = headed header (heading_in o.choices header.below) refl f now
+
+    by : (r : Option Rejection) → by_refusal o nodes r ≡ Ok made → AreParts o nodes made
+    by (Some rejection) now = absurd cc
+    by None now = go (header_in nodes) refl now

@@ -1,9 +1,10 @@
 pub mod Messages
+pub mod Tallies
 pub mod Packing
 pub mod Conversion
 pub mod Keeping
 pub mod Views
 pub mod Stages
 pub mod Outcomes
-pub mod Parts
 pub mod Taken
+pub mod Parts

@@ -1,5 +1,6 @@
 -- The messages that products are written into, and their size.
-use Rattle.std.specs.Prelude.{ℕ, zero, suc, ◌+◌, Bool, ◌&&◌, List, [], ◌∷◌, ◌++◌, nat_le, codes, decimal, length}
+use Rattle.std.specs.Prelude.{ℕ, zero, suc, ◌+◌, Bool, ◌&&◌, List, [], ◌∷◌, ◌++◌, nat_le, codes}
+use Rattle.std.specs.Prelude.{decimal, length}
 use Rattle.csv_records.specs.RecordTexts.{limit, records_text}
 use Rattle.onix_message.specs.Grammar.{most_records}
 
@@ -18,9 +19,11 @@ message_text first records = records_text (message first records)
 -- a message of these records is within what the desk takes: 20,000 records, and 4,194,304 bytes
 unfoldable pub fits : List (List ℕ) → List (List (List ℕ)) → Bool
 fits first records =
-    nat_le (length (message first records)) most_records && nat_le (length (message_text first records)) limit
+    nat_le (length (message first records)) most_records
+    && nat_le (length (message_text first records)) limit
 
 -- so many messages without products, the first of which is the part behind so many
 abbrev pub empty_messages : (ℕ → List (List ℕ)) → ℕ → ℕ → List (List ℕ)
 empty_messages first before zero = []
-empty_messages first before (suc more) = message_text (first before) [] ∷ empty_messages first (suc before) more
+empty_messages first before (suc more) =
+    message_text (first before) [] ∷ empty_messages first (suc before) more

@@ -1,50 +1,60 @@
 -- The products of a message, packed into its parts one after the other.
-use Rattle.std.specs.Prelude.{ℕ, ◌+◌, ◌-◌, Bool, List, [], ◌∷◌, ◌++◌, Option, Some, None, Result, Ok, Err, if◌then◌else◌, nat_lt, map}
-use Rattle.std.specs.Option.{ok_or}
+use Rattle.std.specs.Prelude.{ℕ, ◌+◌, ◌-◌, List, [], ◌∷◌, ◌++◌, Option, Some, None, Result, Ok, Err}
+use Rattle.std.specs.Prelude.{if◌then◌else◌, nat_lt, map, fold, option_map}
+use Rattle.std.specs.Option.{unwrap_or}
 use Rattle.xml_text.specs.declared.position.Position.{Position}
 use Rattle.onix_message.specs.declared.row.Opening.{Opening}
 use Rattle.onix_mapping.specs.Elements.{Composite}
-use Rattle.onix_mapping.specs.Notes.{Note, note}
-use Rattle.onix_mapping.specs.ProductRecords.{all_notes, product_records}
+use Rattle.onix_mapping.specs.Notes.{Note, note, wrong}
+use Rattle.onix_mapping.specs.ProductRecords.{Form, forms}
 use Rattle.onix_mapping.specs.Products.{reference_in}
-use Rattle.onix_mapping.specs.declared.notes.Why.{Why}
-use Rattle.onix_mapping.specs.declared.notes.Why.TheVariants.{ProductTooLarge, WrongProduct}
+use Rattle.onix_mapping.specs.declared.notes.Wrong.TheVariants.{TooLarge}
+use Rattle.onix_conversion.specs.Messages.{empty_messages, fits, message_text}
+use Rattle.onix_conversion.specs.Tallies.{no_tally, place_of, refused_for, tallied}
+use Rattle.onix_conversion.specs.declared.options.Allowed.{Allowed}
 use Rattle.onix_conversion.specs.declared.rejection.Rejection.{Rejection}
 use Rattle.onix_conversion.specs.declared.rejection.Rejection.TheVariants as why
-use Rattle.onix_conversion.specs.Messages.{empty_messages, fits, message_text}
+use Rattle.onix_conversion.specs.declared.tally.Tally.{Tally}
 
 -- a note, and the RecordReference of the product that it is on
 pub record ProductNote : Type 0 where
   pub reference : List ℕ
   pub note : Note
 
--- what comes of a message: the texts of its parts, and the notes on what is left out, each in order
+-- what comes of a message: the texts of its parts, and the notes on what is left out, each in
+-- order, and how many of its products are wrong
 pub record Converted : Type 0 where
   pub parts : List (List ℕ)
   pub notes : List ProductNote
+  pub wrong : ℕ
 
-abbrev pub converted : List (List ℕ) → List ProductNote → Converted
-converted parts notes = record { parts = parts; notes = notes }
+abbrev pub converted : List (List ℕ) → List ProductNote → ℕ → Converted
+converted parts notes wrong = record { parts = parts; notes = notes; wrong = wrong }
 
--- what holds for all parts of a message: the record with which the part behind so many begins and what that says, how many parts there are, the type of identifier that is preferred, and whether wrong products are left out
+-- What holds for all parts of a message: the record with which the part behind so many begins and
+-- what that says, how many parts there are, the type of identifier that is preferred, and how many
+-- products may be wrong.
 pub record Terms : Type 0 where
   pub first : ℕ → List (List ℕ)
   pub opening : Opening
   pub most : ℕ
   pub preferred : List ℕ
-  pub lenient : Bool
+  pub allowed : Allowed
 
--- what the products so far have come to: how many parts are full, the records of products in the part behind them, the place of the first product for which there is no part, the texts of the full parts, and the notes
+-- What the products so far have come to: how many parts are full, the records of products in the
+-- part behind them, the place of the first product for which there is no part, the texts of the
+-- full parts, the notes, and how many products there are and are wrong.
 pub record Work : Type 0 where
   pub full : ℕ
   pub begun : List (List (List ℕ))
   pub beyond : Option Position
   pub parts : List (List ℕ)
   pub notes : List ProductNote
+  pub tally : Tally
 
 -- before the first product
 abbrev pub no_work : Work
-no_work = record { full = 0; begun = []; beyond = None; parts = []; notes = [] }
+no_work = record { full = 0; begun = []; beyond = None; parts = []; notes = []; tally = no_tally }
 
 -- ---- packing
 
@@ -56,7 +66,8 @@ with_part most full text parts = if nat_lt full most then parts ++ text ∷ [] e
 abbrev pub written : Terms → Work → List (List ℕ)
 written t w = with_part t.most w.full (message_text (t.first w.full) w.begun) w.parts
 
--- the place of the first product for which there is no part, where a product at this place begins the part behind so many
+-- the place of the first product for which there is no part, where a product at this place begins
+-- the part behind so many
 abbrev pub beyond_at : ℕ → ℕ → Option Position → Position → Option Position
 beyond_at most full (Some earlier) place = Some earlier
 beyond_at most full None place = if nat_lt full most then None else Some place
@@ -73,9 +84,11 @@ turned t w place records = record {
   beyond = beyond_at t.most (w.full + 1) w.beyond place;
   parts = written t w;
   notes = w.notes;
+  tally = w.tally;
 }
 
--- a product goes into the part that was begun where that has room, else into the next; nothing, where that has no room for it either
+-- records of a product at this place go into the part that was begun where that has room, else into
+-- the next; nothing, where that has no room for them either
 abbrev pub packed : Terms → Work → Position → List (List (List ℕ)) → Option Work
 packed t w place records =
     if fits (t.first w.full) (w.begun ++ records) then Some (joined w records)
@@ -84,14 +97,6 @@ packed t w place records =
 
 -- ---- products
 
-abbrev pub place_of : Composite → Position
-place_of c = c.element.tag.place
-
--- a product in a part, by its records, or why it is wrong: it is, or it is too large for any part
-abbrev pub with_records : Terms → Work → Position → Option (List (List (List ℕ))) → Result Work Why
-with_records t w place None = Err WrongProduct
-with_records t w place (Some records) = ok_or (packed t w place records) ProductTooLarge
-
 abbrev pub product_note : List ℕ → Note → ProductNote
 product_note reference n = record { reference = reference; note = n }
 
@@ -99,30 +104,27 @@ product_note reference n = record { reference = reference; note = n }
 abbrev pub product_notes : List ℕ → List Note → List ProductNote
 product_notes reference notes = map (product_note reference) notes
 
--- with notes on a product of this reference
-abbrev pub noted : List ℕ → List Note → Work → Work
-noted reference notes w = record w { notes = w.notes ++ product_notes reference notes }
+-- with one more product, which has these notes
+abbrev pub noted : Composite → List Note → Work → Work
+noted c notes w = record w {
+  notes = w.notes ++ product_notes (reference_in c.below) notes;
+  tally = tallied w.tally c notes;
+}
 
--- a product with the notes on it; one that is wrong is left out with one note, or the message is refused
-abbrev pub settled : Terms → Work → Composite → Result Work Why → Result Work Rejection
-settled t w c (Ok after) = Ok (noted (reference_in c.below) (all_notes t.opening t.preferred c) after)
-settled t w c (Err wrong) =
-    if t.lenient then Ok (noted (reference_in c.below) (note c.element wrong [] ∷ []) w)
-    else Err (why.Product (reference_in c.below) wrong (place_of c))
+-- a product by the first of these forms that is not too large for a message; without one it is left
+-- out
+abbrev pub with_forms : Terms → Work → Composite → List Form → Work
+with_forms t w c [] = noted c (note c.element (wrong TooLarge []) ∷ []) w
+with_forms t w c (f ∷ forms) =
+    unwrap_or (option_map (noted c f.notes) (packed t w (place_of c) f.records))
+    (with_forms t w c forms)
 
-abbrev pub after_product : Terms → Work → Composite → Result Work Rejection
-after_product t w c = settled t w c (with_records t w (place_of c) (product_records t.opening t.preferred c.below))
+abbrev pub after_product : Terms → Work → Composite → Work
+after_product t w c = with_forms t w c (forms t.opening t.preferred c)
 
-infixl 10 ◌>>=◌
--- what f makes of a value, if there is one
-abbrev pub ◌>>=◌ : {A B : Type 0} → Result A Rejection → (A → Result B Rejection) → Result B Rejection
-(Err e) >>= f = Err e
-(Ok x) >>= f = f x
-
--- the products in order, up to the first that is refused
-abbrev pub after_products : Terms → Work → List Composite → Result Work Rejection
-after_products t w [] = Ok w
-after_products t w (c ∷ others) = after_product t w c >>= λ after. after_products t after others
+-- the products in order
+abbrev pub after_products : Terms → Work → List Composite → Work
+after_products t w products = fold (after_product t) w products
 
 -- ---- the end
 
@@ -133,7 +135,12 @@ all_written t w = written t w ++ empty_messages t.first (w.full + 1) (t.most - (
 -- a message that needs more parts than there are is refused
 abbrev pub ended_at : Terms → Work → Option Position → Result Converted Rejection
 ended_at t w (Some place) = Err (why.Parts (w.full + 1) place)
-ended_at t w None = Ok (converted (all_written t w) w.notes)
+ended_at t w None = Ok (converted (all_written t w) w.notes w.tally.wrong)
+
+-- and before it one of which too many products are wrong
+abbrev pub ended_by : Terms → Work → Option Rejection → Result Converted Rejection
+ended_by t w (Some rejection) = Err rejection
+ended_by t w None = ended_at t w w.beyond
 
 abbrev pub ended : Terms → Work → Result Converted Rejection
-ended t w = ended_at t w w.beyond
+ended t w = ended_by t w (refused_for t.allowed w.tally)

@@ -1,28 +1,35 @@
 -- What the program keeps of a message while it reads it.
-use Rattle.std.specs.Prelude.{◌≡◌, ℕ, zero, suc, ◌+◌, ◌-◌, Bool, true, false, ◌&&◌, List, [], ◌∷◌, ◌++◌, Option, Some, None, Result, Ok, Err, if◌then◌else◌, codes, decimal, nat_le, nat_lt, length, take, drop, fold}
-use Rattle.std.specs.Option.{ok_or}
+use Rattle.std.specs.Prelude.{◌≡◌, ℕ, zero, suc, ◌+◌, ◌-◌, Bool, true, false, ◌&&◌, List, [], ◌∷◌}
+use Rattle.std.specs.Prelude.{◌++◌, Option, Some, None, Result, Ok, Err, if◌then◌else◌, codes}
+use Rattle.std.specs.Prelude.{decimal, nat_le, nat_lt, length, take, drop, fold, option_map}
+use Rattle.std.specs.Option.{unwrap_or}
 use Rattle.std.specs.Str.{bytes_eq}
 use Rattle.xml_text.specs.declared.position.Position.{Position}
 use Rattle.csv_records.specs.RecordTexts.{limit, records_text}
+use Rattle.onix_outline.specs.Composites.{has_stranger}
+use Rattle.onix_outline.specs.Names.{stranger}
 use Rattle.onix_outline.specs.Nodes.{Nodes, no_nodes, node}
 use Rattle.onix_message.specs.Grammar.{most_records}
 use Rattle.onix_message.specs.declared.row.Opening.{Opening}
 use Rattle.onix_mapping.specs.Elements.{Composite}
 use Rattle.onix_mapping.specs.Header.{Heading, heading_in, message_fields}
-use Rattle.onix_mapping.specs.Notes.{Note, note}
-use Rattle.onix_mapping.specs.ProductRecords.{all_notes, product_records}
+use Rattle.onix_mapping.specs.Notes.{Note, note, wrong}
+use Rattle.onix_mapping.specs.ProductRecords.{Form, forms}
 use Rattle.onix_mapping.specs.Products.{reference_in}
 use Rattle.onix_mapping.specs.declared.header.Refusal.{Refusal}
-use Rattle.onix_mapping.specs.declared.notes.Why.{Why}
-use Rattle.onix_mapping.specs.declared.notes.Why.TheVariants.{ProductTooLarge, WrongProduct}
-use Rattle.onix_conversion.specs.declared.rejection.Rejection.{Rejection}
-use Rattle.onix_conversion.specs.declared.rejection.Rejection.TheVariants as why
+use Rattle.onix_mapping.specs.declared.notes.Wrong.TheVariants.{TooLarge}
 use Rattle.onix_conversion.specs.Conversion.{Options, composite}
 use Rattle.onix_conversion.specs.Keeping.{Keeping}
 use Rattle.onix_conversion.specs.Messages.{end_record}
-use Rattle.onix_conversion.specs.Packing.{beyond_at, place_of, product_notes}
+use Rattle.onix_conversion.specs.Packing.{beyond_at, product_notes}
+use Rattle.onix_conversion.specs.Tallies.{no_tally, place_of, refused_for, tallied}
+use Rattle.onix_conversion.specs.declared.rejection.Rejection.{Rejection}
+use Rattle.onix_conversion.specs.declared.rejection.Rejection.TheVariants as why
+use Rattle.onix_conversion.specs.declared.tally.Tally.{Tally}
 
--- the parts of a message: the fields of their first records before and behind the number, the number of the first part, what its record says, how many parts are full, how many records the next one has so far, their text, and the place of the first product for which there is no part
+-- the parts of a message: the fields of their first records before and behind the number, the
+-- number of the first part, what its record says, how many parts are full, how many records the
+-- next one has so far, their text, and the place of the first product for which there is no part
 pub record Begun : Type 0 where
   pub front : List (List ℕ)
   pub back : List (List ℕ)
@@ -32,14 +39,17 @@ pub record Begun : Type 0 where
   pub count : ℕ
   pub text : List ℕ
   pub beyond : Option Position
+  pub tally : Tally
 
--- what the target has made of the parts and of the notes that it has taken
+-- what the target has made of the parts and of the notes that it has taken, and how many products
+-- are wrong
 pub record Taken (P N : Type 0) : Type 0 where
   pub parts : P
   pub notes : N
+  pub wrong : ℕ
 
-abbrev pub taken : {P N : Type 0} → P → N → Taken P N
-taken parts notes = record { parts = parts; notes = notes }
+abbrev pub taken : {P N : Type 0} → P → N → ℕ → Taken P N
+taken parts notes wrong = record { parts = parts; notes = notes; wrong = wrong }
 
 -- the parts of a message, with what the target has made of those that it has taken
 pub record Held (P N : Type 0) : Type 0 where
@@ -84,7 +94,8 @@ first_text b before = records_text (numbered b before ∷ [])
 -- a part of so many records and bytes has room for so many more
 unfoldable pub has_room : ℕ → ℕ → ℕ → ℕ → Bool
 has_room count size more bytes =
-    nat_le (count + more + 1) most_records && nat_le (size + bytes + length (end_text (count + more))) limit
+    nat_le (count + more + 1) most_records
+    && nat_le (size + bytes + length (end_text (count + more))) limit
 
 -- with so many more records, of this text, in the part that was begun
 abbrev pub grown : Begun → ℕ → List ℕ → Begun
@@ -101,6 +112,7 @@ turned most b place more text = record {
   count = 1 + more;
   text = first_text b (b.full + 1) ++ text;
   beyond = beyond_at most (b.full + 1) b.beyond place;
+  tally = b.tally;
 }
 
 -- with a text as the part behind so many, where there are more parts
@@ -111,10 +123,13 @@ with_part k most full text parts = if nat_lt full most then k.with_part parts te
 abbrev pub written : {P N : Type 0} → Keeping P N → ℕ → Held P N → P
 written k most h = with_part k most h.begun.full (h.begun.text ++ end_text h.begun.count) h.parts
 
--- with a product of so many records, of this text, in the part that was begun, in the next one, or in none
-unfoldable pub kept : {P N : Type 0} → Keeping P N → ℕ → Held P N → Position → ℕ → List ℕ → Option (Held P N)
+-- with a product of so many records, of this text, in the part that was begun, in the next one, or
+-- in none
+unfoldable pub kept : {P N : Type 0} → Keeping P N → ℕ → Held P N → Position → ℕ → List ℕ
+    → Option (Held P N)
 kept k most h place more text =
-    if has_room h.begun.count (length h.begun.text) more (length text) then Some (held (grown h.begun more text) h.parts h.notes)
+    if has_room h.begun.count (length h.begun.text) more (length text)
+    then Some (held (grown h.begun more text) h.parts h.notes)
     else if has_room 1 (length (first_text h.begun (h.begun.full + 1))) more (length text)
     then Some (held (turned most h.begun place more text) (written k most h) h.notes)
     else None
@@ -126,35 +141,35 @@ IsKept false old new told = (told ≡ None) × (new ≡ old)
 
 -- ---- products
 
-abbrev pub noted : {P N : Type 0} → Keeping P N → List ℕ → List Note → Held P N → Held P N
-noted k reference notes h = held h.begun h.parts (fold k.with_note h.notes (product_notes reference notes))
+-- with one more product, which has these notes
+abbrev pub noted : {P N : Type 0} → Keeping P N → Composite → List Note → Held P N → Held P N
+noted k c notes h =
+    held (record h.begun { tally = tallied h.begun.tally c notes }) h.parts
+    (fold k.with_note h.notes (product_notes (reference_in c.below) notes))
 
-abbrev pub with_records : {P N : Type 0} → Keeping P N → Options → Held P N → Position → Option (List (List (List ℕ))) → Result (Held P N) Why
-with_records k o h place None = Err WrongProduct
-with_records k o h place (Some records) = ok_or (kept k o.choices.parts h place (length records) (records_text records)) ProductTooLarge
+-- a form of a product, in the part that was begun, in the next one, or in none
+abbrev pub with_form : {P N : Type 0} → Keeping P N → ℕ → Held P N → Composite
+    → List (List (List ℕ)) → List Note → Option (Held P N)
+with_form k most h c records notes =
+    option_map (noted k c notes)
+    (kept k most h (place_of c) (length records) (records_text records))
 
-abbrev pub left_out : {P N : Type 0} → Keeping P N → Options → Held P N → Composite → Why → Result (Held P N) Rejection
-left_out k o h c wrong =
-    if o.leave_out_wrong then Ok (noted k (reference_in c.below) (note c.element wrong [] ∷ []) h)
-    else Err (why.Product (reference_in c.below) wrong (place_of c))
+abbrev pub with_forms : {P N : Type 0} → Keeping P N → ℕ → Held P N → Composite → List Form
+    → Held P N
+with_forms k most h c [] = noted k c (note c.element (wrong TooLarge []) ∷ []) h
+with_forms k most h c (f ∷ forms) =
+    unwrap_or (with_form k most h c f.records f.notes) (with_forms k most h c forms)
 
-abbrev pub settled : {P N : Type 0} → Keeping P N → Options → Held P N → Composite → Result (Held P N) Why → Result (Held P N) Rejection
-settled k o h c (Ok after) = Ok (noted k (reference_in c.below) (all_notes h.begun.opening o.choices.id_type c) after)
-settled k o h c (Err wrong) = left_out k o h c wrong
-
-unfoldable pub after_product : {P N : Type 0} → Keeping P N → Options → Held P N → Composite → Result (Held P N) Rejection
-after_product k o h c = settled k o h c (with_records k o h (place_of c) (product_records h.begun.opening o.choices.id_type c.below))
-
--- a call told why the message is refused, and handed nothing on, or went on
-abbrev pub Went : {P N : Type 0} → Option Rejection → Held P N → Held P N → Result (Held P N) Rejection → Type 0
-Went None old new after = after ≡ Ok new
-Went (Some rejection) old new after = (after ≡ Err rejection) × (new.parts ≡ old.parts) × (new.notes ≡ old.notes)
+unfoldable pub after_product : {P N : Type 0} → Keeping P N → Options → Held P N → Composite
+    → Held P N
+after_product k o h c = with_forms k o.choices.parts h c (forms h.begun.opening o.choices.id_type c)
 
 -- ---- elements
 
 -- the fields of the record with which the first part begins
 abbrev pub first_fields : Heading → Nodes → List (List ℕ)
-first_fields h header = codes "Message" ∷ message_fields h.sender h.addressee (decimal h.number) header
+first_fields h header =
+    codes "Message" ∷ message_fields h.sender h.addressee (decimal h.number) header
 
 -- the parts of a message of this heading, before the first product
 abbrev pub first_begun : Heading → Nodes → Begun
@@ -167,23 +182,32 @@ first_begun h header = record {
   count = 1;
   text = records_text (first_fields h header ∷ []);
   beyond = None;
+  tally = no_tally;
 }
 
 abbrev pub begun_by : Composite → Result Heading Refusal → Stage
 begun_by header (Err refusal) = refused (why.Header refusal (place_of header))
 begun_by header (Ok h) = within (first_begun h header.below)
 
--- the first Header begins the message
+-- the first Header begins the message, and a second one refuses it
 abbrev pub stage_after_header : Stage → Options → Composite → Stage
-stage_after_header unbegun o c = begun_by c (heading_in o.choices c.below)
-stage_after_header stage o c = stage
+stage_after_header unbegun o c =
+    if has_stranger c.below then refused (why.OtherNamespace (place_of c))
+    else begun_by c (heading_in o.choices c.below)
+stage_after_header (refused rejection) o c = refused rejection
+stage_after_header (within b) o c = refused (why.SecondHeader (place_of c))
+
+-- an element of another namespace refuses it
+abbrev pub stage_after_stranger : Stage → Composite → Stage
+stage_after_stranger (refused rejection) c = refused rejection
+stage_after_stranger other c = refused (why.OtherNamespace (place_of c))
 
 abbrev pub at_stage : {P N : Type 0} → State P N → Stage → State P N
 at_stage s stage = record s { stage = stage }
 
-abbrev pub with_held : {P N : Type 0} → State P N → Result (Held P N) Rejection → State P N
-with_held s (Ok h) = record { options = s.options; parts = h.parts; notes = h.notes; stage = within h.begun }
-with_held s (Err rejection) = at_stage s (refused rejection)
+abbrev pub with_held : {P N : Type 0} → State P N → Held P N → State P N
+with_held s h =
+    record { options = s.options; parts = h.parts; notes = h.notes; stage = within h.begun }
 
 abbrev pub with_product : {P N : Type 0} → Keeping P N → Stage → State P N → Composite → State P N
 with_product k unbegun s c = at_stage s (refused (why.NoHeader (Some (place_of c))))
@@ -192,8 +216,10 @@ with_product k (within b) s c = with_held s (after_product k s.options (held b s
 
 abbrev pub after_element : {P N : Type 0} → Keeping P N → State P N → Composite → State P N
 after_element k s c =
-    if bytes_eq c.element.name (codes "Header") then at_stage s (stage_after_header s.stage s.options c)
+    if bytes_eq c.element.name (codes "Header")
+    then at_stage s (stage_after_header s.stage s.options c)
     else if bytes_eq c.element.name (codes "Product") then with_product k s.stage s c
+    else if bytes_eq c.element.name stranger then at_stage s (stage_after_stranger s.stage c)
     else s
 
 -- after the element that lines tell
@@ -206,24 +232,34 @@ after_nodes k s (node name tag text below rest) = after_element k s (composite n
 -- so many messages without products, the first of which is the part behind so many
 abbrev pub empty_parts : Begun → ℕ → ℕ → List (List ℕ)
 empty_parts b before zero = []
-empty_parts b before (suc more) = (first_text b before ++ end_text 1) ∷ empty_parts b (suc before) more
+empty_parts b before (suc more) =
+    (first_text b before ++ end_text 1) ∷ empty_parts b (suc before) more
 
 -- the parts at the end: with the one that was begun, and those that are left over
 abbrev pub all_written : {P N : Type 0} → Keeping P N → ℕ → Held P N → P
-all_written k most h = fold k.with_part (written k most h) (empty_parts h.begun (h.begun.full + 1) (most - (h.begun.full + 1)))
+all_written k most h =
+    fold k.with_part (written k most h)
+    (empty_parts h.begun (h.begun.full + 1) (most - (h.begun.full + 1)))
 
 -- what the target has made of all at the end
-abbrev pub ended_at : {P N : Type 0} → Keeping P N → ℕ → Held P N → Option Position → Result (Taken P N) Rejection
+abbrev pub ended_at : {P N : Type 0} → Keeping P N → ℕ → Held P N → Option Position
+    → Result (Taken P N) Rejection
 ended_at k most h (Some place) = Err (why.Parts (h.begun.full + 1) place)
-ended_at k most h None = Ok (taken (all_written k most h) h.notes)
+ended_at k most h None = Ok (taken (all_written k most h) h.notes h.begun.tally.wrong)
 
-abbrev pub ended : {P N : Type 0} → Keeping P N → ℕ → Held P N → Result (Taken P N) Rejection
-ended k most h = ended_at k most h h.begun.beyond
+abbrev pub ended_by : {P N : Type 0} → Keeping P N → ℕ → Held P N → Option Rejection
+    → Result (Taken P N) Rejection
+ended_by k most h (Some rejection) = Err rejection
+ended_by k most h None = ended_at k most h h.begun.beyond
 
-abbrev pub finished_at : {P N : Type 0} → Keeping P N → Stage → State P N → Result (Taken P N) Rejection
+abbrev pub ended : {P N : Type 0} → Keeping P N → Options → Held P N → Result (Taken P N) Rejection
+ended k o h = ended_by k o.choices.parts h (refused_for o.wrong h.begun.tally)
+
+abbrev pub finished_at : {P N : Type 0} → Keeping P N → Stage → State P N
+    → Result (Taken P N) Rejection
 finished_at k unbegun s = Err (why.NoHeader None)
 finished_at k (refused rejection) s = Err rejection
-finished_at k (within b) s = ended k s.options.choices.parts (held b s.parts s.notes)
+finished_at k (within b) s = ended k s.options (held b s.parts s.notes)
 
 -- what has come of a message at its end
 abbrev pub finished : {P N : Type 0} → Keeping P N → State P N → Result (Taken P N) Rejection

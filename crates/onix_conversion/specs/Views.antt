@@ -9,7 +9,7 @@ use Rattle.onix_conversion.specs.declared.packing.Stage.TheVariants as stage
 
 -- what the caller chooses, as its texts and numbers
 abbrev pub options_view : Lent → Options
-options_view o = record { choices = choices_view o.choices; leave_out_wrong = o.leave_out_wrong }
+options_view o = record { choices = choices_view o.choices; wrong = o.wrong }
 
 abbrev pub begun_view : LentBegun → Begun
 begun_view b = record {
@@ -21,6 +21,7 @@ begun_view b = record {
   count = b.count;
   text = b.text.items;
   beyond = b.beyond;
+  tally = b.tally;
 }
 
 abbrev pub stage_view : LentStage → Stage
@@ -29,4 +30,10 @@ stage_view (stage.Refused rejection) = refused rejection
 stage_view (stage.Within b) = within (begun_view b)
 
 abbrev pub state : {P N : Type 0} → Lent → P → N → LentStage → State P N
-state options parts notes stage = record { options = options_view options; parts = parts; notes = notes; stage = stage_view stage }
+state options parts notes stage =
+    record {
+      options = options_view options;
+      parts = parts;
+      notes = notes;
+      stage = stage_view stage;
+    }

@@ -3,23 +3,25 @@
 ghost use Rattle.std.specs.Prelude.{◌≡◌, ◌+◌, ◌-◌, IfErr, IfOk, Ok, OnOk, fold};
 ghost use Rattle.onix_conversion.specs.Outcomes.{Ends, ExplainsFault, IsUnread, Says};
 ghost use Rattle.onix_conversion.specs.Packing.{Converted};
-ghost use Rattle.onix_conversion.specs.Stages.{all_written, empty_parts, ended, finished, held, taken};
+ghost use Rattle.onix_conversion.specs.Stages.{all_written, empty_parts, ended, ended_at, finished, held};
 ghost use Rattle.onix_conversion.specs.Views.{begun_view, options_view};
 
 use crate::converter::Converter;
 use crate::options::Options;
 use crate::packing::{Begun, Stage, first_text, hand_on};
 use crate::rejection::{Fault, Rejection};
+use crate::tally::refused_for;
 use crate::target::Target;
 use onix_outline::{Stopped, outlines_tell, read_message};
 use std::alloc::{AllocError, Global};
 use std::io::Read;
 
-/// What has come of a feed: the target, and how it ended.
+/// What has come of a feed: the target, and how many of its products are wrong, or why nothing came
+/// of it.
 #[derive(Drop)]
 pub struct Outcome<T> {
     pub target: T,
-    pub ended: Result<(), Fault>,
+    pub ended: Result<u32, Fault>,
 }
 
 // Hands on the parts behind so many, which are messages without products.
@@ -47,15 +49,14 @@ fn hand_empty<T: Target>(
 fn hand_rest<T: Target>(
     alloc: Global,
     most: u32,
-    begun: Begun,
+    begun: &mut Begun,
     target: &mut T,
 ) -> Result<(), AllocError>
     ensures parts { OnOk result (T.parts target.new
         ≡ all_written T.keeping most
-        (held (begun_view begun) (T.parts target.old) (T.notes target.old))) }
+        (held (begun_view begun.old) (T.parts target.old) (T.notes target.old))) }
     ensures notes { OnOk result (T.notes target.new ≡ T.notes target.old) }
 {
-    let mut begun = begun;
     let Some(next) = begun.full.checked_add(1) else {
         return Err(AllocError);
     };
@@ -67,29 +68,54 @@ fn hand_rest<T: Target>(
         &mut begun.text,
         target,
     )?;
-    hand_empty(alloc, most, &begun, next, target)
+    hand_empty(alloc, most, begun, next, target)
 }
 
-// Ends a message that was begun.
-fn end<T: Target>(alloc: Global, most: u32, begun: Begun, target: &mut T) -> Result<(), Fault>
-    ensures { Ends result (taken (T.parts target.new) (T.notes target.new))
-        (ended T.keeping most (held (begun_view begun) (T.parts target.old) (T.notes target.old))) }
+// Ends a message that was begun, of which not too many products are wrong.
+fn end_parts<T: Target>(
+    alloc: Global,
+    most: u32,
+    begun: Begun,
+    target: &mut T,
+) -> Result<u32, Fault>
+    ensures { Ends result (T.parts target.new) (T.notes target.new) (ended_at T.keeping most
+        (held (begun_view begun) (T.parts target.old) (T.notes target.old)) begun.beyond) }
 {
+    let mut begun = begun;
+    let wrong = begun.tally.wrong;
     if let Some(place) = begun.beyond {
         return match begun.full.checked_add(1) {
             Some(needed) => Err(Fault::Refused(Rejection::Parts(needed, place))),
             None => Err(Fault::Memory),
         };
     }
-    match hand_rest(alloc, most, begun, target) {
-        Ok(()) => Ok(()),
+    match hand_rest(alloc, most, &mut begun, target) {
+        Ok(()) => Ok(wrong),
+        Err(_) => Err(Fault::Memory),
+    }
+}
+
+// Ends a message that was begun.
+fn end<T: Target>(
+    alloc: Global,
+    options: &Options<'_>,
+    begun: Begun,
+    target: &mut T,
+) -> Result<u32, Fault>
+    ensures { Ends result (T.parts target.new) (T.notes target.new)
+        (ended T.keeping (options_view options.now)
+        (held (begun_view begun) (T.parts target.old) (T.notes target.old))) }
+{
+    match refused_for(alloc, options.wrong, &begun.tally) {
+        Ok(None) => end_parts(alloc, options.choices.parts, begun, target),
+        Ok(Some(rejection)) => Err(Fault::Refused(rejection)),
         Err(_) => Err(Fault::Memory),
     }
 }
 
 // Ends a message.
 fn finish<T: Target + Drop>(converter: Converter<'_, T>) -> Outcome<T>
-    ensures { Ends result.ended (taken (T.parts result.target) (T.notes result.target))
+    ensures { Ends result.ended (T.parts result.target) (T.notes result.target)
         (finished T.keeping converter.entry) }
 {
     let Converter {
@@ -101,7 +127,7 @@ fn finish<T: Target + Drop>(converter: Converter<'_, T>) -> Outcome<T>
     let ended = match stage {
         Stage::Unbegun => Err(Fault::Refused(Rejection::NoHeader(None))),
         Stage::Refused(rejection) => Err(Fault::Refused(rejection)),
-        Stage::Within(begun) => end(alloc, options.choices.parts, begun, &mut target),
+        Stage::Within(begun) => end(alloc, options, begun, &mut target),
     };
     Outcome { target, ended }
 }
@@ -132,8 +158,9 @@ pub fn convert<'a, R: Read, T: Target + Drop>(
     options: &'a Options<'a>,
     target: T,
 ) -> Outcome<T>
-    ensures converted { IfOk result.ended (λ _. (made : Converted)
+    ensures converted { IfOk result.ended (λ wrong. (made : Converted)
         × Says (R.remaining reader.old) (options_view options.now) (Ok made)
+        × (wrong ≡ made.wrong)
         × (T.parts result.target ≡ fold T.keeping.with_part (T.parts target) made.parts)
         × (T.notes result.target ≡ fold T.keeping.with_note (T.notes target) made.notes)) }
     ensures fault { IfErr result.ended

@@ -1,32 +1,34 @@
 //! The state of a conversion, which takes the Header and the Products of a message.
 
-ghost use Rattle.std.specs.Prelude.{◌≡◌, IfOk, OnOk, Some, fold};
-ghost use Rattle.onix_mapping.specs.Elements.{Composite as Told, Tells, element_view};
+ghost use Rattle.std.specs.Prelude.{◌≡◌, ◌∷◌, [], ℕ, IfOk, OnOk, fold};
+ghost use Rattle.onix_mapping.specs.Elements.{Composite as Told, Tells};
 ghost use Rattle.onix_mapping.specs.Header.{heading_in};
 ghost use Rattle.onix_mapping.specs.HeaderViews.{choices_view, heading_view};
 ghost use Rattle.onix_mapping.specs.Notes.{note_views};
-ghost use Rattle.onix_mapping.specs.ProductRecords.{all_notes, product_records};
+ghost use Rattle.onix_mapping.specs.ProductRecords.{form, small_forms, smaller_forms};
+ghost use Rattle.onix_mapping.specs.Products.{bare_record, emptied_record};
 ghost use Rattle.onix_outline.specs.Nodes.{Nodes};
 ghost use Rattle.onix_outline.specs.Outline.{outline};
 ghost use Rattle.onix_outline.specs.Views.{line_views};
 ghost use Rattle.onix_conversion.specs.Packing.{product_notes};
-ghost use Rattle.onix_conversion.specs.Stages.{after_element, after_product, at_stage, begun_by, first_begun, first_state, held, left_out, stage_after_header, with_product, Went};
+ghost use Rattle.onix_conversion.specs.Stages.{IsKept, after_element, after_product, at_stage, begun_by, first_begun, first_state, held, noted, stage_after_header, stage_after_stranger, unbegun, with_form, with_forms, with_product};
+ghost use Rattle.onix_conversion.specs.Conversion.{Options as Chosen};
 ghost use Rattle.onix_conversion.specs.Views.{begun_view, options_view, stage_view};
 
 use crate::messages::record_text;
 use crate::options::Options;
 use crate::packing::{Begun, Stage, keep};
 use crate::rejection::Rejection;
+use crate::tally::{Tally, count_product};
 use crate::target::Target;
 use csv_records::buffer::RecordBuffer;
 use csv_records::fields::FieldBuffer;
 use onix_mapping::{
-    Choices, Composite, HeaderFault, Heading, Note, Reason, Refusal, Why, add_product,
-    fill_message, read_heading, text_or_empty,
+    Choices, Composite, Fate, HeaderFault, Heading, Note, Reason, Why, Wrong, add_bare, add_large,
+    add_product, fill_message, read_heading, text_or_empty,
 };
 use onix_message::row::RowFault;
-use onix_outline::{Line, Taker, outlined};
-use onix_terms::items::Items;
+use onix_outline::{Line, Taker, has_stranger, outlined};
 use std::alloc::{AllocError, Global};
 use std::marker::Model;
 
@@ -66,83 +68,140 @@ fn hand_notes<T: Target>(
     Ok(())
 }
 
-// Has the target look at a product of which an identifier is left out.
-fn show<T: Target>(
+// Counts a product with these notes, and hands them on.
+fn note_product<T: Target>(
+    alloc: Global,
+    begun: &mut Begun,
     target: &mut T,
     product: Composite<'_>,
-    preferred: &[u8],
     notes: &[Note<'_>],
 ) -> Result<(), AllocError>
-    ensures parts { OnOk result (T.parts target.new ≡ T.parts target.old) }
-    ensures notes { OnOk result (T.notes target.new ≡ T.notes target.old) }
+    ensures { (c : Told) → Tells product.entry 1 c → OnOk result
+        (held (begun_view begun.new) (T.parts target.new) (T.notes target.new)
+        ≡ noted T.keeping c (note_views notes.now)
+        (held (begun_view begun.old) (T.parts target.old) (T.notes target.old))) }
 {
-    if notes
-        .iter()
-        .any(|note| note.reason.why == Why::WrongIdentifier)
-    {
-        target.look_at(product, preferred)
-    } else {
-        Ok(())
-    }
-}
-
-// Leaves out a wrong product, or tells why the message is refused.
-fn leave_out<T: Target>(
-    alloc: Global,
-    options: &Options<'_>,
-    begun: &Begun,
-    target: &mut T,
-    product: Composite<'_>,
-    why: Why,
-) -> Result<Option<Rejection>, AllocError>
-    ensures { (c : Told) → Tells product.entry 1 c → IfOk result (λ r. Went r
-        (held (begun_view begun.now) (T.parts target.old) (T.notes target.old))
-        (held (begun_view begun.now) (T.parts target.new) (T.notes target.new))
-        (left_out T.keeping (options_view options.now)
-        (held (begun_view begun.now) (T.parts target.old) (T.notes target.old)) c why)) }
-{
-    target.look_at(product, options.choices.id_type)?;
+    count_product(alloc, &mut begun.tally, product, notes)?;
     let reference = text_or_empty(1, b"RecordReference", product.below);
-    if !options.leave_out_wrong {
-        let reference = Items::from_vec(Vec::from_slice(alloc, reference)?);
-        let place = product.line.place;
-        return Ok(Some(Rejection::Product(reference, why, place)));
-    }
-    let reason = Reason { why, text: b"" };
-    let line = product.line;
-    target.note(reference, Note { line, reason })?;
-    Ok(None)
+    hand_notes(target, reference, notes)
 }
 
-// Puts the records of a product into a part, and hands on the notes on it.
-#[tactic(auto, unfolding(crate::specs::Stages::after_product))]
-fn keep_product<T: Target>(
+// Puts the records of a form of a product into a part, and hands on the notes on it. It is false
+// where they are too large for any.
+fn keep_form<T: Target>(
     alloc: Global,
-    options: &Options<'_>,
+    most: u32,
     begun: &mut Begun,
     target: &mut T,
     product: Composite<'_>,
     records: &RecordBuffer,
     notes: &[Note<'_>],
-) -> Result<Option<Rejection>, AllocError>
-    ensures { (c : Told) → Tells product.entry 1 c
-        → product_records begun.old.opening options.now.choices.id_type.now c.below
-        ≡ Some records.now
-        → note_views notes.now ≡ all_notes begun.old.opening options.now.choices.id_type.now c
-        → IfOk result (λ r. Went r
+) -> Result<bool, AllocError>
+    ensures { (c : Told) → Tells product.entry 1 c → IfOk result (λ is. IsKept is
         (held (begun_view begun.old) (T.parts target.old) (T.notes target.old))
         (held (begun_view begun.new) (T.parts target.new) (T.notes target.new))
-        (after_product T.keeping (options_view options.now)
-        (held (begun_view begun.old) (T.parts target.old) (T.notes target.old)) c)) }
+        (with_form T.keeping most
+        (held (begun_view begun.old) (T.parts target.old) (T.notes target.old))
+        c records.now (note_views notes.now))) }
 {
-    let place = product.line.place;
-    if !keep(alloc, options.choices.parts, begun, target, place, records)? {
-        return leave_out(alloc, options, begun, target, product, Why::ProductTooLarge);
+    let is_kept = keep(alloc, most, begun, target, product.line.place, records)?;
+    if is_kept {
+        note_product(alloc, begun, target, product, notes)?;
     }
-    show(target, product, options.choices.id_type, notes)?;
-    let reference = text_or_empty(1, b"RecordReference", product.below);
-    hand_notes(target, reference, notes)?;
-    Ok(None)
+    Ok(is_kept)
+}
+
+// Leaves out a product that is too large in each form.
+fn leave_out<T: Target>(
+    alloc: Global,
+    begun: &mut Begun,
+    target: &mut T,
+    product: Composite<'_>,
+) -> Result<(), AllocError>
+    ensures { (c : Told) (most : ℕ) → Tells product.entry 1 c → OnOk result
+        (held (begun_view begun.new) (T.parts target.new) (T.notes target.new)
+        ≡ with_forms T.keeping most
+        (held (begun_view begun.old) (T.parts target.old) (T.notes target.old)) c []) }
+{
+    let why = Why::Wrong(Wrong::TooLarge);
+    let line = product.line;
+    let reason = Reason { why, text: b"" };
+    note_product(alloc, begun, target, product, &[Note { line, reason }])
+}
+
+// Takes the smallest form of a product, with its reference in place of its identifiers.
+fn add_smallest<T: Target>(
+    alloc: Global,
+    most: u32,
+    begun: &mut Begun,
+    target: &mut T,
+    product: Composite<'_>,
+    notes: &[Note<'_>],
+) -> Result<(), AllocError>
+    ensures { (c : Told) → Tells product.entry 1 c → OnOk result
+        (held (begun_view begun.new) (T.parts target.new) (T.notes target.new)
+        ≡ with_forms T.keeping most
+        (held (begun_view begun.old) (T.parts target.old) (T.notes target.old))
+        c (form (bare_record c.below ∷ []) (note_views notes.now) ∷ [])) }
+{
+    let mut fields = FieldBuffer::new(alloc);
+    let mut records = RecordBuffer::new(alloc);
+    add_bare(alloc, 1, product, &mut fields, &mut records)?;
+    let is_kept = keep_form(alloc, most, begun, target, product, &records, notes)?;
+    if is_kept {
+        return Ok(());
+    }
+    leave_out(alloc, begun, target, product)
+}
+
+// Takes a product without supplies, with these notes.
+fn add_small<T: Target>(
+    alloc: Global,
+    most: u32,
+    begun: &mut Begun,
+    target: &mut T,
+    product: Composite<'_>,
+    records: &RecordBuffer,
+    notes: &[Note<'_>],
+) -> Result<(), AllocError>
+    ensures { (c : Told) → Tells product.entry 1 c → records.now ≡ emptied_record c.below ∷ []
+        → OnOk result (held (begun_view begun.new) (T.parts target.new) (T.notes target.new)
+        ≡ with_forms T.keeping most
+        (held (begun_view begun.old) (T.parts target.old) (T.notes target.old))
+        c (small_forms (note_views notes.now) c.below)) }
+{
+    let is_kept = keep_form(alloc, most, begun, target, product, records, notes)?;
+    if is_kept {
+        return Ok(());
+    }
+    add_smallest(alloc, most, begun, target, product, notes)
+}
+
+// Takes a product that is too large as it is.
+fn add_large_product<T: Target>(
+    alloc: Global,
+    most: u32,
+    begun: &mut Begun,
+    target: &mut T,
+    product: Composite<'_>,
+    fate: Fate,
+    notes: &[Note<'_>],
+) -> Result<(), AllocError>
+    ensures { (c : Told) → Tells product.entry 1 c → OnOk result
+        (held (begun_view begun.new) (T.parts target.new) (T.notes target.new)
+        ≡ with_forms T.keeping most
+        (held (begun_view begun.old) (T.parts target.old) (T.notes target.old))
+        c (smaller_forms fate (note_views notes.now) c)) }
+{
+    let mut fields = FieldBuffer::new(alloc);
+    let mut records = RecordBuffer::new(alloc);
+    let mut large = Vec::new(alloc);
+    add_large(alloc, 1, product, &mut fields, &mut records, &mut large)?;
+    match fate {
+        Fate::Written => add_small(alloc, most, begun, target, product, &records, &large),
+        Fate::Emptied => add_small(alloc, most, begun, target, product, &records, notes),
+        Fate::LeftOut => leave_out(alloc, begun, target, product),
+    }
 }
 
 // Takes a product of a message that was begun.
@@ -153,38 +212,31 @@ fn add<T: Target>(
     begun: &mut Begun,
     target: &mut T,
     product: Composite<'_>,
-) -> Result<Option<Rejection>, AllocError>
-    ensures { (c : Told) → Tells product.entry 1 c → IfOk result (λ r. Went r
-        (held (begun_view begun.old) (T.parts target.old) (T.notes target.old))
-        (held (begun_view begun.new) (T.parts target.new) (T.notes target.new))
-        (after_product T.keeping (options_view options.now)
-        (held (begun_view begun.old) (T.parts target.old) (T.notes target.old)) c)) }
+) -> Result<(), AllocError>
+    ensures { (c : Told) → Tells product.entry 1 c → OnOk result
+        (held (begun_view begun.new) (T.parts target.new) (T.notes target.new)
+        ≡ after_product T.keeping (options_view options.now)
+        (held (begun_view begun.old) (T.parts target.old) (T.notes target.old)) c) }
 {
-    let preferred = options.choices.id_type;
     let mut fields = FieldBuffer::new(alloc);
     let mut records = RecordBuffer::new(alloc);
     let mut notes = Vec::new(alloc);
-    match add_product(
+    let fate = add_product(
         alloc,
         &begun.opening,
-        preferred,
+        options.choices.id_type,
         1,
         product,
         &mut fields,
         &mut records,
         &mut notes,
-    ) {
-        Ok(()) => keep_product(alloc, options, begun, target, product, &records, &notes),
-        Err(RowFault::Wrong) => leave_out(
-            alloc,
-            options,
-            begun,
-            target,
-            product,
-            Why::WrongProduct,
-        ),
-        Err(RowFault::Memory) => Err(AllocError),
+    )?;
+    let most = options.choices.parts;
+    let is_kept = keep_form(alloc, most, begun, target, product, &records, &notes)?;
+    if is_kept {
+        return Ok(());
     }
+    add_large_product(alloc, most, begun, target, product, fate, &notes)
 }
 
 // The parts of a message with this heading, before the first product. The list takes the fields of
@@ -223,11 +275,29 @@ fn begin_with(
         count: 1,
         text,
         beyond: None,
+        tally: Tally::new(),
     })
 }
 
 // Where a message is after its Header.
 fn begin<'a>(
+    alloc: Global,
+    choices: &Choices<'a>,
+    header: Composite<'a>,
+) -> Result<Stage, AllocError>
+    ensures { (c : Told) (o : Chosen) → Tells header.entry 1 c
+        → o.choices ≡ choices_view choices.now
+        → IfOk result (λ s. stage_view s ≡ stage_after_header unbegun o c) }
+{
+    if has_stranger(header.below) {
+        let place = header.line.place;
+        return Ok(Stage::Refused(Rejection::OtherNamespace(place)));
+    }
+    begin_own(alloc, choices, header)
+}
+
+// Where a message is after its Header, in which no element is of another namespace.
+fn begin_own<'a>(
     alloc: Global,
     choices: &Choices<'a>,
     header: Composite<'a>,
@@ -281,7 +351,28 @@ impl<'a, T: Target + Drop> Converter<'a, T> {
                 Ok(())
             }
             Stage::Refused(_) => Ok(()),
-            Stage::Within(_) => Ok(()),
+            Stage::Within(_) => {
+                let place = header.line.place;
+                self.stage = Stage::Refused(Rejection::SecondHeader(place));
+                Ok(())
+            }
+        }
+    }
+
+    // Takes an element of another namespace, which refuses the message.
+    fn take_stranger(&mut self, element: Composite<'_>)
+        ensures { (c : Told) → Tells element.entry 1 c
+            → self.new ≡ at_stage self.old (stage_after_stranger self.old.stage c) }
+    {
+        let place = element.line.place;
+        match &self.stage {
+            Stage::Refused(_) => {}
+            Stage::Unbegun => {
+                self.stage = Stage::Refused(Rejection::OtherNamespace(place));
+            }
+            Stage::Within(_) => {
+                self.stage = Stage::Refused(Rejection::OtherNamespace(place));
+            }
         }
     }
 
@@ -299,13 +390,7 @@ impl<'a, T: Target + Drop> Converter<'a, T> {
             Stage::Refused(_) => Ok(()),
             Stage::Within(begun) => {
                 let target = &mut self.target;
-                match add(self.alloc, self.options, begun, target, product)? {
-                    None => Ok(()),
-                    Some(rejection) => {
-                        self.stage = Stage::Refused(rejection);
-                        Ok(())
-                    }
-                }
+                add(self.alloc, self.options, begun, target, product)
             }
         }
     }
@@ -319,6 +404,9 @@ impl<'a, T: Target + Drop> Converter<'a, T> {
             self.take_header(element)
         } else if element.line.name == b"Product".as_slice() {
             self.take_product(element)
+        } else if element.line.name == b":".as_slice() {
+            self.take_stranger(element);
+            Ok(())
         } else {
             Ok(())
         }

@@ -6,23 +6,18 @@ ghost use Rattle.onix_outline.specs.Nodes.{Nodes};
 ghost use Rattle.onix_conversion.specs.Conversion.{Options, conversion};
 ghost use Rattle.onix_conversion.specs.Packing.{Converted};
 ghost use Rattle.onix_conversion.specs.Parts.{AreParts};
-ghost use Rattle.onix_conversion.specs.Taken.{PartsAreTaken};
 
 use csv_records::laws::one_text;
 use onix_mapping::laws::{parts_say_the_same, records_are_products};
 
-/// The products of a message, each once and in order, stand in its parts, one part after the other,
-/// or are left out with a note that says why.
-pub fn products_stand_or_are_told()
+/// The products of a message, each once and in order, stand in its parts, one part after the other
+/// and each in the first of its forms that is not too large, as many as there is room for, with the
+/// notes of that form. The desk takes each part with just its products: its text is UTF-8 and at
+/// most 4,194,304 bytes, and the records that are read of it are a message, of at most 20,000
+/// records, whose header has the part's number.
+pub fn products_stand_in_parts()
     ensures { (o : Options) (nodes : Nodes) (made : Converted) → conversion o nodes ≡ Ok made
         → AreParts o nodes made }
-{}
-
-/// The desk takes each part: its text is UTF-8 and at most 4,194,304 bytes, and the records that
-/// are read of it are a message, of at most 20,000 records, whose header has the part's number.
-pub fn parts_are_taken()
-    ensures { (o : Options) (nodes : Nodes) (made : Converted) → conversion o nodes ≡ Ok made
-        → PartsAreTaken o nodes made }
 {
     one_text();
     parts_say_the_same();

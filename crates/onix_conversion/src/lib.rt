@@ -8,9 +8,11 @@ pub mod messages;
 pub mod options;
 pub mod packing;
 pub mod rejection;
+pub mod tally;
 pub mod target;
 
 pub use conversion::{Outcome, convert};
-pub use options::Options;
+pub use options::{Allowed, Options};
 pub use rejection::{Fault, Rejection};
+pub use tally::{Tally, WrongProduct};
 pub use target::Target;

@@ -9,6 +9,7 @@ ghost use Rattle.onix_conversion.specs.Views.{begun_view};
 
 use crate::messages::{end_text, record_text};
 use crate::rejection::Rejection;
+use crate::tally::Tally;
 use crate::target::Target;
 use csv_records::buffer::RecordBuffer;
 use csv_records::fields::FieldBuffer;
@@ -37,6 +38,8 @@ pub struct Begun {
     pub(crate) text: Vec<u8>,
     /// The place of the first product for which there is no part.
     pub(crate) beyond: Option<Position>,
+    /// How many products there are, and how many of them are wrong.
+    pub(crate) tally: Tally,
 }
 
 /// Where a message is.

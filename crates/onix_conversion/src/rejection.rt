@@ -1,6 +1,6 @@
 //! Why no messages come of a feed.
 
-use onix_mapping::{Refusal, Why};
+use onix_mapping::Refusal;
 use onix_terms::items::Items;
 use xml_text::Position;
 
@@ -11,8 +11,14 @@ pub enum Rejection {
     NoHeader(Option<Position>),
     /// For what its Header says, which stands at the place.
     Header(Refusal, Position),
-    /// A Product of this RecordReference is wrong, which stands at the place.
-    Product(Items<u8>, Why, Position),
+    /// It has a second Header, which stands at the place.
+    SecondHeader(Position),
+    /// An element in another namespace than the root stands at the place, or in the Header that
+    /// stands there, and is called as one that counts there.
+    OtherNamespace(Position),
+    /// So many are wrong of so many Products, the first of which has this RecordReference and
+    /// stands at the place.
+    Wrong(u32, u32, Items<u8>, Position),
     /// It needs so many parts: for the Product at the place, and those behind it, there is none.
     Parts(u32, Position),
 }

@@ -1,6 +1,6 @@
 //! What takes the messages.
 
-use onix_mapping::{Composite, Note};
+use onix_mapping::Note;
 use std::alloc::AllocError;
 
 /// What takes the texts of the parts of a message, in order, and the notes on what is left out of
@@ -31,13 +31,6 @@ pub trait Target {
     /// Takes the text of the next part. After an error nothing more is handed to it.
     fn part(&mut self, text: &[u8]) -> Result<(), AllocError>
         ensures part { OnOk result (parts self.new ≡ keeping.with_part (parts self.old) text.now) }
-        ensures notes { OnOk result (notes self.new ≡ notes self.old) };
-
-    /// Looks at a product that is wrong, or of which an identifier is, before the notes on it or
-    /// the refusal for it. Of several identifiers of a supplier the first of the preferred type
-    /// counts, else the first. After an error nothing more is handed to it.
-    fn look_at(&mut self, product: Composite<'_>, preferred: &[u8]) -> Result<(), AllocError>
-        ensures parts { OnOk result (parts self.new ≡ parts self.old) }
         ensures notes { OnOk result (notes self.new ≡ notes self.old) };
 
     /// Takes the next note, which is on a product of this RecordReference. After an error nothing

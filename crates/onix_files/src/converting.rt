@@ -1,26 +1,27 @@
 //! A run over FILEs.
 
-ghost use Rattle.std.specs.Prelude.{◌≡◌, ◌≢◌, ◌⊎◌, ◌≤◌, ℕ, List, [], Option, IfErr, OnOk, codes, is_some, map, max, true, false};
+ghost use Rattle.std.specs.Prelude.{◌≡◌, ◌≢◌, ◌⊎◌, ◌<◌, ◌≤◌, ℕ, List, [], Option, IfErr, IfOk, OnOk, codes, map, max, true, false};
 ghost use Rattle.std.specs.Io.KnownBytes.{Appends};
+ghost use Rattle.named_files.specs.Holdings.{MayName, Names};
+ghost use Rattle.named_files.specs.PartFiles.{files_of, place};
+ghost use Rattle.named_files.specs.Texts.{with_file};
 ghost use Rattle.onix_conversion.specs.Views.{options_view};
-ghost use Rattle.onix_files.specs.Ends.{IsEnd, IsTaken, IsUnconverted};
-ghost use Rattle.onix_files.specs.Runs.{AllEnd, RunEnds};
+ghost use Rattle.onix_files.specs.Ends.{IsEnd, IsTaken, IsUnconverted, asking, file_end, is_converted};
+ghost use Rattle.onix_files.specs.Runs.{AllEnd, RunEnds, run_asking};
 
 use crate::collected::Collected;
 use crate::ended::Ended;
-use crate::fault::FileFault;
-use crate::files::is_folder;
-use crate::folder::Folder;
-use crate::names::{STANDARD_INPUT, is_packed, name_of};
+use crate::fault::write_fault;
 use crate::notes::{Notes, PREFIX};
 use crate::refusal::{Known, push_packed, push_refusal};
-use crate::spool::Spool;
-use crate::store::Store;
+use crate::seen::Seen;
 use crate::summary::Summary;
 use crate::watched::Watched;
+use named_files::{
+    FileFault, MadeFiles, NamedFiles, PartFiles, STANDARD_INPUT, Spool, is_packed, name_of,
+};
 use onix_conversion::{Fault, Options, Outcome, convert};
 use std::alloc::{AllocError, Global};
-use std::fs::File;
 use std::io::{Read, Write};
 use std::rt::HostRuntime;
 
@@ -39,10 +40,10 @@ fn write_lines<E: Write>(text: &str, errors: &mut E) {
 }
 
 // Says what ended a FILE.
-fn report_fault<E: Write>(fault: &FileFault, errors: &mut E) -> Ended
+fn report_fault<E: Write>(alloc: Global, fault: &FileFault, errors: &mut E) -> Ended
     ensures { result ≡ Ended.Fault }
 {
-    fault.report(errors);
+    write_fault(alloc, fault, errors);
     Ended::Fault
 }
 
@@ -51,8 +52,11 @@ fn report_unread<E: Write>(alloc: Global, known: &Known<'_>, errors: &mut E) -> 
     ensures { result ≡ Ended.Fault }
 {
     match known.seen.fault() {
-        Some(fault) => report_fault(fault, errors),
-        None => report_fault(&FileFault::new(alloc, known.file, "cannot be read"), errors),
+        Some(fault) => report_fault(alloc, fault, errors),
+        None => {
+            let fault = FileFault::new(alloc, known.file, "cannot be read");
+            report_fault(alloc, &fault, errors)
+        }
     }
 }
 
@@ -71,7 +75,7 @@ fn report_refusal<E: Write>(
             write_lines(line.as_str(), errors);
             Ended::Refused
         }
-        Err(AllocError) => report_fault(&FileFault::Memory, errors),
+        Err(AllocError) => report_fault(alloc, &FileFault::Memory, errors),
     }
 }
 
@@ -84,19 +88,12 @@ fn report_ended<E: Write>(alloc: Global, known: &Known<'_>, fault: &Fault, error
             report_unread(alloc, known, errors)
         }
         Fault::Unread(onix_outline::Fault::Document(xml_text::Fault::Memory), _) => {
-            report_fault(&FileFault::Memory, errors)
+            report_fault(alloc, &FileFault::Memory, errors)
         }
-        Fault::Memory => report_fault(&FileFault::Memory, errors),
+        Fault::Unread(onix_outline::Fault::Document(xml_text::Fault::Refused), _) | Fault::Memory =>
+            report_fault(alloc, &FileFault::Memory, errors),
         _ => report_refusal(alloc, known, fault, errors),
     }
-}
-
-// What was kept of a FILE, and how its reading ended.
-#[derive(Drop)]
-struct Taken<'a, S> {
-    store: S,
-    notes: Notes<'a>,
-    ended: Ended,
 }
 
 // Says what ended the reading of a FILE; where what was read could not be kept, that.
@@ -110,7 +107,7 @@ fn report_stopped<E: Write>(
     ensures { IsUnconverted fault.now result }
 {
     match kept {
-        Some(kept) => report_fault(kept, errors),
+        Some(kept) => report_fault(alloc, kept, errors),
         None => report_ended(alloc, known, fault, errors),
     }
 }
@@ -119,60 +116,47 @@ fn report_stopped<E: Write>(
 fn end_of<E: Write>(
     alloc: Global,
     known: &Known<'_>,
-    read: &Result<(), Fault>,
+    read: &Result<u32, Fault>,
     kept: &Option<FileFault>,
-    has_wrong: bool,
     errors: &mut E,
 ) -> Ended
-    ensures done { has_wrong ≡ false → OnOk read.now (result ≡ Ended.Done) }
-    ensures left_out { has_wrong ≡ true → OnOk read.now (result ≡ Ended.LeftOut) }
+    ensures done { IfOk read.now (λ wrong. wrong ≡ 0 → result ≡ Ended.Done) }
+    ensures left_out { IfOk read.now (λ wrong. 0 < wrong → result ≡ Ended.LeftOut) }
     ensures err { IfErr read.now (λ f. IsUnconverted f result) }
 {
     match read {
-        Ok(()) => Ended::of_converted(has_wrong),
+        Ok(wrong) => Ended::of_converted(*wrong),
         Err(fault) => report_stopped(alloc, known, fault, kept, errors),
     }
 }
 
-// Reads a FILE into a store.
-fn read_into<'a, R: Read, S: Store + Drop, E: Write>(
-    rt: &HostRuntime,
-    file: &'a str,
-    reader: &mut R,
+// How a FILE ended of which this was seen and noted.
+fn end_of_seen<E: Write>(
+    alloc: Global,
+    notes: &Notes<'_>,
+    seen: &Seen,
     options: &Options<'_>,
-    store: S,
+    read: &Result<u32, Fault>,
+    kept: &Option<FileFault>,
     errors: &mut E,
-) -> Taken<'a, S>
-    ensures { IsTaken (options_view options.now) (R.remaining reader.old) (S.texts store)
-        (S.texts result.store) result.ended }
+) -> Ended
+    ensures done { IfOk read.now (λ wrong. wrong ≡ 0 → result ≡ Ended.Done) }
+    ensures left_out { IfOk read.now (λ wrong. 0 < wrong → result ≡ Ended.LeftOut) }
+    ensures err { IfErr read.now (λ f. IsUnconverted f result) }
 {
-    let alloc = rt.alloc();
-    let target = Collected {
-        store,
-        notes: Notes::new(alloc, file),
-        has_wrong: false,
-        fault: None,
-    };
-    let mut watched = Watched::new(rt, file, reader);
-    let Outcome { target, ended } = convert(alloc, &mut watched, options, target);
-    let seen = watched.into_seen();
-    let Collected {
-        store,
-        notes,
-        has_wrong,
-        fault,
-    } = target;
     let known = Known {
-        file,
+        file: notes.file(),
         options,
-        seen: &seen,
-        causes: notes.causes(),
-    };
-    let ended = end_of(alloc, &known, &ended, &fault, has_wrong, errors);
-    Taken {
-        store,
+        seen,
         notes,
-        ended,
+    };
+    end_of(alloc, &known, read, kept, errors)
+}
+
+// Counts the wrong products of a FILE that was converted.
+fn count_wrong(notes: &mut Notes<'_>, read: &Result<u32, Fault>) {
+    if let Ok(wrong) = read {
+        notes.count_wrong(*wrong);
     }
 }
 
@@ -184,9 +168,10 @@ fn tell<E: Write>(notes: &Notes<'_>, summary: &mut Summary, errors: &mut E) {
 }
 
 // Converts a FILE to standard output.
-fn convert_out<R: Read, W: Write, E: Write>(
+fn convert_out<F: NamedFiles, R: Read, W: Write, E: Write>(
     rt: &HostRuntime,
     file: &str,
+    files: &F,
     reader: &mut R,
     options: &Options<'_>,
     output: &mut W,
@@ -194,13 +179,25 @@ fn convert_out<R: Read, W: Write, E: Write>(
     errors: &mut E,
 ) -> Ended
     ensures { (written : List ℕ) × Appends (W.contents output.old) (W.contents output.new) written
-        × IsEnd (options_view options.now) false (R.remaining reader.old) result written }
+        × IsEnd (asking (options_view options.now) None F.is_told) file.now (R.remaining reader.old)
+        (file_end result written (F.holds files.now) (F.holds files.now)) }
 {
-    let Taken {
+    let alloc = rt.alloc();
+    let target = Collected {
+        store: Spool::new(alloc, files),
+        notes: Notes::new(alloc, file),
+        fault: None,
+    };
+    let mut watched = Watched::new(rt, file, reader);
+    let Outcome { target, ended } = convert(alloc, &mut watched, options, target);
+    let seen = watched.into_seen();
+    let Collected {
         store,
-        notes,
-        ended,
-    } = read_into(rt, file, reader, options, Spool::new(rt), errors);
+        mut notes,
+        fault,
+    } = target;
+    count_wrong(&mut notes, &ended);
+    let ended = end_of_seen(alloc, &notes, &seen, options, &ended, &fault, errors);
     if !ended.is_converted() {
         return ended;
     }
@@ -209,72 +206,133 @@ fn convert_out<R: Read, W: Write, E: Write>(
             tell(&notes, summary, errors);
             ended
         }
-        Err(fault) => report_fault(&fault, errors),
+        Err(fault) => report_fault(alloc, &fault, errors),
     }
 }
 
 // Gives the files of a FILE their names, where it was converted.
-fn place<E: Write>(
-    store: &Folder<'_>,
-    notes: &Notes<'_>,
+fn place_parts<F: NamedFiles, E: Write>(
+    alloc: Global,
+    files: &mut F,
+    made: &MadeFiles<F>,
+    folder: &str,
+    name: &str,
+    parts: u32,
     ended: Ended,
-    summary: &mut Summary,
     errors: &mut E,
 ) -> Ended
-    ensures { (result ≡ Ended.Fault) ⊎ (result ≡ ended) }
+    ensures left { is_converted ended ≡ false
+        → (result ≡ ended) × (F.holds files.new ≡ F.holds files.old) }
+    ensures done { is_converted ended ≡ true → (result ≡ Ended.Fault)
+        ⊎ ((result ≡ ended) × (F.is_told ≡ true
+        → Names (files_of (place folder.now name.now parts) (map F.text_of made.now.made.items))
+        (F.holds files.old) (F.holds files.new))) }
+    ensures may { F.is_told ≡ true → is_converted ended ≡ true
+        → MayName (files_of (place folder.now name.now parts) (map F.text_of made.now.made.items))
+        (F.holds files.old) (F.holds files.new) }
 {
     if !ended.is_converted() {
         return ended;
     }
-    match store.place() {
-        Ok(()) => {
-            tell(notes, summary, errors);
-            ended
-        }
-        Err(fault) => report_fault(&fault, errors),
+    match made.place(files, folder, name, parts) {
+        Ok(()) => ended,
+        Err(fault) => report_fault(alloc, &fault, errors),
     }
 }
 
+// Reads a FILE, and makes the files of its parts under hidden names.
+fn read_parts<'a, F: NamedFiles, R: Read, E: Write>(
+    rt: &HostRuntime,
+    file: &'a str,
+    files: &F,
+    reader: &mut R,
+    options: &Options<'_>,
+    folder: &str,
+    errors: &mut E,
+) -> (MadeFiles<F>, Notes<'a>, Ended)
+    ensures { IsTaken (with_file F.is_told) (options_view options.now) (R.remaining reader.old) []
+        (map F.text_of result.0.made.items) result.2 }
+{
+    let alloc = rt.alloc();
+    let target = Collected {
+        store: PartFiles::new(alloc, files, folder, name_of(file)),
+        notes: Notes::new(alloc, file),
+        fault: None,
+    };
+    let mut watched = Watched::new(rt, file, reader);
+    let Outcome { target, ended } = convert(alloc, &mut watched, options, target);
+    let seen = watched.into_seen();
+    let Collected {
+        store,
+        mut notes,
+        fault,
+    } = target;
+    count_wrong(&mut notes, &ended);
+    let ended = end_of_seen(alloc, &notes, &seen, options, &ended, &fault, errors);
+    (store.finish(), notes, ended)
+}
+
 // Converts a FILE into a folder.
-fn convert_into<R: Read, E: Write>(
+fn convert_into<F: NamedFiles, R: Read, E: Write>(
     rt: &HostRuntime,
     file: &str,
+    files: &mut F,
     reader: &mut R,
     options: &Options<'_>,
     folder: &str,
     summary: &mut Summary,
     errors: &mut E,
 ) -> Ended
-    ensures { IsEnd (options_view options.now) true (R.remaining reader.old) result [] }
+    ensures { IsEnd (asking (options_view options.now) (Some folder.now) F.is_told) file.now
+        (R.remaining reader.old) (file_end result [] (F.holds files.old) (F.holds files.new)) }
 {
-    let store = Folder::new(rt, folder, name_of(file), options.choices.parts);
-    let Taken {
-        store,
-        notes,
-        ended,
-    } = read_into(rt, file, reader, options, store, errors);
-    let ended = place(&store, &notes, ended, summary, errors);
-    store.discard();
+    let (made, notes, read) = read_parts(rt, file, files, reader, options, folder, errors);
+    let name = name_of(file);
+    let parts = options.choices.parts;
+    let ended = place_parts(rt.alloc(), files, &made, folder, name, parts, read, errors);
+    if ended.is_converted() {
+        tell(&notes, summary, errors);
+    }
+    made.discard(files);
     ended
 }
 
 // Converts what a reader gives.
-fn convert_read<R: Read, W: Write, E: Write>(
+fn convert_read<F: NamedFiles, R: Read, W: Write, E: Write>(
     rt: &HostRuntime,
     run: &Run<'_>,
     file: &str,
+    files: &mut F,
     reader: &mut R,
     output: &mut W,
     summary: &mut Summary,
     errors: &mut E,
 ) -> Ended
     ensures { (written : List ℕ) × Appends (W.contents output.old) (W.contents output.new) written
-        × IsEnd (options_view run.now.options) (is_some run.now.folder)
-        (R.remaining reader.old) result written }
+        × IsEnd (run_asking F.is_told run.now) file.now (R.remaining reader.old)
+        (file_end result written (F.holds files.old) (F.holds files.new)) }
 {
     match run.folder {
-        Some(folder) => convert_into(rt, file, reader, &run.options, folder, summary, errors),
-        None => convert_out(rt, file, reader, &run.options, output, summary, errors),
+        Some(folder) => convert_into(
+            rt,
+            file,
+            files,
+            reader,
+            &run.options,
+            folder,
+            summary,
+            errors,
+        ),
+        None => convert_out(
+            rt,
+            file,
+            files,
+            reader,
+            &run.options,
+            output,
+            summary,
+            errors,
+        ),
     }
 }
 
@@ -288,40 +346,41 @@ fn report_packed<E: Write>(alloc: Global, file: &str, errors: &mut E) -> Ended
             write_lines(line.as_str(), errors);
             Ended::Packed
         }
-        Err(AllocError) => report_fault(&FileFault::Memory, errors),
+        Err(AllocError) => report_fault(alloc, &FileFault::Memory, errors),
     }
 }
 
 // Converts a FILE that is not standard input.
-fn convert_named<W: Write, E: Write>(
+fn convert_named<F: NamedFiles, W: Write, E: Write>(
     rt: &HostRuntime,
     run: &Run<'_>,
     file: &str,
+    files: &mut F,
     output: &mut W,
     summary: &mut Summary,
     errors: &mut E,
 ) -> Ended
-    ensures { (bytes : Option (List ℕ)) × (written : List ℕ)
-        × Appends (W.contents output.old) (W.contents output.new) written
-        × IsEnd (options_view run.now.options) (is_some run.now.folder) bytes result written }
+    ensures { (written : List ℕ) × Appends (W.contents output.old) (W.contents output.new) written
+        × IsEnd (run_asking F.is_told run.now) file.now (F.holds files.old file.now)
+        (file_end result written (F.holds files.old) (F.holds files.new)) }
 {
     if is_packed(file) {
         return report_packed(rt.alloc(), file, errors);
     }
-    match File::open(rt, file) {
-        Ok(mut reader) => convert_read(rt, run, file, &mut reader, output, summary, errors),
-        Err(error) => {
-            let fault = FileFault::of(rt.alloc(), file, &error);
-            report_fault(&fault, errors)
+    match files.open(file) {
+        Ok(mut reader) => {
+            convert_read(rt, run, file, files, &mut reader, output, summary, errors)
         }
+        Err(fault) => report_fault(rt.alloc(), &fault, errors),
     }
 }
 
 // Converts one FILE.
-fn convert_file<R: Read, W: Write, E: Write>(
+fn convert_file<F: NamedFiles, R: Read, W: Write, E: Write>(
     rt: &HostRuntime,
     run: &Run<'_>,
     file: &str,
+    files: &mut F,
     input: &mut R,
     output: &mut W,
     summary: &mut Summary,
@@ -329,14 +388,16 @@ fn convert_file<R: Read, W: Write, E: Write>(
 ) -> Ended
     ensures end { (bytes : Option (List ℕ)) × (written : List ℕ)
         × (file.now ≡ codes "-" → bytes ≡ R.remaining input.old)
+        × (file.now ≢ codes "-" → bytes ≡ F.holds files.old file.now)
         × Appends (W.contents output.old) (W.contents output.new) written
-        × IsEnd (options_view run.now.options) (is_some run.now.folder) bytes result written }
+        × IsEnd (run_asking F.is_told run.now) file.now bytes
+        (file_end result written (F.holds files.old) (F.holds files.new)) }
     ensures untouched { file.now ≢ codes "-" → input.new ≡ input.old }
 {
     if file == STANDARD_INPUT {
-        convert_read(rt, run, file, input, output, summary, errors)
+        convert_read(rt, run, file, files, input, output, summary, errors)
     } else {
-        convert_named(rt, run, file, output, summary, errors)
+        convert_named(rt, run, file, files, output, summary, errors)
     }
 }
 
@@ -356,54 +417,56 @@ fn greater(one: u8, other: u8) -> u8
 }
 
 // Converts each FILE in turn, and gives the greatest status.
-fn convert_each<R: Read, W: Write, E: Write>(
+fn convert_each<F: NamedFiles, R: Read, W: Write, E: Write>(
     rt: &HostRuntime,
     run: &Run<'_>,
-    files: &[&str],
+    names: &[&str],
+    files: &mut F,
     input: &mut R,
     output: &mut W,
     summary: &mut Summary,
     errors: &mut E,
 ) -> u8
-    ensures end { AllEnd (options_view run.now.options) (is_some run.now.folder)
-        (R.remaining input.old) (map (λ file. file.now) files.now)
+    ensures end { AllEnd (run_asking F.is_told run.now) (R.remaining input.old)
+        (F.holds files.old) (F.holds files.new) (map (λ name. name.now) names.now)
         (Appends (W.contents output.old) (W.contents output.new)) result }
     ensures most { result ≤ 3 }
 {
     let mut status = 0;
-    for file in files {
-        let ended = convert_file(rt, run, file, input, output, summary, errors);
+    for file in names {
+        let ended = convert_file(rt, run, file, files, input, output, summary, errors);
         status = greater(status, ended.status());
     }
     status
 }
 
-/// Converts each FILE in turn, where `-` is standard input, and gives the status: 0, or 1 where one
-/// was refused or a wrong product left out, or 3 where a file could not be read or written or
-/// memory ran out, which outweighs 1. What one ends in does not keep the others from being
-/// converted.
-pub fn convert_files<R: Read, W: Write, E: Write>(
+/// Converts each FILE in turn, where `-` is standard input and each other one is opened by its
+/// name, and gives the status: 0, or 1 where one was refused or a wrong product left out, or 3
+/// where a file could not be read or written or memory ran out, which outweighs 1. What one ends
+/// in does not keep the others from being converted.
+pub fn convert_files<F: NamedFiles, R: Read, W: Write, E: Write>(
     rt: &HostRuntime,
     run: &Run<'_>,
-    files: &[&str],
+    names: &[&str],
+    files: &mut F,
     input: &mut R,
     output: &mut W,
     errors: &mut E,
 ) -> u8
-    ensures end { RunEnds (options_view run.now.options) (is_some run.now.folder)
-        (R.remaining input.old) (map (λ file. file.now) files.now)
+    ensures end { RunEnds (run_asking F.is_told run.now) (R.remaining input.old)
+        (F.holds files.old) (F.holds files.new) (map (λ name. name.now) names.now)
         (Appends (W.contents output.old) (W.contents output.new)) result }
     ensures most { result ≤ 3 }
 {
     let alloc = rt.alloc();
     if let Some(folder) = run.folder {
-        if !is_folder(rt, folder) {
-            FileFault::new(alloc, folder, "no folder").report(errors);
+        if !files.is_folder(folder) {
+            write_fault(alloc, &FileFault::new(alloc, folder, "no folder"), errors);
             return 3;
         }
     }
     let mut summary = Summary::new(alloc);
-    let status = convert_each(rt, run, files, input, output, &mut summary, errors);
+    let status = convert_each(rt, run, names, files, input, output, &mut summary, errors);
     write_summary(alloc, &summary, errors);
     status
 }

@@ -1,6 +1,6 @@
 //! How a FILE ends.
 
-ghost use Rattle.std.specs.Prelude.{◌≡◌, ◌≤◌, true, false};
+ghost use Rattle.std.specs.Prelude.{◌≡◌, ◌<◌, ◌≤◌, true, false};
 ghost use Rattle.onix_files.specs.Ends.{is_converted, status_of};
 
 /// How a FILE ended.
@@ -8,7 +8,7 @@ ghost use Rattle.onix_files.specs.Ends.{is_converted, status_of};
 pub enum Ended {
     /// It was converted.
     Done,
-    /// It was converted, but for wrong products.
+    /// It was converted, though some of its products are wrong.
     LeftOut,
     /// It was refused.
     Refused,
@@ -38,15 +38,15 @@ impl Ended {
         matches!(self, Ended::Done | Ended::LeftOut)
     }
 
-    /// That of a FILE that was converted.
-    pub fn of_converted(has_wrong: bool) -> Ended
-        ensures done { has_wrong ≡ false → result ≡ Ended.Done }
-        ensures left_out { has_wrong ≡ true → result ≡ Ended.LeftOut }
+    /// That of a FILE that was converted, so many of whose products are wrong.
+    pub fn of_converted(wrong: u32) -> Ended
+        ensures done { wrong ≡ 0 → result ≡ Ended.Done }
+        ensures left_out { 0 < wrong → result ≡ Ended.LeftOut }
     {
-        if has_wrong {
-            Ended::LeftOut
-        } else {
+        if wrong == 0 {
             Ended::Done
+        } else {
+            Ended::LeftOut
         }
     }
 }

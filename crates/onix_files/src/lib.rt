@@ -3,25 +3,18 @@
 //! left out or refused.
 #![tactic(auto)]
 
-mod causes;
 mod collected;
 mod converting;
 pub mod ended;
 mod fault;
-mod files;
-mod folder;
 mod header_number;
-mod hidden;
 mod kinds;
-mod malformed;
-mod names;
 mod notes;
 mod progress;
 mod refusal;
 mod root;
 mod seen;
 mod shown;
-mod spool;
 mod store;
 mod summary;
 mod unread;
@@ -30,4 +23,4 @@ mod words;
 
 pub use converting::{Run, convert_files};
 pub use ended::Ended;
-pub use names::STANDARD_INPUT;
+pub use named_files::STANDARD_INPUT;

@@ -1,7 +1,7 @@
 //! A line on a terminal that shows how far a FILE is.
 
-use crate::names::STANDARD_INPUT;
 use crate::shown::push_shown;
+use named_files::STANDARD_INPUT;
 use std::alloc::AllocError;
 use std::io::{IsTerminal, Write};
 use std::rt::HostRuntime;

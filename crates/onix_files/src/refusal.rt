@@ -1,28 +1,29 @@
 //! Why the message of a FILE is refused.
 
-use crate::causes::Causes;
 use crate::header_number::{number_in, push_number};
-use crate::notes::push_place;
+use crate::notes::{Notes, push_place};
 use crate::seen::Seen;
 use crate::shown::{push_reference, push_shown_bytes};
 use crate::unread::{push_malformed, push_release, push_root};
-use crate::words::push_words;
 use onix_conversion::{Fault, Options, Rejection};
-use onix_mapping::{Pair, Reason, Refusal, Why};
+use onix_mapping::{Pair, Refusal};
 use onix_outline::Wrong;
 use std::alloc::{AllocError, Global};
 use xml_text::Position;
 
 const NO_HEADER: &str = "no Header before the first Product, and so neither a sender nor a number";
 
-// What can be done about a wrong product.
-const MENDED: &str = "; the sender has to mend it, or --leave-out-wrong leaves the product out";
+// What can be done about wrong products.
+const MENDED: &str = "; the sender has to mend it, or --wrong all lets them through";
+
+const OTHER_NAMESPACE: &str =
+    "an element in another namespace than the root has a name that counts in its place";
 
 const AGREED: &str =
     "the number of parts is a part of the agreement on the series, and with another one its numbers no longer follow each other (ONIX.md)";
 
 const OTHER_ENCODING: &str =
-    "its encoding is none of UTF-8, UTF-16, US-ASCII, ISO-8859-1 and windows-1252";
+    "its encoding is none of UTF-8, UTF-16, US-ASCII, ISO-8859-1, ISO-8859-15 and windows-1252";
 
 /// What is known of a FILE that was not converted, beside its fault.
 #[derive(Clone, Copy)]
@@ -30,8 +31,8 @@ pub struct Known<'a> {
     pub file: &'a str,
     pub options: &'a Options<'a>,
     pub seen: &'a Seen,
-    /// What is wrong in the product for which it is refused.
-    pub causes: &'a Causes,
+    /// The notes on what is left out of it.
+    pub notes: &'a Notes<'a>,
 }
 
 // Adds why a file is no document.
@@ -101,28 +102,26 @@ fn push_header(
     }
 }
 
-// Adds the reference of a wrong product, why it is wrong, and what can be done about it.
-fn push_product(
+// Adds how many of how many products are wrong, the first of them, and what can be done about it.
+fn push_products(
     line: &mut String,
+    wrong: u32,
+    products: u32,
     reference: &[u8],
-    why: Why,
-    place: Position,
-    causes: &Causes,
 ) -> Result<(), AllocError> {
+    write!(line, "{wrong} of {products} products wrong, the first ")?;
     push_reference(line, reference)?;
-    line.push_str(": ")?;
-    let told = causes.told(place, Reason { why, text: b"" });
-    push_words(line, told.words, told.text)?;
-    line.push_str(told.more)?;
     line.push_str(MENDED)
 }
 
 // Where what a message is refused for stands.
-fn place_of(rejection: &Rejection, causes: &Causes) -> Position {
+fn place_of(rejection: &Rejection) -> Position {
     match rejection {
-        Rejection::Product(_, why, place) => causes.place_of(*place, *why),
         Rejection::NoHeader(Some(place))
         | Rejection::Header(_, place)
+        | Rejection::SecondHeader(place)
+        | Rejection::OtherNamespace(place)
+        | Rejection::Wrong(_, _, _, place)
         | Rejection::Parts(_, place) => *place,
         Rejection::NoHeader(None) => Position::first(),
     }
@@ -138,8 +137,10 @@ fn push_rejection(
     match rejection {
         Rejection::NoHeader(_) => line.push_str(NO_HEADER),
         Rejection::Header(refusal, _) => push_header(line, alloc, *refusal, known),
-        Rejection::Product(reference, why, place) => {
-            push_product(line, reference.as_slice(), *why, *place, known.causes)
+        Rejection::SecondHeader(_) => line.push_str("a second Header"),
+        Rejection::OtherNamespace(_) => line.push_str(OTHER_NAMESPACE),
+        Rejection::Wrong(wrong, products, reference, _) => {
+            push_products(line, *wrong, *products, reference.as_slice())
         }
         Rejection::Parts(count, _) => {
             let parts = known.options.choices.parts;
@@ -174,7 +175,20 @@ fn push_start(line: &mut String, file: &str, place: Position) -> Result<(), Allo
     line.push_str("refused: ")
 }
 
-/// Adds the line of a FILE that was not converted, unless memory ran out.
+// Adds the lines on wrong products, where a message is refused for these.
+fn push_wrong_products(
+    line: &mut String,
+    rejection: &Rejection,
+    notes: &Notes<'_>,
+) -> Result<(), AllocError> {
+    match rejection {
+        Rejection::Wrong(_, _, _, _) => line.push_str(notes.of_wrong()?.as_str()),
+        _ => Ok(()),
+    }
+}
+
+/// Adds the line of a FILE that was not converted, unless memory ran out; before it the lines on
+/// wrong products, where it is refused for these.
 pub(crate) fn push_refusal(
     line: &mut String,
     alloc: Global,
@@ -187,7 +201,8 @@ pub(crate) fn push_refusal(
             push_stopped(line, alloc, fault, known.seen)?;
         }
         Fault::Refused(rejection) => {
-            push_start(line, known.file, place_of(rejection, known.causes))?;
+            push_wrong_products(line, rejection, known.notes)?;
+            push_start(line, known.file, place_of(rejection))?;
             push_rejection(line, alloc, rejection, known)?;
         }
         Fault::Memory => return Ok(()),

@@ -1,6 +1,6 @@
 //! What was seen of a FILE while it was read.
 
-use crate::fault::FileFault;
+use named_files::FileFault;
 use std::alloc::Global;
 
 // How many of the first bytes are kept.

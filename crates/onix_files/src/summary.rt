@@ -1,14 +1,13 @@
 //! How often each reason was given.
 
-use crate::words::{Words, push_reason};
+use crate::words::{Saying, push_saying};
 use std::alloc::{AllocError, Global};
 
-/// What is counted as one: what is left out, the words of the reason, and its text where that is a
-/// code of two digits.
+/// What is counted as one: what the lines say, and the text of the reason where that is a code of two
+/// digits.
 #[derive(Clone, Copy, PartialEq, Eq)]
 struct Kind {
-    thing: &'static str,
-    words: Words,
+    saying: Saying,
     code: Option<[u8; 2]>,
 }
 
@@ -18,12 +17,13 @@ struct Counted {
     count: u64,
 }
 
-/// How many notes there are for each reason. A reason holds no text of a feed but a code of two
-/// digits, so that they stay few.
+/// How many notes there are for each reason, and how many products are wrong. A reason holds no text
+/// of a feed but a code of two digits, so that they stay few.
 #[derive(Drop)]
 pub struct Summary {
     alloc: Global,
     counts: Vec<Counted>,
+    wrong: u64,
 }
 
 // The text of a reason where it is a code of two digits.
@@ -41,6 +41,7 @@ impl Summary {
         Summary {
             alloc,
             counts: Vec::new(alloc),
+            wrong: 0,
         }
     }
 
@@ -55,15 +56,19 @@ impl Summary {
         Ok(())
     }
 
-    /// Counts a note on what is left out, with the words of its reason and their text.
-    pub(crate) fn add(
-        &mut self,
-        thing: &'static str,
-        words: Words,
-        text: &[u8],
-    ) -> Result<(), AllocError> {
-        let code = if words.has_text { code_of(text) } else { None };
-        self.count(Kind { thing, words, code }, 1)
+    /// Counts a note that says this, with the text of its reason.
+    pub(crate) fn add(&mut self, saying: Saying, text: &[u8]) -> Result<(), AllocError> {
+        let code = if saying.words.has_text {
+            code_of(text)
+        } else {
+            None
+        };
+        self.count(Kind { saying, code }, 1)
+    }
+
+    /// Counts so many wrong products.
+    pub(crate) fn count_wrong(&mut self, wrong: u32) {
+        self.wrong = self.wrong.saturating_add(u64::from(wrong));
     }
 
     /// Counts all that another has counted.
@@ -71,6 +76,7 @@ impl Summary {
         for counted in other.counts.iter() {
             self.count(counted.kind, counted.count)?;
         }
+        self.wrong = self.wrong.saturating_add(other.wrong);
         Ok(())
     }
 
@@ -110,8 +116,21 @@ impl Summary {
         Ok(())
     }
 
+    // Adds how many products are wrong, where some are.
+    fn push_wrong(&self, text: &mut String) -> Result<(), AllocError> {
+        if self.wrong == 0 {
+            return Ok(());
+        }
+        let products = if self.wrong == 1 {
+            "product"
+        } else {
+            "products"
+        };
+        write!(text, ", {} {products} wrong", self.wrong)
+    }
+
     /// Adds the lines of the summary: one for each reason, the most frequent first, and the count
-    /// of all notes. None where there are no notes.
+    /// of all notes and of wrong products. None where there are no notes.
     pub(crate) fn push_lines(&self, prefix: &str, text: &mut String) -> Result<(), AllocError> {
         self.push_reasons(prefix, text)?;
         let total = self.total();
@@ -119,14 +138,16 @@ impl Summary {
             return Ok(());
         }
         let notes = if total == 1 { "note" } else { "notes" };
-        write!(text, "{prefix}{total} {notes}\n")
+        write!(text, "{prefix}{total} {notes}")?;
+        self.push_wrong(text)?;
+        text.push_str("\n")
     }
 }
 
-// Adds what is left out and why, with `..` in place of a text that is no code.
+// Adds what lines say, with `..` in place of a text that is no code.
 fn push_kind(line: &mut String, kind: Kind) -> Result<(), AllocError> {
     match kind.code {
-        Some(code) => push_reason(line, kind.thing, kind.words, &code),
-        None => push_reason(line, kind.thing, kind.words, b".."),
+        Some(code) => push_saying(line, kind.saying, &code),
+        None => push_saying(line, kind.saying, b".."),
     }
 }

@@ -2,9 +2,9 @@
 
 ghost use Rattle.std.specs.Prelude.{◌≡◌};
 
-use crate::fault::FileFault;
 use crate::progress::Progress;
 use crate::seen::Seen;
+use named_files::FileFault;
 use std::io::{Read, Result};
 use std::rt::HostRuntime;
 

@@ -1,7 +1,7 @@
-//! The words that say why something is left out.
+//! The words that say what is left out of a message, and why.
 
 use crate::shown::push_shown_bytes;
-use onix_mapping::{Note, Why};
+use onix_mapping::{Foreign, Note, Why, Wrong};
 use std::alloc::AllocError;
 
 /// Of a reason its words, with a text of the feed between them where it has one; a space stands
@@ -13,32 +13,44 @@ pub struct Words {
     pub behind: &'static str,
 }
 
-/// A reason as a line tells it: its words, the text of the feed that they have, and what else is
-/// told of it.
-#[derive(Clone, Copy)]
-pub struct Told<'a> {
+/// What a line says: of what, what becomes of it, and the words that say why.
+#[derive(Clone, Copy, PartialEq, Eq)]
+pub struct Saying {
+    pub thing: &'static str,
+    pub verb: &'static str,
     pub words: Words,
-    pub text: &'a [u8],
-    pub more: &'a str,
 }
-
-const MALFORMED: &str = "the desk would call it malformed";
 
 const TOO_LARGE: &str = "a Product too large for a message of 20000 records and 4194304 bytes";
 
-// The rules for an amount and a quantity.
+const LONG_MARKETS: &str = "its Markets together have more than 1024 bytes";
+
+const NO_IDENTIFIER: &str = "without thirteen digits of type 03 or 15: nobody finds it by an ISBN";
+
+const OTHER_NAMESPACE: &str = "an element below it is in another namespace";
+
+const LONG_SUPPLIER: &str =
+    "a text of its Supplier has more than 1024 bytes or a control character";
+
+const LONG_PRICE: &str = "a text of it has more than 1024 bytes or a control character";
+
+const LONG_TERRITORY: &str =
+    "CountriesIncluded or CountriesExcluded has more than 1024 bytes or a control character";
+
+// The rules for fields.
 const NO_AMOUNT: &str = " is not 1 to 9 digits, and at most 3 behind a point";
 
 const NO_QUANTITY: &str = " is not 1 to 6 digits, not all zero";
 
-const WRONG_COUNTRIES: &str =
-    "CountriesIncluded or CountriesExcluded is no list of two capital letters each, or has more than 1024 bytes";
+const NO_CODE: &str = " is not two digits";
+
+const NO_COUNTRIES: &str = " is not countries of two capital letters";
 
 // The most bytes that a field may have.
 const FIELD_BYTES: usize = 1_024;
 
-/// Words without a text.
-pub(crate) fn plain(words: &'static str) -> Words {
+// Words without a text.
+fn plain(words: &'static str) -> Words {
     Words {
         before: words,
         has_text: false,
@@ -54,8 +66,8 @@ fn with_text(before: &'static str, behind: &'static str) -> Words {
     }
 }
 
-/// Of a field that is needed and absent.
-pub(crate) fn absent(label: &'static str) -> Words {
+// Of a field that is needed and absent.
+fn absent(label: &'static str) -> Words {
     Words {
         before: "no ",
         has_text: false,
@@ -63,8 +75,8 @@ pub(crate) fn absent(label: &'static str) -> Words {
     }
 }
 
-/// Of a field that has what no field may have.
-pub(crate) fn forbidden(label: &'static str, text: &[u8]) -> Option<Words> {
+// Of a field that has what no field may have.
+fn forbidden(label: &'static str, text: &[u8]) -> Option<Words> {
     let behind = if text.contains(&0x7f) {
         " has the control character U+007F"
     } else if text.len() > FIELD_BYTES {
@@ -79,71 +91,184 @@ pub(crate) fn forbidden(label: &'static str, text: &[u8]) -> Option<Words> {
     })
 }
 
-/// Of a field that breaks its rule: that it has what no field may have, or the rule.
-pub(crate) fn field(label: &'static str, text: &[u8], rule: &'static str) -> Words {
+// Of a field that breaks its rule: that it has what no field may have, or the rule.
+fn field(label: &'static str, text: &[u8], rule: &'static str) -> Words {
     match forbidden(label, text) {
         Some(words) => words,
         None => with_text(label, rule),
     }
 }
 
-// Of a reason whose text is needed and absent.
-fn words_without_text(why: Why) -> Option<&'static str> {
+// Of a field that is needed: that it is absent, or the rule that it breaks.
+fn needed(label: &'static str, text: &[u8], rule: &'static str) -> Words {
+    if text.is_empty() {
+        absent(label)
+    } else {
+        field(label, text, rule)
+    }
+}
+
+// Of a field that has a default in the Header.
+fn defaulted(label: &'static str, none: &'static str, text: &[u8], rule: &'static str) -> Words {
+    if text.is_empty() {
+        plain(none)
+    } else {
+        field(label, text, rule)
+    }
+}
+
+// Of a composite whose type is not 00, or that has none.
+fn typed(label: &'static str, none: &'static str, text: &[u8]) -> Words {
+    if text.is_empty() {
+        plain(none)
+    } else {
+        with_text(label, "")
+    }
+}
+
+// Of a country that is read by another code.
+fn country(text: &[u8]) -> Words {
+    if text == b"UK".as_slice() {
+        with_text("", " read as GB")
+    } else {
+        with_text("", " read as GR")
+    }
+}
+
+// Of what the desk has no field for.
+fn words_of_foreign(why: Foreign, text: &[u8]) -> Words {
     match why {
-        Why::PriceCondition => Some("PriceCondition without PriceConditionType"),
-        Why::PriceConstraint => Some("PriceConstraint without PriceConstraintType"),
-        Why::WrongPriceType => Some("no PriceType, and no default in the Header"),
-        Why::WrongCurrency => Some("no CurrencyCode, and no default in the Header"),
-        _ => None,
+        Foreign::PriceQualifier => with_text("PriceQualifier", ""),
+        Foreign::PricePer => with_text("PricePer", ""),
+        Foreign::PriceCondition => typed(
+            "PriceConditionType",
+            "PriceCondition without PriceConditionType",
+            text,
+        ),
+        Foreign::PriceConstraint => typed(
+            "PriceConstraintType",
+            "PriceConstraint without PriceConstraintType",
+            text,
+        ),
+        Foreign::PriceCoded => plain("PriceCoded"),
+        Foreign::CurrencyZone => with_text("CurrencyZone", ""),
+        Foreign::EpubLicense => plain("EpubLicense"),
+        Foreign::DateFormat => with_text("PriceDate in format", ""),
+        Foreign::MoreDecimals => with_text("PriceAmount", " has more than 3 decimals"),
+        Foreign::NoCharge => with_text("PriceAmount", " is no price"),
+        Foreign::RegionAlone => with_text("RegionsIncluded", " without a country or WORLD"),
+        Foreign::RegionOfNoCountry => {
+            with_text("RegionsExcluded", ", which is no part of a country")
+        }
+        Foreign::RegionIncluded => with_text("", " beside a country or WORLD"),
+        Foreign::RegionExcluded => with_text("", " is a part of a country"),
+        Foreign::CountryName => country(text),
+        Foreign::NoSupplyDetail => plain("no SupplyDetail"),
+        Foreign::NoMarketLeft => plain("every Market is left out"),
+        Foreign::LongMarkets => plain(LONG_MARKETS),
+        Foreign::NoSupplyLeft => plain("no ProductSupply is left"),
+        Foreign::NoIsbn => plain(NO_IDENTIFIER),
+        Foreign::Ignored => with_text("of NotificationType", ": the desk ignores it"),
     }
 }
 
-// Of a reason that may have a text.
-fn words_with_text(why: Why, text: &[u8]) -> Words {
+// Of what the desk would not take of a Price or a Territory.
+fn words_of_price(why: Wrong, text: &[u8]) -> Option<Words> {
+    let words = match why {
+        Wrong::OldElement => with_text("", " of ONIX 2.1"),
+        Wrong::NoDate => with_text("PriceDate of role", " without Date"),
+        Wrong::NotTwoDays => field("Date of PriceDate", text, " is not two days YYYYMMDD"),
+        Wrong::Day => field("Date of PriceDate", text, " is not a day YYYYMMDD"),
+        Wrong::PriceType => defaulted(
+            "PriceType",
+            "no PriceType, and no default in the Header",
+            text,
+            NO_CODE,
+        ),
+        Wrong::Amount => needed("PriceAmount", text, NO_AMOUNT),
+        Wrong::Currency => defaulted(
+            "CurrencyCode",
+            "no CurrencyCode, and no default in the Header",
+            text,
+            " is not three capital letters",
+        ),
+        Wrong::CountriesIncluded => field("CountriesIncluded", text, NO_COUNTRIES),
+        Wrong::CountriesExcluded => field("CountriesExcluded", text, NO_COUNTRIES),
+        Wrong::Territory => plain(LONG_TERRITORY),
+        Wrong::Quantity => field("MinimumOrderQuantity", text, NO_QUANTITY),
+        Wrong::Price => plain(LONG_PRICE),
+        _ => return None,
+    };
+    Some(words)
+}
+
+// Of what it would not take of a SupplyDetail.
+fn words_of_detail(why: Wrong, text: &[u8]) -> Option<Words> {
+    let words = match why {
+        Wrong::SupplierRole => needed("SupplierRole", text, NO_CODE),
+        Wrong::SupplierType => needed("SupplierIDType", text, NO_CODE),
+        Wrong::SupplierValue => absent("IDValue of SupplierIdentifier"),
+        Wrong::Supplier => plain("Supplier without identifier and name"),
+        Wrong::Availability => needed("ProductAvailability", text, NO_CODE),
+        Wrong::Unpriced => field("UnpricedItemType", text, NO_CODE),
+        Wrong::SupplyDetail => plain(LONG_SUPPLIER),
+        _ => return None,
+    };
+    Some(words)
+}
+
+// Of what it would not take of a ProductSupply, a ProductIdentifier or a Product.
+fn words_of_product(why: Wrong, text: &[u8]) -> Words {
     match why {
-        Why::PriceQualifier => with_text("PriceQualifier", ""),
-        Why::PricePer => with_text("PricePer", ""),
-        Why::PriceCondition => with_text("PriceConditionType", ""),
-        Why::PriceConstraint => with_text("PriceConstraintType", ""),
-        Why::PriceCoded => plain("PriceCoded"),
-        Why::CurrencyZone => with_text("CurrencyZone", ""),
-        Why::DateFormat => with_text("PriceDate in format", ""),
-        Why::NoDate => with_text("PriceDate of role", " without Date"),
-        Why::NotTwoDays => with_text("Date of PriceDate", " is not two days YYYYMMDD"),
-        Why::MoreDecimals => with_text("PriceAmount", " has more than 3 decimals"),
-        Why::WrongPriceType => field("PriceType", text, " is not two digits"),
-        Why::WrongAmount => field("PriceAmount", text, NO_AMOUNT),
-        Why::WrongCurrency => field("CurrencyCode", text, " is not three capital letters"),
-        Why::WrongTerritory => plain(WRONG_COUNTRIES),
-        Why::WrongDay => field("Date of PriceDate", text, " is not a day YYYYMMDD"),
-        Why::WrongQuantity => field("MinimumOrderQuantity", text, NO_QUANTITY),
-        Why::RegionIncluded => with_text("", " beside a country or WORLD"),
-        Why::RegionExcluded => with_text("", " is a part of a country"),
-        Why::RegionAlone => with_text("RegionsIncluded", " without a country or WORLD"),
-        Why::RegionOfNoCountry => with_text("RegionsExcluded", ", which is no part of a country"),
-        Why::NoSupplyDetail => plain("no SupplyDetail"),
-        Why::NoSupplyLeft => plain("the Product is written without supplies"),
-        Why::ProductTooLarge => plain(TOO_LARGE),
-        Why::PriceRefused | Why::WrongIdentifier | Why::WrongProduct => plain(MALFORMED),
+        Wrong::NoMarketLeft => plain("every Market is left out"),
+        Wrong::NoDetailLeft => plain("every SupplyDetail is left out"),
+        Wrong::IdentifierType => needed("ProductIDType", text, NO_CODE),
+        Wrong::IdentifierValue => needed("IDValue of ProductIdentifier", text, ""),
+        Wrong::RecordReference => needed("RecordReference", text, ""),
+        Wrong::NotificationType => needed("NotificationType", text, NO_CODE),
+        Wrong::NoIdentifierLeft => plain("no right ProductIdentifier"),
+        Wrong::OtherNamespace => plain(OTHER_NAMESPACE),
+        Wrong::NoSupplyLeft => plain("no ProductSupply is left"),
+        _ => plain(TOO_LARGE),
     }
 }
 
-/// The words of a reason with that text.
-pub(crate) fn words_of(why: Why, text: &[u8]) -> Words {
-    match words_without_text(why) {
-        Some(words) if text.is_empty() => plain(words),
-        _ => words_with_text(why, text),
+// Of what the desk would not take.
+fn words_of_wrong(why: Wrong, text: &[u8]) -> Words {
+    match words_of_price(why, text) {
+        Some(words) => words,
+        None => match words_of_detail(why, text) {
+            Some(words) => words,
+            None => words_of_product(why, text),
+        },
     }
 }
 
-/// What a note says is left out.
-pub(crate) fn thing_of(note: Note<'_>) -> &'static str {
-    match note.reason.why {
-        Why::RegionIncluded => "region of RegionsIncluded",
-        Why::RegionExcluded => "region of RegionsExcluded",
-        Why::NoSupplyLeft => "every ProductSupply",
-        _ => name_of(note.line.name),
+fn words_of(why: Why, text: &[u8]) -> Words {
+    match why {
+        Why::Foreign(why) => words_of_foreign(why, text),
+        Why::Wrong(why) => words_of_wrong(why, text),
     }
+}
+
+/// Whether a note for this reason says that a Product is left out or emptied.
+pub(crate) fn is_of_product(why: Why) -> bool {
+    matches!(why, Why::Wrong(Wrong::RecordReference)) || is_emptied(why)
+}
+
+// Whether a Product is emptied for this reason: it is written without its supplies.
+fn is_emptied(why: Why) -> bool {
+    matches!(
+        why,
+        Why::Foreign(Foreign::NoSupplyLeft)
+            | Why::Wrong(
+                Wrong::NotificationType
+                    | Wrong::NoIdentifierLeft
+                    | Wrong::OtherNamespace
+                    | Wrong::NoSupplyLeft
+                    | Wrong::TooLarge
+            )
+    )
 }
 
 // The reference name of a composite.
@@ -154,8 +279,36 @@ fn name_of(name: &'static [u8]) -> &'static str {
     }
 }
 
-/// Adds why, with the text of the reason.
-pub(crate) fn push_words(line: &mut String, words: Words, text: &[u8]) -> Result<(), AllocError> {
+// Of what a note speaks.
+fn thing_of(note: Note<'_>) -> &'static str {
+    match note.reason.why {
+        Why::Foreign(Foreign::RegionIncluded) => "region of RegionsIncluded",
+        Why::Foreign(Foreign::RegionExcluded) => "region of RegionsExcluded",
+        Why::Foreign(Foreign::CountryName) => "country",
+        _ => name_of(note.line.name),
+    }
+}
+
+// What becomes of it.
+fn verb_of(why: Why) -> &'static str {
+    match why {
+        Why::Foreign(Foreign::CountryName | Foreign::NoIsbn | Foreign::Ignored) => " ",
+        _ if is_emptied(why) => " emptied: ",
+        _ => " left out: ",
+    }
+}
+
+/// What the line of a note says.
+pub(crate) fn saying_of(note: Note<'_>) -> Saying {
+    Saying {
+        thing: thing_of(note),
+        verb: verb_of(note.reason.why),
+        words: words_of(note.reason.why, note.reason.text),
+    }
+}
+
+// Adds why, with the text of the reason.
+fn push_words(line: &mut String, words: Words, text: &[u8]) -> Result<(), AllocError> {
     line.push_str(words.before)?;
     if words.has_text {
         line.push_str(if words.before.is_empty() { "" } else { " " })?;
@@ -164,14 +317,13 @@ pub(crate) fn push_words(line: &mut String, words: Words, text: &[u8]) -> Result
     line.push_str(words.behind)
 }
 
-/// Adds what is left out and why.
-pub(crate) fn push_reason(
+/// Adds what becomes of what, and why, with the text of the reason.
+pub(crate) fn push_saying(
     line: &mut String,
-    thing: &str,
-    words: Words,
+    saying: Saying,
     text: &[u8],
 ) -> Result<(), AllocError> {
-    line.push_str(thing)?;
-    line.push_str(" left out: ")?;
-    push_words(line, words, text)
+    line.push_str(saying.thing)?;
+    line.push_str(saying.verb)?;
+    push_words(line, saying.words, text)
 }

@@ -5,9 +5,11 @@ pub mod HeaderLaws
 pub mod TerritorySets
 pub mod UnionLaws
 pub mod LetterLaws
-pub mod MarketLaws
 pub mod ElementLaws
-pub mod SupplyLaws
+pub mod IsbnLaws
+pub mod MarketLaws
+pub mod Utf8Laws
 pub mod RowLaws
+pub mod PriceFateLaws
 pub mod OpeningLaws
 pub mod PartLaws

@@ -12,7 +12,6 @@ use Rattle.onix_message.specs.PartRows.{content_rows}
 use Rattle.onix_message.specs.Row.{row_of}
 use Rattle.onix_message.specs.declared.parts.Product.{Product}
 use Rattle.onix_message.specs.declared.row.Opening.{Opening}
-use Rattle.onix_message.specs.declared.row.Row.{Row}
 use Rattle.onix_message.specs.declared.row.Row.TheVariants as row
 use Rattle.onix_message.proofs.CleanTexts.{digits-clean}
 use Rattle.onix_message.proofs.Fronts.{reads-length}

@@ -1,12 +1,18 @@
 -- The records that are made of a Product are its rows.
-use Rattle.std.proofs.Common.{◌≡◌, ℕ, List, [], ◌∷◌, ◌++◌, Bool, true, false, Option, Some, None, map, length, refl, sym, ap, ◌∙◌}
-use Rattle.std.specs.Prelude.{◌==◌, if◌then◌else◌, option_map, codes, is_some}
+use Rattle.std.proofs.Common.{◌≡◌, ℕ, List, [], ◌∷◌, ◌++◌, Bool, true, false, Option, Some, None, map, length, refl, sym, ap, ◌∙◌, subst}
+use Rattle.std.specs.Prelude.{◌==◌, ◌&&◌, ◌||◌, not, if◌then◌else◌, option_map, codes, is_some}
 use Rattle.std.specs.List.{AllByRecursion, flat_map, list_all}
 use Rattle.std.specs.Option.{option_or, unwrap_or}
-use Rattle.std.specs.Str.{is_utf8}
+use Rattle.std.specs.Str.{bytes_eq, is_utf8}
+use Rattle.std.proofs.lemmas.Bool.{and_from, and_parts}
 use Rattle.std.proofs.lemmas.List.{append-nil, map-append}
 use Rattle.std.proofs.lemmas.List.Concat.{flat_map-append}
-use Rattle.std.proofs.lemmas.Option.{same_Some}
+use Rattle.std.proofs.lemmas.Option.{cond_some, same_Some}
+use Rattle.std.specs.Char.{is_ascii, is_ascii_digit}
+use Rattle.onix_message.proofs.CleanTexts.{code2-clean}
+use Rattle.onix_terms.specs.Options.{nonempty}
+use Rattle.onix_mapping.specs.declared.notes.Wrong.{Wrong}
+use Rattle.xml_text.specs.Grammar.{is_filled}
 use Rattle.onix_outline.specs.Nodes.{Nodes}
 use Rattle.onix_message.specs.Detail.{detail_of}
 use Rattle.onix_message.specs.Fields.{is_clean, territory_fields}
@@ -17,6 +23,7 @@ use Rattle.onix_message.specs.Row.{row_of}
 use Rattle.onix_message.specs.Supply.{supply_of}
 use Rattle.onix_message.specs.declared.parts.Price.{Price}
 use Rattle.onix_message.specs.declared.parts.Product.{Product}
+use Rattle.onix_message.specs.declared.parts.ProductIdentifier.{ProductIdentifier}
 use Rattle.onix_message.specs.declared.parts.ProductSupply.{ProductSupply}
 use Rattle.onix_message.specs.declared.parts.SupplyDetail.{SupplyDetail}
 use Rattle.onix_message.specs.declared.row.Opening.{Opening}
@@ -25,27 +32,31 @@ use Rattle.onix_message.specs.declared.row.Row.TheVariants as row
 use Rattle.onix_message.proofs.Bare.{detail-bare, product-bare, supply-bare}
 use Rattle.onix_message.proofs.FrontRows.{bind-some}
 use Rattle.onix_terms.specs.Code.{code2_of}
+use Rattle.onix_terms.specs.Territory.{countries_text, territory_of, world_text}
 use Rattle.onix_terms.specs.declared.territory.Territory.{Territory}
-use Rattle.onix_mapping.specs.Details.{detail_fields, detail_record, detail_records, prices_records, supplier_pair}
-use Rattle.onix_mapping.specs.Elements.{Composite, composites}
-use Rattle.onix_mapping.specs.Markets.{as_it_stands, as_union, first_held, joined, record_by, record_from, record_in, record_of, supply_record, territories_of}
-use Rattle.onix_mapping.specs.Notes.{Reason, reason}
-use Rattle.onix_mapping.specs.Prices.{early_reasons, field_reasons, first_some, is_unpriced, nothing, outcome, outcome_of, outcome_records, price_fields, reasons_against, refusal}
-use Rattle.onix_mapping.specs.ProductRecords.{kept_supplies, left_supplies, may_be_bare, product_records, records_below}
-use Rattle.onix_mapping.specs.Products.{is_deletion, notification_in, product_fields, product_record, reference_in}
-use Rattle.onix_mapping.specs.Records.{clean, said}
-use Rattle.onix_mapping.specs.Rows.{AreProducts}
-use Rattle.onix_mapping.specs.Supplies.{all_records, details_in, details_records, records_by, supplies_in, supplies_records, supply_records, with_details}
-use Rattle.onix_mapping.specs.Territories.{Area, area_fields, market_of}
+use Rattle.onix_mapping.specs.Details.{around_in, detail_by, detail_fields, detail_record, price_in, prices_in, supplier_pair}
+use Rattle.onix_mapping.specs.Elements.{Composite}
+use Rattle.onix_mapping.specs.Markets.{first_held, held_area, held_fields, held_outcome, joined, joined_outcome, market_reason, markets_in, markets_outcome, supply_record, territories_of, union_fields}
+use Rattle.onix_mapping.specs.Notes.{Note, Reason, wrong}
+use Rattle.onix_mapping.specs.Outcomes.{Outcome, all_notes, all_records, nothing, notes_below, outcome_reason, outcome_records}
+use Rattle.onix_mapping.specs.Prices.{Around, early_reasons, field_reasons, is_nothing, outcome_of, price_fields, price_outcome, reasons_against, refusal}
+use Rattle.onix_mapping.specs.ProductRecords.{forms, reason_below, records_below, small_forms, smaller_forms, standing_fate, standing_records, too_large_notes, why_emptied}
+use Rattle.onix_mapping.specs.Products.{dropping, identifier_reason, identifiers_in, is_code, is_deletion, is_there, notification_in, or_reference, own_reason, pair_by, pair_reason, product_record, reference_in, right_pair, right_pairs, type_of, value_of, value_written}
+use Rattle.onix_mapping.specs.Records.{clean, first_some, is_field, said, term_said, unless, unread}
+use Rattle.onix_mapping.specs.Rows.{AreOf, AreProducts, references_of}
+use Rattle.onix_mapping.specs.Supplies.{behind_markets, detail_in, details_in, supplies_in, supplies_records, supply_by, supply_in, with_details}
+use Rattle.onix_mapping.specs.Territories.{Area, area_fields, area_in, area_refusal, area_reasons, market_of, unheld}
 use Rattle.onix_mapping.specs.Unions.{union}
-use Rattle.onix_mapping.specs.declared.notes.Why.TheVariants.{PriceRefused}
+use Rattle.onix_mapping.specs.declared.notes.Wrong.TheVariants as bad
+use Rattle.onix_mapping.proofs.Utf8Laws.{are_utf8, ascii-field, empty-fields, named-utf8, territory-utf8, utf8-first, utf8-joined}
 
 abbrev Records : Type 0
 Records = List (List (List ℕ))
 
--- records are these rows
-abbrev Reads : Opening → Records → List Row → Type 0
-Reads o records rows = map (row_of o) records ≡ map Some rows
+-- records are these rows, and UTF-8
+record Reads (o : Opening) (records : Records) (rows : List Row) : Type 0 where
+  pub are : map (row_of o) records ≡ map Some rows
+  pub utf8 : are_utf8 records ≡ true
 
 -- ---- what is read of texts
 
@@ -60,8 +71,21 @@ mapped (Some z) f y e = (z, refl, same_Some (f z) y e)
 clean-read : {A : Type 0} (read : List (List ℕ) → Option A) (fields : List (List ℕ)) (x : A) → clean read fields ≡ Some x → (list_all is_clean fields ≡ true) × (read fields ≡ Some x)
 clean-read read fields x e = cond-then (list_all is_clean fields) (read fields) x e
 
-said-read : {A : Type 0} (read : List (List ℕ) → Option A) (texts : List (List ℕ)) (x : A) → said read texts ≡ Some x → (list_all is_clean texts ≡ true) × (read texts ≡ Some x)
-said-read read texts x e = clean-read read texts x (cond-then (list_all is_utf8 texts) (clean read texts) x e).1
+-- texts of which something is read are UTF-8 and clean
+record IsSaid {A : Type 0} (read : List (List ℕ) → Option A) (texts : List (List ℕ)) (x : A) : Type 0 where
+  pub utf8 : list_all is_utf8 texts ≡ true
+  pub clean : list_all is_clean texts ≡ true
+  pub is : read texts ≡ Some x
+
+said-read : {A : Type 0} (read : List (List ℕ) → Option A) (texts : List (List ℕ)) (x : A) → said read texts ≡ Some x → IsSaid read texts x
+said-read read texts x e =
+    let (u, f) = cond-then (list_all is_utf8 texts) (clean read texts) x e in
+    let (c, g) = clean-read read texts x f in
+    record { utf8 = u; clean = c; is = g }
+
+is-there : {A : Type 0} (x : Option A) → is_some x ≡ true → (y : A) × (x ≡ Some y)
+is-there (Some y) e = (y, refl)
+is-there None e = cc e
 
 -- ---- one record, as a row
 
@@ -83,12 +107,29 @@ price-row o fields p all is = ap (λ (t : Bool). if t then option_map row.Price 
 
 -- ---- rows one after the other
 
-pub rows-joined : (o : Opening) (a b : Records) (xs ys : List Row) → Reads o a xs → Reads o b ys → Reads o (a ++ b) (xs ++ ys)
-rows-joined o a b xs ys e f =
+map-joined : (o : Opening) (a b : Records) (xs ys : List Row) → map (row_of o) a ≡ map Some xs → map (row_of o) b ≡ map Some ys → map (row_of o) (a ++ b) ≡ map Some (xs ++ ys)
+map-joined o a b xs ys e f =
     map-append (row_of o) a b ∙ ap (λ (k : List (Option Row)). k ++ map (row_of o) b) e ∙ ap (λ (k : List (Option Row)). map Some xs ++ k) f ∙ sym (map-append Some xs ys)
 
-no-rows : (o : Opening) (records : Records) → Some [] ≡ Some records → Reads o records []
-no-rows o records e = ap (map (row_of o)) (sym (same_Some [] records e))
+pub rows-joined : (o : Opening) (a b : Records) (xs ys : List Row) → map (row_of o) a ≡ map Some xs → map (row_of o) b ≡ map Some ys → map (row_of o) (a ++ b) ≡ map Some (xs ++ ys)
+rows-joined o a b xs ys e f = map-joined o a b xs ys e f
+
+both : (o : Opening) (a b : Records) (xs ys : List Row) → Reads o a xs → Reads o b ys → Reads o (a ++ b) (xs ++ ys)
+both o a b xs ys e f = record { are = map-joined o a b xs ys e.are f.are; utf8 = utf8-joined a b e.utf8 f.utf8 }
+
+as-rows : (o : Opening) (a : Records) (xs ys : List Row) → xs ≡ ys → Reads o a xs → Reads o a ys
+as-rows o a xs ys same e = subst (λ (k : List Row). Reads o a k) same e
+
+no-rows : (o : Opening) → Reads o [] []
+no-rows o = record { are = refl; utf8 = refl }
+
+-- one record before others
+one-first : (o : Opening) (fields : List (List ℕ)) (r : Row) (records : Records) (rows : List Row) → row_of o fields ≡ Some r → list_all is_utf8 fields ≡ true → Reads o records rows
+    → Reads o (fields ∷ records) (r ∷ rows)
+one-first o fields r records rows is u e = record {
+  are = ap (λ (k : Option Row). k ∷ map (row_of o) records) is ∙ ap (λ (k : List (Option Row)). Some r ∷ k) e.are;
+  utf8 = utf8-first fields records u e.utf8;
+}
 
 -- ---- Prices
 
@@ -102,203 +143,404 @@ pub taken : {A B : Type 0} (x : Option A) (w : B) → (if is_some x then None el
 taken (Some p) w e = (p, refl)
 taken None w e = cc e
 
-reason-rows : (o : Opening) (nodes : Nodes) (why : Option Reason) → first_some (reasons_against o nodes) ≡ why
-    → (ps : List Price) × Reads o (outcome_records (outcome_of why nodes)) (map row.Price ps)
-reason-rows o nodes (Some why) e = ([], refl)
-reason-rows o nodes None e =
-    let none : refusal o nodes ≡ None = last-none (early_reasons nodes) (refusal o nodes) e in
-    let (p, read) = taken (said (price_of o) (price_fields nodes)) (unwrap_or (first_some (field_reasons o nodes)) (reason PriceRefused [])) none in
-    let (all, is) = said-read (price_of o) (price_fields nodes) p read in
-    (p ∷ [], ap (λ (r : Option Row). r ∷ []) (price-row o (price_fields nodes) p all is))
+-- records are the rows of Prices
+abbrev ArePrices : Opening → Records → Type 0
+ArePrices o records = (ps : List Price) × Reads o records (map row.Price ps)
 
-price-rows : (o : Opening) (nodes : Nodes) → (ps : List Price) × Reads o (outcome_records (outcome o nodes)) (map row.Price ps)
-price-rows o nodes = go (is_unpriced nodes)
+reason-rows : (around : Around) (nodes : Nodes) (why : Option Reason) → first_some (reasons_against around nodes) ≡ why
+    → ArePrices around.opening (outcome_records (outcome_of why around nodes))
+reason-rows around nodes (Some why) e = ([], no-rows around.opening)
+reason-rows around nodes None e =
+    let none : refusal around nodes ≡ None = last-none (early_reasons nodes) (refusal around nodes) e in
+    let (p, read) = taken (said (price_of around.opening) (price_fields around nodes)) (unwrap_or (first_some (field_reasons around.opening nodes)) (wrong bad.Price [])) none in
+    let s = said-read (price_of around.opening) (price_fields around nodes) p read in (
+      p ∷ [],
+      one-first around.opening (codes "Price" ∷ price_fields around nodes) (row.Price p) [] [] (price-row around.opening (price_fields around nodes) p s.clean s.is)
+          (named-utf8 (codes "Price") (price_fields around nodes) refl s.utf8) (no-rows around.opening),
+    )
+
+price-rows : (around : Around) (nodes : Nodes) → ArePrices around.opening (outcome_records (price_outcome around nodes))
+price-rows around nodes = go (is_nothing around nodes)
   where
-    go : (bare : Bool) → (ps : List Price) × Reads o (outcome_records (if bare then nothing else outcome_of (first_some (reasons_against o nodes)) nodes)) (map row.Price ps)
-    go true = ([], refl)
-    go false = reason-rows o nodes (first_some (reasons_against o nodes)) refl
+    go : (bare : Bool) → ArePrices around.opening (outcome_records (if bare then nothing else outcome_of (first_some (reasons_against around nodes)) around nodes))
+    go true = ([], no-rows around.opening)
+    go false = reason-rows around nodes (first_some (reasons_against around nodes)) refl
 
-prices-rows : (o : Opening) (cs : List Composite) → (ps : List Price) × Reads o (flat_map (λ c. outcome_records (outcome o c.below)) cs) (map row.Price ps)
-prices-rows o [] = ([], refl)
-prices-rows o (c ∷ cs) =
-    let (ps, e) = price-rows o c.below in
-    let (qs, f) = prices-rows o cs in
-    (ps ++ qs, rows-joined o (outcome_records (outcome o c.below)) (flat_map (λ c. outcome_records (outcome o c.below)) cs) (map row.Price ps) (map row.Price qs) e f ∙ ap (map Some) (sym (map-append row.Price ps qs)))
+prices-rows : (o : Opening) (nodes : Nodes) (cs : List Composite) → ArePrices o (all_records (price_in o nodes) cs)
+prices-rows o nodes [] = ([], no-rows o)
+prices-rows o nodes (c ∷ cs) =
+    let (ps, e) = price-rows (around_in o nodes) c.below in
+    let (qs, f) = prices-rows o nodes cs in (
+      ps ++ qs,
+      as-rows o _ (map row.Price ps ++ map row.Price qs) (map row.Price (ps ++ qs)) (sym (map-append row.Price ps qs))
+          (both o (outcome_records (price_in o nodes c)) (all_records (price_in o nodes) cs) (map row.Price ps) (map row.Price qs) e f),
+    )
 
 -- ---- SupplyDetails
 
-one-detail : (o : Opening) (fields : List (List ℕ)) (d : SupplyDetail) (ps : List Price) (prices : Records) → list_all is_clean fields ≡ true → detail_of fields ≡ Some d
-    → Reads o prices (map row.Price ps) → Reads o ((codes "SupplyDetail" ∷ fields) ∷ prices) (detail_rows (record d { prices = ps }))
-one-detail o fields d ps prices all is reads =
+-- records are the rows of SupplyDetails
+abbrev AreDetails : Opening → Records → Type 0
+AreDetails o records = (ds : List SupplyDetail) × Reads o records (flat_map detail_rows ds)
+
+one-detail : (o : Opening) (fields : List (List ℕ)) (d : SupplyDetail) (ps : List Price) (prices : Records) → list_all is_clean fields ≡ true → list_all is_utf8 fields ≡ true → detail_of fields ≡ Some d
+    → Reads o prices (map row.Price ps) → Reads o ((codes "SupplyDetail" ∷ fields) ∷ prices) (flat_map detail_rows (record d { prices = ps } ∷ []))
+one-detail o fields d ps prices all utf8 is reads =
     let first : row_of o (codes "SupplyDetail" ∷ fields) ≡ Some (row.SupplyDetail (record d { prices = [] })) =
     detail-row o fields d all is ∙ ap (λ (k : List Price). Some (row.SupplyDetail (record d { prices = k }))) (detail-bare fields d is) in
-    cc (first, reads)
+    as-rows o _ (detail_rows (record d { prices = ps })) _ (sym (append-nil (detail_rows (record d { prices = ps }))))
+    (one-first o (codes "SupplyDetail" ∷ fields) (row.SupplyDetail (record d { prices = [] })) prices (map row.Price ps) first (named-utf8 (codes "SupplyDetail") fields refl utf8) reads)
 
-some-detail : (o : Opening) (preferred : List ℕ) (nodes : Nodes) (records : Records) → detail_records o preferred nodes ≡ Some records → (d : SupplyDetail) × Reads o records (detail_rows d)
-some-detail o preferred nodes records e =
-    let (own, made, f) = bind-some (detail_record preferred nodes) _ records e in
-    let (pair, chosen, g) = bind-some (supplier_pair preferred nodes) _ own made in
+detail-rows : (o : Opening) (preferred : List ℕ) (nodes : Nodes) (r : Option (List (List ℕ))) → detail_record preferred nodes ≡ r → AreDetails o (outcome_records (detail_by r o preferred nodes))
+detail-rows o preferred nodes None e = ([], no-rows o)
+detail-rows o preferred nodes (Some own) e =
+    let (pair, chosen, g) = bind-some (supplier_pair preferred nodes) _ own e in
     let (d, read, h) = bind-some (said detail_of (detail_fields pair nodes)) _ own g in
-    let (all, is) = said-read detail_of (detail_fields pair nodes) d read in
-    let (ps, prices) = prices-rows o (composites (codes "Price") nodes) in
-    let same : codes "SupplyDetail" ∷ detail_fields pair nodes ≡ own = same_Some _ own h in
-    let whole : (codes "SupplyDetail" ∷ detail_fields pair nodes) ∷ prices_records o nodes ≡ records = ap (λ (k : List (List ℕ)). k ∷ prices_records o nodes) same ∙ same_Some _ records f in
-    (record d { prices = ps }, ap (map (row_of o)) (sym whole) ∙ one-detail o (detail_fields pair nodes) d ps (prices_records o nodes) all is prices)
+    let s = said-read detail_of (detail_fields pair nodes) d read in
+    let (ps, prices) = prices-rows o nodes (prices_in nodes) in
+    let same : codes "SupplyDetail" ∷ detail_fields pair nodes ≡ own = same_Some _ own h in (
+      record d { prices = ps } ∷ [],
+      subst (λ (k : List (List ℕ)). Reads o (k ∷ all_records (price_in o nodes) (prices_in nodes)) (flat_map detail_rows (record d { prices = ps } ∷ []))) same
+          (one-detail o (detail_fields pair nodes) d ps (all_records (price_in o nodes) (prices_in nodes)) s.clean s.utf8 s.is prices),
+    )
 
-abbrev detail_maker : Opening → List ℕ → Composite → Option Records
-detail_maker o preferred d = detail_records o preferred d.below
+details-rows : (o : Opening) (preferred : List ℕ) (cs : List Composite) → AreDetails o (all_records (detail_in o preferred) cs)
+details-rows o preferred [] = ([], no-rows o)
+details-rows o preferred (c ∷ cs) =
+    let (ds, e) = detail-rows o preferred c.below (detail_record preferred c.below) refl in
+    let (es, f) = details-rows o preferred cs in (
+      ds ++ es,
+      as-rows o _ (flat_map detail_rows ds ++ flat_map detail_rows es) (flat_map detail_rows (ds ++ es)) (sym (flat_map-append detail_rows ds es))
+          (both o (outcome_records (detail_in o preferred c)) (all_records (detail_in o preferred) cs) (flat_map detail_rows ds) (flat_map detail_rows es) e f),
+    )
 
-details-rows : (o : Opening) (preferred : List ℕ) (cs : List Composite) (records : Records) → all_records (detail_maker o preferred) cs ≡ Some records
-    → (ds : List SupplyDetail) × Reads o records (flat_map detail_rows ds) × (ds ≡ [] → cs ≡ [])
-details-rows o preferred [] records e = ([], no-rows o records e, λ none. refl)
-details-rows o preferred (c ∷ cs) records e =
-    let (own, made, f) = bind-some (detail_maker o preferred c) _ records e in
-    let (more, others, g) = bind-some (all_records (detail_maker o preferred) cs) _ records f in
-    let (d, reads) = some-detail o preferred c.below own made in
-    let (ds, rest, some) = details-rows o preferred cs more others in
-    (d ∷ ds, ap (map (row_of o)) (sym (same_Some (own ++ more) records g)) ∙ rows-joined o own more (detail_rows d) (flat_map detail_rows ds) reads rest, λ none. cc none)
-
--- ---- a ProductSupply
+-- ---- the Markets of a ProductSupply
 
 -- a record that is a bare row of a ProductSupply
-abbrev IsSupply : Opening → List (List ℕ) → Type 0
-IsSupply o fields = (s : ProductSupply) × (row_of o fields ≡ Some (row.ProductSupply s)) × (s.details ≡ [])
+record IsSupply (o : Opening) (fields : List (List ℕ)) : Type 0 where
+  pub supply : ProductSupply
+  pub row : row_of o fields ≡ Some (row.ProductSupply supply)
+  pub bare : supply.details ≡ []
+  pub utf8 : list_all is_utf8 fields ≡ true
 
-stands-row : (o : Opening) (a : Area) (fields : List (List ℕ)) → as_it_stands a ≡ Some fields → IsSupply o fields
-stands-row o a fields e =
-    let (s, read, same) = mapped (market_of a) (λ s. supply_record (area_fields a)) fields e in
-    let (all, is) = said-read supply_of (area_fields a) s read in
-    (s, ap (row_of o) (sym same) ∙ supply-row o (area_fields a) s all is, supply-bare (area_fields a) s is)
+supply-is : (o : Opening) (fields : List (List ℕ)) (s : ProductSupply) → list_all is_clean fields ≡ true → list_all is_utf8 fields ≡ true → supply_of fields ≡ Some s → IsSupply o (supply_record fields)
+supply-is o fields s all utf8 is = record {
+  supply = s;
+  row = supply-row o fields s all is;
+  bare = supply-bare fields s is;
+  utf8 = named-utf8 (codes "ProductSupply") fields refl utf8;
+}
 
-union-row : (o : Opening) (t : Territory) (fields : List (List ℕ)) → as_union t ≡ Some fields → IsSupply o fields
+stands-row : (o : Opening) (a : Area) (s : ProductSupply) → market_of a ≡ Some s → IsSupply o (supply_record (area_fields a))
+stands-row o a s e = let r = said-read supply_of (area_fields a) s e in supply-is o (area_fields a) s r.clean r.utf8 r.is
+
+union-row : (o : Opening) (t : Territory) (fields : List (List ℕ)) → union_fields t ≡ Some fields → IsSupply o (supply_record fields)
 union-row o t fields e =
-    let (s, read, same) = mapped (clean supply_of (territory_fields t)) (λ s. supply_record (territory_fields t)) fields e in
+    let (s, read, same) = mapped (clean supply_of (territory_fields t)) (λ s. territory_fields t) fields e in
     let (all, is) = clean-read supply_of (territory_fields t) s read in
-    (s, ap (row_of o) (sym same) ∙ supply-row o (territory_fields t) s all is, supply-bare (territory_fields t) s is)
+    let (u, of, made) = bind-some (territory_of (countries_text t.included) (world_text t.world) (countries_text t.excluded)) _ s is in
+    subst (λ (k : List (List ℕ)). IsSupply o (supply_record k)) same (supply-is o (territory_fields t) s all (territory-utf8 t u of) is)
 
-joined-row : (o : Opening) (a : Area) (t : Option Territory) (fields : List (List ℕ)) → joined a t ≡ Some fields → IsSupply o fields
-joined-row o a None fields e = stands-row o a fields e
-joined-row o a (Some t) fields e = union-row o t fields e
+joined-row : (o : Opening) (a : Area) (s : ProductSupply) → market_of a ≡ Some s → (t : Option Territory) (fields : List (List ℕ)) → joined a t ≡ Some fields → IsSupply o (supply_record fields)
+joined-row o a s held None fields e = subst (λ (k : List (List ℕ)). IsSupply o (supply_record k)) (same_Some _ fields e) (stands-row o a s held)
+joined-row o a s held (Some t) fields e = union-row o t fields e
 
-markets-row : (o : Opening) (a : Area) (ts : List Territory) (fields : List (List ℕ)) → record_of a ts ≡ Some fields → IsSupply o fields
-markets-row o a ts fields e = go (length ts == 1) e
+held-row : (o : Opening) (a : Area) (s : ProductSupply) → market_of a ≡ Some s → (ts : List Territory) (fields : List (List ℕ)) → held_fields a ts ≡ Some fields → IsSupply o (supply_record fields)
+held-row o a s held ts fields e = go (length ts == 1) e
   where
-    go : (one : Bool) → (if one then as_it_stands a else joined a (union ts)) ≡ Some fields → IsSupply o fields
-    go true f = stands-row o a fields f
-    go false f = joined-row o a (union ts) fields f
+    go : (one : Bool) → (if one then Some (area_fields a) else joined a (union ts)) ≡ Some fields → IsSupply o (supply_record fields)
+    go true f = subst (λ (k : List (List ℕ)). IsSupply o (supply_record k)) (same_Some _ fields f) (stands-row o a s held)
+    go false f = joined-row o a s held (union ts) fields f
 
-held-row : (o : Opening) (first : Option Area) (ts : List Territory) (fields : List (List ℕ)) → record_by first ts ≡ Some (Some fields) → IsSupply o fields
-held-row o None ts fields e = cc e
-held-row o (Some a) ts fields e =
-    let (r, made, same) = mapped (record_of a ts) Some (Some fields) e in
-    markets-row o a ts fields (made ∙ same)
+or-none : {A : Type 0} (x y : Option A) → option_or x y ≡ None → y ≡ None
+or-none None y e = e
+or-none (Some a) y e = cc e
+
+-- the desk takes the first Market that is not left out
+held-market : (ms : List Composite) (a : Area) → first_some (map held_area ms) ≡ Some a → (s : ProductSupply) × (market_of a ≡ Some s)
+held-market [] a e = cc e
+held-market (m ∷ ms) a e = go (market_reason (area_in m.below)) refl (held-market ms a)
+  where
+    own : Area
+    own = area_in m.below
+
+    go : (r : Option Reason) → market_reason own ≡ r → (first_some (map held_area ms) ≡ Some a → (s : ProductSupply) × (market_of a ≡ Some s)) → (s : ProductSupply) × (market_of a ≡ Some s)
+    go None is later =
+        let now : Some own ≡ Some a = rw is at e in
+        let none = or-none (unheld own) (area_refusal own) is in
+        subst (λ (k : Area). (s : ProductSupply) × (market_of k ≡ Some s)) (same_Some own a now)
+        (taken (market_of own) (unwrap_or (first_some (area_reasons own)) (wrong bad.Territory [])) none)
+    go (Some reason) is later = let now : first_some (map held_area ms) ≡ Some a = rw is at e in later now
+
+-- one record that is a supply's
+abbrev AreMarkets : Opening → Outcome → Type 0
+AreMarkets o markets = (fields : List (List ℕ)) × (outcome_records markets ≡ fields ∷ []) × IsSupply o fields
+
+joined-markets : (o : Opening) (made : Option (List (List ℕ))) (notes : List Note) → ((fields : List (List ℕ)) → made ≡ Some fields → IsSupply o (supply_record fields))
+    → outcome_reason (joined_outcome made notes) ≡ None → AreMarkets o (joined_outcome made notes)
+joined-markets o None notes each e = cc e
+joined-markets o (Some fields) notes each e = (supply_record fields, refl, each fields refl)
+
+held-markets : (o : Opening) (ms : List Composite) (first : Option Area) → first_held ms ≡ first → outcome_reason (held_outcome first ms) ≡ None → AreMarkets o (held_outcome first ms)
+held-markets o ms None is e = cc e
+held-markets o ms (Some a) is e =
+    let (s, held) = held-market ms a is in
+    joined-markets o (held_fields a (territories_of ms)) _ (λ fields made. held-row o a s held (territories_of ms) fields made) e
 
 world-supply : (s : ProductSupply) × (supply_of ([] ∷ [] ∷ [] ∷ []) ≡ Some s)
 world-supply = (record { market = record { included = []; world = true; excluded = [] }; details = [] }, refl)
 
-record-row : (o : Opening) (ms : List Composite) (fields : List (List ℕ)) → record_from ms ≡ Some (Some fields) → IsSupply o fields
-record-row o [] fields e =
-    let (s, is) = world-supply in
-    let same : supply_record ([] ∷ [] ∷ [] ∷ []) ≡ fields = same_Some _ fields (same_Some _ (Some fields) e) in
-    (s, ap (row_of o) (sym same) ∙ supply-row o ([] ∷ [] ∷ [] ∷ []) s refl is, supply-bare ([] ∷ [] ∷ [] ∷ []) s is)
-record-row o (m ∷ ms) fields e =
-    let (ts, are, f) = bind-some (territories_of (m ∷ ms)) (record_by (first_held (m ∷ ms))) (Some fields) e in
-    held-row o (first_held (m ∷ ms)) ts fields f
+markets-rows : (o : Opening) (ms : List Composite) → outcome_reason (markets_outcome ms) ≡ None → AreMarkets o (markets_outcome ms)
+markets-rows o [] e = let (s, is) = world-supply in (supply_record ([] ∷ [] ∷ [] ∷ []), refl, supply-is o ([] ∷ [] ∷ [] ∷ []) s refl empty-fields is)
+markets-rows o (m ∷ ms) e = held-markets o (m ∷ ms) (first_held (m ∷ ms)) refl e
 
-one-supply : (o : Opening) (fields : List (List ℕ)) (s : ProductSupply) (ds : List SupplyDetail) (below : Records) → row_of o fields ≡ Some (row.ProductSupply s) → s.details ≡ []
-    → Reads o below (flat_map detail_rows ds) → Reads o (fields ∷ below) (flat_map supply_rows (record s { details = ds } ∷ []))
-one-supply o fields s ds below is bare reads =
-    let first : row_of o fields ≡ Some (row.ProductSupply (record s { details = [] })) = is ∙ ap (λ (k : List SupplyDetail). Some (row.ProductSupply (record s { details = k }))) bare in
-    let whole : Reads o (fields ∷ below) (supply_rows (record s { details = ds })) = cc (first, reads) in
-    whole ∙ ap (map Some) (sym (append-nil (supply_rows (record s { details = ds }))))
+-- ---- ProductSupplys
 
 -- records that are the rows of supplies, each of which has a SupplyDetail
-abbrev AreSupplies : Opening → Records → Type 0
-AreSupplies o records = (ss : List ProductSupply) × Reads o records (flat_map supply_rows ss) × AllByRecursion HasDetails ss
+record AreSupplies (o : Opening) (records : Records) : Type 0 where
+  pub supplies : List ProductSupply
+  pub reads : Reads o records (flat_map supply_rows supplies)
+  pub details : AllByRecursion HasDetails supplies
 
-with-rows : (o : Opening) (preferred : List ℕ) (ds : List Composite) (supply : Option (Option (List (List ℕ)))) (records : Records)
-    → ((fields : List (List ℕ)) → supply ≡ Some (Some fields) → IsSupply o fields)
-    → records_by ds (with_details supply (all_records (detail_maker o preferred) ds)) ≡ Some records → AreSupplies o records
-with-rows o preferred [] supply records own e = ([], no-rows o records e, tt)
-with-rows o preferred (d ∷ ds) None records own e = cc e
-with-rows o preferred (d ∷ ds) (Some None) records own e = ([], no-rows o records e, tt)
-with-rows o preferred (d ∷ ds) (Some (Some fields)) records own e =
-    let (below, made, same) = mapped (all_records (detail_maker o preferred) (d ∷ ds)) (λ records. fields ∷ records) records e in
-    let (s, is, bare) = own fields refl in
-    let (ts, reads, some) = details-rows o preferred (d ∷ ds) below made in
-    (record s { details = ts } ∷ [], ap (map (row_of o)) (sym same) ∙ one-supply o fields s ts below is bare reads, ((λ none. let f = some none in cc f), tt))
+no-supplies : (o : Opening) → AreSupplies o []
+no-supplies o = record { supplies = []; reads = no-rows o; details = tt }
 
-some-supply : (o : Opening) (preferred : List ℕ) (c : Composite) (records : Records) → supply_records o preferred c ≡ Some records → AreSupplies o records
-some-supply o preferred c records e = with-rows o preferred (details_in c.below) (record_in c.below) records (record-row o (composites (codes "Market") c.below)) e
+one-supply : (o : Opening) (fields : List (List ℕ)) → IsSupply o fields → (ds : List SupplyDetail) (below : Records) → (ds ≡ [] → ⊥) → Reads o below (flat_map detail_rows ds) → AreSupplies o (fields ∷ below)
+one-supply o fields s ds below some reads =
+    let first : row_of o fields ≡ Some (row.ProductSupply (record s.supply { details = [] })) = s.row ∙ ap (λ (k : List SupplyDetail). Some (row.ProductSupply (record s.supply { details = k }))) s.bare in record {
+      supplies = record s.supply { details = ds } ∷ [];
+      reads = as-rows o _ (supply_rows (record s.supply { details = ds })) _ (sym (append-nil (supply_rows (record s.supply { details = ds }))))
+          (one-first o fields (row.ProductSupply (record s.supply { details = [] })) below (flat_map detail_rows ds) first s.utf8 reads);
+      details = (some, tt);
+    }
+
+never-empty : (o : Opening) (fields : List (List ℕ)) (records : Records) (ds : List SupplyDetail) → Reads o (fields ∷ records) (flat_map detail_rows ds) → ds ≡ [] → ⊥
+never-empty o fields records [] reads none = let are = reads.are in cc are
+never-empty o fields records (d ∷ ds) reads none = cc none
+
+detailed-rows : (o : Opening) (markets : Outcome) → AreMarkets o markets → (notes more : List Note) (below : Records) → AreDetails o below
+    → AreSupplies o (outcome_records (with_details (outcome_records markets) notes below more))
+detailed-rows o markets are notes more [] details = no-supplies o
+detailed-rows o markets (fields, same, is) notes more (detail ∷ below) (ds, reads) =
+    subst (λ (k : Records). AreSupplies o (k ++ (detail ∷ below))) (sym same)
+    (one-supply o fields is ds (detail ∷ below) (never-empty o detail below ds reads) reads)
+
+behind-rows : (o : Opening) (preferred : List ℕ) (ds ms : List Composite) (why : Option Reason) → outcome_reason (markets_outcome ms) ≡ why
+    → AreSupplies o (outcome_records (behind_markets why (markets_outcome ms) o preferred ds))
+behind-rows o preferred ds ms (Some reason) e = no-supplies o
+behind-rows o preferred ds ms None e =
+    detailed-rows o (markets_outcome ms) (markets-rows o ms e) (notes_below (markets_outcome ms)) (all_notes (detail_in o preferred) ds) (all_records (detail_in o preferred) ds) (details-rows o preferred ds)
+
+supply-rows : (o : Opening) (preferred : List ℕ) (ds : List Composite) (nodes : Nodes) → AreSupplies o (outcome_records (supply_by ds o preferred nodes))
+supply-rows o preferred [] nodes = no-supplies o
+supply-rows o preferred (d ∷ ds) nodes = behind-rows o preferred (d ∷ ds) (markets_in nodes) (outcome_reason (markets_outcome (markets_in nodes))) refl
 
 all-joined : {A : Type 0} (P : A → Type 0) (xs ys : List A) → AllByRecursion P xs → AllByRecursion P ys → AllByRecursion P (xs ++ ys)
 all-joined P [] ys f g = g
 all-joined P (x ∷ xs) ys f g = (f.0, all-joined P xs ys f.1 g)
 
-supplies-rows : (o : Opening) (preferred : List ℕ) (cs : List Composite) (records : Records) → all_records (supply_records o preferred) cs ≡ Some records → AreSupplies o records
-supplies-rows o preferred [] records e = ([], no-rows o records e, tt)
-supplies-rows o preferred (c ∷ cs) records e =
-    let (own, made, f) = bind-some (supply_records o preferred c) _ records e in
-    let (more, others, g) = bind-some (all_records (supply_records o preferred) cs) _ records f in
-    let (ss, reads, all) = some-supply o preferred c own made in
-    let (ts, rest, left) = supplies-rows o preferred cs more others in
-    (ss ++ ts, ap (map (row_of o)) (sym (same_Some (own ++ more) records g)) ∙ rows-joined o own more (flat_map supply_rows ss) (flat_map supply_rows ts) reads rest ∙ ap (map Some) (sym (flat_map-append supply_rows ss ts)), all-joined HasDetails ss ts all left)
+supplies-rows : (o : Opening) (preferred : List ℕ) (cs : List Composite) → AreSupplies o (all_records (supply_in o preferred) cs)
+supplies-rows o preferred [] = no-supplies o
+supplies-rows o preferred (c ∷ cs) =
+    let s = supply-rows o preferred (details_in c.below) c.below in
+    let t = supplies-rows o preferred cs in record {
+      supplies = s.supplies ++ t.supplies;
+      reads = as-rows o _ (flat_map supply_rows s.supplies ++ flat_map supply_rows t.supplies) (flat_map supply_rows (s.supplies ++ t.supplies)) (sym (flat_map-append supply_rows s.supplies t.supplies))
+          (both o (outcome_records (supply_in o preferred c)) (all_records (supply_in o preferred) cs) (flat_map supply_rows s.supplies) (flat_map supply_rows t.supplies) s.reads t.reads);
+      details = all-joined HasDetails s.supplies t.supplies s.details t.details;
+    }
+
+below-rows : (o : Opening) (preferred : List ℕ) (nodes : Nodes) → AreSupplies o (records_below o preferred nodes)
+below-rows o preferred nodes = go (is_deletion nodes)
+  where
+    go : (deletes : Bool) → AreSupplies o (if deletes then [] else supplies_records o preferred nodes)
+    go true = no-supplies o
+    go false = supplies-rows o preferred (supplies_in nodes)
+
+-- ---- the record of a Product
+
+-- a text that the desk takes as a field
+record IsField (text : List ℕ) : Type 0 where
+  pub filled : is_filled text ≡ true
+  pub utf8 : is_utf8 text ≡ true
+  pub clean : is_clean text ≡ true
+
+field-is : (text : List ℕ) → is_field text ≡ true → IsField text
+field-is text e =
+    let p = and_parts (is_filled text) (is_utf8 text && is_clean text) e in
+    let q = and_parts (is_utf8 text) (is_clean text) p.1 in
+    record { filled = p.0; utf8 = q.0; clean = q.1 }
+
+-- a code of two digits
+record IsCode (text : List ℕ) : Type 0 where
+  pub utf8 : is_utf8 text ≡ true
+  pub code : code2_of text ≡ Some text
+
+-- types and values that the desk takes
+record ArePairs (pairs : List (List ℕ)) : Type 0 where
+  pub ids : List ProductIdentifier
+  pub are : pairs_of pairs ≡ Some ids
+  pub utf8 : list_all is_utf8 pairs ≡ true
+  pub clean : list_all is_clean pairs ≡ true
+
+code-is : (text : List ℕ) → is_some (term_said code2_of text) ≡ true → IsCode text
+code-is text e =
+    let (y, is) = is-there (term_said code2_of text) e in
+    let (u, f) = cond-then (is_utf8 text) (code2_of text) y is in
+    let (t, same) = cond_some ((length text == 2) && list_all is_ascii_digit text) text y f in
+    record { utf8 = u; code = f ∙ ap Some (sym same) }
+
+ascii-code : (text : List ℕ) → list_all is_ascii text ≡ true → code2_of text ≡ Some text → IsCode text
+ascii-code text plain is = record { utf8 = ascii-field text plain; code = is }
+
+-- of a product that is written without supplies
+dropping-code : (notification : List ℕ) → IsCode (dropping notification)
+dropping-code n = go (is_code n) refl (bytes_eq n (codes "04"))
+  where
+    go : (a : Bool) → is_code n ≡ a → (b : Bool) → IsCode (if not a || b then codes "03" else n)
+    go true is true = ascii-code (codes "03") refl refl
+    go true is false = code-is n is
+    go false is b = ascii-code (codes "03") refl refl
+
+-- ---- identifiers
+
+unless-none : (holds : Bool) (why : Wrong) (text : List ℕ) → unless holds why text ≡ None → holds ≡ true
+unless-none true why text e = refl
+unless-none false why text e = cc e
+
+both-none : {A : Type 0} (x y : Option A) → option_or x (option_or y None) ≡ None → (x ≡ None) × (y ≡ None)
+both-none None None e = (refl, refl)
+both-none None (Some b) e = cc e
+both-none (Some a) y e = cc e
+
+filled-some : (text : List ℕ) → is_filled text ≡ true → nonempty text ≡ Some text
+filled-some [] e = cc e
+filled-some (b ∷ bs) e = refl
+
+one-pair : (kind value : List ℕ) (rest : List (List ℕ)) → IsCode kind → IsField value → ArePairs rest → ArePairs (kind ∷ value ∷ rest)
+unfolding pairs_of
+one-pair kind value rest c f r = record {
+  ids = record { id_type = kind; id_value = value } ∷ r.ids;
+  are = rw (c.code, filled-some value f.filled, r.are) refl;
+  utf8 = and_from (is_utf8 kind) (is_utf8 value && list_all is_utf8 rest) c.utf8 (and_from (is_utf8 value) (list_all is_utf8 rest) f.utf8 r.utf8);
+  clean = and_from (is_clean kind) (is_clean value && list_all is_clean rest) (code2-clean kind kind c.code) (and_from (is_clean value) (list_all is_clean rest) f.clean r.clean);
+}
+
+no-pairs : ArePairs []
+unfolding pairs_of
+no-pairs = record { ids = []; are = refl; utf8 = refl; clean = refl }
+
+pair-right : (kind written stands : List ℕ) → pair_reason kind written stands ≡ None → (rest : List (List ℕ)) → ArePairs rest → ArePairs (kind ∷ written ∷ rest)
+pair-right kind written stands e rest r =
+    let (a, b) = both-none (unread (term_said code2_of) bad.IdentifierType kind) (unless (is_field written) bad.IdentifierValue stands) e in
+    one-pair kind written rest (code-is kind (unless-none (is_some (term_said code2_of kind)) bad.IdentifierType kind a)) (field-is written (unless-none (is_field written) bad.IdentifierValue stands b)) r
+
+right-is : (c : Composite) (there : Bool) (reason : Option Reason) → is_there c ≡ there → identifier_reason c ≡ reason → (rest : List (List ℕ)) → ArePairs rest → ArePairs (pair_by reason c ++ rest)
+right-is c there (Some reason) t e rest r = r
+right-is c true None t e rest r =
+    let none : pair_reason (type_of c) (value_written c) (value_of c) ≡ None = rw t at e in
+    rw t (pair-right (type_of c) (value_written c) (value_of c) none rest r)
+right-is c false None t e rest r = rw t r
+
+right-pairs : (cs : List Composite) → ArePairs (flat_map right_pair cs)
+right-pairs [] = no-pairs
+right-pairs (c ∷ cs) = right-is c (is_there c) (identifier_reason c) refl refl (flat_map right_pair cs) (right-pairs cs)
+
+-- with the reference in place of none
+record ArePairsOf (pairs : List (List ℕ)) : Type 0 where
+  pub kind : List ℕ
+  pub rest : List (List ℕ)
+  pub same : pairs ≡ kind ∷ rest
+  pub all : ArePairs (kind ∷ rest)
+
+or-pairs : (reference : List ℕ) (pairs : List (List ℕ)) → IsField reference → ArePairs pairs → ArePairsOf (or_reference reference pairs)
+or-pairs reference [] f p = record {
+  kind = codes "01";
+  rest = reference ∷ [];
+  same = refl;
+  all = one-pair (codes "01") reference [] (ascii-code (codes "01") refl refl) f no-pairs;
+}
+or-pairs reference (kind ∷ rest) f p = record { kind = kind; rest = rest; same = refl; all = p }
+
+product-is : (reference notification kind : List ℕ) (rest : List (List ℕ)) (ids : List ProductIdentifier) → IsField reference → IsCode notification → pairs_of (kind ∷ rest) ≡ Some ids
+    → product_of (reference ∷ notification ∷ kind ∷ rest) ≡ Some (record { reference = reference; notification = notification; ids = ids; supplies = [] })
+unfolding product_of
+product-is reference notification kind rest ids f c are = rw (filled-some reference f.filled, c.code, are) refl
 
 -- ---- a Product
 
-pub left-over : (bare : Bool) (x : Option Records) (records : Records) → left_supplies bare x ≡ Some records → x ≡ Some records
-left-over bare None records e = cc e
-left-over true (Some []) records e = e
-left-over false (Some []) records e = cc e
-left-over bare (Some (r ∷ rs)) records e = e
-
-below-rows : (o : Opening) (preferred : List ℕ) (nodes : Nodes) (records : Records) → records_below o preferred nodes ≡ Some records → AreSupplies o records
-below-rows o preferred nodes records e = go (is_deletion nodes) e
-  where
-    go : (deletes : Bool) → (if deletes then Some [] else kept_supplies o preferred nodes) ≡ Some records → AreSupplies o records
-    go true f = ([], no-rows o records f, tt)
-    go false f = supplies-rows o preferred (supplies_in nodes) records (left-over (may_be_bare (supplies_in nodes) (notification_in nodes)) (supplies_records o preferred nodes) records f)
-
--- a product has the reference of its record
-named : (reference notification : List ℕ) (pairs : List (List ℕ)) (p : Product) → product_of (reference ∷ notification ∷ pairs) ≡ Some p → p.reference ≡ reference
-unfolding product_of
-named reference notification [] p e = cc e
-named [] notification (kind ∷ pairs) p e = cc e
-named (b ∷ bs) notification (kind ∷ pairs) p e =
-    let (n, _, g) = bind-some (code2_of notification) _ p e in
-    let (ids, _, h) = bind-some (pairs_of (kind ∷ pairs)) _ p g in
-    let same = same_Some _ p h in
-    cc same
-
-one-product : (o : Opening) (fields : List (List ℕ)) (q : Product) (ss : List ProductSupply) (below : Records) → list_all is_clean fields ≡ true → product_of fields ≡ Some q
+one-product : (o : Opening) (fields : List (List ℕ)) (q : Product) (ss : List ProductSupply) (below : Records) → list_all is_clean fields ≡ true → list_all is_utf8 fields ≡ true → product_of fields ≡ Some q
     → Reads o below (flat_map supply_rows ss) → Reads o ((codes "Product" ∷ fields) ∷ below) (flat_map product_rows (record q { supplies = ss } ∷ []))
-one-product o fields q ss below all is reads =
+one-product o fields q ss below all utf8 is reads =
     let first : row_of o (codes "Product" ∷ fields) ≡ Some (row.Product (record q { supplies = [] })) =
     product-row o fields q all is ∙ ap (λ (k : List ProductSupply). Some (row.Product (record q { supplies = k }))) (product-bare fields q is) in
-    let whole : Reads o ((codes "Product" ∷ fields) ∷ below) (product_rows (record q { supplies = ss })) = cc (first, reads) in
-    whole ∙ ap (map Some) (sym (append-nil (product_rows (record q { supplies = ss }))))
+    as-rows o _ (product_rows (record q { supplies = ss })) _ (sym (append-nil (product_rows (record q { supplies = ss }))))
+    (one-first o (codes "Product" ∷ fields) (row.Product (record q { supplies = [] })) below (flat_map supply_rows ss) first (named-utf8 (codes "Product") fields refl utf8) reads)
 
--- the records of a Product are the rows of a product of its reference
-pub product-rows : (o : Opening) (preferred : List ℕ) (nodes : Nodes) (records : Records) → product_records o preferred nodes ≡ Some records
-    → (p : Product) × (p.reference ≡ reference_in nodes) × AreProducts o records (p ∷ [])
-product-rows o preferred nodes records e =
-    let (own, made, f) = bind-some (product_record nodes) _ records e in
-    let (below, others, g) = bind-some (records_below o preferred nodes) _ records f in
-    let (q, read, same) = mapped (said product_of (product_fields nodes)) (λ p. codes "Product" ∷ product_fields nodes) own made in
-    let (all, is) = said-read product_of (product_fields nodes) q read in
-    let (ss, reads, details) = below-rows o preferred nodes below others in
-    let whole : (codes "Product" ∷ product_fields nodes) ∷ below ≡ records = ap (λ (k : List (List ℕ)). k ∷ below) same ∙ same_Some _ records g in (
-      record q { supplies = ss },
-      named (reference_in nodes) (notification_in nodes) _ q is,
-      record {
-        reads = ap (map (row_of o)) (sym whole) ∙ one-product o (product_fields nodes) q ss below all is reads;
-        details = (details, tt);
-      },
-    )
+standing-rows : (o : Opening) (nodes : Nodes) → IsField (reference_in nodes) → (notification : List ℕ) → IsCode notification → (pairs : List (List ℕ)) → ArePairs pairs
+    → (below : Records) → AreSupplies o below → AreOf o (product_record notification pairs nodes ∷ below) (reference_in nodes ∷ [])
+standing-rows o nodes f n c pairs p below s =
+    let reference = reference_in nodes in
+    let k = or-pairs reference pairs f p in
+    let fields = reference ∷ n ∷ k.kind ∷ k.rest in
+    let q : Product = record { reference = reference; notification = n; ids = k.all.ids; supplies = [] } in
+    let clean : list_all is_clean fields ≡ true = and_from (is_clean reference) _ f.clean (and_from (is_clean n) _ (code2-clean n n c.code) k.all.clean) in
+    let utf8 : list_all is_utf8 fields ≡ true = and_from (is_utf8 reference) _ f.utf8 (and_from (is_utf8 n) _ c.utf8 k.all.utf8) in
+    let reads = one-product o fields q s.supplies below clean utf8 (product-is reference n k.kind k.rest k.all.ids f c k.all.are) s.reads in
+    subst (λ (ps : List (List ℕ)). AreOf o ((codes "Product" ∷ reference ∷ n ∷ ps) ∷ below) (reference ∷ [])) (sym k.same)
+    (record q { supplies = s.supplies } ∷ [], refl, record { reads = reads.are; details = (s.details, tt); utf8 = reads.utf8 })
+
+emptied-rows : (o : Opening) (nodes : Nodes) → IsField (reference_in nodes) → (pairs : List (List ℕ)) → ArePairs pairs
+    → AreOf o (product_record (dropping (notification_in nodes)) pairs nodes ∷ []) (reference_in nodes ∷ [])
+emptied-rows o nodes f pairs p = standing-rows o nodes f (dropping (notification_in nodes)) (dropping-code (notification_in nodes)) pairs p [] (no-supplies o)
+
+own-code : (nodes : Nodes) → own_reason nodes ≡ None → IsCode (notification_in nodes)
+own-code nodes e = go (unread (term_said code2_of) bad.NotificationType (notification_in nodes)) refl e
+  where
+    go : (r : Option Reason) → unread (term_said code2_of) bad.NotificationType (notification_in nodes) ≡ r → own_reason nodes ≡ None → IsCode (notification_in nodes)
+    go None is f = code-is (notification_in nodes) (unless-none (is_some (term_said code2_of (notification_in nodes))) bad.NotificationType (notification_in nodes) is)
+    go (Some r) is f = let no = rw is at f in cc no
+
+own-rows : (o : Opening) (preferred : List ℕ) (nodes : Nodes) → IsField (reference_in nodes) → (own : Option Reason) → own_reason nodes ≡ own → (below : Option Reason)
+    → AreOf o (standing_records own below o preferred nodes) (reference_in nodes ∷ [])
+own-rows o preferred nodes f (Some own) e below = emptied-rows o nodes f (right_pairs nodes) (right-pairs (identifiers_in nodes))
+own-rows o preferred nodes f None e (Some below) = emptied-rows o nodes f (right_pairs nodes) (right-pairs (identifiers_in nodes))
+own-rows o preferred nodes f None e None =
+    standing-rows o nodes f (notification_in nodes) (own-code nodes e) (right_pairs nodes) (right-pairs (identifiers_in nodes)) (records_below o preferred nodes) (below-rows o preferred nodes)
+
+-- no products of no records
+none-rows : (o : Opening) → AreOf o [] []
+none-rows o = ([], refl, record { reads = refl; details = tt; utf8 = refl })
+
+-- the records of each form of a Product are the rows of a product of its reference
+pub product-rows : (o : Opening) (preferred : List ℕ) (c : Composite) → AllByRecursion (λ f. AreOf o f.records (references_of c.below)) (forms o preferred c)
+product-rows o preferred c = go (is_field (reference_in c.below)) refl
+  where
+    nodes : Nodes
+    nodes = c.below
+
+    whole : IsField (reference_in nodes) → AreOf o (standing_records (own_reason nodes) (reason_below o preferred nodes) o preferred nodes) (reference_in nodes ∷ [])
+    whole f = own-rows o preferred nodes f (own_reason nodes) refl (reason_below o preferred nodes)
+
+    small : IsField (reference_in nodes) → (notes : List Note) → AllByRecursion (λ f. AreOf o f.records (reference_in nodes ∷ [])) (small_forms notes nodes)
+    small f notes = (emptied-rows o nodes f (right_pairs nodes) (right-pairs (identifiers_in nodes)), (emptied-rows o nodes f [] no-pairs, tt))
+
+    standing : IsField (reference_in nodes) → (why : Option Reason) (notes : List Note) → AllByRecursion (λ f. AreOf o f.records (reference_in nodes ∷ [])) (smaller_forms (standing_fate why) notes c)
+    standing f None notes = small f (too_large_notes c)
+    standing f (Some why) notes = small f notes
+
+    go : (stands : Bool) → is_field (reference_in nodes) ≡ stands → AllByRecursion (λ f. AreOf o f.records (references_of nodes)) (forms o preferred c)
+    go true e =
+        let f = field-is (reference_in nodes) e in
+        let names : references_of nodes ≡ reference_in nodes ∷ [] = rw e refl in
+        subst (λ (rs : List (List ℕ)). AllByRecursion (λ f. AreOf o f.records rs) (forms o preferred c)) (sym names) (rw e (whole f, standing f (why_emptied o preferred nodes) _))
+    go false e =
+        let names : references_of nodes ≡ [] = rw e refl in
+        subst (λ (rs : List (List ℕ)). AllByRecursion (λ f. AreOf o f.records rs) (forms o preferred c)) (sym names) (rw e (none-rows o, tt))
 
 -- products one after the other
 pub products-joined : (o : Opening) (a b : Records) (c d : List Product) → AreProducts o a c → AreProducts o b d → AreProducts o (a ++ b) (c ++ d)
 products-joined o a b c d f g = record {
-  reads = rows-joined o a b (flat_map product_rows c) (flat_map product_rows d) f.reads g.reads ∙ ap (map Some) (sym (flat_map-append product_rows c d));
+  reads = map-joined o a b (flat_map product_rows c) (flat_map product_rows d) f.reads g.reads ∙ ap (map Some) (sym (flat_map-append product_rows c d));
   details = all-joined SuppliesHaveDetails c d f.details g.details;
+  utf8 = utf8-joined a b f.utf8 g.utf8;
 }

@@ -1,18 +1,24 @@
 -- A SupplyDetail: the records that are written of it and of its Prices.
-use Rattle.std.specs.Prelude.{ℕ, List, [], ◌∷◌, ◌++◌, Option, Some, None, if◌then◌else◌, codes, is_some, map}
-use Rattle.std.specs.List.{flat_map}
+use Rattle.std.specs.Prelude.{ℕ, List, [], ◌∷◌, Option, Some, None, if◌then◌else◌, codes, is_some}
+use Rattle.std.specs.Prelude.{map, option_and_then}
 use Rattle.std.specs.Option.{option_or, unwrap_or}
+use Rattle.xml_text.specs.Grammar.{is_filled}
 use Rattle.onix_outline.specs.Composites.{text_in}
 use Rattle.onix_outline.specs.Nodes.{Nodes, no_nodes}
+use Rattle.onix_terms.specs.Code.{code2_of}
 use Rattle.onix_terms.specs.Options.{◌>>=◌}
+use Rattle.onix_terms.specs.Quantity.{quantity_of}
 use Rattle.onix_message.specs.Detail.{detail_of}
+use Rattle.onix_message.specs.Fields.{optional}
 use Rattle.onix_message.specs.declared.row.Opening.{Opening}
 use Rattle.onix_mapping.specs.Elements.{Composite, composites, first, text_or_empty}
-use Rattle.onix_mapping.specs.Identifiers.{chosen, identifiers_in}
-use Rattle.onix_mapping.specs.Notes.{Note}
+use Rattle.onix_mapping.specs.Identifiers.{Identifier, chosen, identifiers_in}
+use Rattle.onix_mapping.specs.Notes.{Reason, wrong}
+use Rattle.onix_mapping.specs.Outcomes.{Outcome, all_notes, all_records, left_out, written}
 use Rattle.onix_mapping.specs.Parties.{Pair, pair_of, supplier_kind}
-use Rattle.onix_mapping.specs.Prices.{first_some, outcome, outcome_notes, outcome_records}
-use Rattle.onix_mapping.specs.Records.{said}
+use Rattle.onix_mapping.specs.Prices.{Around, price_outcome}
+use Rattle.onix_mapping.specs.Records.{first_some, said, term_said, unless, unread}
+use Rattle.onix_mapping.specs.declared.notes.Wrong.TheVariants as bad
 
 -- what stands in an element, and nothing where there is none
 abbrev pub below_of : Option Composite → Nodes
@@ -25,18 +31,27 @@ supplier_in nodes = below_of (first (composites (codes "Supplier") nodes))
 
 -- the UnpricedItemType of a Price without an amount
 abbrev pub unpriced_price : Nodes → Option (List ℕ)
-unpriced_price nodes = if is_some (text_in (codes "PriceAmount") nodes) then None else text_in (codes "UnpricedItemType") nodes
+unpriced_price nodes =
+    if is_some (text_in (codes "PriceAmount") nodes) then None
+    else text_in (codes "UnpricedItemType") nodes
 
 -- the UnpricedItemType of a SupplyDetail, else the first one of its Prices that have no amount
 abbrev pub unpriced_in : Nodes → Option (List ℕ)
 unpriced_in nodes =
-    option_or (text_in (codes "UnpricedItemType") nodes) (first_some (map (λ c. unpriced_price c.below) (composites (codes "Price") nodes)))
+    option_or (text_in (codes "UnpricedItemType") nodes)
+    (first_some (map (λ c. unpriced_price c.below) (composites (codes "Price") nodes)))
 
 -- the identifier of the supplier that is chosen: the first of the preferred type, else the first
-abbrev pub supplier_pair : List ℕ → Nodes → Option Pair
-supplier_pair preferred nodes = pair_of (chosen preferred (identifiers_in supplier_kind (supplier_in nodes)))
+abbrev pub supplier_identifier : List ℕ → Nodes → Option Identifier
+supplier_identifier preferred nodes =
+    chosen preferred (identifiers_in supplier_kind (supplier_in nodes))
 
--- the fields of a SupplyDetail behind its name, each as it stands, and empty where it is absent: role, identifier and name of the supplier, availability, UnpricedItemType
+-- its type and its value, both empty where there is none; nothing, where it lacks one
+abbrev pub supplier_pair : List ℕ → Nodes → Option Pair
+supplier_pair preferred nodes = pair_of (supplier_identifier preferred nodes)
+
+-- The fields of a SupplyDetail behind its name, each as it stands, and empty where it is absent:
+-- role, identifier and name of the supplier, availability, UnpricedItemType.
 abbrev pub detail_fields : Pair → Nodes → List (List ℕ)
 detail_fields p nodes =
     text_or_empty (codes "SupplierRole") (supplier_in nodes)
@@ -47,23 +62,73 @@ detail_fields p nodes =
     ∷ unwrap_or (unpriced_in nodes) []
     ∷ []
 
--- the record of a SupplyDetail; nothing, where the desk would call it malformed: its product is wrong then
+-- the record of a SupplyDetail; nothing, where the desk would not take it
 abbrev pub detail_record : List ℕ → Nodes → Option (List (List ℕ))
 detail_record preferred nodes = do
   p ← supplier_pair preferred nodes
   d ← said detail_of (detail_fields p nodes)
   Some (codes "SupplyDetail" ∷ detail_fields p nodes)
 
--- the records of its Prices, in order
-abbrev pub prices_records : Opening → Nodes → List (List (List ℕ))
-prices_records o nodes = flat_map (λ c. outcome_records (outcome o c.below)) (composites (codes "Price") nodes)
+-- ---- why it is left out
 
--- the notes on its Prices
-abbrev pub prices_notes : Opening → Nodes → List Note
-prices_notes o nodes = flat_map (λ c. outcome_notes c.element (outcome o c.below)) (composites (codes "Price") nodes)
+-- an identifier has a type and a value
+abbrev pub identifier_reasons : Option Identifier → List ℕ → List (Option Reason)
+identifier_reasons None name = unless (is_filled name) bad.Supplier [] ∷ []
+identifier_reasons (Some i) name =
+    unread (term_said code2_of) bad.SupplierType (unwrap_or i.id_type [])
+    ∷ unless (is_some i.id_value) bad.SupplierValue []
+    ∷ []
 
--- the records of a SupplyDetail with those of its Prices, where it is not wrong
-abbrev pub detail_records : Opening → List ℕ → Nodes → Option (List (List (List ℕ)))
-detail_records o preferred nodes = do
-  detail ← detail_record preferred nodes
-  Some (detail ∷ prices_records o nodes)
+-- which fields of a SupplyDetail the desk does not take, each where it does not
+abbrev pub detail_reasons : List ℕ → Nodes → List (Option Reason)
+detail_reasons preferred nodes =
+    unread (term_said code2_of) bad.SupplierRole
+    (text_or_empty (codes "SupplierRole") (supplier_in nodes))
+    ∷ first_some
+    (identifier_reasons (supplier_identifier preferred nodes)
+    (text_or_empty (codes "SupplierName") (supplier_in nodes)))
+    ∷ unread (term_said code2_of) bad.Availability
+    (text_or_empty (codes "ProductAvailability") nodes)
+    ∷ unread (optional (term_said code2_of)) bad.Unpriced (unwrap_or (unpriced_in nodes) [])
+    ∷ []
+
+-- why a SupplyDetail that the desk would not take is left out
+abbrev pub detail_refusal : List ℕ → Nodes → Reason
+detail_refusal preferred nodes =
+    unwrap_or (first_some (detail_reasons preferred nodes)) (wrong bad.SupplyDetail [])
+
+-- ---- its Prices
+
+-- the OrderQuantityMinimum, where it is a quantity
+abbrev pub default_minimum : Nodes → Option (List ℕ)
+default_minimum nodes =
+    option_and_then (λ text. if is_some (term_said quantity_of text) then Some text else None)
+    (text_in (codes "OrderQuantityMinimum") nodes)
+
+-- what stands around the Prices of a SupplyDetail
+abbrev pub around_in : Opening → Nodes → Around
+around_in o nodes = record {
+  opening = o;
+  is_unpriced = is_some (unpriced_in nodes);
+  minimum = default_minimum nodes;
+}
+
+abbrev pub prices_in : Nodes → List Composite
+prices_in nodes = composites (codes "Price") nodes
+
+-- what a Price of a SupplyDetail with these elements comes to
+abbrev pub price_in : Opening → Nodes → Composite → Outcome
+price_in o nodes price = price_outcome (around_in o nodes) price.below
+
+-- ---- what it comes to
+
+abbrev pub detail_by : Option (List (List ℕ)) → Opening → List ℕ → Nodes → Outcome
+detail_by None o preferred nodes = left_out (detail_refusal preferred nodes)
+detail_by (Some detail) o preferred nodes =
+    written (detail
+    ∷ all_records (price_in o nodes) (prices_in nodes))
+    (all_notes (price_in o nodes) (prices_in nodes))
+
+-- what a SupplyDetail comes to: its record with those of its Prices, or it is left out
+abbrev pub detail_outcome : Opening → List ℕ → Nodes → Outcome
+detail_outcome o preferred nodes = detail_by (detail_record preferred nodes) o preferred nodes

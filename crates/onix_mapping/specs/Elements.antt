@@ -1,5 +1,6 @@
 -- The elements of one name in a composite, each with what stands in it.
-use Rattle.std.specs.Prelude.{◌≡◌, ℕ, suc, List, [], ◌∷◌, Option, Some, None, if◌then◌else◌, unwrap_or}
+use Rattle.std.specs.Prelude.{◌≡◌, ℕ, suc, List, [], ◌∷◌, Option, Some, None, if◌then◌else◌}
+use Rattle.std.specs.Prelude.{unwrap_or}
 use Rattle.std.specs.Borrow.{Bor}
 use Rattle.std.specs.Str.{bytes_eq}
 use Rattle.onix_mapping.specs.declared.elements.Composite.{Composite as Lent}
@@ -25,7 +26,8 @@ abbrev pub composites : List ℕ → Nodes → List Composite
 composites name no_nodes = []
 composites name (node n tag text below rest) =
     if bytes_eq n name
-    then record { element = record { name = n; tag = tag; text = text }; below = below } ∷ composites name rest
+    then record { element = record { name = n; tag = tag; text = text }; below = below }
+    ∷ composites name rest
     else composites name rest
 
 -- the first of a list, where it has one
@@ -48,11 +50,13 @@ pub record Tells (found : Lent) (depth : ℕ) (c : Composite) : Type 0 where
   pub element : element_view found.line.now ≡ c.element
   pub below : line_views found.below.now ≡ outline depth c.below
 
--- what was read is the first element of the name, and the lines behind it tell the others; nothing, where there is none
+-- what was read is the first element of the name, and the lines behind it tell the others; nothing,
+-- where there is none
 abbrev pub IsNextElement : Option (Lent × Bor (List Line)) → List ℕ → ℕ → Nodes → Type 0
 IsNextElement None name depth nodes = composites name nodes ≡ []
 IsNextElement (Some x) name depth nodes =
-    (c : Composite) × (others : Nodes) × (composites name nodes ≡ c ∷ composites name others) × Tells x.0 (suc depth) c × (line_views x.1.now ≡ outline depth others)
+    (c : Composite) × (others : Nodes) × (composites name nodes ≡ c ∷ composites name others)
+    × Tells x.0 (suc depth) c × (line_views x.1.now ≡ outline depth others)
 
 -- what was read is the first of these elements; nothing, where there is none
 abbrev pub IsFirstElement : Option Lent → ℕ → List Composite → Type 0

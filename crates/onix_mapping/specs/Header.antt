@@ -1,5 +1,7 @@
--- The Header: what the first record of each part of the message says, or why the message is refused.
-use Rattle.std.specs.Prelude.{ℕ, ◌+◌, ◌-◌, ◌*◌, Bool, ◌&&◌, List, [], ◌∷◌, Option, Some, None, Result, Ok, Err, if◌then◌else◌, codes, decimal, find, is_some}
+-- The Header: what the first record of each part of the message says, or why the message is
+-- refused.
+use Rattle.std.specs.Prelude.{ℕ, ◌+◌, ◌-◌, ◌*◌, Bool, ◌&&◌, List, [], ◌∷◌, Option, Some, None}
+use Rattle.std.specs.Prelude.{Result, Ok, Err, if◌then◌else◌, codes, decimal, is_some}
 use Rattle.std.specs.List.{list_all, list_any}
 use Rattle.std.specs.Option.{ok_or}
 use Rattle.std.specs.Str.{is_utf8}
@@ -10,12 +12,14 @@ use Rattle.onix_message.specs.declared.row.Opening.{Opening}
 use Rattle.onix_terms.specs.Number.{number_from, number_of}
 use Rattle.onix_mapping.specs.Details.{below_of}
 use Rattle.onix_mapping.specs.Elements.{Composite, composites, first, text_or_empty}
-use Rattle.onix_mapping.specs.Identifiers.{Identifier, chosen, first_of, identifiers_in, is_text}
+use Rattle.onix_mapping.specs.Identifiers.{Identifier, chosen, identifiers_in, is_text}
 use Rattle.onix_mapping.specs.Parties.{Pair, addressee_kind, pair_of, sender_kind}
 use Rattle.onix_mapping.specs.declared.header.Refusal.{Refusal}
 use Rattle.onix_mapping.specs.declared.header.Refusal.TheVariants as why
 
--- What the caller chooses: in how many parts the message is written, a number in place of the Header's or what is added to that one, the sender of a Header that names none, which of several addressees is meant, and the type of identifier that is preferred.
+-- What the caller chooses: in how many parts the message is written, a number in place of the
+-- Header's or what is added to that one, the sender of a Header that names none, which of several
+-- addressees is meant, and the type of identifier that is preferred.
 pub record Choices : Type 0 where
   pub parts : ℕ
   pub number : Option ℕ
@@ -54,7 +58,8 @@ abbrev pub sender_or : Option Pair → Result Pair Refusal → Result Pair Refus
 sender_or None named = named
 sender_or (Some given) named = Ok given
 
--- the type and the value of the sender: where the Header has a whole identifier, or the caller gives none, the one that is chosen
+-- the type and the value of the sender: where the Header has a whole identifier, or the caller
+-- gives none, the one that is chosen
 abbrev pub sender_in : Choices → Nodes → Result Pair Refusal
 sender_in c nodes =
     if list_any is_whole (sender_ids nodes) then named_sender (chosen c.id_type (sender_ids nodes))
@@ -106,7 +111,8 @@ abbrev pub number_or : Option ℕ → Result ℕ Refusal → Result ℕ Refusal
 number_or (Some n) of_header = Ok n
 number_or None of_header = of_header
 
--- the message of this number has so many parts, and the last of them this number: so the first has the one that follows those of the message before
+-- the message of this number has so many parts, and the last of them this number: so the first has
+-- the one that follows those of the message before
 abbrev pub first_number : ℕ → ℕ → Result ℕ Refusal
 first_number parts n = do
   last ← ok_or (number_from (n * parts)) why.LastNumberTooGreat
@@ -120,7 +126,8 @@ number_in c nodes = do
 
 -- ---- the record
 
--- the fields behind the name of the record with which a part of this number begins, in form 2, each as it stands
+-- the fields behind the name of the record with which a part of this number begins, in form 2, each
+-- as it stands
 abbrev pub message_fields : Pair → Pair → List ℕ → Nodes → List (List ℕ)
 message_fields sender addressee number nodes =
     codes "2"
@@ -137,9 +144,11 @@ message_fields sender addressee number nodes =
 
 -- what the desk reads of the record Message with these fields
 abbrev pub opening_said : List (List ℕ) → Option Opening
-opening_said fields = if list_all is_utf8 fields then opening_of (codes "Message" ∷ fields) else None
+opening_said fields =
+    if list_all is_utf8 fields then opening_of (codes "Message" ∷ fields) else None
 
--- what a Header says: who sends the message and to whom, the number of its first part, and what the first record says to the desk
+-- what a Header says: who sends the message and to whom, the number of its first part, and what the
+-- first record says to the desk
 pub record Heading : Type 0 where
   pub sender : Pair
   pub addressee : Pair
@@ -152,5 +161,6 @@ heading_in c nodes = do
   sender ← sender_in c nodes
   addressee ← addressee_pair c nodes
   number ← number_in c nodes
-  opening ← ok_or (opening_said (message_fields sender addressee (decimal number) nodes)) why.Malformed
+  opening ← ok_or
+      (opening_said (message_fields sender addressee (decimal number) nodes)) why.Malformed
   Ok (record { sender = sender; addressee = addressee; number = number; opening = opening })

@@ -1,5 +1,5 @@
 -- What is read of a Header, without where it lies in memory.
-use Rattle.std.specs.Prelude.{◌≡◌, ℕ, List, Option, Some, None, Result, Ok, Err, map, option_map}
+use Rattle.std.specs.Prelude.{◌≡◌, ℕ, List, Option, Some, None, Result, Ok, Err, option_map}
 use Rattle.std.specs.Borrow.{Bor}
 use Rattle.std.specs.Result.{result_map_both}
 use Rattle.onix_outline.specs.declared.line.Line.{Line}
@@ -34,11 +34,18 @@ pair_read r = result_map_both pair_view (λ e. e) r
 
 -- lines tell what was found, or it was refused
 abbrev pub AreLines : Result (Bor (List Line)) Refusal → ℕ → Result Nodes Refusal → Type 0
-AreLines (Ok lines) depth told = (nodes : Nodes) × (told ≡ Ok nodes) × (line_views lines.now ≡ outline depth nodes)
+AreLines (Ok lines) depth told =
+    (nodes : Nodes) × (told ≡ Ok nodes) × (line_views lines.now ≡ outline depth nodes)
 AreLines (Err e) depth told = told ≡ Err e
 
 abbrev pub heading_view : Heading → Said
-heading_view h = record { sender = pair_view h.sender; addressee = pair_view h.addressee; number = h.number; opening = h.opening }
+heading_view h =
+    record {
+      sender = pair_view h.sender;
+      addressee = pair_view h.addressee;
+      number = h.number;
+      opening = h.opening;
+    }
 
 -- a call gave what the desk reads, or refused what it does not read, unless memory ran out
 abbrev pub IsOpening : Result Opening HeaderFault → Option Opening → Type 0

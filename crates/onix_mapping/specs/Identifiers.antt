@@ -1,5 +1,6 @@
 -- The identifiers of senders, addressees, suppliers and products.
-use Rattle.std.specs.Prelude.{ℕ, Bool, false, List, [], ◌∷◌, Option, Some, None, if◌then◌else◌, codes, map}
+use Rattle.std.specs.Prelude.{ℕ, Bool, false, ◌||◌, filter, List, [], ◌∷◌, Option, Some, None}
+use Rattle.std.specs.Prelude.{if◌then◌else◌, codes, is_some, map}
 use Rattle.std.specs.Str.{bytes_eq}
 use Rattle.onix_outline.specs.Composites.{text_in, composites_in}
 use Rattle.onix_outline.specs.Nodes.{Nodes}
@@ -16,11 +17,17 @@ pub record Identifier : Type 0 where
 
 -- what stands in an identifier
 abbrev pub identifier_in : Kind → Nodes → Identifier
-identifier_in kind nodes = record { id_type = text_in kind.type_name nodes; id_value = text_in (codes "IDValue") nodes }
+identifier_in kind nodes =
+    record { id_type = text_in kind.type_name nodes; id_value = text_in (codes "IDValue") nodes }
+
+-- an identifier with neither is as none
+abbrev pub is_there : Identifier → Bool
+is_there i = is_some i.id_type || is_some i.id_value
 
 -- the identifiers in a composite, in order
 abbrev pub identifiers_in : Kind → Nodes → List Identifier
-identifiers_in kind nodes = map (identifier_in kind) (composites_in kind.name nodes)
+identifiers_in kind nodes =
+    filter is_there (map (identifier_in kind) (composites_in kind.name nodes))
 
 abbrev pub is_text : List ℕ → Option (List ℕ) → Bool
 is_text text None = false
@@ -29,7 +36,8 @@ is_text text (Some found) = bytes_eq found text
 -- the first identifier of a type
 abbrev pub first_of_type : List ℕ → List Identifier → Option Identifier
 first_of_type id_type [] = None
-first_of_type id_type (i ∷ ids) = if is_text id_type i.id_type then Some i else first_of_type id_type ids
+first_of_type id_type (i ∷ ids) =
+    if is_text id_type i.id_type then Some i else first_of_type id_type ids
 
 abbrev pub first_of : List Identifier → Option Identifier
 first_of [] = None

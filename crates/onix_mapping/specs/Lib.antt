@@ -5,6 +5,7 @@ pub mod Elements
 pub mod Notes
 pub mod Regions
 pub mod Records
+pub mod Outcomes
 pub mod Territories
 pub mod Dates
 pub mod DateViews
@@ -19,5 +20,6 @@ pub mod Unions
 pub mod Markets
 pub mod Products
 pub mod Supplies
+pub mod PriceFates
 pub mod ProductRecords
 pub mod Rows

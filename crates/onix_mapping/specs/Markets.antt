@@ -1,93 +1,134 @@
 -- The Markets of a ProductSupply, as one.
-use Rattle.std.specs.Prelude.{ℕ, List, [], ◌∷◌, ◌++◌, ◌==◌, length, Option, Some, None, if◌then◌else◌, codes, option_map, option_to_list}
-use Rattle.std.specs.List.{flat_map}
+use Rattle.std.specs.Prelude.{◌≡◌, ℕ, Bool, true, false, ◌==◌, List, [], ◌∷◌, length, Option, Some}
+use Rattle.std.specs.Prelude.{None, if◌then◌else◌, codes, map, not, option_map}
+use Rattle.std.specs.Prelude.{option_to_list, Result, Ok, Err}
+use Rattle.std.specs.List.{flat_map, list_any}
+use Rattle.std.specs.Option.{option_or}
 use Rattle.onix_outline.specs.Nodes.{Nodes}
 use Rattle.onix_message.specs.Fields.{territory_fields}
 use Rattle.onix_message.specs.Supply.{supply_of}
-use Rattle.onix_terms.specs.Options.{◌>>=◌}
 use Rattle.onix_terms.specs.declared.territory.Territory.{Territory}
 use Rattle.onix_mapping.specs.Elements.{Composite, composites}
-use Rattle.onix_mapping.specs.Notes.{Note, Reason}
-use Rattle.onix_mapping.specs.Records.{clean}
-use Rattle.onix_mapping.specs.Territories.{Area, area_fields, area_in, left_out_regions, market_of, unheld}
+use Rattle.onix_mapping.specs.Notes.{Note, Reason, foreign, is_wrong, reason_notes, reason_view}
+use Rattle.onix_mapping.specs.Notes.{wrong}
+use Rattle.onix_mapping.specs.Outcomes.{Outcome, left_out, written}
+use Rattle.onix_mapping.specs.Records.{clean, first_some}
+use Rattle.onix_mapping.specs.Territories.{Area, area_fields, area_in, area_refusal, market_of}
+use Rattle.onix_mapping.specs.Territories.{territory_notes, unheld}
 use Rattle.onix_mapping.specs.Unions.{union}
+use Rattle.onix_mapping.specs.declared.notes.Foreign.TheVariants as other
+use Rattle.onix_mapping.specs.declared.notes.Reason.{Reason as LentReason}
+use Rattle.onix_mapping.specs.declared.notes.Wrong.TheVariants as bad
 
 -- ---- one Market
 
--- where a Market holds that the desk can hold
-abbrev pub held_territory : Option Reason → Area → Option (Option Territory)
-held_territory (Some r) area = Some None
-held_territory None area = option_map (λ s. Some s.market) (market_of area)
+-- why a Market is left out, where it is: the desk cannot hold it, or would not take it
+abbrev pub market_reason : Area → Option Reason
+market_reason area = option_or (unheld area) (area_refusal area)
 
--- where a Market holds; nowhere, where it is left out, and nothing, where the desk would not take it
-abbrev pub territory_of : Composite → Option (Option Territory)
-territory_of m = held_territory (unheld (area_in m.below)) (area_in m.below)
+-- where a Market holds that is not left out
+abbrev pub territory_by : Option Reason → Area → Option Territory
+territory_by (Some reason) area = None
+territory_by None area = option_map (λ s. s.market) (market_of area)
 
-abbrev pub notes_by : Option Reason → Composite → List Note
-notes_by (Some r) m = record { element = m.element; reason = r } ∷ []
-notes_by None m = left_out_regions (area_in m.below)
+abbrev pub territory_of : Composite → Option Territory
+territory_of m = territory_by (market_reason (area_in m.below)) (area_in m.below)
 
--- a note on a Market that the desk cannot hold, else one on each region that is left out of it
+-- the notes on a Market: that it is left out, or those on its territory
+abbrev pub market_notes_by : Option Reason → Composite → List Note
+market_notes_by (Some reason) m = reason_notes m.element (Some reason)
+market_notes_by None m = territory_notes (area_in m.below)
+
 abbrev pub market_notes : Composite → List Note
-market_notes m = notes_by (unheld (area_in m.below)) m
+market_notes m = market_notes_by (market_reason (area_in m.below)) m
 
 -- ---- all Markets
 
--- where those Markets hold that are not left out; nothing, where the desk would not take one of them
-abbrev pub territories_of : List Composite → Option (List Territory)
-territories_of [] = Some []
-territories_of (m ∷ markets) = do
-  t ← territory_of m
-  ts ← territories_of markets
-  Some (option_to_list t ++ ts)
+abbrev pub markets_in : Nodes → List Composite
+markets_in nodes = composites (codes "Market") nodes
 
-abbrev pub markets_notes : List Composite → List Note
-markets_notes markets = flat_map market_notes markets
+-- where those Markets hold that are not left out
+abbrev pub territories_of : List Composite → List Territory
+territories_of markets = flat_map (λ m. option_to_list (territory_of m)) markets
 
-abbrev pub or_first : Option Reason → Area → Option Area → Option Area
-or_first (Some r) area others = others
-or_first None area others = Some area
+-- a Market's territory, as it stands, where it is not left out
+abbrev pub area_by : Option Reason → Area → Option Area
+area_by (Some reason) area = None
+area_by None area = Some area
+
+abbrev pub held_area : Composite → Option Area
+held_area m = area_by (market_reason (area_in m.below)) (area_in m.below)
 
 -- the first of the Markets that are not left out
 abbrev pub first_held : List Composite → Option Area
-first_held [] = None
-first_held (m ∷ markets) = or_first (unheld (area_in m.below)) (area_in m.below) (first_held markets)
+first_held markets = first_some (map held_area markets)
+
+-- whether one of them is left out as foreign
+abbrev pub is_foreign : Option Reason → Bool
+is_foreign None = false
+is_foreign (Some reason) = not (is_wrong reason.why)
+
+abbrev pub is_foreign_market : Composite → Bool
+is_foreign_market m = is_foreign (market_reason (area_in m.below))
+
+abbrev pub one_is_foreign : List Composite → Bool
+one_is_foreign markets = list_any is_foreign_market markets
 
 -- ---- the record of a ProductSupply
 
 abbrev pub supply_record : List (List ℕ) → List (List ℕ)
 supply_record fields = codes "ProductSupply" ∷ fields
 
--- of the Market that holds there, as it stands
-abbrev pub as_it_stands : Area → Option (List (List ℕ))
-as_it_stands area = option_map (λ s. supply_record (area_fields area)) (market_of area)
+-- the fields of a union, written out; nothing, where one is too long
+abbrev pub union_fields : Territory → Option (List (List ℕ))
+union_fields t = option_map (λ s. territory_fields t) (clean supply_of (territory_fields t))
 
--- of a union, written out; nothing, where it is too long
-abbrev pub as_union : Territory → Option (List (List ℕ))
-as_union t = option_map (λ s. supply_record (territory_fields t)) (clean supply_of (territory_fields t))
-
--- of several Markets, of which this is the first: their union, and where no country lies in them the first as it stands
+-- of several Markets, of which this is the first: their union, and where no country lies in them
+-- the first as it stands
 abbrev pub joined : Area → Option Territory → Option (List (List ℕ))
-joined first None = as_it_stands first
-joined first (Some t) = as_union t
+joined first None = Some (area_fields first)
+joined first (Some t) = union_fields t
 
 -- of one Market as it stands, of several as one
-abbrev pub record_of : Area → List Territory → Option (List (List ℕ))
-record_of first territories = if length territories == 1 then as_it_stands first else joined first (union territories)
+abbrev pub held_fields : Area → List Territory → Option (List (List ℕ))
+held_fields first territories =
+    if length territories == 1 then Some (area_fields first) else joined first (union territories)
 
-abbrev pub record_by : Option Area → List Territory → Option (Option (List (List ℕ)))
-record_by None territories = Some None
-record_by (Some first) territories = option_map Some (record_of first territories)
+-- a ProductSupply whose Markets are all left out
+abbrev pub no_market : Bool → Reason
+no_market some_foreign =
+    if some_foreign then foreign other.NoMarketLeft [] else wrong bad.NoMarketLeft []
 
-abbrev pub record_from : List Composite → Option (Option (List (List ℕ)))
-record_from [] = Some (Some (supply_record ([] ∷ [] ∷ [] ∷ [])))
-record_from (m ∷ markets) = territories_of (m ∷ markets) >>= record_by (first_held (m ∷ markets))
+abbrev pub joined_outcome : Option (List (List ℕ)) → List Note → Outcome
+joined_outcome None notes = left_out (foreign other.LongMarkets [])
+joined_outcome (Some fields) notes = written (supply_record fields ∷ []) notes
 
--- The record of a ProductSupply, of all its Markets: without a Market it is that of the world.
--- It is left out where all Markets are, and nothing, where the desk would not take it, or one of the Markets.
-abbrev pub record_in : Nodes → Option (Option (List (List ℕ)))
-record_in nodes = record_from (composites (codes "Market") nodes)
+-- of what is found of Markets: the first that is left, where they hold that are left, whether
+-- another is left out as foreign, and the notes on them
+abbrev pub found_outcome : Option Area → List Territory → Bool → List Note → Outcome
+found_outcome None territories some_foreign notes = left_out (no_market some_foreign)
+found_outcome (Some first) territories some_foreign notes =
+    joined_outcome (held_fields first territories) notes
 
--- the notes on what is left out of the Markets of a ProductSupply
-abbrev pub market_notes_in : Nodes → List Note
-market_notes_in nodes = markets_notes (composites (codes "Market") nodes)
+abbrev pub held_outcome : Option Area → List Composite → Outcome
+held_outcome first markets =
+    found_outcome first (territories_of markets) (one_is_foreign markets)
+    (flat_map market_notes markets)
+
+-- What the Markets of a ProductSupply come to: its record, of all of them together. Without a
+-- Market it is that of the world.
+abbrev pub markets_outcome : List Composite → Outcome
+markets_outcome [] = written (supply_record ([] ∷ [] ∷ [] ∷ []) ∷ []) []
+markets_outcome (m ∷ markets) = held_outcome (first_held (m ∷ markets)) (m ∷ markets)
+
+-- ---- what a call gives
+
+-- where a Market holds, or why it is left out
+abbrev pub IsHeld : Result Territory LentReason → Area → Type 0
+IsHeld (Ok territory) area = (market_reason area ≡ None) × (territory_by None area ≡ Some territory)
+IsHeld (Err reason) area = market_reason area ≡ Some (reason_view reason)
+
+-- a call put the record of these fields into the buffer; false, where there are none
+abbrev pub IsFilled : Bool → List (List ℕ) → Option (List (List ℕ)) → Type 0
+IsFilled true held fields = option_map supply_record fields ≡ Some held
+IsFilled false held fields = fields ≡ None

@@ -9,8 +9,11 @@ use Rattle.onix_outline.specs.Nodes.{Nodes}
 use Rattle.onix_outline.specs.Outline.{outline}
 use Rattle.onix_outline.specs.Views.{line_views}
 
--- what was read is the first identifier, and the lines behind it tell the others; nothing, where there is none
+-- what was read is the first identifier, and the lines behind it tell the others; nothing, where
+-- there is none
 abbrev pub IsNext : Option (Lent × Bor (List Line)) → Kind → ℕ → Nodes → Type 0
 IsNext None kind depth nodes = identifiers_in kind nodes ≡ []
 IsNext (Some x) kind depth nodes =
-    (others : Nodes) × (identifiers_in kind nodes ≡ identifier_view x.0 ∷ identifiers_in kind others) × (line_views x.1.now ≡ outline depth others)
+    (others : Nodes)
+    × (identifiers_in kind nodes ≡ identifier_view x.0 ∷ identifiers_in kind others)
+    × (line_views x.1.now ≡ outline depth others)

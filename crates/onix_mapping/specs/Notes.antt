@@ -1,9 +1,12 @@
--- Notes on what of a message is left out.
-use Rattle.std.specs.Prelude.{ℕ, List, map}
+-- Notes on what of a message is left out, or read as another than it stands.
+use Rattle.std.specs.Prelude.{ℕ, Bool, true, false, List, [], ◌∷◌, map, Option, Some, None}
 use Rattle.onix_mapping.specs.Elements.{Element, element_view}
+use Rattle.onix_mapping.specs.declared.notes.Foreign.{Foreign as ForeignWhy}
 use Rattle.onix_mapping.specs.declared.notes.Note.{Note as Lent}
 use Rattle.onix_mapping.specs.declared.notes.Reason.{Reason as LentReason}
 use Rattle.onix_mapping.specs.declared.notes.Why.{Why}
+use Rattle.onix_mapping.specs.declared.notes.Why.TheVariants.{Foreign, Wrong}
+use Rattle.onix_mapping.specs.declared.notes.Wrong.{Wrong as WrongWhy}
 
 -- why something is left out, and the text that is the reason, where there is one
 pub record Reason : Type 0 where
@@ -15,19 +18,33 @@ pub record Note : Type 0 where
   pub element : Element
   pub reason : Reason
 
--- a reason with the text that it is about
-abbrev pub reason : Why → List ℕ → Reason
-reason why text = record { why = why; text = text }
+-- that the desk has no field for something, with the text that the reason is about
+abbrev pub foreign : ForeignWhy → List ℕ → Reason
+foreign why text = record { why = Foreign why; text = text }
 
--- a note on an element, by its reason and the text that this is about
-abbrev pub note : Element → Why → List ℕ → Note
-note element why text = record { element = element; reason = reason why text }
+-- that the desk would not take something, with the text that the reason is about
+abbrev pub wrong : WrongWhy → List ℕ → Reason
+wrong why text = record { why = Wrong why; text = text }
+
+-- whether the desk would not take it; else it is foreign: the desk has no field for it
+abbrev pub is_wrong : Why → Bool
+is_wrong (Foreign why) = false
+is_wrong (Wrong why) = true
+
+-- a note on an element, by its reason
+abbrev pub note : Element → Reason → Note
+note element reason = record { element = element; reason = reason }
+
+-- the note on an element that is left out, where there is a reason for that
+abbrev pub reason_notes : Element → Option Reason → List Note
+reason_notes element None = []
+reason_notes element (Some reason) = note element reason ∷ []
 
 -- ---- without where they lie in memory
 
 -- a reason, as its kind and its text
 abbrev pub reason_view : LentReason → Reason
-reason_view r = reason r.why r.text.now
+reason_view r = record { why = r.why; text = r.text.now }
 
 -- a note, as what it speaks of and why
 abbrev pub note_view : Lent → Note

@@ -1,27 +1,43 @@
 -- A Price: the record that is written of it, or why it is left out.
-use Rattle.std.specs.Prelude.{ℕ, Bool, false, ◌&&◌, ◌==◌, not, nat_lt, length, List, [], ◌∷◌, ◌++◌, Option, Some, None, if◌then◌else◌, codes, option_map, option_and_then, is_none, is_some}
+use Rattle.std.specs.Prelude.{ℕ, Bool, false, ◌+◌, ◌&&◌, ◌==◌, nat_lt, drop, length, position, take}
+use Rattle.std.specs.Prelude.{List, [], ◌∷◌, ◌++◌, Option, Some, None, if◌then◌else◌, codes}
+use Rattle.std.specs.Prelude.{option_map, option_and_then, is_none, is_some}
 use Rattle.std.specs.Char.{is_ascii_digit}
 use Rattle.std.specs.List.{list_all}
 use Rattle.std.specs.Option.{option_or, option_to_list, unwrap_or}
 use Rattle.std.specs.Result.{result_err, result_unwrap_or}
-use Rattle.std.specs.Str.{bytes_eq, is_utf8}
+use Rattle.std.specs.Str.{bytes_eq}
 use Rattle.onix_outline.specs.Composites.{text_in}
 use Rattle.onix_outline.specs.Nodes.{Nodes}
 use Rattle.onix_message.specs.Fields.{optional, or_default}
-use Rattle.onix_message.specs.Price.{price_of}
+use Rattle.onix_message.specs.Price.{day_field, price_of}
+use Rattle.onix_message.specs.declared.row.Opening.{Opening}
 use Rattle.onix_terms.specs.Amount.{amount_of}
 use Rattle.onix_terms.specs.Code.{code2_of, currency_of}
-use Rattle.onix_terms.specs.Day.{day_of}
 use Rattle.onix_terms.specs.Quantity.{quantity_of}
-use Rattle.onix_message.specs.declared.row.Opening.{Opening}
-use Rattle.onix_mapping.specs.Dates.{Days, days, days_in}
-use Rattle.onix_mapping.specs.Elements.{Composite, Element, composites, first, text_or_empty}
+use Rattle.onix_mapping.specs.Dates.{days, days_in}
+use Rattle.onix_mapping.specs.declared.dates.Days.{Days}
+use Rattle.onix_mapping.specs.Elements.{Composite, composites, first, text_or_empty}
 use Rattle.onix_mapping.specs.Identifiers.{is_text}
-use Rattle.onix_mapping.specs.Notes.{Note, Reason, reason}
-use Rattle.onix_mapping.specs.Records.{said}
-use Rattle.onix_mapping.specs.Territories.{Area, area_fields, area_in, left_out_regions, market_of, unheld}
-use Rattle.onix_mapping.specs.declared.notes.Why.TheVariants.{PriceQualifier, PricePer, PriceCondition, PriceConstraint, PriceCoded, CurrencyZone, MoreDecimals, WrongPriceType, WrongAmount, WrongCurrency, WrongTerritory, WrongDay, WrongQuantity, PriceRefused}
-use Rattle.onix_mapping.specs.declared.notes.Why.{Why}
+use Rattle.onix_mapping.specs.Notes.{Reason, foreign, is_wrong, wrong}
+use Rattle.onix_mapping.specs.Outcomes.{Outcome, left_out, nothing, written}
+use Rattle.onix_mapping.specs.Records.{first_some, said, term_said, unread}
+use Rattle.onix_mapping.specs.Territories.{Area, area_fields, area_in, area_refusal}
+use Rattle.onix_mapping.specs.Territories.{territory_notes, unheld}
+use Rattle.onix_mapping.specs.declared.notes.Foreign.TheVariants.{CurrencyZone, EpubLicense}
+use Rattle.onix_mapping.specs.declared.notes.Foreign.TheVariants.{MoreDecimals, NoCharge}
+use Rattle.onix_mapping.specs.declared.notes.Foreign.TheVariants.{PriceCoded, PriceCondition}
+use Rattle.onix_mapping.specs.declared.notes.Foreign.TheVariants.{PriceConstraint, PricePer}
+use Rattle.onix_mapping.specs.declared.notes.Foreign.TheVariants.{PriceQualifier}
+use Rattle.onix_mapping.specs.declared.notes.Wrong.TheVariants as bad
+use Rattle.onix_mapping.specs.declared.prices.Around.{Around as Lent}
+
+-- What stands around a Price: what its message begins with, whether the record of its SupplyDetail
+-- has an UnpricedItemType, and the quantity that stands for a minimum that it does not have.
+pub record Around : Type 0 where
+  pub opening : Opening
+  pub is_unpriced : Bool
+  pub minimum : Option (List ℕ)
 
 -- ---- the record
 
@@ -29,28 +45,60 @@ use Rattle.onix_mapping.specs.declared.notes.Why.{Why}
 abbrev pub right_days : Nodes → Days
 right_days nodes = result_unwrap_or (days_in nodes) (days None None)
 
--- the fields that each Price has behind its name, each as it stands, and empty where it is absent: type, amount, currency, territory, the first and the last day
+-- where an amount has its point
+abbrev pub point_in : List ℕ → Option ℕ
+point_in text = position (λ b. b == 46) text
+
+-- a text with its point there, without the zeros behind the third decimal
+abbrev pub cut_zeros : Option ℕ → List ℕ → List ℕ
+cut_zeros None text = text
+cut_zeros (Some at) text =
+    if list_all (λ b. b == 48) (drop (at + 4) text) then take (at + 4) text else text
+
+-- an amount, as it is written
+abbrev pub amount_written : Nodes → List ℕ
+amount_written nodes =
+    cut_zeros (point_in (text_or_empty (codes "PriceAmount") nodes))
+    (text_or_empty (codes "PriceAmount") nodes)
+
+-- The fields that each Price has behind its name, empty where it has none: type, amount, currency,
+-- territory, the first and the last day.
 abbrev pub eight_fields : Area → Days → Nodes → List (List ℕ)
 eight_fields a d nodes =
     text_or_empty (codes "PriceType") nodes
-    ∷ text_or_empty (codes "PriceAmount") nodes
+    ∷ amount_written nodes
     ∷ text_or_empty (codes "CurrencyCode") nodes
-    ∷ (area_fields a ++ (unwrap_or d.first [] ∷ unwrap_or d.last [] ∷ []))
+    ∷ (area_fields a ++ (day_field d.first ∷ day_field d.last ∷ []))
 
--- the fields of a Price: those, and a MinimumOrderQuantity where there is one
-abbrev pub price_fields : Nodes → List (List ℕ)
-price_fields nodes = eight_fields (area_in nodes) (right_days nodes) nodes ++ option_to_list (text_in (codes "MinimumOrderQuantity") nodes)
+-- a quantity; one of zeros alone is as absent
+abbrev pub unless_zeros : List ℕ → Option (List ℕ)
+unless_zeros text = if list_all (λ b. b == 48) text then None else Some text
+
+-- the MinimumOrderQuantity of a Price
+abbrev pub own_minimum : Nodes → Option (List ℕ)
+own_minimum nodes = option_and_then unless_zeros (text_in (codes "MinimumOrderQuantity") nodes)
+
+-- the fields of a Price: those, and a minimum where it or its SupplyDetail has one
+abbrev pub price_fields : Around → Nodes → List (List ℕ)
+price_fields around nodes =
+    eight_fields (area_in nodes) (right_days nodes) nodes
+    ++ option_to_list (option_or (own_minimum nodes) around.minimum)
 
 -- ---- why a Price is left out
 
 -- the text of an element, where it is another than 00
 abbrev pub other_in : List ℕ → Nodes → Option (List ℕ)
-other_in name nodes = option_and_then (λ text. if bytes_eq text (codes "00") then None else Some text) (text_in name nodes)
+other_in name nodes =
+    option_and_then (λ text. if bytes_eq text (codes "00") then None
+    else Some text) (text_in name nodes)
 
--- the type of the first of some composites that has another one than 00, the empty text where that has none
+-- the type of the first of some composites that has another one than 00, the empty text where that
+-- has none
 abbrev pub other_type : List ℕ → List Composite → Option (List ℕ)
 other_type name [] = None
-other_type name (c ∷ cs) = if is_text (codes "00") (text_in name c.below) then other_type name cs else Some (text_or_empty name c.below)
+other_type name (c ∷ cs) =
+    if is_text (codes "00") (text_in name c.below) then other_type name cs
+    else Some (text_or_empty name c.below)
 
 -- whether there is a PriceCoded, of which the text does not count
 abbrev pub coded_in : Nodes → Option (List ℕ)
@@ -73,93 +121,118 @@ has_more_decimals (b ∷ text) = is_ascii_digit b && is_long_part (behind_digits
 
 -- an amount that has more decimals than the desk knows
 abbrev pub long_amount : Nodes → Option (List ℕ)
-long_amount nodes = option_and_then (λ text. if has_more_decimals text then Some text else None) (text_in (codes "PriceAmount") nodes)
+long_amount nodes =
+    if has_more_decimals (amount_written nodes) then Some (amount_written nodes) else None
 
--- the first of some reasons that holds
-abbrev pub first_some : {A : Type 0} → List (Option A) → Option A
-first_some [] = None
-first_some (x ∷ xs) = option_or x (first_some xs)
+abbrev pub is_zero : Option ℕ → Bool
+is_zero None = false
+is_zero (Some n) = n == 0
 
--- a value that a text writes
-abbrev pub term_said : {A : Type 0} → (List ℕ → Option A) → List ℕ → Option A
-term_said term text = if is_utf8 text then term text else None
+-- an amount of 0, which a choice by price would always take
+abbrev pub no_charge : Nodes → Option (List ℕ)
+no_charge nodes =
+    if is_zero (term_said amount_of (amount_written nodes)) then Some (amount_written nodes)
+    else None
 
--- a reason where something does not hold
-abbrev pub unless : Bool → Why → List ℕ → Option Reason
-unless holds why text = if holds then None else Some (reason why text)
+-- whether there is an EpubLicense, of which the text does not count
+abbrev pub license_in : Nodes → Option (List ℕ)
+license_in nodes = option_map (λ c. []) (first (composites (codes "EpubLicense") nodes))
 
--- a reason where a text is not read so
-abbrev pub unread : {A : Type 0} → (List ℕ → Option A) → Why → List ℕ → Option Reason
-unread read why text = unless (is_some (read text)) why text
+-- the name of an element, where it has a text
+abbrev pub named : List ℕ → Nodes → Option (List ℕ)
+named name nodes = option_map (λ text. name) (text_in name nodes)
 
--- Which fields of a Price the desk does not take, each where it does not: it is outside its grammar, or it is empty and has no default in the header
-abbrev pub field_reasons : Opening → Nodes → List (Option Reason)
-field_reasons o nodes =
-    unread (or_default (term_said code2_of) o.header.default_type) WrongPriceType (text_or_empty (codes "PriceType") nodes)
-    ∷ unread (term_said amount_of) WrongAmount (text_or_empty (codes "PriceAmount") nodes)
-    ∷ unread (or_default (term_said currency_of) o.header.default_currency) WrongCurrency (text_or_empty (codes "CurrencyCode") nodes)
-    ∷ unless (is_some (market_of (area_in nodes))) WrongTerritory []
-    ∷ unread (optional (term_said day_of)) WrongDay (unwrap_or (right_days nodes).first [])
-    ∷ unread (optional (term_said day_of)) WrongDay (unwrap_or (right_days nodes).last [])
-    ∷ unread (optional (term_said quantity_of)) WrongQuantity (text_or_empty (codes "MinimumOrderQuantity") nodes)
+-- the elements of ONIX 2.1 that say what a Price is, each where it is there
+abbrev pub old_elements : Nodes → List (Option (List ℕ))
+old_elements nodes =
+    named (codes "PriceTypeCode") nodes
+    ∷ named (codes "PriceEffectiveFrom") nodes
+    ∷ named (codes "PriceEffectiveUntil") nodes
+    ∷ named (codes "CountryCode") nodes
     ∷ []
 
--- a Price of which the desk could not take the record, for the first field that it does not take, if it is one of those
-abbrev pub refusal : Opening → Nodes → Option Reason
-refusal o nodes =
-    if is_some (said (price_of o) (price_fields nodes)) then None
-    else Some (unwrap_or (first_some (field_reasons o nodes)) (reason PriceRefused []))
+-- Which fields of a Price the desk does not take, each where it does not: it is outside its
+-- grammar, or it is empty and has no default in the header.
+abbrev pub field_reasons : Opening → Nodes → List (Option Reason)
+field_reasons o nodes =
+    unread (term_said amount_of) bad.Amount (amount_written nodes)
+    ∷ unread (or_default (term_said code2_of) o.header.default_type) bad.PriceType
+    (text_or_empty (codes "PriceType") nodes)
+    ∷ unread (or_default (term_said currency_of) o.header.default_currency) bad.Currency
+    (text_or_empty (codes "CurrencyCode") nodes)
+    ∷ area_refusal (area_in nodes)
+    ∷ unread (optional (term_said quantity_of)) bad.Quantity (unwrap_or (own_minimum nodes) [])
+    ∷ []
+
+-- a Price of which the desk would not take the record, for the first field that it does not take,
+-- if it is one of those
+abbrev pub refusal : Around → Nodes → Option Reason
+refusal around nodes =
+    if is_some (said (price_of around.opening) (price_fields around nodes)) then None
+    else Some (unwrap_or (first_some (field_reasons around.opening nodes)) (wrong bad.Price []))
+
+-- a reason, where it is foreign, and where it is wrong
+abbrev pub if_foreign : Reason → Option Reason
+if_foreign reason = if is_wrong reason.why then None else Some reason
+
+abbrev pub if_wrong : Reason → Option Reason
+if_wrong reason = if is_wrong reason.why then Some reason else None
+
+-- for where, for how much and between which days a Price holds; behind those the elements of ONIX
+-- 2.1, and dates that are none
+abbrev pub late_reasons : Nodes → List (Option Reason)
+late_reasons nodes =
+    unheld (area_in nodes)
+    ∷ option_map (foreign MoreDecimals) (long_amount nodes)
+    ∷ option_map (foreign NoCharge) (no_charge nodes)
+    ∷ option_and_then if_foreign (result_err (days_in nodes))
+    ∷ option_map (wrong bad.OldElement) (first_some (old_elements nodes))
+    ∷ option_and_then if_wrong (result_err (days_in nodes))
+    ∷ []
 
 -- why a Price is another than the desk knows, each where it holds
 abbrev pub early_reasons : Nodes → List (Option Reason)
 early_reasons nodes =
-    option_map (reason PriceQualifier) (other_in (codes "PriceQualifier") nodes)
-    ∷ option_map (reason PricePer) (other_in (codes "PricePer") nodes)
-    ∷ option_map (reason PriceCondition) (other_type (codes "PriceConditionType") (composites (codes "PriceCondition") nodes))
-    ∷ option_map (reason PriceConstraint) (other_type (codes "PriceConstraintType") (composites (codes "PriceConstraint") nodes))
-    ∷ option_map (reason PriceCoded) (coded_in nodes)
-    ∷ option_map (reason CurrencyZone) (text_in (codes "CurrencyZone") nodes)
-    ∷ unheld (area_in nodes)
-    ∷ option_map (reason MoreDecimals) (long_amount nodes)
-    ∷ result_err (days_in nodes)
-    ∷ []
+    option_map (foreign PriceQualifier) (other_in (codes "PriceQualifier") nodes)
+    ∷ option_map (foreign PricePer) (other_in (codes "PricePer") nodes)
+    ∷ option_map (foreign PriceCondition)
+    (other_type (codes "PriceConditionType") (composites (codes "PriceCondition") nodes))
+    ∷ option_map (foreign PriceConstraint)
+    (other_type (codes "PriceConstraintType") (composites (codes "PriceConstraint") nodes))
+    ∷ option_map (foreign PriceCoded) (coded_in nodes)
+    ∷ option_map (foreign CurrencyZone) (text_in (codes "CurrencyZone") nodes)
+    ∷ option_map (foreign EpubLicense) (license_in nodes)
+    ∷ late_reasons nodes
 
--- why a Price is left out, each where it holds: it is another than the desk knows, or the desk could not take it
-abbrev pub reasons_against : Opening → Nodes → List (Option Reason)
-reasons_against o nodes = early_reasons nodes ++ refusal o nodes ∷ []
+-- why a Price is left out, each where it holds: what is both foreign and wrong is foreign
+abbrev pub reasons_against : Around → Nodes → List (Option Reason)
+reasons_against around nodes = early_reasons nodes ++ refusal around nodes ∷ []
 
 -- ---- what a Price comes to
 
--- nothing; a record that is written, with notes on the regions that are left out of its territory; or it is left out
-pub data Outcome : Type 0 where
-  nothing : Outcome
-  written : List (List ℕ) → List Note → Outcome
-  left_out : Reason → Outcome
+abbrev pub outcome_of : Option Reason → Around → Nodes → Outcome
+outcome_of None around nodes =
+    written ((codes "Price" ∷ price_fields around nodes) ∷ []) (territory_notes (area_in nodes))
+outcome_of (Some why) around nodes = left_out why
 
-abbrev pub outcome_of : Option Reason → Nodes → Outcome
-outcome_of None nodes = written (codes "Price" ∷ price_fields nodes) (left_out_regions (area_in nodes))
-outcome_of (Some why) nodes = left_out why
+-- A Price without an amount and without PriceCoded is nothing, whatever else stands in it, where
+-- the record of its SupplyDetail has an UnpricedItemType: its own is there too, where it has one.
+abbrev pub is_nothing : Around → Nodes → Bool
+is_nothing around nodes =
+    around.is_unpriced
+    && (is_none (text_in (codes "PriceAmount") nodes) && is_none (coded_in nodes))
 
--- a Price without an amount and without PriceCoded is nothing, whatever else stands in it
-abbrev pub is_unpriced : Nodes → Bool
-is_unpriced nodes = is_none (text_in (codes "PriceAmount") nodes) && is_none (coded_in nodes)
+-- what a Price comes to
+abbrev pub price_outcome : Around → Nodes → Outcome
+price_outcome around nodes =
+    if is_nothing around nodes then nothing
+    else outcome_of (first_some (reasons_against around nodes)) around nodes
 
--- what a Price comes to, in a message that begins so
-abbrev pub outcome : Opening → Nodes → Outcome
-outcome o nodes = if is_unpriced nodes then nothing else outcome_of (first_some (reasons_against o nodes)) nodes
+-- ---- without where it lies in memory
 
--- its record, where it has one
-abbrev pub outcome_records : Outcome → List (List (List ℕ))
-outcome_records nothing = []
-outcome_records (written fields notes) = fields ∷ []
-outcome_records (left_out why) = []
-
--- why an element is left out
-abbrev pub note_of : Element → Reason → Note
-note_of element why = record { element = element; reason = why }
-
--- the notes on it: on a Price that is left out there is one
-abbrev pub outcome_notes : Element → Outcome → List Note
-outcome_notes price nothing = []
-outcome_notes price (written fields notes) = notes
-outcome_notes price (left_out why) = note_of price why ∷ []
+abbrev pub around_view : Lent → Around
+around_view a = record {
+  opening = a.opening.now;
+  is_unpriced = a.is_unpriced;
+  minimum = option_map (λ t. t.now) a.minimum;
+}

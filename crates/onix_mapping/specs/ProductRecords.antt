@@ -1,58 +1,141 @@
--- The records that are written of a Product.
-use Rattle.std.specs.Prelude.{ℕ, Bool, true, false, ◌||◌, List, [], ◌∷◌, ◌++◌, Option, Some, None, if◌then◌else◌, codes}
+-- What a Product comes to: the records of it and of its supplies, and the notes on it.
+use Rattle.std.specs.Prelude.{ℕ, Bool, ◌||◌, List, [], ◌∷◌, ◌++◌, Option, Some, None, if◌then◌else◌}
+use Rattle.std.specs.Prelude.{codes}
+use Rattle.std.specs.List.{list_any}
+use Rattle.std.specs.Option.{option_or}
 use Rattle.std.specs.Str.{bytes_eq}
 use Rattle.onix_outline.specs.Nodes.{Nodes}
-use Rattle.onix_terms.specs.Options.{◌>>=◌}
 use Rattle.onix_message.specs.declared.row.Opening.{Opening}
 use Rattle.onix_mapping.specs.Elements.{Composite, Element}
-use Rattle.onix_mapping.specs.Notes.{Note, note}
-use Rattle.onix_mapping.specs.Products.{is_deletion, notification_in, product_notes, product_record}
-use Rattle.onix_mapping.specs.Supplies.{supplies_in, supplies_notes, supplies_records}
-use Rattle.onix_mapping.specs.declared.notes.Why.TheVariants.{NoSupplyLeft}
+use Rattle.onix_mapping.specs.Notes.{Note, Reason, foreign, is_wrong, note, reason_notes, wrong}
+use Rattle.onix_mapping.specs.Products.{bare_record, emptied_record, has_isbn, identifier_notes}
+use Rattle.onix_mapping.specs.Products.{is_deletion, notification_in, own_reason, own_record}
+use Rattle.onix_mapping.specs.Products.{reference_in}
+use Rattle.onix_mapping.specs.Records.{is_field}
+use Rattle.onix_mapping.specs.Supplies.{supplies_notes, supplies_reason, supplies_records}
+use Rattle.onix_mapping.specs.declared.notes.Foreign.TheVariants as other
+use Rattle.onix_mapping.specs.declared.notes.Wrong.TheVariants as bad
+use Rattle.onix_mapping.specs.declared.product_records.Fate.{Fate}
+use Rattle.onix_mapping.specs.declared.product_records.Fate.TheVariants as fate
 
--- whether a product of this type replaces all that the desk has of it
-abbrev pub replaces : List ℕ → Bool
-replaces notification = bytes_eq notification (codes "01") || (bytes_eq notification (codes "02") || bytes_eq notification (codes "03"))
+-- ---- supplies: nothing below a deletion is looked at but its identifiers
 
--- whether a product may stand without supplies: it had none, or it replaces those that the desk has. An update would keep them
-abbrev pub may_be_bare : List Composite → List ℕ → Bool
-may_be_bare [] notification = true
-may_be_bare (s ∷ supplies) notification = replaces notification
+abbrev pub records_below : Opening → List ℕ → Nodes → List (List (List ℕ))
+records_below o preferred nodes =
+    if is_deletion nodes then [] else supplies_records o preferred nodes
 
--- the records of supplies, where some are left, or none need to be
-abbrev pub left_supplies : Bool → Option (List (List (List ℕ))) → Option (List (List (List ℕ)))
-left_supplies bare None = None
-left_supplies bare (Some []) = if bare then Some [] else None
-left_supplies bare (Some (first ∷ others)) = Some (first ∷ others)
+abbrev pub notes_on_supplies : Opening → List ℕ → Nodes → List Note
+notes_on_supplies o preferred nodes =
+    if is_deletion nodes then [] else supplies_notes o preferred nodes
 
-abbrev pub kept_supplies : Opening → List ℕ → Nodes → Option (List (List (List ℕ)))
-kept_supplies o preferred nodes = left_supplies (may_be_bare (supplies_in nodes) (notification_in nodes)) (supplies_records o preferred nodes)
+abbrev pub reason_below : Opening → List ℕ → Nodes → Option Reason
+reason_below o preferred nodes =
+    if is_deletion nodes then None else supplies_reason o preferred nodes
 
--- nothing below a deletion is looked at
-abbrev pub records_below : Opening → List ℕ → Nodes → Option (List (List (List ℕ)))
-records_below o preferred nodes = if is_deletion nodes then Some [] else kept_supplies o preferred nodes
+-- ---- notes on what is written
 
--- the records of a Product and of its supplies; nothing, where it is wrong: the desk would not take one of them, or it is no replacement, and all supplies that it had are left out
-abbrev pub product_records : Opening → List ℕ → Nodes → Option (List (List (List ℕ)))
-product_records o preferred nodes = do
-  product ← product_record nodes
-  records ← records_below o preferred nodes
-  Some (product ∷ records)
+-- 01 to 05
+abbrev pub is_followed : List ℕ → Bool
+is_followed notification =
+    list_any (bytes_eq notification) (codes "01" ∷ codes "02" ∷ codes "03" ∷ codes "04"
+    ∷ codes "05" ∷ [])
 
--- whether all supplies that it had are left out
-abbrev pub has_none_left : List Composite → Option (List (List (List ℕ))) → Bool
-has_none_left (s ∷ supplies) (Some []) = true
-has_none_left supplies records = false
+-- that the desk will not find a product by an ISBN
+abbrev pub isbn_reason : Nodes → Option Reason
+isbn_reason nodes =
+    if is_deletion nodes || has_isbn nodes then None else Some (foreign other.NoIsbn [])
 
-abbrev pub bare_note : Bool → Element → List Note
-bare_note true product = note product NoSupplyLeft [] ∷ []
-bare_note false product = []
+-- that the desk ignores a product of this NotificationType
+abbrev pub ignored_reason : Nodes → Option Reason
+ignored_reason nodes =
+    if is_followed (notification_in nodes) then None
+    else Some (foreign other.Ignored (notification_in nodes))
 
-abbrev pub notes_below : Opening → List ℕ → Nodes → Element → List Note
-notes_below o preferred nodes product =
-    supplies_notes o nodes ++ bare_note (has_none_left (supplies_in nodes) (supplies_records o preferred nodes)) product
+abbrev pub written_notes : Nodes → Element → List Note
+written_notes nodes product =
+    reason_notes product (isbn_reason nodes) ++ reason_notes product (ignored_reason nodes)
 
--- the notes on what is left out of a Product that is not wrong
-abbrev pub all_notes : Opening → List ℕ → Composite → List Note
-all_notes o preferred product =
-    product_notes product.below ++ (if is_deletion product.below then [] else notes_below o preferred product.below product.element)
+-- ---- a Product with a RecordReference that the desk would take
+
+-- its records: those of a product that is emptied, where its own fields or its supplies say why
+abbrev pub standing_records : Option Reason → Option Reason → Opening → List ℕ → Nodes
+    → List (List (List ℕ))
+standing_records (Some own) below o preferred nodes = emptied_record nodes ∷ []
+standing_records None (Some below) o preferred nodes = emptied_record nodes ∷ []
+standing_records None None o preferred nodes = own_record nodes ∷ records_below o preferred nodes
+
+-- the notes on it behind those on its identifiers
+abbrev pub standing_notes : Option Reason → Option Reason → Opening → List ℕ → Composite → List Note
+standing_notes (Some own) below o preferred c = note c.element own ∷ []
+standing_notes None (Some below) o preferred c =
+    notes_on_supplies o preferred c.below ++ note c.element below ∷ []
+standing_notes None None o preferred c =
+    notes_on_supplies o preferred c.below ++ written_notes c.below c.element
+
+-- ---- what a Product comes to
+
+-- the records of a Product: none of one without a RecordReference that the desk would take
+abbrev pub product_records : Opening → List ℕ → Nodes → List (List (List ℕ))
+product_records o preferred nodes =
+    if is_field (reference_in nodes)
+    then standing_records (own_reason nodes) (reason_below o preferred nodes) o preferred nodes
+    else []
+
+-- the notes on it
+abbrev pub product_notes : Opening → List ℕ → Composite → List Note
+product_notes o preferred c =
+    if is_field (reference_in c.below)
+    then identifier_notes c.below
+    ++ standing_notes (own_reason c.below) (reason_below o preferred c.below) o preferred c
+    else note c.element (wrong bad.RecordReference (reference_in c.below)) ∷ []
+
+-- why it is emptied, but for its size
+abbrev pub why_emptied : Opening → List ℕ → Nodes → Option Reason
+why_emptied o preferred nodes = option_or (own_reason nodes) (reason_below o preferred nodes)
+
+-- whether it is written as it stands, emptied or left out
+abbrev pub standing_fate : Option Reason → Fate
+standing_fate None = fate.Written
+standing_fate (Some reason) = fate.Emptied
+
+abbrev pub fate_of : Opening → List ℕ → Nodes → Fate
+fate_of o preferred nodes =
+    if is_field (reference_in nodes) then standing_fate (why_emptied o preferred nodes)
+    else fate.LeftOut
+
+-- ---- one that is too large for a message
+
+-- the notes on a product that would be written but for its size
+abbrev pub too_large_notes : Composite → List Note
+too_large_notes c = identifier_notes c.below ++ note c.element (wrong bad.TooLarge []) ∷ []
+
+-- a form in which a product may be written: its records, and the notes on it then
+pub record Form : Type 0 where
+  pub records : List (List (List ℕ))
+  pub notes : List Note
+
+abbrev pub form : List (List (List ℕ)) → List Note → Form
+form records notes = record { records = records; notes = notes }
+
+-- one that is emptied with its identifiers, and one with its reference in their place
+abbrev pub small_forms : List Note → Nodes → List Form
+small_forms notes nodes =
+    form (emptied_record nodes ∷ []) notes ∷ form (bare_record nodes ∷ []) notes ∷ []
+
+-- the forms of a product behind that with these notes
+abbrev pub smaller_forms : Fate → List Note → Composite → List Form
+smaller_forms fate.Written notes c = small_forms (too_large_notes c) c.below
+smaller_forms fate.Emptied notes c = small_forms notes c.below
+smaller_forms fate.LeftOut notes c = []
+
+-- The forms of a product, of which the first counts that is not too large for a message: as it is,
+-- emptied, and emptied with its reference in place of its identifiers. One that is emptied for
+-- another reason than its size has the notes that it has without.
+abbrev pub forms : Opening → List ℕ → Composite → List Form
+forms o preferred c =
+    form (product_records o preferred c.below) (product_notes o preferred c)
+    ∷ smaller_forms (fate_of o preferred c.below) (product_notes o preferred c) c
+
+-- whether one of some notes says that something is wrong
+abbrev pub has_wrong : List Note → Bool
+has_wrong notes = list_any (λ n. is_wrong n.reason.why) notes

@@ -1,12 +1,18 @@
 -- What the texts of an element say to the desk, as the fields of a record.
-use Rattle.std.specs.Prelude.{◌≡◌, ℕ, Bool, true, false, List, Option, Some, None, Result, Ok, Err, if◌then◌else◌}
+use Rattle.std.specs.Prelude.{◌≡◌, ℕ, Bool, ◌&&◌, List, [], ◌∷◌, Option, Some, None, Result, Ok}
+use Rattle.std.specs.Prelude.{Err, if◌then◌else◌, is_some}
 use Rattle.std.specs.List.{list_all}
+use Rattle.std.specs.Option.{option_or}
 use Rattle.std.specs.Str.{is_utf8}
+use Rattle.xml_text.specs.Grammar.{is_filled}
 use Rattle.onix_message.specs.Fields.{is_clean}
 use Rattle.onix_message.specs.declared.row.RowFault.{RowFault}
 use Rattle.onix_message.specs.declared.row.RowFault.TheVariants as fault
+use Rattle.onix_mapping.specs.Notes.{Reason, wrong}
+use Rattle.onix_mapping.specs.declared.notes.Wrong.{Wrong}
 
--- what is read of the fields of a record; nothing, where one of them is too long or has a control character
+-- what is read of the fields of a record; nothing, where one of them is too long or has a control
+-- character
 abbrev pub clean : {A : Type 0} → (List (List ℕ) → Option A) → List (List ℕ) → Option A
 clean read fields = if list_all is_clean fields then read fields else None
 
@@ -14,20 +20,33 @@ clean read fields = if list_all is_clean fields then read fields else None
 abbrev pub said : {A : Type 0} → (List (List ℕ) → Option A) → List (List ℕ) → Option A
 said read texts = if list_all is_utf8 texts then clean read texts else None
 
+-- a value that a text writes
+abbrev pub term_said : {A : Type 0} → (List ℕ → Option A) → List ℕ → Option A
+term_said term text = if is_utf8 text then term text else None
+
+-- a text that the desk takes as a field that may not be empty
+abbrev pub is_field : List ℕ → Bool
+is_field text = is_filled text && (is_utf8 text && is_clean text)
+
+-- ---- reasons
+
+-- a reason where something does not hold
+abbrev pub unless : Bool → Wrong → List ℕ → Option Reason
+unless holds why text = if holds then None else Some (wrong why text)
+
+-- a reason where a text is not read so
+abbrev pub unread : {A : Type 0} → (List ℕ → Option A) → Wrong → List ℕ → Option Reason
+unread read why text = unless (is_some (read text)) why text
+
+-- the first of some reasons that holds
+abbrev pub first_some : {A : Type 0} → List (Option A) → Option A
+first_some [] = None
+first_some (x ∷ xs) = option_or x (first_some xs)
+
+-- ---- what a call gives
+
 -- a call put these fields into a buffer, which are those that are asked for, unless memory ran out
 abbrev pub Fills : Result (Unit {0}) RowFault → List (List ℕ) → Option (List (List ℕ)) → Type 0
 Fills (Ok u) fields wanted = wanted ≡ Some fields
 Fills (Err fault.Wrong) fields wanted = wanted ≡ None
 Fills (Err fault.Memory) fields wanted = Unit {0}
-
--- the same, where it may also be that no fields are asked for: false
-abbrev pub MayFill : Result Bool RowFault → List (List ℕ) → Option (Option (List (List ℕ))) → Type 0
-MayFill (Ok true) fields wanted = wanted ≡ Some (Some fields)
-MayFill (Ok false) fields wanted = wanted ≡ Some None
-MayFill (Err fault.Wrong) fields wanted = wanted ≡ None
-MayFill (Err fault.Memory) fields wanted = Unit {0}
-
--- true, where a record was put into the buffer
-abbrev pub marked : Result (Unit {0}) RowFault → Result Bool RowFault
-marked (Ok u) = Ok true
-marked (Err fault) = Err fault

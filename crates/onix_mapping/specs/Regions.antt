@@ -1,8 +1,10 @@
 -- The regions that a text names.
-use Rattle.std.specs.Prelude.{◌≡◌, ℕ, ◌+◌, Bool, false, ◌&&◌, ◌||◌, ◌==◌, not, List, [], ◌∷◌, Option, Some, None, if◌then◌else◌, codes, find, filter, position, take, drop}
+use Rattle.std.specs.Prelude.{◌≡◌, ℕ, ◌+◌, Bool, true, false, ◌&&◌, ◌||◌, ◌==◌, not, List, [], ◌∷◌}
+use Rattle.std.specs.Prelude.{Option, Some, None, if◌then◌else◌, codes, find, filter, map, position}
+use Rattle.std.specs.Prelude.{take, drop}
 use Rattle.std.specs.Borrow.{Bor}
 use Rattle.std.specs.Char.{is_ascii_digit, is_ascii_uppercase}
-use Rattle.std.specs.List.{list_all, list_any}
+use Rattle.std.specs.List.{flat_map, list_all, list_any}
 use Rattle.std.specs.Str.{bytes_eq}
 use Rattle.xml_text.specs.Grammar.{is_filled}
 use Rattle.onix_terms.specs.Territory.{words_of}
@@ -21,15 +23,50 @@ other_regions text = filter (λ region. not (is_world region)) (words_of text)
 abbrev pub is_capital_or_digit : ℕ → Bool
 is_capital_or_digit b = is_ascii_uppercase b || is_ascii_digit b
 
--- a part of a country: two letters A to Z, a hyphen, and one or more letters A to Z and digits, as GB-NIR
+-- a part of a country: two letters A to Z, a hyphen, and one or more letters A to Z and digits, as
+-- GB-NIR
 abbrev pub is_part_of_country : List ℕ → Bool
 is_part_of_country (a ∷ b ∷ c ∷ rest) =
-    if (is_ascii_uppercase a && is_ascii_uppercase b) && ((c == 45) && is_filled rest) then list_all is_capital_or_digit rest else false
+    if (is_ascii_uppercase a && is_ascii_uppercase b) && ((c == 45) && is_filled rest)
+    then list_all is_capital_or_digit rest else false
 is_part_of_country other = false
 
 -- the first region that is no part of a country
 abbrev pub region_of_no_country : List ℕ → Option (List ℕ)
 region_of_no_country text = find (λ region. not (is_part_of_country region)) (words_of text)
+
+-- ---- countries by another code than that of ISO 3166
+
+-- the United Kingdom and Greece, as some write them
+abbrev pub is_other_name : List ℕ → Bool
+is_other_name country = bytes_eq country (codes "UK") || bytes_eq country (codes "EL")
+
+-- such names, in order
+abbrev pub other_names : List ℕ → List (List ℕ)
+other_names text = filter is_other_name (words_of text)
+
+abbrev pub country_code : List ℕ → List ℕ
+country_code country =
+    if bytes_eq country (codes "UK") then codes "GB"
+    else if bytes_eq country (codes "EL") then codes "GR"
+    else country
+
+-- each word behind a space
+abbrev pub spaced : List (List ℕ) → List ℕ
+spaced words = flat_map (λ word. 32 ∷ word) words
+
+-- countries with the codes in place of such names, and else as they stand
+abbrev pub countries_written : List ℕ → List ℕ
+countries_written text =
+    if list_any is_other_name (words_of text)
+    then drop 1 (spaced (map country_code (words_of text))) else text
+
+-- the codes of countries, each behind a space, where such a name is one of them
+abbrev pub IsRenamed : Option (List ℕ) → List ℕ → Type 0
+IsRenamed None text = list_any is_other_name (words_of text) ≡ false
+IsRenamed (Some written) text =
+    (list_any is_other_name (words_of text) ≡ true)
+    × (written ≡ spaced (map country_code (words_of text)))
 
 -- ---- what is read of a text
 

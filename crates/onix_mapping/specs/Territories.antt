@@ -1,18 +1,28 @@
 -- Where a Market or a Price holds: what its Territory says, and what of that the desk can hold.
-use Rattle.std.specs.Prelude.{ℕ, Bool, true, false, List, [], ◌∷◌, ◌++◌, Option, Some, None, if◌then◌else◌, codes, map, option_map}
-use Rattle.std.specs.Option.{option_map_or, option_or}
+use Rattle.std.specs.Prelude.{ℕ, Bool, true, false, List, [], ◌∷◌, ◌++◌, Option, Some, None}
+use Rattle.std.specs.Prelude.{if◌then◌else◌, codes, is_some, map, option_map}
+use Rattle.std.specs.Option.{option_map_or, option_or, unwrap_or}
 use Rattle.onix_outline.specs.Nodes.{Nodes}
 use Rattle.onix_message.specs.Supply.{supply_of}
 use Rattle.onix_message.specs.declared.parts.ProductSupply.{ProductSupply}
-use Rattle.onix_terms.specs.Territory.{words_of, world_text}
-use Rattle.onix_mapping.specs.Elements.{Element, Composite, composites, element_view, first, text_or_empty}
-use Rattle.onix_mapping.specs.Notes.{Note, Reason, note, reason}
-use Rattle.onix_mapping.specs.Records.{said}
-use Rattle.onix_mapping.specs.Regions.{names_world, other_regions, region_of_no_country}
-use Rattle.onix_mapping.specs.declared.notes.Why.TheVariants.{RegionIncluded, RegionExcluded, RegionAlone, RegionOfNoCountry}
+use Rattle.onix_terms.specs.Territory.{countries_of, words_of, world_text}
+use Rattle.onix_mapping.specs.Elements.{Element, Composite, composites, element_view, first}
+use Rattle.onix_mapping.specs.Elements.{text_or_empty}
+use Rattle.onix_mapping.specs.Notes.{Note, Reason, foreign, note, wrong}
+use Rattle.onix_mapping.specs.Records.{first_some, said, term_said, unless}
+use Rattle.onix_mapping.specs.Regions.{IsRenamed, countries_written, names_world, other_names}
+use Rattle.onix_mapping.specs.Regions.{other_regions, region_of_no_country}
+use Rattle.onix_mapping.specs.declared.notes.Foreign.{Foreign}
+use Rattle.onix_mapping.specs.declared.notes.Foreign.TheVariants.{CountryName, RegionIncluded}
+use Rattle.onix_mapping.specs.declared.notes.Foreign.TheVariants.{RegionExcluded, RegionAlone}
+use Rattle.onix_mapping.specs.declared.notes.Foreign.TheVariants.{RegionOfNoCountry}
+use Rattle.onix_mapping.specs.declared.notes.Wrong.TheVariants.{CountriesExcluded}
+use Rattle.onix_mapping.specs.declared.notes.Wrong.TheVariants.{CountriesIncluded, Territory}
 use Rattle.onix_mapping.specs.declared.territories.Area.{Area as Lent}
+use Rattle.onix_mapping.specs.declared.territories.Renamed.{Renamed}
 
--- the Territory of a Market or a Price, where it has one, and the four texts in it, each empty where it has none
+-- the Territory of a Market or a Price, where it has one, and the four texts in it, each empty
+-- where it has none
 pub record Area : Type 0 where
   pub territory : Option Element
   pub included : List ℕ
@@ -21,7 +31,14 @@ pub record Area : Type 0 where
   pub regions_excluded : List ℕ
 
 abbrev pub no_territory : Area
-no_territory = record { territory = None; included = []; regions_included = []; excluded = []; regions_excluded = [] }
+no_territory =
+    record {
+      territory = None;
+      included = [];
+      regions_included = [];
+      excluded = [];
+      regions_excluded = [];
+    }
 
 abbrev pub area_of : Option Composite → Area
 area_of None = no_territory
@@ -43,31 +60,64 @@ abbrev pub is_empty : List ℕ → Bool
 is_empty [] = true
 is_empty (b ∷ text) = false
 
--- the first of the regions that are included, where neither a country nor the world is: without them the territory would be the world
+-- the first of the regions that are included, where neither a country nor the world is: without
+-- them the territory would be the world
 abbrev pub region_alone : Area → Option (List ℕ)
 region_alone a =
-    if is_empty a.included then (if names_world a.regions_included then None else first (words_of a.regions_included)) else None
+    if is_empty a.included
+    then (if names_world a.regions_included then None else first (words_of a.regions_included))
+    else None
 
--- why the desk cannot hold a territory, whatever is left out of it: it would be another one, and not only a smaller one or one without whole countries
+-- why the desk cannot hold a territory, whatever is left out of it: it would be another one, and
+-- not only a smaller one or one without whole countries
 abbrev pub unheld : Area → Option Reason
-unheld a = option_or (option_map (reason RegionAlone) (region_alone a)) (option_map (reason RegionOfNoCountry) (region_of_no_country a.regions_excluded))
+unheld a =
+    option_or (option_map (foreign RegionAlone) (region_alone a))
+    (option_map (foreign RegionOfNoCountry) (region_of_no_country a.regions_excluded))
 
 -- ---- what is written, and what is left out of it
 
--- CountriesIncluded, RegionsIncluded and CountriesExcluded, as the desk reads them: of the regions WORLD alone
+-- CountriesIncluded, RegionsIncluded and CountriesExcluded, as the desk reads them: countries by
+-- their codes, and of the regions WORLD alone
 abbrev pub area_fields : Area → List (List ℕ)
-area_fields a = a.included ∷ world_text (names_world a.regions_included) ∷ a.excluded ∷ []
+area_fields a =
+    countries_written a.included ∷ world_text (names_world a.regions_included)
+    ∷ countries_written a.excluded ∷ []
 
-abbrev pub region_notes : Area → Element → List Note
-region_notes a e = map (note e RegionIncluded) (other_regions a.regions_included) ++ map (note e RegionExcluded) (other_regions a.regions_excluded)
+-- a note for each of some words
+abbrev pub word_notes : Element → Foreign → List (List ℕ) → List Note
+word_notes element why words = map (λ word. note element (foreign why word)) words
 
--- a note on each region of a territory that the desk can hold: beside a country or the world one that is included is left out, and one that is excluded is a part of a country
-abbrev pub left_out_regions : Area → List Note
-left_out_regions a = option_map_or (region_notes a) a.territory []
+abbrev pub area_notes : Area → Element → List Note
+area_notes a e =
+    word_notes e RegionIncluded (other_regions a.regions_included)
+    ++ (word_notes e RegionExcluded (other_regions a.regions_excluded)
+    ++ (word_notes e CountryName (other_names a.included)
+    ++ word_notes e CountryName (other_names a.excluded)))
+
+-- Notes on a territory that the desk can hold. Beside a country or the world a region that is
+-- included is left out, and one that is excluded is a part of a country.
+abbrev pub territory_notes : Area → List Note
+territory_notes a = option_map_or (area_notes a) a.territory []
 
 -- the market of a territory, as the desk reads it
 abbrev pub market_of : Area → Option ProductSupply
 market_of a = said supply_of (area_fields a)
+
+-- why the desk does not take a territory, each where it does not
+abbrev pub area_reasons : Area → List (Option Reason)
+area_reasons a =
+    unless (is_some
+    (term_said countries_of (countries_written a.included))) CountriesIncluded a.included
+    ∷ unless (is_some
+    (term_said countries_of (countries_written a.excluded))) CountriesExcluded a.excluded
+    ∷ []
+
+-- why the desk does not take a territory, where it does not
+abbrev pub area_refusal : Area → Option Reason
+area_refusal a =
+    if is_some (market_of a) then None
+    else Some (unwrap_or (first_some (area_reasons a)) (wrong Territory []))
 
 -- ---- without where it lies in memory
 
@@ -80,3 +130,9 @@ area_view a = record {
   excluded = a.excluded.now;
   regions_excluded = a.regions_excluded.now;
 }
+
+-- what is renamed of the countries of a territory
+abbrev pub AreRenamed : Renamed → Area → Type 0
+AreRenamed r a =
+    IsRenamed (option_map (λ v. v.items) r.included) a.included
+    × IsRenamed (option_map (λ v. v.items) r.excluded) a.excluded

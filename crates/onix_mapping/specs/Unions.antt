@@ -1,13 +1,17 @@
 -- Several territories as one.
-use Rattle.std.specs.Prelude.{ℕ, Bool, true, false, ◌&&◌, ◌||◌, ◌==◌, not, List, [], ◌∷◌, Option, Some, None, filter, if◌then◌else◌, codes}
+use Rattle.std.specs.Prelude.{ℕ, Bool, true, false, ◌&&◌, ◌||◌, ◌==◌, not, List, [], ◌∷◌, Option}
+use Rattle.std.specs.Prelude.{Some, None, filter, if◌then◌else◌, codes}
 use Rattle.std.specs.List.{filter_map, flat_map, list_any}
 use Rattle.std.specs.Str.{bytes_eq}
 use Rattle.onix_terms.specs.Code.{country_of}
 use Rattle.onix_terms.specs.declared.territory.Territory.{Territory}
 
--- whether a country lies in a territory: it is not excluded, and the territory is the world or includes it
+-- whether a country lies in a territory: it is not excluded, and the territory is the world or
+-- includes it
 abbrev pub lies_in : List ℕ → Territory → Bool
-lies_in country t = not (list_any (bytes_eq country) t.excluded) && (t.world || list_any (bytes_eq country) t.included)
+lies_in country t =
+    not (list_any (bytes_eq country) t.excluded)
+    && (t.world || list_any (bytes_eq country) t.included)
 
 -- whether it lies in one of them
 abbrev pub lies_in_one : List Territory → List ℕ → Bool
@@ -52,18 +56,23 @@ wants_unnamed territories false = not (has_world territories)
 
 -- whether a country with this first letter may be wanted
 abbrev pub may_be_wanted : List Territory → Bool → ℕ → Bool
-may_be_wanted territories inside first = wants_unnamed territories inside || list_any (names first) territories
+may_be_wanted territories inside first =
+    wants_unnamed territories inside || list_any (names first) territories
 
 abbrev pub world_without : List (List ℕ) → Territory
 world_without outside = record { included = []; world = true; excluded = outside }
 
--- the territory of these countries; nothing, where there is none, since a territory that includes nothing is the world
+-- the territory of these countries; nothing, where there is none, since a territory that includes
+-- nothing is the world
 abbrev pub of_countries : List (List ℕ) → Option Territory
 of_countries [] = None
-of_countries (country ∷ inside) = Some (record { included = country ∷ inside; world = false; excluded = [] })
+of_countries (country ∷ inside) =
+    Some (record { included = country ∷ inside; world = false; excluded = [] })
 
--- The union of territories: the countries that lie in one of them and nothing else, or, where the world is one of them, the world without the countries that lie in none.
--- Nothing, where no country lies in them.
+-- The union of territories: the countries that lie in one of them and nothing else, or, where the
+-- world is one of them, the world without the countries that lie in none. Nothing, where no country
+-- lies in them.
 abbrev pub union : List Territory → Option Territory
 union territories =
-    if has_world territories then Some (world_without (wanted territories false)) else of_countries (wanted territories true)
+    if has_world territories then Some (world_without (wanted territories false))
+    else of_countries (wanted territories true)

@@ -10,4 +10,8 @@ kind_view k = record { name = k.name.now; type_name = k.type_name.now }
 
 -- an identifier, as its two texts
 abbrev pub identifier_view : Identifier → Told
-identifier_view i = record { id_type = option_map (λ t. t.now) i.id_type; id_value = option_map (λ t. t.now) i.id_value }
+identifier_view i =
+    record {
+      id_type = option_map (λ t. t.now) i.id_type;
+      id_value = option_map (λ t. t.now) i.id_value;
+    }

@@ -1,25 +1,268 @@
 //! The days between which a Price holds.
 
-ghost use Rattle.std.specs.Prelude.{◌≡◌, ◌<◌, Ok, option_map};
+ghost use Rattle.std.specs.Prelude.{◌≡◌, ◌++◌, ◌<◌, ◌≤◌, Ok, codes, length, option_map};
+ghost use Rattle.std.specs.List.{list_any};
 ghost use Rattle.std.specs.Option.{option_or};
 ghost use Rattle.std.specs.Result.{result_map_both};
-ghost use Rattle.onix_mapping.specs.DateViews.{date_view, days_read, days_view};
-ghost use Rattle.onix_mapping.specs.Notes.{reason_view};
-ghost use Rattle.onix_mapping.specs.Dates.{date_in, date_of, days_in, days_of, format_in, or_days, two_days};
+ghost use Rattle.std.specs.Str.{bytes_eq};
+ghost use Rattle.onix_mapping.specs.DateViews.{date_view, dated_view, days_read};
+ghost use Rattle.onix_mapping.specs.Dates.{and_days, both_days, date_in, date_said, day_said, days_in, days_of, days_said, format_in, formats, graver, has_hyphens, hyphened_day, in_day, in_format, in_month, in_year, is_time, last_of_month, month_digits, one_day, or_days, plain_day, two_days, without_hyphens, year_digits};
+ghost use Rattle.onix_mapping.specs.Notes.{foreign, reason_view, wrong};
+ghost use Rattle.onix_mapping.specs.declared.notes.Foreign.TheVariants.{DateFormat};
+ghost use Rattle.onix_mapping.specs.declared.notes.Wrong.TheVariants as bad;
 ghost use Rattle.onix_outline.specs.Nodes.{Nodes};
 ghost use Rattle.onix_outline.specs.Outline.{outline};
 ghost use Rattle.onix_outline.specs.Views.{line_views};
 
 use crate::elements::next_composite;
 use crate::identifiers::is_text;
-use crate::notes::{Reason, Why};
+use crate::notes::{Foreign, Reason, Why, Wrong};
+use crate::records::utf8_text;
 use onix_outline::{Line, first_node, text_in};
+use onix_terms::day::Day;
 
-/// The first and the last day on which a Price holds, as they are written, each where there is one.
+/// The first and the last day on which a Price holds, each where there is one.
 #[derive(Clone, Copy, Debug)]
-pub struct Days<'a> {
-    pub first: Option<&'a [u8]>,
-    pub last: Option<&'a [u8]>,
+pub struct Days {
+    pub first: Option<Day>,
+    pub last: Option<Day>,
+}
+
+/// What PriceDates say: their days, or why they leave their Price out.
+#[derive(Clone, Copy, Debug)]
+pub struct Dated<'a> {
+    pub days: Days,
+    pub wrong: Option<Reason<'a>>,
+}
+
+const NO_DAYS: Days = Days {
+    first: None,
+    last: None,
+};
+
+// The day that eight digits write.
+fn day_said(text: &[u8]) -> Option<Day>
+    ensures { result ≡ day_said text.now }
+{
+    utf8_text(text)?.parse().ok()
+}
+
+// Whether a text may stand behind a day.
+fn is_time(text: &[u8]) -> bool
+    ensures { result ≡ is_time text.now }
+{
+    match text {
+        [] => true,
+        [byte, ..] => *byte == b'T',
+    }
+}
+
+// The day that YYYYMMDD writes, and behind it nothing or a time.
+fn plain_day(text: &[u8]) -> Option<Day>
+    ensures { result ≡ plain_day text.now }
+{
+    if text.len() < 8 {
+        return None;
+    }
+    let (day, time) = text.split_at(8);
+    if is_time(time) { day_said(day) } else { None }
+}
+
+// The eight digits of YYYY-MM-DD.
+fn without_hyphens(text: &[u8]) -> [u8; 8]
+    requires { 10 ≤ length text.now }
+    ensures { result ≡ without_hyphens text.now }
+{
+    [
+        text[0], text[1], text[2], text[3], text[5], text[6], text[8], text[9],
+    ]
+}
+
+fn has_hyphens(text: &[u8]) -> bool
+    requires { 10 ≤ length text.now }
+    ensures { result ≡ has_hyphens text.now }
+{
+    text[4] == b'-' && text[7] == b'-'
+}
+
+// The day that YYYY-MM-DD writes, and behind it nothing or a time.
+fn hyphened_day(text: &[u8]) -> Option<Day>
+    ensures { result ≡ hyphened_day text.now }
+{
+    if text.len() < 10 {
+        return None;
+    }
+    let (_, time) = text.split_at(10);
+    if has_hyphens(text) && is_time(time) {
+        day_said(&without_hyphens(text))
+    } else {
+        None
+    }
+}
+
+// A day, as the first and the last.
+fn in_day(text: &[u8]) -> Option<Days>
+    ensures { result ≡ in_day text.now }
+{
+    let day = match plain_day(text) {
+        Some(day) => day,
+        None => hyphened_day(text)?,
+    };
+    Some(Days {
+        first: Some(day),
+        last: Some(day),
+    })
+}
+
+// The six digits of a month, YYYYMM or YYYY-MM.
+fn month_digits(text: &[u8]) -> Option<[u8; 6]>
+    ensures { result ≡ month_digits text.now }
+{
+    if text.len() == 6 {
+        return Some([text[0], text[1], text[2], text[3], text[4], text[5]]);
+    }
+    if text.len() == 7 && text[4] == b'-' {
+        return Some([text[0], text[1], text[2], text[3], text[5], text[6]]);
+    }
+    None
+}
+
+// The day of a month, by the two digits of its number.
+fn day_in_month(month: &[u8; 6], day: &[u8; 2]) -> Option<Day>
+    ensures { result ≡ day_said (month.now ++ day.now) }
+{
+    let [a, b, c, d, e, f] = *month;
+    let [g, h] = *day;
+    day_said(&[a, b, c, d, e, f, g, h])
+}
+
+// The last day of a month.
+fn last_of_month(month: &[u8; 6]) -> Option<Day>
+    ensures { result ≡ last_of_month month.now }
+{
+    if let Some(day) = day_in_month(month, b"31") {
+        return Some(day);
+    }
+    if let Some(day) = day_in_month(month, b"30") {
+        return Some(day);
+    }
+    if let Some(day) = day_in_month(month, b"29") {
+        return Some(day);
+    }
+    day_in_month(month, b"28")
+}
+
+// The first and the last day of a month.
+fn in_month(text: &[u8]) -> Option<Days>
+    ensures { result ≡ in_month text.now }
+{
+    let month = month_digits(text)?;
+    let first = day_in_month(&month, b"01")?;
+    let last = last_of_month(&month)?;
+    Some(Days {
+        first: Some(first),
+        last: Some(last),
+    })
+}
+
+// The four digits of a year.
+fn year_digits(text: &[u8]) -> Option<[u8; 4]>
+    ensures { result ≡ year_digits text.now }
+{
+    if text.len() == 4 {
+        Some([text[0], text[1], text[2], text[3]])
+    } else {
+        None
+    }
+}
+
+// The day of a year, by the four digits of its month and its number.
+fn day_in_year(year: &[u8; 4], day: &[u8; 4]) -> Option<Day>
+    ensures { result ≡ day_said (year.now ++ day.now) }
+{
+    let [a, b, c, d] = *year;
+    let [e, f, g, h] = *day;
+    day_said(&[a, b, c, d, e, f, g, h])
+}
+
+// The first and the last day of a year, YYYY.
+fn in_year(text: &[u8]) -> Option<Days>
+    ensures { result ≡ in_year text.now }
+{
+    let year = year_digits(text)?;
+    let first = day_in_year(&year, b"0101")?;
+    let last = day_in_year(&year, b"1231")?;
+    Some(Days {
+        first: Some(first),
+        last: Some(last),
+    })
+}
+
+// Whether it is the format of a day, of a month or of a year.
+fn is_format(format: &[u8]) -> bool
+    ensures { result ≡ list_any (bytes_eq format.now) formats }
+{
+    format == b"00".as_slice()
+        || format == b"13".as_slice()
+        || format == b"14".as_slice()
+        || format == b"01".as_slice()
+        || format == b"05".as_slice()
+}
+
+// The first and the last day that a text of such a format writes.
+fn in_format(format: &[u8], text: &[u8]) -> Option<Days>
+    ensures { result ≡ in_format format.now text.now }
+{
+    if format == b"01".as_slice() {
+        in_month(text)
+    } else if format == b"05".as_slice() {
+        in_year(text)
+    } else {
+        in_day(text)
+    }
+}
+
+fn wrong_day<'a>(text: &'a [u8]) -> Reason<'a>
+    ensures { reason_view result ≡ wrong bad.Day text.now }
+{
+    Reason {
+        why: Why::Wrong(Wrong::Day),
+        text,
+    }
+}
+
+// The days that a text of such a format writes.
+fn days_said<'a>(format: &[u8], text: &'a [u8]) -> Result<Days, Reason<'a>>
+    ensures { days_read result ≡ days_said format.now text.now }
+{
+    match in_format(format, text) {
+        Some(days) => Ok(days),
+        None => Err(wrong_day(text)),
+    }
+}
+
+// The two days of a Date.
+#[tactic(auto, unfolding(crate::specs::Dates::two_days))]
+fn two_days<'a>(text: &'a [u8]) -> Result<Days, Reason<'a>>
+    ensures { days_read result ≡ two_days text.now }
+{
+    if text.len() != 16 {
+        return Err(Reason {
+            why: Why::Wrong(Wrong::NotTwoDays),
+            text,
+        });
+    }
+    let (first, last) = text.split_at(8);
+    let Some(first) = day_said(first) else {
+        return Err(wrong_day(text));
+    };
+    let Some(last) = day_said(last) else {
+        return Err(wrong_day(text));
+    };
+    Ok(Days {
+        first: Some(first),
+        last: Some(last),
+    })
 }
 
 // The Date of a PriceDate.
@@ -53,92 +296,109 @@ fn format_in<'a>(date: Option<&'a Line>, depth: usize, lines: &'a [Line]) -> &'a
     }
 }
 
-// The text of the Date of a role, where its format is the one that the role asks for.
-fn date_of<'a>(
-    role: &'a [u8],
-    format: &[u8],
-    depth: usize,
-    lines: &'a [Line],
-) -> Result<&'a [u8], Reason<'a>>
+fn no_date<'a>(role: &'a [u8]) -> Reason<'a>
+    ensures { reason_view result ≡ wrong bad.NoDate role.now }
+{
+    Reason {
+        why: Why::Wrong(Wrong::NoDate),
+        text: role,
+    }
+}
+
+fn other_format<'a>(format: &'a [u8]) -> Reason<'a>
+    ensures { reason_view result ≡ foreign DateFormat format.now }
+{
+    Reason {
+        why: Why::Foreign(Foreign::DateFormat),
+        text: format,
+    }
+}
+
+// The days of the Date of a role that has one day.
+fn one_day<'a>(role: &'a [u8], depth: usize, lines: &'a [Line]) -> Result<Days, Reason<'a>>
     ensures { (nodes : Nodes) → line_views lines.now ≡ outline depth nodes
-        → result_map_both (λ t. t.now) reason_view result ≡ date_of role.now format.now nodes }
+        → days_read result ≡ one_day role.now nodes }
 {
     let date = date_in(depth, lines);
-    let found = format_in(date, depth, lines);
-    if found != format {
-        return Err(Reason {
-            why: Why::DateFormat,
-            text: found,
-        });
+    let format = format_in(date, depth, lines);
+    if !is_format(format) {
+        return Err(other_format(format));
     }
     match date {
-        Some(line) => Ok(line.text.as_slice()),
-        None => Err(Reason {
-            why: Why::NoDate,
-            text: role,
-        }),
+        Some(line) => days_said(format, line.text.as_slice()),
+        None => Err(no_date(role)),
     }
 }
 
-// The two days of a Date.
-fn two_days<'a>(date: &'a [u8]) -> Result<Days<'a>, Reason<'a>>
-    ensures { days_read result ≡ two_days (Ok date.now) }
+// The days of the Date of the role that has two.
+fn both_days<'a>(role: &'a [u8], depth: usize, lines: &'a [Line]) -> Result<Days, Reason<'a>>
+    ensures { (nodes : Nodes) → line_views lines.now ≡ outline depth nodes
+        → days_read result ≡ both_days role.now nodes }
 {
-    if date.len() != 16 {
-        return Err(Reason {
-            why: Why::NotTwoDays,
-            text: date,
-        });
+    let date = date_in(depth, lines);
+    let format = format_in(date, depth, lines);
+    if format != b"06".as_slice() {
+        return Err(other_format(format));
     }
-    let (first, last) = date.split_at(8);
-    Ok(Days {
-        first: Some(first),
-        last: Some(last),
-    })
+    match date {
+        Some(line) => two_days(line.text.as_slice()),
+        None => Err(no_date(role)),
+    }
 }
 
-// What a PriceDate says.
-fn days_of<'a>(depth: usize, lines: &'a [Line]) -> Result<Days<'a>, Reason<'a>>
+// What a PriceDate says by its role.
+fn role_days<'a>(depth: usize, lines: &'a [Line]) -> Result<Days, Reason<'a>>
     ensures { (nodes : Nodes) → line_views lines.now ≡ outline depth nodes
         → days_read result ≡ days_of nodes }
 {
     let role = text_in(depth, b"PriceDateRole", lines);
     if is_text(b"14", role) {
-        let date = date_of(b"14", b"00", depth, lines)?;
+        let days = one_day(b"14", depth, lines)?;
         return Ok(Days {
-            first: Some(date),
+            first: days.first,
             last: None,
         });
     }
     if is_text(b"15", role) {
-        let date = date_of(b"15", b"00", depth, lines)?;
+        let days = one_day(b"15", depth, lines)?;
         return Ok(Days {
             first: None,
-            last: Some(date),
+            last: days.last,
         });
     }
     if is_text(b"24", role) {
-        return two_days(date_of(b"24", b"06", depth, lines)?);
+        return both_days(b"24", depth, lines);
     }
-    Ok(Days {
-        first: None,
-        last: None,
-    })
+    Ok(NO_DAYS)
 }
 
-// The former of two texts, where there is one.
-fn former<'a>(one: Option<&'a [u8]>, other: Option<&'a [u8]>) -> Option<&'a [u8]>
-    ensures { result ≡ option_or one.entry other.entry }
+// What a PriceDate says.
+fn days_of<'a>(depth: usize, lines: &'a [Line]) -> Dated<'a>
+    ensures { (nodes : Nodes) → line_views lines.now ≡ outline depth nodes
+        → dated_view result ≡ days_of nodes }
+{
+    match role_days(depth, lines) {
+        Ok(days) => Dated { days, wrong: None },
+        Err(reason) => Dated {
+            days: NO_DAYS,
+            wrong: Some(reason),
+        },
+    }
+}
+
+// The former of two days, where there is one.
+fn former(one: Option<Day>, other: Option<Day>) -> Option<Day>
+    ensures { result ≡ option_or one other }
 {
     match one {
-        Some(text) => Some(text),
+        Some(day) => Some(day),
         None => other,
     }
 }
 
-// The days of several PriceDates in order: of two first days the former counts, and so of last.
-fn or_days<'a>(days: Days<'a>, more: Days<'a>) -> Days<'a>
-    ensures { days_view result ≡ or_days (days_view days.entry) (days_view more.entry) }
+// Of two first days the former counts, and so of last days.
+fn or_days(days: Days, more: Days) -> Days
+    ensures { result ≡ or_days days more }
 {
     Days {
         first: former(days.first, more.first),
@@ -146,22 +406,57 @@ fn or_days<'a>(days: Days<'a>, more: Days<'a>) -> Days<'a>
     }
 }
 
-/// The days of the PriceDates that lines of this depth tell: by its role each gives the first day
-/// (14), the last day (15) or both (24), and of several the first counts. One of these roles that
-/// has another format than its role asks for, or no Date, is an error.
-pub fn days_in<'a>(depth: usize, lines: &'a [Line]) -> Result<Days<'a>, Reason<'a>>
+// Of two reasons the first that is foreign, else the first.
+fn graver<'a>(one: Reason<'a>, other: Reason<'a>) -> Reason<'a>
+    ensures { reason_view result ≡ graver (reason_view one.entry) (reason_view other.entry) }
+{
+    if one.why.is_wrong() && !other.why.is_wrong() {
+        other
+    } else {
+        one
+    }
+}
+
+// What two PriceDates say that follow each other.
+fn and_days<'a>(one: &Dated<'a>, other: &Dated<'a>) -> Dated<'a>
+    ensures { dated_view result ≡ and_days (dated_view one.now) (dated_view other.now) }
+{
+    let days = or_days(one.days, other.days);
+    match one.wrong {
+        None => Dated {
+            days,
+            wrong: other.wrong,
+        },
+        Some(reason) => match other.wrong {
+            None => Dated {
+                days,
+                wrong: Some(reason),
+            },
+            Some(second) => Dated {
+                days,
+                wrong: Some(graver(reason, second)),
+            },
+        },
+    }
+}
+
+/// What the PriceDates say that lines of this depth tell: by its role each gives the first day
+/// (14), the last day (15) or both (24), and of several the first counts. They leave their Price
+/// out where one of these roles has no Date, has a format that is not its own, or a Date that has
+/// not the form of its format: for the first reason that is foreign, else for the first.
+pub fn days_in<'a>(depth: usize, lines: &'a [Line]) -> Dated<'a>
     requires { depth < 1000 }
     ensures { (nodes : Nodes) → line_views lines.now ≡ outline depth nodes
-        → days_read result ≡ days_in nodes }
+        → dated_view result ≡ days_in nodes }
 {
-    let mut days = Days {
-        first: None,
-        last: None,
+    let mut dated = Dated {
+        days: NO_DAYS,
+        wrong: None,
     };
     let mut rest = lines;
     while let Some((found, behind)) = next_composite(b"PriceDate", depth, rest) {
-        days = or_days(days, days_of(depth + 1, found.below)?);
+        dated = and_days(&dated, &days_of(depth + 1, found.below));
         rest = behind;
     }
-    Ok(days)
+    dated
 }

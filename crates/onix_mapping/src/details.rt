@@ -1,15 +1,22 @@
 //! SupplyDetails.
 
-ghost use Rattle.std.specs.Prelude.{◌≡◌, ◌++◌, ◌∷◌, ◌+◌, ◌<◌, ℕ, List, None, Some, IsErrOf, OnOk, true, map, codes, option_map};
+ghost use Rattle.std.specs.Prelude.{◌≡◌, ◌++◌, ◌∷◌, ◌+◌, ◌<◌, [], ℕ, List, None, Some, IfOk, OnOk, is_some, true, map, codes, option_map};
 ghost use Rattle.std.specs.List.{list_all};
+ghost use Rattle.std.specs.Option.{unwrap_or};
 ghost use Rattle.std.specs.Str.{is_utf8};
-ghost use Rattle.onix_mapping.specs.Details.{below_of, detail_fields, detail_record, detail_records, prices_notes, prices_records, supplier_pair, unpriced_in, unpriced_price};
-ghost use Rattle.onix_mapping.specs.Elements.{composites, first};
-ghost use Rattle.onix_mapping.specs.Notes.{note_views};
+ghost use Rattle.onix_mapping.specs.Details.{around_in, below_of, default_minimum, detail_by, detail_fields, detail_outcome, detail_reasons, detail_record, detail_refusal, identifier_reasons, price_in, prices_in, supplier_identifier, supplier_in, supplier_pair, unpriced_in, unpriced_price};
+ghost use Rattle.onix_mapping.specs.Elements.{composites, first, text_or_empty};
+ghost use Rattle.onix_mapping.specs.Notes.{note_views, reason_view};
+ghost use Rattle.onix_mapping.specs.Outcomes.{all_notes, all_records, notes_below, outcome_reason, outcome_records};
 ghost use Rattle.onix_mapping.specs.PartyViews.{pair_view};
-ghost use Rattle.onix_mapping.specs.PriceViews.{text_view};
-ghost use Rattle.onix_mapping.specs.Prices.{first_some};
-ghost use Rattle.onix_mapping.specs.Records.{said};
+ghost use Rattle.onix_mapping.specs.PriceViews.{reason_read, text_view};
+ghost use Rattle.onix_mapping.specs.Prices.{around_view};
+ghost use Rattle.onix_mapping.specs.Records.{Fills, first_some, said, term_said, unread};
+ghost use Rattle.onix_mapping.specs.declared.notes.Wrong.TheVariants as bad;
+ghost use Rattle.onix_message.specs.Fields.{optional};
+ghost use Rattle.onix_message.specs.declared.row.Opening.{Opening as Said};
+ghost use Rattle.onix_terms.specs.Code.{code2_of};
+ghost use Rattle.onix_mapping.specs.Views.{identifier_view};
 ghost use Rattle.onix_message.specs.Detail.{detail_of};
 ghost use Rattle.onix_message.specs.Gives.{Gives};
 ghost use Rattle.onix_outline.specs.Nodes.{Nodes};
@@ -17,10 +24,11 @@ ghost use Rattle.onix_outline.specs.Outline.{outline};
 ghost use Rattle.onix_outline.specs.Views.{line_views};
 
 use crate::elements::{first_composite, next_composite, text_or_empty};
-use crate::identifiers::{SUPPLIER, choose_identifier};
-use crate::notes::Note;
+use crate::identifiers::{Identifier, SUPPLIER, choose_identifier};
+use crate::notes::{Note, Reason, Why, Wrong};
 use crate::parties::{Pair, pair_of};
-use crate::prices::{add_price, fill_record};
+use crate::prices::{Around, add_price, fill_record};
+use crate::records::{code_said, former, may_be_empty, quantity_said, unless};
 use csv_records::buffer::RecordBuffer;
 use csv_records::fields::FieldBuffer;
 use csv_records::record::Record;
@@ -85,13 +93,17 @@ fn unpriced_in<'a>(depth: usize, lines: &'a [Line]) -> Option<&'a [u8]>
 }
 
 // The identifier of the supplier that is chosen.
-fn supplier_pair<'a>(preferred: &[u8], depth: usize, lines: &'a [Line]) -> Option<Pair<'a>>
+fn supplier_identifier<'a>(
+    preferred: &[u8],
+    depth: usize,
+    lines: &'a [Line],
+) -> Option<Identifier<'a>>
     requires { depth < 999 }
     ensures { (nodes : Nodes) → line_views lines.now ≡ outline depth nodes
-        → option_map pair_view result ≡ supplier_pair preferred.now nodes }
+        → option_map identifier_view result ≡ supplier_identifier preferred.now nodes }
 {
     let supplier = lines_below(b"Supplier", depth, lines);
-    pair_of(choose_identifier(SUPPLIER, preferred, depth + 1, supplier))
+    choose_identifier(SUPPLIER, preferred, depth + 1, supplier)
 }
 
 // The texts of the fields of a SupplyDetail.
@@ -145,30 +157,175 @@ fn fill_texts(alloc: Global, fields: &mut FieldBuffer, texts: &[&[u8]]) -> Resul
     check_detail(alloc, fields)
 }
 
-// Puts the record of a SupplyDetail in place of what the list held. `Wrong` exactly where it is.
-fn fill_detail(
+// Puts the record of a SupplyDetail with this identifier of the supplier in place of what the list
+// held. `Wrong` exactly where the desk would not take it.
+fn fill_detail<'a>(
     alloc: Global,
-    preferred: &[u8],
+    supplier: Option<Identifier<'a>>,
     depth: usize,
-    lines: &[Line],
+    lines: &'a [Line],
     fields: &mut FieldBuffer,
 ) -> Result<(), RowFault>
     requires { depth < 999 }
-    ensures record { (nodes : Nodes) → line_views lines.now ≡ outline depth nodes
-        → OnOk result (detail_record preferred.now nodes ≡ Some fields.new) }
-    ensures wrong { (nodes : Nodes) → line_views lines.now ≡ outline depth nodes
-        → IsErrOf result RowFault.Wrong → detail_record preferred.now nodes ≡ None }
+    ensures { (nodes : Nodes) (preferred : List ℕ) → line_views lines.now ≡ outline depth nodes
+        → option_map identifier_view supplier.entry ≡ supplier_identifier preferred nodes
+        → Fills result fields.new (detail_record preferred nodes) }
 {
-    match supplier_pair(preferred, depth, lines) {
+    match pair_of(supplier) {
         Some(pair) => fill_texts(alloc, fields, &detail_texts(pair, depth, lines)),
         None => Err(RowFault::Wrong),
+    }
+}
+
+// A text, empty where there is none.
+fn text_or_none<'a>(text: Option<&'a [u8]>) -> &'a [u8]
+    ensures { result.now ≡ unwrap_or (text_view text.entry) [] }
+{
+    match text {
+        Some(text) => text,
+        None => b"",
+    }
+}
+
+fn is_given(text: Option<&[u8]>) -> bool
+    ensures { result ≡ is_some (text_view text.entry) }
+{
+    match text {
+        Some(_) => true,
+        None => false,
+    }
+}
+
+// What the identifier of a supplier lacks, who has this name.
+fn identifier_reason<'a>(supplier: Option<Identifier<'a>>, name: &[u8]) -> Option<Reason<'a>>
+    ensures { reason_read result ≡ first_some
+        (identifier_reasons (option_map identifier_view supplier.entry) name.now) }
+{
+    match supplier {
+        None => unless(!name.is_empty(), Wrong::Supplier, b""),
+        Some(identifier) => {
+            let id_type = text_or_none(identifier.id_type);
+            let typed = unless(code_said(id_type).is_some(), Wrong::SupplierType, id_type);
+            let valued = unless(is_given(identifier.id_value), Wrong::SupplierValue, b"");
+            former(typed, former(valued, None))
+        }
+    }
+}
+
+// That the SupplierRole is no code.
+fn role_reason<'a>(depth: usize, lines: &'a [Line]) -> Option<Reason<'a>>
+    requires { depth < 999 }
+    ensures { (nodes : Nodes) → line_views lines.now ≡ outline depth nodes → reason_read result
+        ≡ unread (term_said code2_of) bad.SupplierRole
+        (text_or_empty (codes "SupplierRole") (supplier_in nodes)) }
+{
+    let below = lines_below(b"Supplier", depth, lines);
+    let role = text_or_empty(depth + 1, b"SupplierRole", below);
+    unless(code_said(role).is_some(), Wrong::SupplierRole, role)
+}
+
+// What the supplier with this identifier lacks.
+fn named_reason<'a>(
+    supplier: Option<Identifier<'a>>,
+    depth: usize,
+    lines: &'a [Line],
+) -> Option<Reason<'a>>
+    requires { depth < 999 }
+    ensures { (nodes : Nodes) → line_views lines.now ≡ outline depth nodes → reason_read result
+        ≡ first_some (identifier_reasons (option_map identifier_view supplier.entry)
+        (text_or_empty (codes "SupplierName") (supplier_in nodes))) }
+{
+    let below = lines_below(b"Supplier", depth, lines);
+    identifier_reason(supplier, text_or_empty(depth + 1, b"SupplierName", below))
+}
+
+// That the ProductAvailability is no code.
+fn availability_reason<'a>(depth: usize, lines: &'a [Line]) -> Option<Reason<'a>>
+    ensures { (nodes : Nodes) → line_views lines.now ≡ outline depth nodes → reason_read result
+        ≡ unread (term_said code2_of) bad.Availability
+        (text_or_empty (codes "ProductAvailability") nodes) }
+{
+    let text = text_or_empty(depth, b"ProductAvailability", lines);
+    unless(code_said(text).is_some(), Wrong::Availability, text)
+}
+
+// That the UnpricedItemType is no code.
+fn unpriced_reason<'a>(depth: usize, lines: &'a [Line]) -> Option<Reason<'a>>
+    requires { depth < 1000 }
+    ensures { (nodes : Nodes) → line_views lines.now ≡ outline depth nodes → reason_read result
+        ≡ unread (optional (term_said code2_of)) bad.Unpriced (unwrap_or (unpriced_in nodes) []) }
+{
+    let text = text_or_none(unpriced_in(depth, lines));
+    unless(may_be_empty(text, code_said(text)), Wrong::Unpriced, text)
+}
+
+// The first field of a SupplyDetail that the desk would not take.
+fn detail_reason<'a>(
+    supplier: Option<Identifier<'a>>,
+    depth: usize,
+    lines: &'a [Line],
+) -> Option<Reason<'a>>
+    requires { depth < 999 }
+    ensures { (nodes : Nodes) (preferred : List ℕ) → line_views lines.now ≡ outline depth nodes
+        → option_map identifier_view supplier.entry ≡ supplier_identifier preferred nodes
+        → reason_read result ≡ first_some (detail_reasons preferred nodes) }
+{
+    let last = former(unpriced_reason(depth, lines), None);
+    let there = former(availability_reason(depth, lines), last);
+    let named = former(named_reason(supplier, depth, lines), there);
+    former(role_reason(depth, lines), named)
+}
+
+// Why a SupplyDetail that the desk would not take is left out.
+fn detail_refusal<'a>(
+    supplier: Option<Identifier<'a>>,
+    depth: usize,
+    lines: &'a [Line],
+) -> Reason<'a>
+    requires { depth < 999 }
+    ensures { (nodes : Nodes) (preferred : List ℕ) → line_views lines.now ≡ outline depth nodes
+        → option_map identifier_view supplier.entry ≡ supplier_identifier preferred nodes
+        → reason_view result ≡ detail_refusal preferred nodes }
+{
+    match detail_reason(supplier, depth, lines) {
+        Some(reason) => reason,
+        None => Reason {
+            why: Why::Wrong(Wrong::SupplyDetail),
+            text: b"",
+        },
+    }
+}
+
+// The OrderQuantityMinimum, where it is a quantity.
+fn default_minimum<'a>(depth: usize, lines: &'a [Line]) -> Option<&'a [u8]>
+    ensures { (nodes : Nodes) → line_views lines.now ≡ outline depth nodes
+        → text_view result ≡ default_minimum nodes }
+{
+    let text = text_in(depth, b"OrderQuantityMinimum", lines)?;
+    if quantity_said(text).is_some() {
+        Some(text)
+    } else {
+        None
+    }
+}
+
+// What stands around the Prices of a SupplyDetail.
+fn around_in<'a, 'b>(opening: &'a Opening, depth: usize, lines: &'b [Line]) -> Around<'a, 'b>
+    requires { depth < 1000 }
+    ensures { (nodes : Nodes) → line_views lines.now ≡ outline depth nodes
+        → around_view result ≡ around_in opening.now nodes }
+{
+    Around {
+        opening,
+        is_unpriced: unpriced_in(depth, lines).is_some(),
+        minimum: default_minimum(depth, lines),
     }
 }
 
 // Adds what comes of the Prices of a SupplyDetail.
 fn add_prices<'a>(
     alloc: Global,
-    opening: &Opening,
+    around: &Around<'_, '_>,
     depth: usize,
     lines: &'a [Line],
     fields: &mut FieldBuffer,
@@ -176,25 +333,26 @@ fn add_prices<'a>(
     notes: &mut Vec<Note<'a>>,
 ) -> Result<(), AllocError>
     requires { depth < 999 }
-    ensures records { (nodes : Nodes) → line_views lines.now ≡ outline depth nodes
-        → OnOk result (records.new ≡ records.old ++ prices_records opening.now nodes) }
-    ensures notes { (nodes : Nodes) → line_views lines.now ≡ outline depth nodes
-        → OnOk result (note_views notes.new.items
-        ≡ note_views notes.old.items ++ prices_notes opening.now nodes) }
+    ensures records { (nodes : Nodes) (o : Said) → line_views lines.now ≡ outline depth nodes
+        → around_view around.now ≡ around_in o nodes → OnOk result (records.new ≡ records.old
+        ++ all_records (price_in o nodes) (prices_in nodes)) }
+    ensures notes { (nodes : Nodes) (o : Said) → line_views lines.now ≡ outline depth nodes
+        → around_view around.now ≡ around_in o nodes → OnOk result (note_views notes.new.items
+        ≡ note_views notes.old.items ++ all_notes (price_in o nodes) (prices_in nodes)) }
 {
     let mut rest = lines;
     while let Some((price, behind)) = next_composite(b"Price", depth, rest) {
-        add_price(alloc, opening, depth + 1, price, fields, records, notes)?;
+        add_price(alloc, around, depth + 1, price, fields, records, notes)?;
         rest = behind;
     }
     Ok(())
 }
 
 /// Adds the records of a SupplyDetail and of its Prices in a message that begins so, and notes on
-/// the Prices that are left out. It is `Wrong` exactly where the desk would call its own record
-/// malformed. Of several identifiers the first of the preferred type is written, else the first.
-/// The list takes the fields of a record.
-pub fn add_detail<'a>(
+/// what is left out below it, or gives the reason for which it is left out. Of several identifiers
+/// the first of the preferred type is written, else the first. The list takes the fields of a
+/// record.
+pub(crate) fn add_detail<'a>(
     alloc: Global,
     opening: &Opening,
     preferred: &[u8],
@@ -203,20 +361,27 @@ pub fn add_detail<'a>(
     fields: &mut FieldBuffer,
     records: &mut RecordBuffer,
     notes: &mut Vec<Note<'a>>,
-) -> Result<(), RowFault>
+) -> Result<Option<Reason<'a>>, AllocError>
     requires { depth < 999 }
+    ensures reason { (nodes : Nodes) → line_views lines.now ≡ outline depth nodes
+        → IfOk result (λ why. reason_read why
+        ≡ outcome_reason (detail_outcome opening.now preferred.now nodes)) }
     ensures records { (nodes : Nodes) → line_views lines.now ≡ outline depth nodes
-        → OnOk result (option_map (λ more. records.old ++ more)
-        (detail_records opening.now preferred.now nodes) ≡ Some records.new) }
+        → OnOk result (records.new ≡ records.old
+        ++ outcome_records (detail_outcome opening.now preferred.now nodes)) }
     ensures notes { (nodes : Nodes) → line_views lines.now ≡ outline depth nodes
-        → OnOk result (note_views notes.new.items
-        ≡ note_views notes.old.items ++ prices_notes opening.now nodes) }
-    ensures wrong { (nodes : Nodes) → line_views lines.now ≡ outline depth nodes
-        → IsErrOf result RowFault.Wrong
-        → detail_records opening.now preferred.now nodes ≡ None }
+        → OnOk result (note_views notes.new.items ≡ note_views notes.old.items
+        ++ notes_below (detail_outcome opening.now preferred.now nodes)) }
 {
-    fill_detail(alloc, preferred, depth, lines, fields)?;
-    records.push(&fields.as_record())?;
-    add_prices(alloc, opening, depth, lines, fields, records, notes)?;
-    Ok(())
+    let supplier = supplier_identifier(preferred, depth, lines);
+    match fill_detail(alloc, supplier, depth, lines, fields) {
+        Ok(()) => {
+            records.push(&fields.as_record())?;
+            let around = around_in(opening, depth, lines);
+            add_prices(alloc, &around, depth, lines, fields, records, notes)?;
+            Ok(None)
+        }
+        Err(RowFault::Wrong) => Ok(Some(detail_refusal(supplier, depth, lines))),
+        Err(RowFault::Memory) => Err(AllocError),
+    }
 }

@@ -1,7 +1,7 @@
 //! Identifiers.
 
 ghost use Rattle.std.specs.Prelude.{◌≡◌, ◌<◌, IfSome, length, option_map};
-ghost use Rattle.onix_mapping.specs.Identifiers.{identifier_in, identifiers_in, is_text, first_of_type, chosen};
+ghost use Rattle.onix_mapping.specs.Identifiers.{identifier_in, identifiers_in, is_text, is_there, first_of_type, chosen};
 ghost use Rattle.onix_mapping.specs.Next.{IsNext};
 ghost use Rattle.onix_mapping.specs.Views.{kind_view, identifier_view};
 ghost use Rattle.onix_outline.specs.Nodes.{Nodes};
@@ -59,6 +59,13 @@ fn identifier_in<'a>(kind: Kind, depth: usize, lines: &'a [Line]) -> Identifier<
     }
 }
 
+// Whether an identifier has a type or a value: one with neither is as none.
+fn is_there(identifier: Identifier<'_>) -> bool
+    ensures { result ≡ is_there (identifier_view identifier.entry) }
+{
+    identifier.id_type.is_some() || identifier.id_value.is_some()
+}
+
 // Whether a text is that one.
 pub(crate) fn is_text(text: &[u8], found: Option<&[u8]>) -> bool
     ensures { result ≡ is_text text.now (option_map (λ t. t.now) found.entry) }
@@ -83,7 +90,10 @@ pub(crate) fn next_identifier<'a>(
     let mut rest = lines;
     while let Some(node) = first_node(depth, rest) {
         if node.line.name == kind.name {
-            return Some((identifier_in(kind, depth + 1, node.below), node.rest));
+            let found = identifier_in(kind, depth + 1, node.below);
+            if is_there(found) {
+                return Some((found, node.rest));
+            }
         }
         rest = node.rest;
     }

@@ -3,9 +3,14 @@
 
 ghost use Rattle.std.specs.Prelude.{◌≡◌, ◌↔◌, ◌+◌, ◌<◌, ◌≤◌, ◌∷◌, ◌++◌, [], ℕ, List, Any, None, Ok, Some, length};
 ghost use Rattle.onix_mapping.specs.Header.{Choices, Heading, heading_in};
-ghost use Rattle.onix_mapping.specs.ProductRecords.{product_records};
-ghost use Rattle.onix_mapping.specs.Products.{reference_in};
-ghost use Rattle.onix_mapping.specs.Rows.{AreProducts, message_records, numbered, part_record};
+ghost use Rattle.std.specs.List.{AllByRecursion};
+ghost use Rattle.onix_mapping.specs.Elements.{Composite};
+ghost use Rattle.onix_mapping.specs.ProductRecords.{forms};
+ghost use Rattle.onix_mapping.specs.Details.{detail_outcome};
+ghost use Rattle.onix_mapping.specs.Outcomes.{outcome_reason};
+ghost use Rattle.onix_mapping.specs.PriceFates.{HasDetails, HasPrices};
+ghost use Rattle.onix_mapping.specs.Supplies.{supply_outcome};
+ghost use Rattle.onix_mapping.specs.Rows.{AreOf, AreProducts, message_records, numbered, part_record, references_of};
 ghost use Rattle.onix_mapping.specs.Unions.{union};
 ghost use Rattle.onix_message.specs.Grammar.{IsMessage, most_records};
 ghost use Rattle.onix_message.specs.Opening.{opening_of};
@@ -42,13 +47,13 @@ pub fn parts_say_the_same()
     number_reads_back();
 }
 
-/// The records that are made of a Product are the rows of a product of its reference, and so are
-/// those of several, one after the other. With a first record and an end they are a message, if
-/// they are not too many.
+/// The records of each form of a Product are the rows of a product of its reference, or there are
+/// none where it has no RecordReference that the desk would take; and so are those of several
+/// Products, one after the other. With a first record and an end they are a message, if they are
+/// not too many.
 pub fn records_are_products()
-    ensures one { (o : Opening) (preferred : List ℕ) (nodes : Nodes)
-        (records : List (List (List ℕ))) → product_records o preferred nodes ≡ Some records
-        → (p : Product) × (p.reference ≡ reference_in nodes) × AreProducts o records (p ∷ []) }
+    ensures one { (o : Opening) (preferred : List ℕ) (c : Composite) → AllByRecursion
+        (λ f. AreOf o f.records (references_of c.below)) (forms o preferred c) }
     ensures none { (o : Opening) → AreProducts o [] [] }
     ensures joined { (o : Opening) (a b : List (List (List ℕ))) (c d : List Product)
         → AreProducts o a c → AreProducts o b d → AreProducts o (a ++ b) (c ++ d) }
@@ -59,3 +64,15 @@ pub fn records_are_products()
 {
     number_reads_back();
 }
+
+/// No Price is lost: in a SupplyDetail that is not left out each Price, in order, is nothing by the
+/// rule, one record, or has one note; and a ProductSupply that is not left out has what its
+/// SupplyDetails come to, in order, each its records or one note.
+pub fn prices_stand_or_are_told()
+    ensures details { (o : Opening) (preferred : List ℕ) (nodes : Nodes)
+        → outcome_reason (detail_outcome o preferred nodes) ≡ None
+        → HasPrices o preferred nodes }
+    ensures supplies { (o : Opening) (preferred : List ℕ) (nodes : Nodes)
+        → outcome_reason (supply_outcome o preferred nodes) ≡ None
+        → HasDetails o preferred nodes }
+{}

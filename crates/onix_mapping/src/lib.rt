@@ -21,15 +21,10 @@ pub mod territories;
 pub mod unions;
 
 pub use dates::{Days, days_in};
-pub use details::add_detail;
 pub use elements::{Composite, first_composite, next_composite, text_or_empty};
 pub use header::{Choices, HeaderFault, Heading, Refusal, fill_message, read_heading};
 pub use identifiers::{ADDRESSEE, Identifier, Kind, PRODUCT, SENDER, SUPPLIER, choose_identifier};
-pub use markets::fill_supply;
-pub use notes::{Note, Reason, Why};
+pub use notes::{Foreign, Note, Reason, Why, Wrong};
 pub use parties::Pair;
-pub use prices::add_price;
-pub use product_records::add_product;
-pub use products::fill_product;
-pub use supplies::add_supplies;
-pub use territories::{Area, area_fields, area_in, push_left_out_regions, read_market, unheld};
+pub use product_records::{Fate, add_bare, add_large, add_product};
+pub use territories::{Area, area_in, unheld};

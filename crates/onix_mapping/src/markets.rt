@@ -1,22 +1,27 @@
 //! The Markets of a ProductSupply, as one.
 
-ghost use Rattle.std.specs.Prelude.{◌≡◌, ◌++◌, ◌∷◌, ◌<◌, [], OnOk, codes, option_map, option_to_list};
-ghost use Rattle.onix_mapping.specs.Elements.{Composite as Told, composites, Tells};
-ghost use Rattle.onix_mapping.specs.Markets.{first_held, market_notes, market_notes_in, record_in, record_of, supply_record, territories_of, territory_of};
-ghost use Rattle.onix_mapping.specs.Notes.{note_views};
-ghost use Rattle.onix_mapping.specs.Records.{Fills, MayFill, marked};
+ghost use Rattle.std.specs.Prelude.{◌≡◌, ◌++◌, ◌∷◌, ◌<◌, ◌||◌, [], List, None, Some, IfOk, OnOk, option_map, option_to_list};
+ghost use Rattle.std.specs.List.{flat_map};
+ghost use Rattle.std.specs.Option.{option_or};
+ghost use Rattle.onix_mapping.specs.Elements.{Composite as Told, Tells};
+ghost use Rattle.onix_mapping.specs.Markets.{IsFilled, IsHeld, first_held, found_outcome, held_area, held_fields, held_outcome, is_foreign_market, joined_outcome, market_notes, markets_in, markets_outcome, no_market, one_is_foreign, supply_record, territories_of, territory_of};
+ghost use Rattle.onix_mapping.specs.Notes.{Note as Said, foreign, note_views, reason_view};
+ghost use Rattle.onix_mapping.specs.Outcomes.{notes_below, outcome_reason, outcome_records};
+ghost use Rattle.onix_mapping.specs.PriceViews.{reason_read};
 ghost use Rattle.onix_mapping.specs.Territories.{area_view};
-ghost use Rattle.onix_message.specs.Gives.{Gives};
+ghost use Rattle.onix_mapping.specs.declared.notes.Foreign.TheVariants.{LongMarkets};
 ghost use Rattle.onix_outline.specs.Nodes.{Nodes};
 ghost use Rattle.onix_outline.specs.Outline.{outline};
 ghost use Rattle.onix_outline.specs.Views.{line_views};
 
 use crate::elements::{Composite, next_composite};
-use crate::notes::{Note, push_note};
+use crate::notes::{Foreign, Note, Reason, Why, Wrong, push_note};
 use crate::territories::{
-    Area, area_in, fill_as_it_stands, fill_as_union, push_left_out_regions, read_market, unheld,
+    Area, area_in, area_reason, fill_as_it_stands, fill_as_union, push_territory_notes,
+    read_market, renamed_in, unheld,
 };
 use crate::unions::union;
+use csv_records::buffer::RecordBuffer;
 use csv_records::fields::FieldBuffer;
 use onix_message::row::RowFault;
 use onix_outline::Line;
@@ -24,141 +29,258 @@ use onix_terms::items::Items;
 use onix_terms::territory::Territory;
 use std::alloc::{AllocError, Global};
 
-// Where a Market holds, or nowhere, where it is left out; and what is left out of it.
+// Where a Market holds, or why it is left out.
 fn read_territory<'a>(
+    alloc: Global,
+    area: &Area<'a>,
+) -> Result<Result<Territory, Reason<'a>>, AllocError>
+    ensures { IfOk result (λ r. IsHeld r (area_view area.now)) }
+{
+    if let Some(reason) = unheld(area) {
+        return Ok(Err(reason));
+    }
+    let renamed = renamed_in(alloc, area)?;
+    match read_market(alloc, area, &renamed) {
+        Ok(supply) => Ok(Ok(supply.market)),
+        Err(RowFault::Wrong) => Ok(Err(area_reason(alloc, area, &renamed)?)),
+        Err(RowFault::Memory) => Err(AllocError),
+    }
+}
+
+// What is found of Markets: where those hold that are not left out, the first of them as it stands,
+// and whether another is left out as foreign.
+#[derive(Drop)]
+struct Held<'a> {
+    territories: Items<Territory>,
+    first: Option<Area<'a>>,
+    some_foreign: bool,
+}
+
+fn former<'a>(one: Option<Area<'a>>, other: Area<'a>) -> Option<Area<'a>>
+    ensures { option_map area_view result
+        ≡ option_or (option_map area_view one.entry) (Some (area_view other.entry)) }
+{
+    match one {
+        Some(area) => Some(area),
+        None => Some(other),
+    }
+}
+
+// Takes a Market, and adds the notes on it.
+fn take_market<'a>(
     alloc: Global,
     market: Composite<'a>,
     depth: usize,
+    held: &mut Held<'a>,
     notes: &mut Vec<Note<'a>>,
-) -> Result<Option<Territory>, RowFault>
+) -> Result<(), AllocError>
     requires { depth < 1000 }
-    ensures territory { (m : Told) → Tells market.entry depth m → Gives result (territory_of m) }
-    ensures notes { (m : Told) → Tells market.entry depth m
-        → OnOk result (note_views notes.new.items ≡ note_views notes.old.items ++ market_notes m) }
+    ensures territories { (m : Told) → Tells market.entry depth m → OnOk result
+        (held.new.territories ≡ held.old.territories ++ option_to_list (territory_of m)) }
+    ensures first { (m : Told) → Tells market.entry depth m → OnOk result
+        (option_map area_view held.new.first
+        ≡ option_or (option_map area_view held.old.first) (held_area m)) }
+    ensures foreign { (m : Told) → Tells market.entry depth m → OnOk result
+        (held.new.some_foreign ≡ (held.old.some_foreign || is_foreign_market m)) }
+    ensures notes { (m : Told) → Tells market.entry depth m → OnOk result
+        (note_views notes.new.items ≡ note_views notes.old.items ++ market_notes m) }
 {
     let area = area_in(depth, market.below);
-    if let Some(reason) = unheld(&area) {
-        push_note(notes, market.line, reason)?;
-        return Ok(None);
-    }
-    let supply = read_market(alloc, &area)?;
-    push_left_out_regions(notes, &area)?;
-    Ok(Some(supply.market))
-}
-
-// Adds a territory, where there is one.
-fn push_some(found: &mut Items<Territory>, territory: Option<Territory>) -> Result<(), AllocError>
-    ensures { OnOk result (found.new ≡ found.old ++ option_to_list territory) }
-{
-    match territory {
-        Some(territory) => found.push(territory),
-        None => Ok(()),
+    match read_territory(alloc, &area)? {
+        Ok(territory) => {
+            held.territories.push(territory)?;
+            held.first = former(held.first, area);
+            push_territory_notes(notes, &area)
+        }
+        Err(reason) => {
+            held.some_foreign = held.some_foreign || !reason.why.is_wrong();
+            push_note(notes, market.line, reason)
+        }
     }
 }
 
-// Where those Markets hold that are not left out, and what is left out of them.
-fn read_territories<'a>(
+// What is found of all Markets, with the notes on them.
+fn take_markets<'a>(
     alloc: Global,
     depth: usize,
     lines: &'a [Line],
     notes: &mut Vec<Note<'a>>,
-) -> Result<Items<Territory>, RowFault>
+) -> Result<Held<'a>, AllocError>
     requires { depth < 999 }
     ensures territories { (nodes : Nodes) → line_views lines.now ≡ outline depth nodes
-        → Gives result (territories_of (composites (codes "Market") nodes)) }
+        → IfOk result (λ h. h.territories ≡ territories_of (markets_in nodes)) }
+    ensures first { (nodes : Nodes) → line_views lines.now ≡ outline depth nodes
+        → IfOk result (λ h. option_map area_view h.first ≡ first_held (markets_in nodes)) }
+    ensures foreign { (nodes : Nodes) → line_views lines.now ≡ outline depth nodes
+        → IfOk result (λ h. h.some_foreign ≡ one_is_foreign (markets_in nodes)) }
     ensures notes { (nodes : Nodes) → line_views lines.now ≡ outline depth nodes
         → OnOk result (note_views notes.new.items
-        ≡ note_views notes.old.items ++ market_notes_in nodes) }
+        ≡ note_views notes.old.items ++ flat_map market_notes (markets_in nodes)) }
 {
-    let mut found = Items::new(alloc);
+    let mut held = Held {
+        territories: Items::new(alloc),
+        first: None,
+        some_foreign: false,
+    };
     let mut rest = lines;
     while let Some((market, behind)) = next_composite(b"Market", depth, rest) {
-        let territory = read_territory(alloc, market, depth + 1, notes)?;
-        push_some(&mut found, territory)?;
+        take_market(alloc, market, depth + 1, &mut held, notes)?;
         rest = behind;
     }
-    Ok(found)
+    Ok(held)
 }
 
-// The first of the Markets that are not left out.
-fn first_held<'a>(depth: usize, lines: &'a [Line]) -> Option<Area<'a>>
-    requires { depth < 999 }
-    ensures { (nodes : Nodes) → line_views lines.now ≡ outline depth nodes
-        → option_map area_view result ≡ first_held (composites (codes "Market") nodes) }
-{
-    let mut rest = lines;
-    while let Some((market, behind)) = next_composite(b"Market", depth, rest) {
-        let area = area_in(depth + 1, market.below);
-        if unheld(&area).is_none() {
-            return Some(area);
-        }
-        rest = behind;
-    }
-    None
-}
-
-// Puts the record of a ProductSupply into the buffer, of one Market as it stands, of several as one.
-fn fill_record(
+// Puts the record of a ProductSupply into the buffer, of one Market as it stands, of several as
+// one. It is false where that is too long.
+fn fill_held(
     alloc: Global,
     fields: &mut FieldBuffer,
     first: &Area<'_>,
     territories: &[Territory],
-) -> Result<(), RowFault>
-    ensures { Fills result fields.new (record_of (area_view first.now) territories.now) }
+) -> Result<bool, AllocError>
+    ensures { IfOk result
+        (λ is. IsFilled is fields.new (held_fields (area_view first.now) territories.now)) }
 {
     if territories.len() == 1 {
-        return fill_as_it_stands(alloc, fields, first);
+        fill_as_it_stands(alloc, fields, first)?;
+        return Ok(true);
     }
     match union(alloc, territories)? {
-        None => fill_as_it_stands(alloc, fields, first),
+        None => {
+            fill_as_it_stands(alloc, fields, first)?;
+            Ok(true)
+        }
         Some(territory) => fill_as_union(alloc, fields, &territory),
     }
 }
 
-// Puts the record of a ProductSupply of the world into the buffer.
-fn fill_world(fields: &mut FieldBuffer) -> Result<(), AllocError>
-    ensures { OnOk result (fields.new ≡ supply_record ([] ∷ [] ∷ [] ∷ [])) }
+// That the Markets of a ProductSupply are all left out.
+fn no_market(some_foreign: bool) -> Reason<'static>
+    ensures { reason_view result ≡ no_market some_foreign }
+{
+    let why = if some_foreign {
+        Why::Foreign(Foreign::NoMarketLeft)
+    } else {
+        Why::Wrong(Wrong::NoMarketLeft)
+    };
+    Reason { why, text: b"" }
+}
+
+fn too_long() -> Reason<'static>
+    ensures { reason_view result ≡ foreign LongMarkets [] }
+{
+    Reason {
+        why: Why::Foreign(Foreign::LongMarkets),
+        text: b"",
+    }
+}
+
+// Adds the record of a ProductSupply of Markets that are left, of which this is the first, or tells
+// that it is too long.
+fn add_first(
+    alloc: Global,
+    first: &Area<'_>,
+    territories: &[Territory],
+    fields: &mut FieldBuffer,
+    records: &mut RecordBuffer,
+) -> Result<Option<Reason<'static>>, AllocError>
+    ensures reason { (notes : List Said) → IfOk result (λ why. reason_read why ≡ outcome_reason
+        (joined_outcome (held_fields (area_view first.now) territories.now) notes)) }
+    ensures records { (notes : List Said) → OnOk result (records.new ≡ records.old
+        ++ outcome_records
+        (joined_outcome (held_fields (area_view first.now) territories.now) notes)) }
+{
+    let is_filled = fill_held(alloc, fields, first, territories)?;
+    if is_filled {
+        records.push(&fields.as_record())?;
+        return Ok(None);
+    }
+    Ok(Some(too_long()))
+}
+
+// Adds the record of a ProductSupply of what was found of its Markets, or tells why it is left out.
+fn add_held<'a>(
+    alloc: Global,
+    held: &Held<'a>,
+    fields: &mut FieldBuffer,
+    records: &mut RecordBuffer,
+) -> Result<Option<Reason<'a>>, AllocError>
+    ensures reason { (notes : List Said) → IfOk result (λ why. reason_read why ≡ outcome_reason
+        (found_outcome (option_map area_view held.now.first) held.now.territories
+        held.now.some_foreign notes)) }
+    ensures records { (notes : List Said) → OnOk result (records.new
+        ≡ records.old ++ outcome_records
+        (found_outcome (option_map area_view held.now.first) held.now.territories
+        held.now.some_foreign notes)) }
+{
+    let Some(first) = &held.first else {
+        return Ok(Some(no_market(held.some_foreign)));
+    };
+    add_first(alloc, first, held.territories.as_slice(), fields, records)
+}
+
+// Adds the record of a ProductSupply of the world.
+fn add_world(fields: &mut FieldBuffer, records: &mut RecordBuffer) -> Result<(), AllocError>
+    ensures { OnOk result
+        (records.new ≡ records.old ++ supply_record ([] ∷ [] ∷ [] ∷ []) ∷ []) }
 {
     fields.clear();
     fields.push("ProductSupply")?;
     fields.push("")?;
     fields.push("")?;
-    fields.push("")
+    fields.push("")?;
+    records.push(&fields.as_record())
 }
 
-fn marked(done: Result<(), RowFault>) -> Result<bool, RowFault>
-    ensures { result ≡ marked done }
-{
-    match done {
-        Ok(()) => Ok(true),
-        Err(fault) => Err(fault),
-    }
-}
-
-/// Puts the record of a ProductSupply into the buffer, of all the Markets that lines of this depth
-/// tell, and adds notes on what is left out of them. It is false where all Markets are left out.
-/// `Wrong` exactly where the desk would not take the record, or one of the Markets.
-pub fn fill_supply<'a>(
+// Adds the record of a ProductSupply that has Markets, or tells why it is left out.
+fn add_some<'a>(
     alloc: Global,
-    fields: &mut FieldBuffer,
     depth: usize,
     lines: &'a [Line],
+    fields: &mut FieldBuffer,
+    records: &mut RecordBuffer,
     notes: &mut Vec<Note<'a>>,
-) -> Result<bool, RowFault>
+) -> Result<Option<Reason<'a>>, AllocError>
     requires { depth < 999 }
-    ensures record { (nodes : Nodes) → line_views lines.now ≡ outline depth nodes
-        → MayFill result fields.new (record_in nodes) }
+    ensures reason { (nodes : Nodes) → line_views lines.now ≡ outline depth nodes
+        → IfOk result (λ why. reason_read why
+        ≡ outcome_reason (held_outcome (first_held (markets_in nodes)) (markets_in nodes))) }
+    ensures records { (nodes : Nodes) → line_views lines.now ≡ outline depth nodes
+        → OnOk result (records.new ≡ records.old
+        ++ outcome_records (held_outcome (first_held (markets_in nodes)) (markets_in nodes))) }
     ensures notes { (nodes : Nodes) → line_views lines.now ≡ outline depth nodes
         → OnOk result (note_views notes.new.items
-        ≡ note_views notes.old.items ++ market_notes_in nodes) }
+        ≡ note_views notes.old.items ++ flat_map market_notes (markets_in nodes)) }
+{
+    let held = take_markets(alloc, depth, lines, notes)?;
+    add_held(alloc, &held, fields, records)
+}
+
+/// Adds the record of a ProductSupply of all the Markets that lines of this depth tell, with notes
+/// on them, or tells why they leave it out: the notes count only where they do not. The list takes
+/// the fields of the record.
+pub(crate) fn add_markets<'a>(
+    alloc: Global,
+    depth: usize,
+    lines: &'a [Line],
+    fields: &mut FieldBuffer,
+    records: &mut RecordBuffer,
+    notes: &mut Vec<Note<'a>>,
+) -> Result<Option<Reason<'a>>, AllocError>
+    requires { depth < 999 }
+    ensures reason { (nodes : Nodes) → line_views lines.now ≡ outline depth nodes
+        → IfOk result (λ why. reason_read why
+        ≡ outcome_reason (markets_outcome (markets_in nodes))) }
+    ensures records { (nodes : Nodes) → line_views lines.now ≡ outline depth nodes
+        → OnOk result (records.new
+        ≡ records.old ++ outcome_records (markets_outcome (markets_in nodes))) }
+    ensures notes { (nodes : Nodes) → line_views lines.now ≡ outline depth nodes
+        → IfOk result (λ why. why ≡ None → note_views notes.new.items
+        ≡ note_views notes.old.items ++ notes_below (markets_outcome (markets_in nodes))) }
 {
     if next_composite(b"Market", depth, lines).is_none() {
-        fill_world(fields)?;
-        return Ok(true);
+        add_world(fields, records)?;
+        return Ok(None);
     }
-    let territories = read_territories(alloc, depth, lines, notes)?;
-    match first_held(depth, lines) {
-        None => Ok(false),
-        Some(first) => marked(fill_record(alloc, fields, &first, territories.as_slice())),
-    }
+    add_some(alloc, depth, lines, fields, records, notes)
 }

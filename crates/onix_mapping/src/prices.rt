@@ -1,32 +1,36 @@
 //! Prices.
 
-ghost use Rattle.std.specs.Prelude.{◌≡◌, ◌++◌, ◌∷◌, [], ◌<◌, ℕ, List, None, IfOk, IsErrOf, OnOk, false, true, is_some, map, codes, option_map};
+ghost use Rattle.std.specs.Prelude.{◌≡◌, ◌++◌, ◌∷◌, ◌<◌, [], ℕ, List, None, IfOk, IsErrOf, OnOk, false, true, is_some, map, codes, option_and_then, option_map};
 ghost use Rattle.std.specs.List.{list_all};
-ghost use Rattle.std.specs.Option.{option_or, option_to_list, unwrap_or};
+ghost use Rattle.std.specs.Option.{option_or, option_to_list};
 ghost use Rattle.std.specs.Result.{result_err, result_unwrap_or};
 ghost use Rattle.std.specs.Str.{is_utf8};
-ghost use Rattle.onix_mapping.specs.DateViews.{days_read, days_view};
+ghost use Rattle.onix_mapping.specs.DateViews.{dated_view};
 ghost use Rattle.onix_mapping.specs.Dates.{days, days_in};
-ghost use Rattle.onix_mapping.specs.Elements.{Composite as Told, Tells, composites, element_view};
-ghost use Rattle.onix_mapping.specs.Notes.{note_views, reason, reason_view};
+ghost use Rattle.onix_mapping.specs.Elements.{Composite as Told, Tells, composites};
+ghost use Rattle.onix_mapping.specs.Notes.{foreign, note_views, wrong};
+ghost use Rattle.onix_mapping.specs.Outcomes.{notes_below, outcome_notes, outcome_records};
 ghost use Rattle.onix_mapping.specs.PriceViews.{reason_read, text_view};
-ghost use Rattle.onix_mapping.specs.Prices.{behind_digits, coded_in, early_reasons, eight_fields, first_some, has_more_decimals, is_long_part, is_unpriced, long_amount, note_of, other_in, other_type, outcome, outcome_notes, outcome_of, outcome_records, price_fields, reasons_against, refusal, right_days};
-ghost use Rattle.onix_mapping.specs.Records.{said};
-ghost use Rattle.onix_mapping.specs.declared.notes.Why.TheVariants.{PriceRefused};
-ghost use Rattle.onix_mapping.specs.Territories.{area_in, area_view};
+ghost use Rattle.onix_mapping.specs.Prices.{amount_written, around_view, behind_digits, coded_in, cut_zeros, early_reasons, eight_fields, has_more_decimals, if_foreign, if_wrong, is_long_part, is_nothing, is_zero, late_reasons, license_in, long_amount, named, no_charge, old_elements, other_in, other_type, outcome_of, own_minimum, point_in, price_fields, price_outcome, reasons_against, refusal, right_days, unless_zeros};
+ghost use Rattle.onix_mapping.specs.Records.{first_some, said, term_said};
+ghost use Rattle.onix_mapping.specs.Territories.{AreRenamed, area_in, area_view};
+ghost use Rattle.onix_mapping.specs.declared.notes.Wrong.TheVariants.{OldElement};
+ghost use Rattle.onix_message.specs.Gives.{Gives};
+ghost use Rattle.onix_message.specs.Price.{day_field, price_of};
 ghost use Rattle.onix_outline.specs.Nodes.{Nodes};
 ghost use Rattle.onix_outline.specs.Outline.{outline};
 ghost use Rattle.onix_outline.specs.Views.{line_views};
-ghost use Rattle.onix_message.specs.Gives.{Gives};
-ghost use Rattle.onix_message.specs.Price.{price_of};
+ghost use Rattle.onix_terms.specs.Amount.{amount_of};
 
-use crate::dates::{Days, days_in};
+use crate::dates::{Dated, Days, days_in};
 use crate::elements::{Composite, first_composite, next_composite, text_or_empty};
 use crate::identifiers::is_text;
-use crate::notes::{Note, Reason, Why, push_note};
-use crate::records::push_texts;
-use crate::refusals::field_reason;
-use crate::territories::{Area, area_fields, area_in, push_left_out_regions, unheld};
+use crate::notes::{Foreign, Note, Reason, Why, Wrong, push_reason};
+use crate::records::{amount_said, are_zeros, former, push_texts};
+use crate::refusals::{field_reason, or_refused};
+use crate::territories::{
+    Area, Renamed, area_fields, area_in, push_territory_notes, renamed_in, unheld,
+};
 use csv_records::buffer::RecordBuffer;
 use csv_records::fields::FieldBuffer;
 use csv_records::record::Record;
@@ -36,7 +40,18 @@ use onix_message::price::read_price;
 use onix_message::row::{Opening, RowFault};
 use onix_outline::{Line, text_in};
 use onix_terms::ascii::are_digits;
+use onix_terms::day::Day;
+use onix_terms::text::Text;
 use std::alloc::{AllocError, Global};
+
+/// What stands around a Price: what its message begins with, whether the record of its SupplyDetail
+/// has an UnpricedItemType, and the quantity that stands for a minimum that it does not have.
+#[derive(Clone, Copy)]
+pub struct Around<'a, 'b> {
+    pub opening: &'a Opening,
+    pub is_unpriced: bool,
+    pub minimum: Option<&'b [u8]>,
+}
 
 // The text of an element, where it is another than 00.
 fn other_in<'a>(name: &[u8], depth: usize, lines: &'a [Line]) -> Option<&'a [u8]>
@@ -117,14 +132,156 @@ fn has_more_decimals(text: &[u8]) -> bool
     }
 }
 
-// An amount that has more decimals than the desk knows.
-fn long_amount<'a>(depth: usize, lines: &'a [Line]) -> Option<&'a [u8]>
+// A text with its point there, without the zeros behind the third decimal.
+fn cut_zeros(point: Option<usize>, text: &[u8]) -> &[u8]
+    requires { point ≡ point_in text.now }
+    ensures { result.now ≡ cut_zeros point text.now }
+{
+    let Some(at) = point else {
+        return text;
+    };
+    if text.len() - at <= 4 {
+        return text;
+    }
+    let (front, zeros) = text.split_at(at + 4);
+    if are_zeros(zeros) { front } else { text }
+}
+
+fn point_in(text: &[u8]) -> Option<usize>
+    ensures { result ≡ point_in text.now }
+{
+    text.iter().position(|byte| *byte == b'.')
+}
+
+/// The amount of a Price as it is written, without the zeros behind its third decimal.
+pub(crate) fn amount_written<'a>(depth: usize, lines: &'a [Line]) -> &'a [u8]
     ensures { (nodes : Nodes) → line_views lines.now ≡ outline depth nodes
+        → result.now ≡ amount_written nodes }
+{
+    let text = text_or_empty(depth, b"PriceAmount", lines);
+    cut_zeros(point_in(text), text)
+}
+
+// An amount that has more decimals than the desk knows.
+fn long_amount<'a>(amount: &'a [u8]) -> Option<&'a [u8]>
+    ensures { (nodes : Nodes) → amount.now ≡ amount_written nodes
         → text_view result ≡ long_amount nodes }
 {
-    match text_in(depth, b"PriceAmount", lines) {
-        Some(text) => if has_more_decimals(text) {
-            Some(text)
+    if has_more_decimals(amount) {
+        Some(amount)
+    } else {
+        None
+    }
+}
+
+fn is_zero(amount: &[u8]) -> bool
+    ensures { result ≡ is_zero (term_said amount_of amount.now) }
+{
+    match amount_said(amount) {
+        None => false,
+        Some(amount) => amount.thousandths() == 0,
+    }
+}
+
+// An amount of 0.
+fn no_charge<'a>(amount: &'a [u8]) -> Option<&'a [u8]>
+    ensures { (nodes : Nodes) → amount.now ≡ amount_written nodes
+        → text_view result ≡ no_charge nodes }
+{
+    if is_zero(amount) { Some(amount) } else { None }
+}
+
+// Whether there is an EpubLicense.
+fn license_in(depth: usize, lines: &[Line]) -> Option<&'static [u8]>
+    requires { depth < 1000 }
+    ensures { (nodes : Nodes) → line_views lines.now ≡ outline depth nodes
+        → text_view result ≡ license_in nodes }
+{
+    match first_composite(b"EpubLicense", depth, lines) {
+        Some(_) => Some(b""),
+        None => None,
+    }
+}
+
+// The name of an element, where it has a text.
+fn named(name: &'static [u8], depth: usize, lines: &[Line]) -> Option<&'static [u8]>
+    ensures { (nodes : Nodes) → line_views lines.now ≡ outline depth nodes
+        → text_view result ≡ named name.now nodes }
+{
+    match text_in(depth, name, lines) {
+        Some(_) => Some(name),
+        None => None,
+    }
+}
+
+// The first of the elements of ONIX 2.1 that is there.
+fn old_element(depth: usize, lines: &[Line]) -> Option<&'static [u8]>
+    ensures { (nodes : Nodes) → line_views lines.now ≡ outline depth nodes
+        → text_view result ≡ first_some (old_elements nodes) }
+{
+    if let Some(name) = named(b"PriceTypeCode", depth, lines) {
+        return Some(name);
+    }
+    if let Some(name) = named(b"PriceEffectiveFrom", depth, lines) {
+        return Some(name);
+    }
+    if let Some(name) = named(b"PriceEffectiveUntil", depth, lines) {
+        return Some(name);
+    }
+    named(b"CountryCode", depth, lines)
+}
+
+// A foreign reason, where there is a text that is one.
+fn because<'a>(why: Foreign, text: Option<&'a [u8]>) -> Option<Reason<'a>>
+    ensures { reason_read result ≡ option_map (foreign why) (text_view text.entry) }
+{
+    match text {
+        Some(text) => Some(Reason {
+            why: Why::Foreign(why),
+            text,
+        }),
+        None => None,
+    }
+}
+
+fn because_old(text: Option<&'static [u8]>) -> Option<Reason<'static>>
+    ensures { reason_read result ≡ option_map (wrong OldElement) (text_view text.entry) }
+{
+    match text {
+        Some(text) => Some(Reason {
+            why: Why::Wrong(Wrong::OldElement),
+            text,
+        }),
+        None => None,
+    }
+}
+
+// The reason for which PriceDates leave their Price out.
+fn wrong_date<'a>(dated: &Dated<'a>) -> Option<Reason<'a>>
+    ensures { reason_read result ≡ result_err (dated_view dated.now) }
+{
+    dated.wrong
+}
+
+fn if_foreign<'a>(reason: Option<Reason<'a>>) -> Option<Reason<'a>>
+    ensures { reason_read result ≡ option_and_then if_foreign (reason_read reason.entry) }
+{
+    match reason {
+        Some(reason) => if reason.why.is_wrong() {
+            None
+        } else {
+            Some(reason)
+        },
+        None => None,
+    }
+}
+
+fn if_wrong<'a>(reason: Option<Reason<'a>>) -> Option<Reason<'a>>
+    ensures { reason_read result ≡ option_and_then if_wrong (reason_read reason.entry) }
+{
+    match reason {
+        Some(reason) => if reason.why.is_wrong() {
+            Some(reason)
         } else {
             None
         },
@@ -132,47 +289,38 @@ fn long_amount<'a>(depth: usize, lines: &'a [Line]) -> Option<&'a [u8]>
     }
 }
 
-// A reason, where there is a text that is one.
-fn because<'a>(why: Why, text: Option<&'a [u8]>) -> Option<Reason<'a>>
-    ensures { reason_read result ≡ option_map (reason why) (text_view text.entry) }
-{
-    match text {
-        Some(text) => Some(Reason { why, text }),
-        None => None,
-    }
-}
-
-/// The first of two reasons that holds.
-pub(crate) fn former<'a>(one: Option<Reason<'a>>, other: Option<Reason<'a>>) -> Option<Reason<'a>>
-    ensures { reason_read result ≡ option_or (reason_read one.entry) (reason_read other.entry) }
-{
-    match one {
-        Some(reason) => Some(reason),
-        None => other,
-    }
-}
-
-// The reason for which PriceDates leave their Price out.
-fn wrong_date<'a>(days: Result<Days<'a>, Reason<'a>>) -> Option<Reason<'a>>
-    ensures { reason_read result ≡ result_err (days_read days.entry) }
-{
-    match days {
-        Ok(_) => None,
-        Err(reason) => Some(reason),
-    }
-}
-
 // The days, none where they are wrong.
-fn right_days<'a>(read: Result<Days<'a>, Reason<'a>>) -> Days<'a>
-    ensures { days_view result ≡ result_unwrap_or (days_read read.entry) (days None None) }
+fn right_days(dated: &Dated<'_>) -> Days
+    ensures { result ≡ result_unwrap_or (dated_view dated.now) (days None None) }
 {
-    match read {
-        Ok(days) => days,
-        Err(_) => Days {
+    match dated.wrong {
+        None => dated.days,
+        Some(_) => Days {
             first: None,
             last: None,
         },
     }
+}
+
+// Why dates, an amount or the territory leave a Price out, or elements of ONIX 2.1.
+fn late_reason<'a>(
+    area: &Area<'a>,
+    wrong_date: Option<Reason<'a>>,
+    depth: usize,
+    lines: &'a [Line],
+) -> Option<Reason<'a>>
+    ensures { (nodes : Nodes) → line_views lines.now ≡ outline depth nodes
+        → area_view area.now ≡ area_in nodes
+        → reason_read wrong_date.entry ≡ result_err (days_in nodes)
+        → reason_read result ≡ first_some (late_reasons nodes) }
+{
+    let amount = amount_written(depth, lines);
+    let old = because_old(old_element(depth, lines));
+    let dated = former(old, former(if_wrong(wrong_date), None));
+    let free = because(Foreign::NoCharge, no_charge(amount));
+    let charged = former(free, former(if_foreign(wrong_date), dated));
+    let long = because(Foreign::MoreDecimals, long_amount(amount));
+    former(unheld(area), former(long, charged))
 }
 
 // Why a Price that holds there is another than the desk knows.
@@ -188,60 +336,121 @@ fn early_reason<'a>(
         → reason_read wrong_date.entry ≡ result_err (days_in nodes)
         → reason_read result ≡ first_some (early_reasons nodes) }
 {
-    let long = because(Why::MoreDecimals, long_amount(depth, lines));
-    let held = former(unheld(area), former(long, former(wrong_date, None)));
-    let zone = because(Why::CurrencyZone, text_in(depth, b"CurrencyZone", lines));
-    let coded = because(Why::PriceCoded, coded_in(depth, lines));
+    let late = late_reason(area, wrong_date, depth, lines);
+    let license = because(Foreign::EpubLicense, license_in(depth, lines));
+    let zone = because(
+        Foreign::CurrencyZone,
+        text_in(depth, b"CurrencyZone", lines),
+    );
+    let coded = because(Foreign::PriceCoded, coded_in(depth, lines));
     let constraint = because(
-        Why::PriceConstraint,
+        Foreign::PriceConstraint,
         other_type(b"PriceConstraint", b"PriceConstraintType", depth, lines),
     );
     let condition = because(
-        Why::PriceCondition,
+        Foreign::PriceCondition,
         other_type(b"PriceCondition", b"PriceConditionType", depth, lines),
     );
-    let per = because(Why::PricePer, other_in(b"PricePer", depth, lines));
+    let per = because(Foreign::PricePer, other_in(b"PricePer", depth, lines));
     let qualifier = because(
-        Why::PriceQualifier,
+        Foreign::PriceQualifier,
         other_in(b"PriceQualifier", depth, lines),
     );
     let typed = former(
         condition,
-        former(constraint, former(coded, former(zone, held))),
+        former(
+            constraint,
+            former(coded, former(zone, former(license, late))),
+        ),
     );
     former(qualifier, former(per, typed))
 }
 
-// A Price without an amount and without PriceCoded.
-fn is_unpriced(depth: usize, lines: &[Line]) -> bool
+// Whether a Price is nothing: it has no amount and no PriceCoded, and the record of its
+// SupplyDetail an UnpricedItemType.
+fn is_nothing(around: &Around<'_, '_>, depth: usize, lines: &[Line]) -> bool
     requires { depth < 1000 }
     ensures { (nodes : Nodes) → line_views lines.now ≡ outline depth nodes
-        → result ≡ is_unpriced nodes }
+        → result ≡ is_nothing (around_view around.now) nodes }
 {
-    text_in(depth, b"PriceAmount", lines).is_none() && coded_in(depth, lines).is_none()
+    around.is_unpriced
+        && text_in(depth, b"PriceAmount", lines).is_none()
+        && coded_in(depth, lines).is_none()
+}
+
+// The text of a day, empty where there is none.
+fn day_field(alloc: Global, day: Option<Day>) -> Result<Text, AllocError>
+    ensures { IfOk result (λ t. t ≡ day_field day) }
+{
+    match day {
+        Some(day) => day.text(alloc),
+        None => Ok(Text::new(alloc)),
+    }
+}
+
+// The texts of a Price that do not stand in it as they are written: what is renamed of its
+// countries, and its days.
+#[derive(Drop)]
+struct Owned {
+    renamed: Renamed,
+    first: Text,
+    last: Text,
+}
+
+fn owned_texts(alloc: Global, area: &Area<'_>, days: Days) -> Result<Owned, AllocError>
+    ensures renamed { IfOk result (λ o. AreRenamed o.renamed (area_view area.now)) }
+    ensures first { IfOk result (λ o. o.first ≡ day_field days.first) }
+    ensures last { IfOk result (λ o. o.last ≡ day_field days.last) }
+{
+    Ok(Owned {
+        renamed: renamed_in(alloc, area)?,
+        first: day_field(alloc, days.first)?,
+        last: day_field(alloc, days.last)?,
+    })
 }
 
 // The texts of the fields that each Price has.
-fn eight_texts<'a>(
-    area: &Area<'a>,
-    days: Days<'a>,
+fn eight_texts<'b>(
+    owned: &'b Owned,
+    area: &'b Area<'_>,
     depth: usize,
-    lines: &'a [Line],
-) -> [&'a [u8]; 8]
-    ensures { (nodes : Nodes) → line_views lines.now ≡ outline depth nodes
-        → map (λ t. t.now) result ≡ eight_fields (area_view area.now) (days_view days.entry) nodes }
+    lines: &'b [Line],
+) -> [&'b [u8]; 8]
+    ensures { (nodes : Nodes) (days : Days) → line_views lines.now ≡ outline depth nodes
+        → AreRenamed owned.now.renamed (area_view area.now)
+        → owned.now.first ≡ day_field days.first → owned.now.last ≡ day_field days.last
+        → map (λ t. t.now) result ≡ eight_fields (area_view area.now) days nodes }
 {
-    let [included, world, excluded] = area_fields(area);
+    let [included, world, excluded] = area_fields(area, &owned.renamed);
     [
         text_or_empty(depth, b"PriceType", lines),
-        text_or_empty(depth, b"PriceAmount", lines),
+        amount_written(depth, lines),
         text_or_empty(depth, b"CurrencyCode", lines),
         included,
         world,
         excluded,
-        days.first.unwrap_or(b""),
-        days.last.unwrap_or(b""),
+        owned.first.as_str().as_bytes(),
+        owned.last.as_str().as_bytes(),
     ]
+}
+
+// The MinimumOrderQuantity of a Price, where it is not of zeros alone.
+pub(crate) fn own_minimum<'a>(depth: usize, lines: &'a [Line]) -> Option<&'a [u8]>
+    ensures { (nodes : Nodes) → line_views lines.now ≡ outline depth nodes
+        → text_view result ≡ own_minimum nodes }
+{
+    let text = text_in(depth, b"MinimumOrderQuantity", lines)?;
+    if are_zeros(text) { None } else { Some(text) }
+}
+
+// A minimum, or the other one where there is none.
+fn or_text<'b>(one: Option<&'b [u8]>, other: Option<&'b [u8]>) -> Option<&'b [u8]>
+    ensures { text_view result ≡ option_or (text_view one.entry) (text_view other.entry) }
+{
+    match one {
+        Some(text) => Some(text),
+        None => other,
+    }
 }
 
 /// Puts a record of this name in place of what the list held. `Wrong` exactly where a text is no
@@ -329,127 +538,147 @@ fn take_price(
     }
 }
 
-// A reason, or that the desk could not take a Price for another.
-fn or_refused<'a>(field: Option<Reason<'a>>) -> Reason<'a>
-    ensures { reason_view result ≡ unwrap_or (reason_read field.entry) (reason PriceRefused []) }
+// Puts the record of a Price in this territory, with these texts, in place of what the list held,
+// and says whether the desk takes it.
+fn take_texts(
+    alloc: Global,
+    around: &Around<'_, '_>,
+    owned: &Owned,
+    area: &Area<'_>,
+    depth: usize,
+    lines: &[Line],
+    fields: &mut FieldBuffer,
+) -> Result<bool, AllocError>
+    ensures record { (nodes : Nodes) → line_views lines.now ≡ outline depth nodes
+        → area_view area.now ≡ area_in nodes → AreRenamed owned.now.renamed (area_view area.now)
+        → owned.now.first ≡ day_field (right_days nodes).first
+        → owned.now.last ≡ day_field (right_days nodes).last → IfOk result (λ is. is ≡ true
+        → fields.new ≡ codes "Price" ∷ price_fields (around_view around.now) nodes) }
+    ensures taken { (nodes : Nodes) → line_views lines.now ≡ outline depth nodes
+        → area_view area.now ≡ area_in nodes → AreRenamed owned.now.renamed (area_view area.now)
+        → owned.now.first ≡ day_field (right_days nodes).first
+        → owned.now.last ≡ day_field (right_days nodes).last → IfOk result (λ is. is
+        ≡ is_some (said (price_of around.now.opening.now)
+        (price_fields (around_view around.now) nodes))) }
 {
-    match field {
-        Some(reason) => reason,
-        None => Reason {
-            why: Why::PriceRefused,
-            text: b"",
-        },
-    }
+    let minimum = or_text(own_minimum(depth, lines), around.minimum);
+    take_price(
+        alloc,
+        around.opening,
+        fields,
+        &eight_texts(owned, area, depth, lines),
+        minimum,
+    )
 }
 
 // Adds the record of a Price with these days in this territory, or gives the reason for which the
-// desk could not take it.
+// desk would not take it.
 fn write_price<'a>(
     alloc: Global,
-    opening: &Opening,
+    around: &Around<'_, '_>,
     depth: usize,
     lines: &'a [Line],
     area: &Area<'a>,
-    days: Days<'a>,
+    days: Days,
     fields: &mut FieldBuffer,
     records: &mut RecordBuffer,
 ) -> Result<Option<Reason<'a>>, AllocError>
     ensures reason { (nodes : Nodes) → line_views lines.now ≡ outline depth nodes
-        → area_view area.now ≡ area_in nodes → days_view days.entry ≡ right_days nodes
-        → IfOk result (λ why. reason_read why ≡ refusal opening.now nodes) }
+        → area_view area.now ≡ area_in nodes → days ≡ right_days nodes
+        → IfOk result (λ why. reason_read why ≡ refusal (around_view around.now) nodes) }
     ensures record { (nodes : Nodes) → line_views lines.now ≡ outline depth nodes
-        → area_view area.now ≡ area_in nodes → days_view days.entry ≡ right_days nodes
-        → OnOk result (records.new ≡ records.old
-        ++ outcome_records (outcome_of (refusal opening.now nodes) nodes)) }
+        → area_view area.now ≡ area_in nodes → days ≡ right_days nodes
+        → OnOk result (records.new ≡ records.old ++ outcome_records
+        (outcome_of (refusal (around_view around.now) nodes) (around_view around.now) nodes)) }
 {
-    let texts = eight_texts(area, days, depth, lines);
-    let minimum = text_in(depth, b"MinimumOrderQuantity", lines);
-    if take_price(alloc, opening, fields, &texts, minimum)? {
+    let owned = owned_texts(alloc, area, days)?;
+    let is_taken = take_texts(alloc, around, &owned, area, depth, lines, fields)?;
+    if is_taken {
         records.push(&fields.as_record())?;
         return Ok(None);
     }
-    let field = field_reason(alloc, opening, area, days, depth, lines)?;
+    let field = field_reason(alloc, around.opening, area, &owned.renamed, depth, lines)?;
     Ok(Some(or_refused(field)))
 }
 
-// Adds what comes of a Price that is none other than the desk knows.
+// Adds what comes of a Price that is none other than the desk knows, or gives the reason for which
+// the desk would not take it.
 fn add_known<'a>(
     alloc: Global,
-    opening: &Opening,
+    around: &Around<'_, '_>,
     depth: usize,
-    price: Composite<'a>,
+    lines: &'a [Line],
     area: &Area<'a>,
-    days: Days<'a>,
+    days: Days,
     fields: &mut FieldBuffer,
     records: &mut RecordBuffer,
     notes: &mut Vec<Note<'a>>,
-) -> Result<(), AllocError>
-    ensures records { (c : Told) → Tells price.entry depth c
-        → area_view area.now ≡ area_in c.below → days_view days.entry ≡ right_days c.below
-        → OnOk result (records.new ≡ records.old
-        ++ outcome_records (outcome_of (refusal opening.now c.below) c.below)) }
-    ensures notes { (c : Told) → Tells price.entry depth c
-        → area_view area.now ≡ area_in c.below → days_view days.entry ≡ right_days c.below
-        → OnOk result (note_views notes.new.items ≡ note_views notes.old.items
-        ++ outcome_notes c.element (outcome_of (refusal opening.now c.below) c.below)) }
+) -> Result<Option<Reason<'a>>, AllocError>
+    ensures reason { (nodes : Nodes) → line_views lines.now ≡ outline depth nodes
+        → area_view area.now ≡ area_in nodes → days ≡ right_days nodes
+        → IfOk result (λ why. reason_read why ≡ refusal (around_view around.now) nodes) }
+    ensures records { (nodes : Nodes) → line_views lines.now ≡ outline depth nodes
+        → area_view area.now ≡ area_in nodes → days ≡ right_days nodes
+        → OnOk result (records.new ≡ records.old ++ outcome_records
+        (outcome_of (refusal (around_view around.now) nodes) (around_view around.now) nodes)) }
+    ensures notes { (nodes : Nodes) → line_views lines.now ≡ outline depth nodes
+        → area_view area.now ≡ area_in nodes → days ≡ right_days nodes
+        → OnOk result (note_views notes.new.items ≡ note_views notes.old.items ++ notes_below
+        (outcome_of (refusal (around_view around.now) nodes) (around_view around.now) nodes)) }
 {
-    match write_price(
-        alloc,
-        opening,
-        depth,
-        price.below,
-        area,
-        days,
-        fields,
-        records,
-    )? {
-        None => push_left_out_regions(notes, area),
-        Some(reason) => push_note(notes, price.line, reason),
+    let refused = write_price(alloc, around, depth, lines, area, days, fields, records)?;
+    if refused.is_none() {
+        push_territory_notes(notes, area)?;
     }
+    Ok(refused)
 }
 
-// Adds what comes of a Price that costs something: its record, or a note on why it is left out.
+// Adds what comes of a Price that is something: its record, or the reason for which it is left out.
 fn add_priced<'a>(
     alloc: Global,
-    opening: &Opening,
+    around: &Around<'_, '_>,
     depth: usize,
-    price: Composite<'a>,
+    lines: &'a [Line],
     fields: &mut FieldBuffer,
     records: &mut RecordBuffer,
     notes: &mut Vec<Note<'a>>,
-) -> Result<(), AllocError>
+) -> Result<Option<Reason<'a>>, AllocError>
     requires { depth < 1000 }
-    ensures records { (c : Told) → Tells price.entry depth c
-        → OnOk result (records.new ≡ records.old ++ outcome_records
-        (outcome_of (first_some (reasons_against opening.now c.below)) c.below)) }
-    ensures notes { (c : Told) → Tells price.entry depth c
-        → OnOk result (note_views notes.new.items ≡ note_views notes.old.items
-        ++ outcome_notes c.element
-        (outcome_of (first_some (reasons_against opening.now c.below)) c.below)) }
+    ensures reason { (nodes : Nodes) → line_views lines.now ≡ outline depth nodes
+        → IfOk result (λ why. reason_read why
+        ≡ first_some (reasons_against (around_view around.now) nodes)) }
+    ensures records { (nodes : Nodes) → line_views lines.now ≡ outline depth nodes
+        → OnOk result (records.new ≡ records.old ++ outcome_records (outcome_of
+        (first_some (reasons_against (around_view around.now) nodes))
+        (around_view around.now) nodes)) }
+    ensures notes { (nodes : Nodes) → line_views lines.now ≡ outline depth nodes
+        → OnOk result (note_views notes.new.items ≡ note_views notes.old.items ++ notes_below
+        (outcome_of (first_some (reasons_against (around_view around.now) nodes))
+        (around_view around.now) nodes)) }
 {
-    let area = area_in(depth, price.below);
-    let read = days_in(depth, price.below);
-    match early_reason(&area, wrong_date(read), depth, price.below) {
+    let area = area_in(depth, lines);
+    let dated = days_in(depth, lines);
+    match early_reason(&area, wrong_date(&dated), depth, lines) {
         None => add_known(
             alloc,
-            opening,
+            around,
             depth,
-            price,
+            lines,
             &area,
-            right_days(read),
+            right_days(&dated),
             fields,
             records,
             notes,
         ),
-        Some(reason) => push_note(notes, price.line, reason),
+        Some(reason) => Ok(Some(reason)),
     }
 }
 
-/// Adds what comes of a Price in a message that begins so: its record, where it has one, and notes
-/// on what is left out. The list takes the fields of the record.
-pub fn add_price<'a>(
+/// Adds what comes of a Price: its record, where it has one, and notes on what is left out. The
+/// list takes the fields of the record.
+pub(crate) fn add_price<'a>(
     alloc: Global,
-    opening: &Opening,
+    around: &Around<'_, '_>,
     depth: usize,
     price: Composite<'a>,
     fields: &mut FieldBuffer,
@@ -457,15 +686,15 @@ pub fn add_price<'a>(
     notes: &mut Vec<Note<'a>>,
 ) -> Result<(), AllocError>
     requires { depth < 1000 }
-    ensures records { (c : Told) → Tells price.entry depth c
-        → OnOk result (records.new
-        ≡ records.old ++ outcome_records (outcome opening.now c.below)) }
+    ensures records { (c : Told) → Tells price.entry depth c → OnOk result (records.new
+        ≡ records.old ++ outcome_records (price_outcome (around_view around.now) c.below)) }
     ensures notes { (c : Told) → Tells price.entry depth c
         → OnOk result (note_views notes.new.items ≡ note_views notes.old.items
-        ++ outcome_notes c.element (outcome opening.now c.below)) }
+        ++ outcome_notes c.element (price_outcome (around_view around.now) c.below)) }
 {
-    if is_unpriced(depth, price.below) {
+    if is_nothing(around, depth, price.below) {
         return Ok(());
     }
-    add_priced(alloc, opening, depth, price, fields, records, notes)
+    let refused = add_priced(alloc, around, depth, price.below, fields, records, notes)?;
+    push_reason(notes, price.line, refused)
 }

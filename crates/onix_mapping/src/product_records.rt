@@ -1,37 +1,135 @@
 //! The records of a Product and of its supplies.
 
-ghost use Rattle.std.specs.Prelude.{◌≡◌, ◌++◌, ◌<◌, None, Some, IfOk, IsErrOf, OnOk, option_map, true};
-ghost use Rattle.onix_mapping.specs.Elements.{Composite as Told, Tells};
+ghost use Rattle.std.specs.Prelude.{◌≡◌, ◌++◌, ◌∷◌, ◌<◌, [], None, IfOk, OnOk};
+ghost use Rattle.onix_mapping.specs.Elements.{Composite as Told, Tells, element_view};
 ghost use Rattle.onix_mapping.specs.Notes.{note_views};
-ghost use Rattle.onix_mapping.specs.ProductRecords.{all_notes, has_none_left, kept_supplies, notes_below, product_records, replaces};
-ghost use Rattle.onix_mapping.specs.Products.{is_deletion};
-ghost use Rattle.onix_mapping.specs.Supplies.{supplies_in, supplies_notes, supplies_records};
+ghost use Rattle.onix_mapping.specs.PriceViews.{reason_read};
+ghost use Rattle.onix_mapping.specs.ProductRecords.{fate_of, ignored_reason, is_followed, isbn_reason, notes_on_supplies, product_notes, product_records, reason_below, records_below, standing_fate, standing_notes, standing_records, too_large_notes, why_emptied, written_notes};
+ghost use Rattle.onix_mapping.specs.Products.{bare_record, emptied_record, has_isbn, dropping, notification_in, own_reason, product_record, right_pairs};
 ghost use Rattle.onix_outline.specs.Nodes.{Nodes};
 ghost use Rattle.onix_outline.specs.Outline.{outline};
 ghost use Rattle.onix_outline.specs.Views.{line_views};
 
-use crate::elements::{Composite, next_composite, text_or_empty};
-use crate::notes::{Note, Why, push_why};
-use crate::products::fill_product;
+use crate::elements::Composite;
+use crate::notes::{Foreign, Note, Reason, Why, Wrong, push_note, push_reason};
+use crate::products::{
+    Identifiers, dropping, fill_product, is_deletion, notification_in, own_reason, reference_in,
+    take_identifiers,
+};
+use crate::records::is_field;
 use crate::supplies::add_supplies;
 use csv_records::buffer::RecordBuffer;
 use csv_records::fields::FieldBuffer;
-use onix_message::row::{Opening, RowFault};
+use onix_message::row::Opening;
 use onix_outline::Line;
 use std::alloc::{AllocError, Global};
 
-// Whether a product of this type replaces all that the desk has of it.
-fn replaces(notification: &[u8]) -> bool
-    ensures { result ≡ replaces notification.now }
+/// What becomes of a Product.
+#[derive(Clone, Copy, Debug, PartialEq, Eq)]
+pub enum Fate {
+    /// It is written, with what is left of its supplies.
+    Written,
+    /// It is written without supplies, with a note that says why.
+    Emptied,
+    /// It is left out, since it has no RecordReference that the desk would take.
+    LeftOut,
+}
+
+fn is_followed(notification: &[u8]) -> bool
+    ensures { result ≡ is_followed notification.now }
 {
     notification == b"01".as_slice()
         || notification == b"02".as_slice()
         || notification == b"03".as_slice()
+        || notification == b"04".as_slice()
+        || notification == b"05".as_slice()
 }
 
-// Adds the records of all supplies, and notes on what is left out of them. It is true where all
-// supplies that there were are left out. `Wrong` where they may not be, too.
-fn add_kept<'a>(
+// That the desk will not find a Product by an ISBN.
+fn isbn_reason(is_found: bool, depth: usize, lines: &[Line]) -> Option<Reason<'static>>
+    ensures { (nodes : Nodes) → line_views lines.now ≡ outline depth nodes
+        → is_found ≡ has_isbn nodes → reason_read result ≡ isbn_reason nodes }
+{
+    if is_deletion(depth, lines) || is_found {
+        None
+    } else {
+        Some(Reason {
+            why: Why::Foreign(Foreign::NoIsbn),
+            text: b"",
+        })
+    }
+}
+
+// That the desk ignores a Product of its NotificationType.
+fn ignored_reason<'a>(depth: usize, lines: &'a [Line]) -> Option<Reason<'a>>
+    ensures { (nodes : Nodes) → line_views lines.now ≡ outline depth nodes
+        → reason_read result ≡ ignored_reason nodes }
+{
+    let notification = notification_in(depth, lines);
+    if is_followed(notification) {
+        None
+    } else {
+        Some(Reason {
+            why: Why::Foreign(Foreign::Ignored),
+            text: notification,
+        })
+    }
+}
+
+// Adds the notes on a Product that is written.
+fn push_written_notes<'a>(
+    is_found: bool,
+    product: Composite<'a>,
+    depth: usize,
+    notes: &mut Vec<Note<'a>>,
+) -> Result<(), AllocError>
+    ensures { (c : Told) → Tells product.entry depth c → is_found ≡ has_isbn c.below
+        → OnOk result (note_views notes.new.items
+        ≡ note_views notes.old.items ++ written_notes c.below c.element) }
+{
+    push_reason(
+        notes,
+        product.line,
+        isbn_reason(is_found, depth, product.below),
+    )?;
+    push_reason(notes, product.line, ignored_reason(depth, product.below))
+}
+
+// Adds the record of a Product that is emptied, with these types and values.
+fn add_emptied(
+    pairs: &FieldBuffer,
+    depth: usize,
+    lines: &[Line],
+    fields: &mut FieldBuffer,
+    records: &mut RecordBuffer,
+) -> Result<(), AllocError>
+    ensures { (nodes : Nodes) → line_views lines.now ≡ outline depth nodes → OnOk result
+        (records.new ≡ records.old
+        ++ product_record (dropping (notification_in nodes)) pairs.now nodes ∷ []) }
+{
+    let notification = dropping(notification_in(depth, lines));
+    fill_product(notification, pairs, depth, lines, fields)?;
+    records.push(&fields.as_record())
+}
+
+// Adds the record of a Product as it stands, with these types and values.
+fn add_own(
+    pairs: &FieldBuffer,
+    depth: usize,
+    lines: &[Line],
+    fields: &mut FieldBuffer,
+    records: &mut RecordBuffer,
+) -> Result<(), AllocError>
+    ensures { (nodes : Nodes) → line_views lines.now ≡ outline depth nodes → OnOk result
+        (records.new ≡ records.old ++ product_record (notification_in nodes) pairs.now nodes ∷ []) }
+{
+    fill_product(notification_in(depth, lines), pairs, depth, lines, fields)?;
+    records.push(&fields.as_record())
+}
+
+// Adds the records below a Product, and notes on what is left out of them, or gives the reason for
+// which none is left.
+fn add_below<'a>(
     alloc: Global,
     opening: &Opening,
     preferred: &[u8],
@@ -40,82 +138,119 @@ fn add_kept<'a>(
     fields: &mut FieldBuffer,
     records: &mut RecordBuffer,
     notes: &mut Vec<Note<'a>>,
-) -> Result<bool, RowFault>
+) -> Result<Option<Reason<'a>>, AllocError>
     requires { depth < 997 }
+    ensures reason { (nodes : Nodes) → line_views lines.now ≡ outline depth nodes
+        → IfOk result (λ why. reason_read why ≡ reason_below opening.now preferred.now nodes) }
     ensures records { (nodes : Nodes) → line_views lines.now ≡ outline depth nodes
-        → OnOk result (option_map (λ more. records.old ++ more)
-        (kept_supplies opening.now preferred.now nodes) ≡ Some records.new) }
-    ensures none_left { (nodes : Nodes) → line_views lines.now ≡ outline depth nodes
-        → IfOk result (λ is. is
-        ≡ has_none_left (supplies_in nodes) (supplies_records opening.now preferred.now nodes)) }
+        → OnOk result (records.new ≡ records.old ++ records_below opening.now preferred.now nodes) }
     ensures notes { (nodes : Nodes) → line_views lines.now ≡ outline depth nodes
         → OnOk result (note_views notes.new.items
-        ≡ note_views notes.old.items ++ supplies_notes opening.now nodes) }
-    ensures wrong { (nodes : Nodes) → line_views lines.now ≡ outline depth nodes
-        → IsErrOf result RowFault.Wrong → kept_supplies opening.now preferred.now nodes ≡ None }
+        ≡ note_views notes.old.items ++ notes_on_supplies opening.now preferred.now nodes) }
 {
-    let count = records.len();
+    if is_deletion(depth, lines) {
+        return Ok(None);
+    }
     add_supplies(
         alloc, opening, preferred, depth, lines, fields, records, notes,
-    )?;
-    if records.len() != count {
-        return Ok(false);
-    }
-    match next_composite(b"ProductSupply", depth, lines) {
-        None => Ok(false),
-        Some(_) => {
-            if replaces(text_or_empty(depth, b"NotificationType", lines)) {
-                Ok(true)
-            } else {
-                Err(RowFault::Wrong)
-            }
-        }
-    }
+    )
 }
 
-// Whether a Product is a deletion.
-fn is_deletion(depth: usize, lines: &[Line]) -> bool
-    ensures { (nodes : Nodes) → line_views lines.now ≡ outline depth nodes
-        → result ≡ is_deletion nodes }
-{
-    text_or_empty(depth, b"NotificationType", lines) == b"05".as_slice()
-}
-
-// Adds the records below a Product that is no deletion, and notes on what is left out of it.
-fn add_below<'a>(
+// Adds what comes of a Product with these identifiers, of which no own field empties it.
+fn add_sound<'a>(
     alloc: Global,
     opening: &Opening,
     preferred: &[u8],
     depth: usize,
     product: Composite<'a>,
+    identifiers: &Identifiers,
     fields: &mut FieldBuffer,
     records: &mut RecordBuffer,
     notes: &mut Vec<Note<'a>>,
-) -> Result<(), RowFault>
+) -> Result<Fate, AllocError>
     requires { depth < 997 }
+    ensures fate { (c : Told) → Tells product.entry depth c → IfOk result (λ f. f
+        ≡ standing_fate (reason_below opening.now preferred.now c.below)) }
     ensures records { (c : Told) → Tells product.entry depth c
-        → OnOk result (option_map (λ more. records.old ++ more)
-        (kept_supplies opening.now preferred.now c.below) ≡ Some records.new) }
+        → identifiers.now.pairs ≡ right_pairs c.below
+        → OnOk result (records.new ≡ records.old ++ standing_records None
+        (reason_below opening.now preferred.now c.below) opening.now preferred.now c.below) }
     ensures notes { (c : Told) → Tells product.entry depth c
+        → identifiers.now.has_isbn ≡ has_isbn c.below
         → OnOk result (note_views notes.new.items ≡ note_views notes.old.items
-        ++ notes_below opening.now preferred.now c.below c.element) }
-    ensures wrong { (c : Told) → Tells product.entry depth c → IsErrOf result RowFault.Wrong
-        → kept_supplies opening.now preferred.now c.below ≡ None }
+        ++ standing_notes None (reason_below opening.now preferred.now c.below)
+        opening.now preferred.now c) }
 {
+    let count = records.len();
     let lines = product.below;
-    if add_kept(
+    add_own(&identifiers.pairs, depth, lines, fields, records)?;
+    match add_below(
         alloc, opening, preferred, depth, lines, fields, records, notes,
     )? {
-        return Ok(push_why(notes, product.line, Why::NoSupplyLeft)?);
+        None => {
+            push_written_notes(identifiers.has_isbn, product, depth, notes)?;
+            Ok(Fate::Written)
+        }
+        Some(reason) => {
+            records.truncate(count);
+            add_emptied(&identifiers.pairs, depth, lines, fields, records)?;
+            push_note(notes, product.line, reason)?;
+            Ok(Fate::Emptied)
+        }
     }
-    Ok(())
+}
+
+// Adds what comes of a Product that has a RecordReference, behind the notes on its identifiers.
+fn add_standing<'a>(
+    alloc: Global,
+    opening: &Opening,
+    preferred: &[u8],
+    depth: usize,
+    product: Composite<'a>,
+    identifiers: &Identifiers,
+    fields: &mut FieldBuffer,
+    records: &mut RecordBuffer,
+    notes: &mut Vec<Note<'a>>,
+) -> Result<Fate, AllocError>
+    requires { depth < 997 }
+    ensures fate { (c : Told) → Tells product.entry depth c
+        → identifiers.now.pairs ≡ right_pairs c.below → IfOk result (λ f. f
+        ≡ standing_fate (why_emptied opening.now preferred.now c.below)) }
+    ensures records { (c : Told) → Tells product.entry depth c
+        → identifiers.now.pairs ≡ right_pairs c.below
+        → OnOk result (records.new ≡ records.old ++ standing_records (own_reason c.below)
+        (reason_below opening.now preferred.now c.below) opening.now preferred.now c.below) }
+    ensures notes { (c : Told) → Tells product.entry depth c
+        → identifiers.now.pairs ≡ right_pairs c.below
+        → identifiers.now.has_isbn ≡ has_isbn c.below
+        → OnOk result (note_views notes.new.items ≡ note_views notes.old.items
+        ++ standing_notes (own_reason c.below) (reason_below opening.now preferred.now c.below)
+        opening.now preferred.now c) }
+{
+    match own_reason(&identifiers.pairs, depth, product.below) {
+        Some(reason) => {
+            add_emptied(&identifiers.pairs, depth, product.below, fields, records)?;
+            push_note(notes, product.line, reason)?;
+            Ok(Fate::Emptied)
+        }
+        None => add_sound(
+            alloc,
+            opening,
+            preferred,
+            depth,
+            product,
+            identifiers,
+            fields,
+            records,
+            notes,
+        ),
+    }
 }
 
 /// Adds the records of a Product and of its supplies, in a message that begins so, and notes on
-/// what is left out of it. `Wrong` exactly where the Product is: the desk would not take one of the
-/// records, or all its supplies are left out and it does not replace those that the desk has. Of
-/// several identifiers of a supplier the first of the preferred type is written, else the first.
-/// The list takes the fields of a record. After an error there may be more records and notes.
+/// what is left out of it; it tells what becomes of it. Of several identifiers of a supplier the
+/// first of the preferred type is written, else the first. The list takes the fields of a record.
+/// After an error there may be more records and notes.
 pub fn add_product<'a>(
     alloc: Global,
     opening: &Opening,
@@ -125,24 +260,73 @@ pub fn add_product<'a>(
     fields: &mut FieldBuffer,
     records: &mut RecordBuffer,
     notes: &mut Vec<Note<'a>>,
-) -> Result<(), RowFault>
+) -> Result<Fate, AllocError>
     requires { depth < 997 }
+    ensures fate { (c : Told) → Tells product.entry depth c
+        → IfOk result (λ f. f ≡ fate_of opening.now preferred.now c.below) }
     ensures records { (c : Told) → Tells product.entry depth c
-        → OnOk result (option_map (λ more. records.old ++ more)
-        (product_records opening.now preferred.now c.below) ≡ Some records.new) }
+        → OnOk result (records.new
+        ≡ records.old ++ product_records opening.now preferred.now c.below) }
     ensures notes { (c : Told) → Tells product.entry depth c
         → OnOk result (note_views notes.new.items
-        ≡ note_views notes.old.items ++ all_notes opening.now preferred.now c) }
-    ensures wrong { (c : Told) → Tells product.entry depth c → IsErrOf result RowFault.Wrong
-        → product_records opening.now preferred.now c.below ≡ None }
+        ≡ note_views notes.old.items ++ product_notes opening.now preferred.now c) }
 {
-    let lines = product.below;
-    fill_product(alloc, fields, depth, lines, notes)?;
-    records.push(&fields.as_record())?;
-    if is_deletion(depth, lines) {
-        return Ok(());
+    let reference = reference_in(depth, product.below);
+    if !is_field(reference) {
+        let why = Why::Wrong(Wrong::RecordReference);
+        let text = reference;
+        push_note(notes, product.line, Reason { why, text })?;
+        return Ok(Fate::LeftOut);
     }
-    add_below(
-        alloc, opening, preferred, depth, product, fields, records, notes,
+    let identifiers = take_identifiers(alloc, depth, product.below, notes)?;
+    add_standing(
+        alloc,
+        opening,
+        preferred,
+        depth,
+        product,
+        &identifiers,
+        fields,
+        records,
+        notes,
     )
+}
+
+/// Adds the record of a Product that is emptied since it is too large for a message, and the notes
+/// on it then.
+pub fn add_large<'a>(
+    alloc: Global,
+    depth: usize,
+    product: Composite<'a>,
+    fields: &mut FieldBuffer,
+    records: &mut RecordBuffer,
+    notes: &mut Vec<Note<'a>>,
+) -> Result<(), AllocError>
+    requires { depth < 999 }
+    ensures record { (c : Told) → Tells product.entry depth c
+        → OnOk result (records.new ≡ records.old ++ emptied_record c.below ∷ []) }
+    ensures notes { (c : Told) → Tells product.entry depth c
+        → OnOk result (note_views notes.new.items
+        ≡ note_views notes.old.items ++ too_large_notes c) }
+{
+    let identifiers = take_identifiers(alloc, depth, product.below, notes)?;
+    add_emptied(&identifiers.pairs, depth, product.below, fields, records)?;
+    let why = Why::Wrong(Wrong::TooLarge);
+    push_note(notes, product.line, Reason { why, text: b"" })
+}
+
+/// Adds the record of a Product that is too large even without supplies: its reference stands for
+/// its identifiers.
+pub fn add_bare(
+    alloc: Global,
+    depth: usize,
+    product: Composite<'_>,
+    fields: &mut FieldBuffer,
+    records: &mut RecordBuffer,
+) -> Result<(), AllocError>
+    ensures { (c : Told) → Tells product.entry depth c
+        → OnOk result (records.new ≡ records.old ++ bare_record c.below ∷ []) }
+{
+    let none = FieldBuffer::new(alloc);
+    add_emptied(&none, depth, product.below, fields, records)
 }

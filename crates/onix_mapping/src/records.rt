@@ -1,11 +1,23 @@
 //! Texts of elements as the fields of a record.
 
-ghost use Rattle.std.specs.Prelude.{◌≡◌, ◌++◌, IfNone, IfSome, IsErrOf, OnOk, map, true, false};
+ghost use Rattle.std.specs.Prelude.{◌≡◌, ◌==◌, ◌++◌, IfNone, IfSome, IsErrOf, OnOk, is_some, map, not, option_map, true, false};
 ghost use Rattle.std.specs.List.{list_all};
+ghost use Rattle.std.specs.Option.{option_or};
 ghost use Rattle.std.specs.Str.{is_utf8};
+ghost use Rattle.onix_message.specs.Fields.{is_clean, is_control, value_or_default, unless_empty};
+ghost use Rattle.onix_mapping.specs.Notes.{reason_view};
+ghost use Rattle.onix_mapping.specs.PriceViews.{reason_read};
+ghost use Rattle.onix_mapping.specs.Records.{is_field, term_said, unless};
+ghost use Rattle.onix_terms.specs.Amount.{amount_of};
+ghost use Rattle.onix_terms.specs.Code.{code2_of, currency_of};
+ghost use Rattle.onix_terms.specs.Quantity.{quantity_of};
 
+use crate::notes::{Reason, Why, Wrong};
 use csv_records::fields::FieldBuffer;
 use onix_message::row::RowFault;
+use onix_terms::amount::Amount;
+use onix_terms::code::{Code2, Currency};
+use onix_terms::quantity::Quantity;
 
 /// The text of bytes, where they are UTF-8.
 pub(crate) fn utf8_text(bytes: &[u8]) -> Option<&str>
@@ -17,6 +29,62 @@ pub(crate) fn utf8_text(bytes: &[u8]) -> Option<&str>
         Ok(text) => Some(text),
         Err(_) => None,
     }
+}
+
+pub(crate) fn code_said(text: &[u8]) -> Option<Code2>
+    ensures { result ≡ term_said code2_of text.now }
+{
+    utf8_text(text)?.parse().ok()
+}
+
+pub(crate) fn amount_said(text: &[u8]) -> Option<Amount>
+    ensures { result ≡ term_said amount_of text.now }
+{
+    utf8_text(text)?.parse().ok()
+}
+
+pub(crate) fn currency_said(text: &[u8]) -> Option<Currency>
+    ensures { result ≡ term_said currency_of text.now }
+{
+    utf8_text(text)?.parse().ok()
+}
+
+pub(crate) fn quantity_said(text: &[u8]) -> Option<Quantity>
+    ensures { result ≡ term_said quantity_of text.now }
+{
+    utf8_text(text)?.parse().ok()
+}
+
+fn is_control_byte(byte: u8) -> bool
+    ensures { result ≡ is_control byte }
+{
+    byte < 32 || byte == 127
+}
+
+fn has_no_control(text: &[u8]) -> bool
+    ensures { result ≡ list_all (λ b. not (is_control b)) text.now }
+{
+    text.iter().all(|byte| !is_control_byte(*byte))
+}
+
+fn is_clean(text: &[u8]) -> bool
+    ensures { result ≡ is_clean text.now }
+{
+    text.len() <= 1024 && has_no_control(text)
+}
+
+/// Whether the desk takes a text as a field that may not be empty.
+pub(crate) fn is_field(text: &[u8]) -> bool
+    ensures { result ≡ is_field text.now }
+{
+    !text.is_empty() && utf8_text(text).is_some() && is_clean(text)
+}
+
+/// Whether each byte is the digit 0.
+pub(crate) fn are_zeros(text: &[u8]) -> bool
+    ensures { result ≡ list_all (λ b. b == 48) text.now }
+{
+    text.iter().all(|byte| *byte == b'0')
 }
 
 /// Adds texts to the fields of a record. `Wrong` exactly where one is no UTF-8.
@@ -35,4 +103,46 @@ pub(crate) fn push_texts(fields: &mut FieldBuffer, texts: &[&[u8]]) -> Result<()
         rest = tail;
     }
     Ok(())
+}
+
+/// A reason where something does not hold.
+pub(crate) fn unless<'a>(holds: bool, why: Wrong, text: &'a [u8]) -> Option<Reason<'a>>
+    ensures { reason_read result ≡ unless holds why text.now }
+{
+    if holds {
+        None
+    } else {
+        Some(Reason {
+            why: Why::Wrong(why),
+            text,
+        })
+    }
+}
+
+/// The first of two reasons that holds.
+pub(crate) fn former<'a>(one: Option<Reason<'a>>, other: Option<Reason<'a>>) -> Option<Reason<'a>>
+    ensures { reason_read result ≡ option_or (reason_read one.entry) (reason_read other.entry) }
+{
+    match one {
+        Some(reason) => Some(reason),
+        None => other,
+    }
+}
+
+/// Whether a text is empty, or its value is there.
+pub(crate) fn may_be_empty<T: Drop>(text: &[u8], value: Option<T>) -> bool
+    ensures { result ≡ is_some (unless_empty text.now value) }
+{
+    text.is_empty() || value.is_some()
+}
+
+/// The value of a text, or the default where it is empty.
+pub(crate) fn value_or_default<T: Drop>(
+    default: Option<T>,
+    text: &[u8],
+    value: Option<T>,
+) -> Option<T>
+    ensures { result ≡ value_or_default default text.now value }
+{
+    if text.is_empty() { default } else { value }
 }

@@ -1,26 +1,61 @@
 //! The supplies of a Product.
 
-ghost use Rattle.std.specs.Prelude.{◌≡◌, ◌++◌, ◌∷◌, ◌<◌, [], None, Some, IsErrOf, OnOk, option_map};
+ghost use Rattle.std.specs.Prelude.{◌≡◌, ◌++◌, ◌<◌, [], None, IfOk, OnOk};
 ghost use Rattle.onix_mapping.specs.Elements.{Composite as Told, Tells};
-ghost use Rattle.onix_mapping.specs.Markets.{market_notes_in, record_in};
-ghost use Rattle.onix_mapping.specs.Notes.{note_views};
-ghost use Rattle.onix_mapping.specs.Supplies.{details_notes, details_records, supplies_notes, supplies_records, supply_notes, supply_records, with_details, with_notes};
+ghost use Rattle.onix_mapping.specs.Notes.{foreign, note_views, reason_view, wrong};
+ghost use Rattle.onix_mapping.specs.Outcomes.{all_notes, all_records, notes_below, outcome_notes, outcome_reason, outcome_records};
+ghost use Rattle.onix_mapping.specs.PriceViews.{reason_read};
+ghost use Rattle.onix_mapping.specs.Markets.{markets_in, markets_outcome};
+ghost use Rattle.onix_mapping.specs.declared.notes.Foreign.TheVariants as other;
+ghost use Rattle.onix_mapping.specs.declared.notes.Wrong.TheVariants as bad;
+ghost use Rattle.onix_mapping.specs.Supplies.{by_markets, detail_in, details_in, first_lost, lost_by, none_left, supplies_notes, supplies_reason, supplies_records, supply_in, supply_outcome};
 ghost use Rattle.onix_outline.specs.Nodes.{Nodes};
 ghost use Rattle.onix_outline.specs.Outline.{outline};
 ghost use Rattle.onix_outline.specs.Views.{line_views};
 
 use crate::details::add_detail;
 use crate::elements::{Composite, next_composite};
-use crate::markets::fill_supply;
-use crate::notes::{Note, Why, push_why};
+use crate::markets::add_markets;
+use crate::notes::{Foreign, Note, Reason, Why, Wrong, push_reason};
+use crate::records::former;
 use csv_records::buffer::RecordBuffer;
 use csv_records::fields::FieldBuffer;
-use onix_message::row::{Opening, RowFault};
+use onix_message::row::Opening;
 use onix_outline::Line;
 use std::alloc::{AllocError, Global};
 
-// Adds the records of the SupplyDetails that lines of this depth tell, and of their Prices, and
-// notes on what is left out of them.
+// Adds what comes of a SupplyDetail: its records, and notes on what is left out.
+fn add_one_detail<'a>(
+    alloc: Global,
+    opening: &Opening,
+    preferred: &[u8],
+    depth: usize,
+    detail: Composite<'a>,
+    fields: &mut FieldBuffer,
+    records: &mut RecordBuffer,
+    notes: &mut Vec<Note<'a>>,
+) -> Result<(), AllocError>
+    requires { depth < 999 }
+    ensures records { (c : Told) → Tells detail.entry depth c → OnOk result (records.new
+        ≡ records.old ++ outcome_records (detail_in opening.now preferred.now c)) }
+    ensures notes { (c : Told) → Tells detail.entry depth c
+        → OnOk result (note_views notes.new.items ≡ note_views notes.old.items
+        ++ outcome_notes c.element (detail_in opening.now preferred.now c)) }
+{
+    let refused = add_detail(
+        alloc,
+        opening,
+        preferred,
+        depth,
+        detail.below,
+        fields,
+        records,
+        notes,
+    )?;
+    push_reason(notes, detail.line, refused)
+}
+
+// Adds what comes of the SupplyDetails that lines of this depth tell.
 fn add_details<'a>(
     alloc: Global,
     opening: &Opening,
@@ -30,27 +65,23 @@ fn add_details<'a>(
     fields: &mut FieldBuffer,
     records: &mut RecordBuffer,
     notes: &mut Vec<Note<'a>>,
-) -> Result<(), RowFault>
+) -> Result<(), AllocError>
     requires { depth < 998 }
     ensures records { (nodes : Nodes) → line_views lines.now ≡ outline depth nodes
-        → OnOk result (option_map (λ more. records.old ++ more)
-        (details_records opening.now preferred.now nodes) ≡ Some records.new) }
+        → OnOk result (records.new ≡ records.old
+        ++ all_records (detail_in opening.now preferred.now) (details_in nodes)) }
     ensures notes { (nodes : Nodes) → line_views lines.now ≡ outline depth nodes
-        → OnOk result (note_views notes.new.items
-        ≡ note_views notes.old.items ++ details_notes opening.now nodes) }
-    ensures wrong { (nodes : Nodes) → line_views lines.now ≡ outline depth nodes
-        → IsErrOf result RowFault.Wrong
-        → details_records opening.now preferred.now nodes ≡ None }
+        → OnOk result (note_views notes.new.items ≡ note_views notes.old.items
+        ++ all_notes (detail_in opening.now preferred.now) (details_in nodes)) }
 {
     let mut rest = lines;
     while let Some((detail, behind)) = next_composite(b"SupplyDetail", depth, rest) {
-        let below = detail.below;
-        add_detail(
+        add_one_detail(
             alloc,
             opening,
             preferred,
             depth + 1,
-            below,
+            detail,
             fields,
             records,
             notes,
@@ -60,8 +91,26 @@ fn add_details<'a>(
     Ok(())
 }
 
-// Adds the records of a ProductSupply that has SupplyDetails, by the lines of this depth that stand
-// in it, and notes on what is left out of it.
+fn no_detail() -> Reason<'static>
+    ensures { reason_view result ≡ foreign other.NoSupplyDetail [] }
+{
+    Reason {
+        why: Why::Foreign(Foreign::NoSupplyDetail),
+        text: b"",
+    }
+}
+
+fn no_detail_left() -> Reason<'static>
+    ensures { reason_view result ≡ wrong bad.NoDetailLeft [] }
+{
+    Reason {
+        why: Why::Wrong(Wrong::NoDetailLeft),
+        text: b"",
+    }
+}
+
+// Adds the records of a ProductSupply that has SupplyDetails, and notes on what is left out below
+// it, or gives the reason for which it is left out: the notes count only where it is not.
 fn add_detailed<'a>(
     alloc: Global,
     opening: &Opening,
@@ -71,63 +120,40 @@ fn add_detailed<'a>(
     fields: &mut FieldBuffer,
     records: &mut RecordBuffer,
     notes: &mut Vec<Note<'a>>,
-) -> Result<(), RowFault>
+) -> Result<Option<Reason<'a>>, AllocError>
     requires { depth < 998 }
+    ensures reason { (nodes : Nodes) → line_views lines.now ≡ outline depth nodes
+        → IfOk result (λ why. reason_read why ≡ outcome_reason
+        (by_markets (markets_outcome (markets_in nodes)) opening.now preferred.now
+        (details_in nodes))) }
     ensures records { (nodes : Nodes) → line_views lines.now ≡ outline depth nodes
-        → OnOk result (option_map (λ more. records.old ++ more) (with_details (record_in nodes)
-        (details_records opening.now preferred.now nodes)) ≡ Some records.new) }
+        → OnOk result (records.new ≡ records.old ++ outcome_records
+        (by_markets (markets_outcome (markets_in nodes)) opening.now preferred.now
+        (details_in nodes))) }
     ensures notes { (nodes : Nodes) → line_views lines.now ≡ outline depth nodes
-        → OnOk result (note_views notes.new.items ≡ note_views notes.old.items
-        ++ (market_notes_in nodes
-        ++ with_notes (record_in nodes) (details_notes opening.now nodes))) }
-    ensures wrong { (nodes : Nodes) → line_views lines.now ≡ outline depth nodes
-        → IsErrOf result RowFault.Wrong → with_details (record_in nodes)
-        (details_records opening.now preferred.now nodes) ≡ None }
+        → IfOk result (λ why. why ≡ None → note_views notes.new.items
+        ≡ note_views notes.old.items ++ notes_below
+        (by_markets (markets_outcome (markets_in nodes)) opening.now preferred.now
+        (details_in nodes))) }
 {
-    if !fill_supply(alloc, fields, depth, lines, notes)? {
-        return Ok(());
+    let count = records.len();
+    if let Some(reason) = add_markets(alloc, depth, lines, fields, records, notes)? {
+        return Ok(Some(reason));
     }
-    records.push(&fields.as_record())?;
+    let with_market = records.len();
     add_details(
         alloc, opening, preferred, depth, lines, fields, records, notes,
-    )
-}
-
-// Adds the records of a ProductSupply, and notes on what is left out of it, or on itself.
-fn add_supply<'a>(
-    alloc: Global,
-    opening: &Opening,
-    preferred: &[u8],
-    depth: usize,
-    supply: Composite<'a>,
-    fields: &mut FieldBuffer,
-    records: &mut RecordBuffer,
-    notes: &mut Vec<Note<'a>>,
-) -> Result<(), RowFault>
-    requires { depth < 998 }
-    ensures records { (c : Told) → Tells supply.entry depth c
-        → OnOk result (option_map (λ more. records.old ++ more)
-        (supply_records opening.now preferred.now c) ≡ Some records.new) }
-    ensures notes { (c : Told) → Tells supply.entry depth c
-        → OnOk result (note_views notes.new.items
-        ≡ note_views notes.old.items ++ supply_notes opening.now c) }
-    ensures wrong { (c : Told) → Tells supply.entry depth c
-        → IsErrOf result RowFault.Wrong → supply_records opening.now preferred.now c ≡ None }
-{
-    let lines = supply.below;
-    match next_composite(b"SupplyDetail", depth, lines) {
-        None => Ok(push_why(notes, supply.line, Why::NoSupplyDetail)?),
-        Some(_) => add_detailed(
-            alloc, opening, preferred, depth, lines, fields, records, notes,
-        ),
+    )?;
+    if records.len() == with_market {
+        records.truncate(count);
+        return Ok(Some(no_detail_left()));
     }
+    Ok(None)
 }
 
-/// Adds the records of all the ProductSupplys that lines of this depth tell, in a message that
-/// begins so, and notes on what is left out of them. `Wrong` exactly where the desk would not take
-/// one of the records. Of several identifiers of a supplier the first of the preferred type is
-/// written, else the first. The list takes the fields of a record.
-pub fn add_supplies<'a>(
+// Adds the records of a ProductSupply, and notes on what is left out below it, or gives the reason
+// for which it is left out.
+fn add_supply<'a>(
     alloc: Global,
     opening: &Opening,
     preferred: &[u8],
@@ -136,21 +162,106 @@ pub fn add_supplies<'a>(
     fields: &mut FieldBuffer,
     records: &mut RecordBuffer,
     notes: &mut Vec<Note<'a>>,
-) -> Result<(), RowFault>
-    requires { depth < 997 }
+) -> Result<Option<Reason<'a>>, AllocError>
+    requires { depth < 998 }
+    ensures reason { (nodes : Nodes) → line_views lines.now ≡ outline depth nodes
+        → IfOk result (λ why. reason_read why
+        ≡ outcome_reason (supply_outcome opening.now preferred.now nodes)) }
     ensures records { (nodes : Nodes) → line_views lines.now ≡ outline depth nodes
-        → OnOk result (option_map (λ more. records.old ++ more)
-        (supplies_records opening.now preferred.now nodes) ≡ Some records.new) }
+        → OnOk result (records.new ≡ records.old
+        ++ outcome_records (supply_outcome opening.now preferred.now nodes)) }
+    ensures notes { (nodes : Nodes) → line_views lines.now ≡ outline depth nodes
+        → IfOk result (λ why. why ≡ None → note_views notes.new.items
+        ≡ note_views notes.old.items
+        ++ notes_below (supply_outcome opening.now preferred.now nodes)) }
+{
+    if next_composite(b"SupplyDetail", depth, lines).is_none() {
+        return Ok(Some(no_detail()));
+    }
+    add_detailed(
+        alloc, opening, preferred, depth, lines, fields, records, notes,
+    )
+}
+
+// Adds what comes of a ProductSupply: its records, and notes on what is left out. It gives the
+// reason for which it is left out.
+fn add_one_supply<'a>(
+    alloc: Global,
+    opening: &Opening,
+    preferred: &[u8],
+    depth: usize,
+    supply: Composite<'a>,
+    fields: &mut FieldBuffer,
+    records: &mut RecordBuffer,
+    notes: &mut Vec<Note<'a>>,
+) -> Result<Option<Reason<'a>>, AllocError>
+    requires { depth < 998 }
+    ensures reason { (c : Told) → Tells supply.entry depth c → IfOk result (λ why. reason_read why
+        ≡ outcome_reason (supply_in opening.now preferred.now c)) }
+    ensures records { (c : Told) → Tells supply.entry depth c → OnOk result (records.new
+        ≡ records.old ++ outcome_records (supply_in opening.now preferred.now c)) }
+    ensures notes { (c : Told) → Tells supply.entry depth c
+        → OnOk result (note_views notes.new.items ≡ note_views notes.old.items
+        ++ outcome_notes c.element (supply_in opening.now preferred.now c)) }
+{
+    let mut below: Vec<Note<'a>> = Vec::new(alloc);
+    let refused = add_supply(
+        alloc,
+        opening,
+        preferred,
+        depth,
+        supply.below,
+        fields,
+        records,
+        &mut below,
+    )?;
+    if refused.is_none() {
+        notes.extend_from_slice(&below)?;
+    } else {
+        push_reason(notes, supply.line, refused)?;
+    }
+    Ok(refused)
+}
+
+// The reason for which a ProductSupply that has a SupplyDetail is left out.
+fn lost_by<'a>(refused: Option<Reason<'a>>) -> Option<Reason<'a>>
+    ensures { reason_read result ≡ lost_by (reason_read refused.entry) }
+{
+    match refused {
+        None => None,
+        Some(reason) => match reason.why {
+            Why::Foreign(Foreign::NoSupplyDetail) => None,
+            _ => Some(reason),
+        },
+    }
+}
+
+// Adds what comes of all the ProductSupplys that lines of this depth tell. It gives the reason for
+// which the first that has a SupplyDetail is left out.
+fn add_each<'a>(
+    alloc: Global,
+    opening: &Opening,
+    preferred: &[u8],
+    depth: usize,
+    lines: &'a [Line],
+    fields: &mut FieldBuffer,
+    records: &mut RecordBuffer,
+    notes: &mut Vec<Note<'a>>,
+) -> Result<Option<Reason<'a>>, AllocError>
+    requires { depth < 997 }
+    ensures lost { (nodes : Nodes) → line_views lines.now ≡ outline depth nodes
+        → IfOk result (λ why. reason_read why ≡ first_lost opening.now preferred.now nodes) }
+    ensures records { (nodes : Nodes) → line_views lines.now ≡ outline depth nodes
+        → OnOk result (records.new
+        ≡ records.old ++ supplies_records opening.now preferred.now nodes) }
     ensures notes { (nodes : Nodes) → line_views lines.now ≡ outline depth nodes
         → OnOk result (note_views notes.new.items
-        ≡ note_views notes.old.items ++ supplies_notes opening.now nodes) }
-    ensures wrong { (nodes : Nodes) → line_views lines.now ≡ outline depth nodes
-        → IsErrOf result RowFault.Wrong
-        → supplies_records opening.now preferred.now nodes ≡ None }
+        ≡ note_views notes.old.items ++ supplies_notes opening.now preferred.now nodes) }
 {
+    let mut lost = None;
     let mut rest = lines;
     while let Some((supply, behind)) = next_composite(b"ProductSupply", depth, rest) {
-        add_supply(
+        let refused = add_one_supply(
             alloc,
             opening,
             preferred,
@@ -160,7 +271,57 @@ pub fn add_supplies<'a>(
             records,
             notes,
         )?;
+        lost = former(lost, lost_by(refused));
         rest = behind;
     }
-    Ok(())
+    Ok(lost)
+}
+
+// That no supply is left, where the first that is lost is so.
+fn none_left(first: Reason<'_>) -> Reason<'static>
+    ensures { reason_view result ≡ none_left (reason_view first.entry) }
+{
+    let why = if first.why.is_wrong() {
+        Why::Wrong(Wrong::NoSupplyLeft)
+    } else {
+        Why::Foreign(Foreign::NoSupplyLeft)
+    };
+    Reason { why, text: b"" }
+}
+
+/// Adds the records of all the ProductSupplys that lines of this depth tell, in a message that
+/// begins so, and notes on what is left out of them. It gives a reason where some had a
+/// SupplyDetail and none is left. Of several identifiers of a supplier the first of the preferred
+/// type is written, else the first. The list takes the fields of a record.
+pub(crate) fn add_supplies<'a>(
+    alloc: Global,
+    opening: &Opening,
+    preferred: &[u8],
+    depth: usize,
+    lines: &'a [Line],
+    fields: &mut FieldBuffer,
+    records: &mut RecordBuffer,
+    notes: &mut Vec<Note<'a>>,
+) -> Result<Option<Reason<'a>>, AllocError>
+    requires { depth < 997 }
+    ensures reason { (nodes : Nodes) → line_views lines.now ≡ outline depth nodes
+        → IfOk result (λ why. reason_read why ≡ supplies_reason opening.now preferred.now nodes) }
+    ensures records { (nodes : Nodes) → line_views lines.now ≡ outline depth nodes
+        → OnOk result (records.new
+        ≡ records.old ++ supplies_records opening.now preferred.now nodes) }
+    ensures notes { (nodes : Nodes) → line_views lines.now ≡ outline depth nodes
+        → OnOk result (note_views notes.new.items
+        ≡ note_views notes.old.items ++ supplies_notes opening.now preferred.now nodes) }
+{
+    let count = records.len();
+    let lost = add_each(
+        alloc, opening, preferred, depth, lines, fields, records, notes,
+    )?;
+    if records.len() != count {
+        return Ok(None);
+    }
+    match lost {
+        None => Ok(None),
+        Some(first) => Ok(Some(none_left(first))),
+    }
 }

@@ -1,29 +1,37 @@
 //! Where a Market or a Price holds.
 
-ghost use Rattle.std.specs.Prelude.{◌≡◌, ◌++◌, ◌<◌, OnOk, map, option_map};
-ghost use Rattle.onix_mapping.specs.Notes.{note_views, reason_view};
-ghost use Rattle.onix_mapping.specs.Markets.{as_it_stands, as_union};
-ghost use Rattle.onix_mapping.specs.Records.{clean, Fills};
-ghost use Rattle.onix_mapping.specs.Territories.{area_fields, area_in, area_view, left_out_regions, market_of, region_alone, unheld};
-ghost use Rattle.onix_outline.specs.Nodes.{Nodes};
-ghost use Rattle.onix_outline.specs.Outline.{outline};
-ghost use Rattle.onix_outline.specs.Views.{line_views};
+ghost use Rattle.std.specs.Prelude.{◌≡◌, ◌++◌, ◌<◌, [], IfOk, OnOk, is_some, map, option_map};
+ghost use Rattle.std.specs.Option.{unwrap_or};
+ghost use Rattle.onix_mapping.specs.Markets.{IsFilled, supply_record, union_fields};
+ghost use Rattle.onix_mapping.specs.Notes.{note_views, reason_view, wrong};
+ghost use Rattle.onix_mapping.specs.PriceViews.{reason_read};
+ghost use Rattle.onix_mapping.specs.Records.{clean, first_some, term_said};
+ghost use Rattle.onix_mapping.specs.Territories.{AreRenamed, area_fields, area_in, area_reasons, area_refusal, area_view, market_of, region_alone, territory_notes, unheld};
+ghost use Rattle.onix_mapping.specs.declared.notes.Wrong.TheVariants as bad;
 ghost use Rattle.onix_message.specs.Fields.{territory_fields};
 ghost use Rattle.onix_message.specs.Gives.{Gives};
 ghost use Rattle.onix_message.specs.Supply.{supply_of};
+ghost use Rattle.onix_outline.specs.Nodes.{Nodes};
+ghost use Rattle.onix_outline.specs.Outline.{outline};
+ghost use Rattle.onix_outline.specs.Views.{line_views};
+ghost use Rattle.onix_mapping.specs.Regions.{names_world};
+ghost use Rattle.onix_terms.specs.Territory.{countries_of, world_text};
 
 use crate::elements::{first_composite, text_or_empty};
-use crate::notes::{Note, Reason, Why};
-use crate::records::push_texts;
-use crate::regions::{names_world, next_word, push_regions, region_of_no_country};
+use crate::notes::{Foreign, Note, Reason, Why, Wrong};
+use crate::records::{former, push_texts, unless, utf8_text};
+use crate::regions::{
+    countries_written, names_world, next_word, push_other_names, push_regions,
+    region_of_no_country, renamed,
+};
 use csv_records::fields::FieldBuffer;
 use onix_message::fields::read_fields;
 use onix_message::parts::ProductSupply;
 use onix_message::row::RowFault;
 use onix_message::supply::read_supply;
 use onix_outline::Line;
-use onix_terms::countries::countries_text;
-use onix_terms::territory::Territory;
+use onix_terms::countries::{countries_text, read_countries};
+use onix_terms::territory::{TermFault, Territory};
 use std::alloc::{AllocError, Global};
 
 /// Where a Market or a Price holds: the line of its Territory, where it has one, and the four
@@ -77,49 +85,74 @@ fn region_alone<'a>(area: &Area<'a>) -> Option<&'a [u8]>
 
 /// Why the desk cannot hold a territory, whatever is left out of it.
 pub fn unheld<'a>(area: &Area<'a>) -> Option<Reason<'a>>
-    ensures { option_map reason_view result ≡ unheld (area_view area.now) }
+    ensures { reason_read result ≡ unheld (area_view area.now) }
 {
     if let Some(text) = region_alone(area) {
         return Some(Reason {
-            why: Why::RegionAlone,
+            why: Why::Foreign(Foreign::RegionAlone),
             text,
         });
     }
     match region_of_no_country(area.regions_excluded) {
         Some(text) => Some(Reason {
-            why: Why::RegionOfNoCountry,
+            why: Why::Foreign(Foreign::RegionOfNoCountry),
             text,
         }),
         None => None,
     }
 }
 
-/// CountriesIncluded, RegionsIncluded and CountriesExcluded as they are written: of the regions
-/// `WORLD` alone.
-pub fn area_fields<'a>(area: &Area<'a>) -> [&'a [u8]; 3]
-    ensures { map (λ t. t.now) result ≡ area_fields (area_view area.now) }
-{
-    let world: &'a [u8] = if names_world(area.regions_included) {
-        b"WORLD"
-    } else {
-        b""
-    };
-    [area.included, world, area.excluded]
+/// What of the countries of a territory is renamed.
+#[derive(Drop)]
+pub struct Renamed {
+    pub(crate) included: Option<Vec<u8>>,
+    pub(crate) excluded: Option<Vec<u8>>,
 }
 
-/// Adds a note on each region that is left out of a territory that the desk can hold.
-pub fn push_left_out_regions<'a>(
+/// What is renamed of the countries of a territory.
+pub(crate) fn renamed_in(alloc: Global, area: &Area<'_>) -> Result<Renamed, AllocError>
+    ensures { IfOk result (λ r. AreRenamed r (area_view area.now)) }
+{
+    Ok(Renamed {
+        included: renamed(alloc, area.included)?,
+        excluded: renamed(alloc, area.excluded)?,
+    })
+}
+
+/// RegionsIncluded as they are written: `WORLD` alone.
+pub(crate) fn world_field(regions: &[u8]) -> &'static [u8]
+    ensures { result.now ≡ world_text (names_world regions.now) }
+{
+    if names_world(regions) { b"WORLD" } else { b"" }
+}
+
+/// CountriesIncluded, RegionsIncluded and CountriesExcluded as they are written: countries by their
+/// codes, of the regions `WORLD` alone.
+pub(crate) fn area_fields<'b>(area: &'b Area<'_>, renamed: &'b Renamed) -> [&'b [u8]; 3]
+    ensures { AreRenamed renamed.now (area_view area.now)
+        → map (λ t. t.now) result ≡ area_fields (area_view area.now) }
+{
+    let included: &'b [u8] = countries_written(area.included, &renamed.included);
+    let world: &'b [u8] = world_field(area.regions_included);
+    let excluded: &'b [u8] = countries_written(area.excluded, &renamed.excluded);
+    [included, world, excluded]
+}
+
+/// Adds the notes on a territory that the desk can hold.
+pub(crate) fn push_territory_notes<'a>(
     notes: &mut Vec<Note<'a>>,
     area: &Area<'a>,
 ) -> Result<(), AllocError>
     ensures { OnOk result (note_views notes.new.items
-        ≡ note_views notes.old.items ++ left_out_regions (area_view area.now)) }
+        ≡ note_views notes.old.items ++ territory_notes (area_view area.now)) }
 {
     let Some(line) = area.line else {
         return Ok(());
     };
-    push_regions(notes, line, Why::RegionIncluded, area.regions_included)?;
-    push_regions(notes, line, Why::RegionExcluded, area.regions_excluded)
+    push_regions(notes, line, Foreign::RegionIncluded, area.regions_included)?;
+    push_regions(notes, line, Foreign::RegionExcluded, area.regions_excluded)?;
+    push_other_names(notes, line, area.included)?;
+    push_other_names(notes, line, area.excluded)
 }
 
 // The market that the fields of a record say.
@@ -133,12 +166,75 @@ fn read_fields_of_market(alloc: Global, buffer: &FieldBuffer) -> Result<ProductS
 }
 
 /// The market of a Territory, as the desk reads it. `Wrong` exactly where it reads none.
-pub fn read_market(alloc: Global, area: &Area<'_>) -> Result<ProductSupply, RowFault>
-    ensures { Gives result (market_of (area_view area.now)) }
+pub(crate) fn read_market(
+    alloc: Global,
+    area: &Area<'_>,
+    renamed: &Renamed,
+) -> Result<ProductSupply, RowFault>
+    ensures { AreRenamed renamed.now (area_view area.now)
+        → Gives result (market_of (area_view area.now)) }
 {
     let mut fields = FieldBuffer::new(alloc);
-    push_texts(&mut fields, &area_fields(area))?;
+    push_texts(&mut fields, &area_fields(area, renamed))?;
     read_fields_of_market(alloc, &fields)
+}
+
+fn are_countries(alloc: Global, text: &[u8]) -> Result<bool, AllocError>
+    ensures { IfOk result (λ is. is ≡ is_some (term_said countries_of text.now)) }
+{
+    let Some(text) = utf8_text(text) else {
+        return Ok(false);
+    };
+    match read_countries(alloc, text) {
+        Ok(_) => Ok(true),
+        Err(TermFault::NotATerm) => Ok(false),
+        Err(TermFault::Memory) => Err(AllocError),
+    }
+}
+
+/// The first of the texts of a territory that is no countries, or that the desk would not take it
+/// for another reason.
+pub(crate) fn area_reason<'a>(
+    alloc: Global,
+    area: &Area<'a>,
+    renamed: &Renamed,
+) -> Result<Reason<'a>, AllocError>
+    ensures { AreRenamed renamed.now (area_view area.now) → IfOk result (λ why. reason_view why
+        ≡ unwrap_or (first_some (area_reasons (area_view area.now))) (wrong bad.Territory [])) }
+{
+    let included = unless(
+        are_countries(alloc, countries_written(area.included, &renamed.included))?,
+        Wrong::CountriesIncluded,
+        area.included,
+    );
+    let excluded = unless(
+        are_countries(alloc, countries_written(area.excluded, &renamed.excluded))?,
+        Wrong::CountriesExcluded,
+        area.excluded,
+    );
+    match former(included, excluded) {
+        Some(reason) => Ok(reason),
+        None => Ok(Reason {
+            why: Why::Wrong(Wrong::Territory),
+            text: b"",
+        }),
+    }
+}
+
+/// Why the desk would not take a territory, where it would not.
+pub(crate) fn area_refusal<'a>(
+    alloc: Global,
+    area: &Area<'a>,
+    renamed: &Renamed,
+) -> Result<Option<Reason<'a>>, AllocError>
+    ensures { AreRenamed renamed.now (area_view area.now)
+        → IfOk result (λ why. reason_read why ≡ area_refusal (area_view area.now)) }
+{
+    match read_market(alloc, area, renamed) {
+        Ok(_) => Ok(None),
+        Err(RowFault::Wrong) => Ok(Some(area_reason(alloc, area, renamed)?)),
+        Err(RowFault::Memory) => Err(AllocError),
+    }
 }
 
 // Adds the three fields of a territory, written out.
@@ -163,32 +259,42 @@ fn reread_market(alloc: Global, territory: &Territory) -> Result<ProductSupply, 
     read_fields_of_market(alloc, &fields)
 }
 
-/// Puts the record of a ProductSupply with this Territory into the buffer, as it stands. `Wrong`
-/// exactly where the desk would not take it.
+/// Puts the record of a ProductSupply with this Territory into the buffer, as it stands. The
+/// desk takes it.
 pub(crate) fn fill_as_it_stands(
     alloc: Global,
     fields: &mut FieldBuffer,
     area: &Area<'_>,
-) -> Result<(), RowFault>
-    ensures { Fills result fields.new (as_it_stands (area_view area.now)) }
+) -> Result<(), AllocError>
+    ensures { OnOk result (fields.new ≡ supply_record (area_fields (area_view area.now))) }
 {
-    drop(read_market(alloc, area)?);
+    let renamed = renamed_in(alloc, area)?;
     fields.clear();
     fields.push("ProductSupply")?;
-    push_texts(fields, &area_fields(area))
+    match push_texts(fields, &area_fields(area, &renamed)) {
+        Ok(()) => Ok(()),
+        // The desk takes the territory, so its texts are UTF-8, and it is memory that ran out.
+        Err(_) => Err(AllocError),
+    }
 }
 
-/// Puts the record of a ProductSupply with this union of territories into the buffer. `Wrong`
-/// exactly where the desk would not take it, since it is too long.
+/// Puts the record of a ProductSupply with this union of territories into the buffer. It is false
+/// where the desk would not take it, since it is too long.
 pub(crate) fn fill_as_union(
     alloc: Global,
     fields: &mut FieldBuffer,
     territory: &Territory,
-) -> Result<(), RowFault>
-    ensures { Fills result fields.new (as_union territory.now) }
+) -> Result<bool, AllocError>
+    ensures { IfOk result (λ is. IsFilled is fields.new (union_fields territory.now)) }
 {
-    drop(reread_market(alloc, territory)?);
-    fields.clear();
-    fields.push("ProductSupply")?;
-    Ok(push_territory(alloc, fields, territory)?)
+    match reread_market(alloc, territory) {
+        Ok(_) => {
+            fields.clear();
+            fields.push("ProductSupply")?;
+            push_territory(alloc, fields, territory)?;
+            Ok(true)
+        }
+        Err(RowFault::Wrong) => Ok(false),
+        Err(RowFault::Memory) => Err(AllocError),
+    }
 }

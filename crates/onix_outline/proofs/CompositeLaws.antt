@@ -1,6 +1,6 @@
 -- The lines of an outline tell what stands in a composite.
 use Rattle.std.proofs.Common.{◌≡◌, ℕ, suc, ◌+◌, ◌-◌, ◌<◌, ◌≤◌, Bool, true, false, eqb, ltb, List, [], ◌∷◌, ◌++◌, length, length-append, get_or, take, drop, refl, sym, ap, ◌∙◌, append_assoc, arith}
-use Rattle.std.specs.Prelude.{◌&&◌}
+use Rattle.std.specs.Prelude.{◌&&◌, ◌||◌}
 use Rattle.std.specs.Str.{bytes_eq}
 use Rattle.std.proofs.lemmas.Bool.{ne_eqb, eq-eqb, lt-ltb, le-ltb}
 use Rattle.std.proofs.lemmas.List.{take-map, drop-map, take_all, length-drop}
@@ -10,7 +10,8 @@ use Rattle.onix_outline.specs.declared.line.Line.{Line as Told}
 use Rattle.onix_outline.specs.Views.{tag_view, line_view, line_views}
 use Rattle.onix_outline.specs.Nodes.{Nodes, no_nodes, node}
 use Rattle.onix_outline.specs.Outline.{Line, line, outline}
-use Rattle.onix_outline.specs.Composites.{text_in, text_line, deeper}
+use Rattle.onix_outline.specs.Composites.{text_in, text_line, deeper, has_stranger, is_line_among}
+use Rattle.onix_outline.specs.Names.{stranger}
 
 -- a line deeper than the one sought is none
 skip_deeper : (depth deep : ℕ) (name : List ℕ) (nodes : Nodes) (lines : List Line) → depth < deep → text_line depth name (outline deep nodes ++ lines) ≡ text_line depth name lines
@@ -95,3 +96,26 @@ first_told depth (l ∷ lines) item (node n tag text below rest) some is e =
 -- all lines but the first, as a pattern takes them
 pub tail_is : (lines : List Told) → take (length lines - 1) (drop 1 lines) ≡ drop 1 lines
 tail_is lines = take_all (length lines - 1) (drop 1 lines) (omega (arith, length-drop 1 lines))
+
+-- ---- strangers
+
+among-append : (name : List ℕ) (x y : List Line)
+    → is_line_among name (x ++ y) ≡ (is_line_among name x || is_line_among name y)
+among-append name [] y = refl
+among-append name (l ∷ x) y =
+    ap (λ b. bytes_eq l.name name || b) (among-append name x y)
+    ∙ regroup (bytes_eq l.name name) (is_line_among name x) (is_line_among name y)
+  where
+    regroup : (a b c : Bool) → (a || (b || c)) ≡ ((a || b) || c)
+    regroup true b c = refl
+    regroup false b c = refl
+
+-- lines tell the strangers among the elements and in them
+pub strangers_told : (depth : ℕ) (nodes : Nodes)
+    → is_line_among stranger (outline depth nodes) ≡ has_stranger nodes
+strangers_told depth no_nodes = refl
+strangers_told depth (node name tag text below rest) =
+    ap (λ b. bytes_eq name stranger || b)
+    (among-append stranger (outline (suc depth) below) (outline depth rest)
+    ∙ ap (λ b. b || is_line_among stranger (outline depth rest)) (strangers_told (suc depth) below)
+    ∙ ap (λ b. has_stranger below || b) (strangers_told depth rest))

@@ -3,9 +3,10 @@ use Rattle.std.proofs.Common.{◌≡◌, ℕ, zero, suc, ◌+◌, ◌<◌, ◌�
 use Rattle.std.specs.Prelude.{nat_lt, Option}
 use Rattle.std.proofs.lemmas.Bool.{ltb-true}
 use Rattle.onix_outline.specs.declared.line.Line.{Line}
+use Rattle.onix_outline.specs.Namespaces.{Binding}
 use Rattle.onix_outline.specs.Nodes.{Tag}
 use Rattle.onix_outline.specs.Outline.{Line as Told}
-use Rattle.onix_outline.specs.Growing.{Growing, change, growing, opened}
+use Rattle.onix_outline.specs.private.Growing.{Growing, change, growing, opened}
 use Rattle.onix_outline.specs.Sizes.{element_size, format_size, lines_size}
 use Rattle.onix_outline.specs.Views.{line_view, line_views, tag_view}
 
@@ -33,6 +34,6 @@ pushed_size [] l = omega arith
 pushed_size (k ∷ lines) l = omega (arith, pushed_size lines l)
 
 -- in an element that is passed over all are
-pub opened_in_passed : (passed : ℕ) (name : Option (List ℕ)) (tag : Tag) (g : Growing) → nat_lt 0 passed ≡ true → opened passed name tag g ≡ growing g.lines g.opens (suc passed)
-opened_in_passed zero name tag g h = absurd (omega (arith, ltb-true 0 zero h))
-opened_in_passed (suc passed) name tag g h = refl
+pub opened_in_passed : (passed : ℕ) (name : Option (List ℕ)) (tag : Tag) (b : List Binding) (g : Growing) → nat_lt 0 passed ≡ true → opened passed name tag b g ≡ growing g.lines g.opens (suc passed)
+opened_in_passed zero name tag b g h = absurd (omega (arith, ltb-true 0 zero h))
+opened_in_passed (suc passed) name tag b g h = refl

@@ -11,7 +11,8 @@ use Rattle.xml_text.specs.Positions.{first_position, position_past}
 use Rattle.xml_text.specs.Tree.{Content}
 use Rattle.xml_text.specs.Trees.{IsProlog, IsRoot, IsTree}
 use Rattle.onix_outline.specs.Dialect.{Dialect}
-use Rattle.onix_outline.specs.Feed.{Feed, feed, feed_from, first_feed, root_of}
+use Rattle.onix_outline.specs.private.Feed.{Feed, feed, feed_from, first_feed}
+use Rattle.onix_outline.specs.Roots.{root_of}
 use Rattle.onix_outline.specs.Nodes.{is_known}
 use Rattle.onix_outline.specs.Outline.{Line}
 use Rattle.onix_outline.proofs.FeedLaws.{IsQuiet, all_quiet, misc_before, misc_root, quiet_prolog}

@@ -5,15 +5,15 @@ use Rattle.std.proofs.lemmas.Bool.{lt-leb, leb-false}
 use Rattle.xml_text.specs.declared.position.Position.{Position}
 use Rattle.xml_text.specs.Grammar.{is_filled, Token, raw, reference, cdata, comment, instruction, declaration, doctype, start, empty, end, spelling}
 use Rattle.onix_outline.specs.declared.dialect.Wrong.{Wrong}
-use Rattle.onix_outline.specs.declared.grower.Open.{Open}
 use Rattle.onix_outline.specs.Dialect.{Dialect, counted}
+use Rattle.onix_outline.specs.Namespaces.{Binding, bindings_of}
 use Rattle.onix_outline.specs.Nodes.{Nodes, Tag, token_text, tag_of}
 use Rattle.onix_outline.specs.Outline.{Line, line, outline, part}
-use Rattle.onix_outline.specs.Growing.{Growing, growing, no_lines, change, longer, opened, closed, texted, is_idle}
+use Rattle.onix_outline.specs.private.Growing.{Growing, Open, growing, scopes_of, no_lines, change, longer, opened, closed, texted, is_idle}
 use Rattle.onix_outline.specs.Sizes.{element_size, is_small, lines_size, nodes_size}
 use Rattle.onix_outline.specs.Spaces.{words}
-use Rattle.onix_outline.specs.Feed.{Feed, feeding, handed, fits, settled, told, moved, feed}
-use Rattle.onix_outline.specs.Faults.{first_place_of}
+use Rattle.onix_outline.specs.private.Feed.{Feed, feeding, handed, fits, settled, told, moved, feed}
+use Rattle.onix_outline.specs.private.Finishing.{first_place_of}
 use Rattle.onix_outline.proofs.FeedLaws.{lines_size-append, part_size}
 use Rattle.onix_outline.proofs.RefusalLaws.{moves}
 
@@ -60,10 +60,10 @@ texted_more (suc n) text lines opens passed = same_lines _ _ refl
 texted_more zero text lines [] passed = same_lines _ _ refl
 texted_more zero text lines (o ∷ more) passed = record { first = text_first o.waits text o.at lines; size = text_size o.waits text o.at lines }
 
-opened_more : (n : ℕ) (name : Option (List ℕ)) (tag : Tag) (g : Growing) → Extends g (opened n name tag g)
-opened_more (suc n) name tag g = same_lines g _ refl
-opened_more zero None tag g = same_lines g _ refl
-opened_more zero (Some name) tag g = more_lines g _ (line (length g.opens) name tag [] ∷ []) refl
+opened_more : (n : ℕ) (name : Option (List ℕ)) (tag : Tag) (b : List Binding) (g : Growing) → Extends g (opened n name tag b g)
+opened_more (suc n) name tag b g = same_lines g _ refl
+opened_more zero None tag b g = same_lines g _ refl
+opened_more zero (Some name) tag b g = more_lines g _ (line (length g.opens) name tag [] ∷ []) refl
 
 closed_more : (n : ℕ) (g : Growing) → Extends g (closed n g)
 closed_more (suc n) g = same_lines g _ refl
@@ -109,11 +109,11 @@ stuck_told after t (Some (Ok d)) g k p place (comment body) s = still_stuck plac
 stuck_told after t (Some (Ok d)) g k p place (instruction body) s = still_stuck place g _ (texted_more g.passed (token_text (instruction body)) g.lines g.opens g.passed) s
 stuck_told after t (Some (Ok d)) g k p place (declaration body) s = still_stuck place g _ (texted_more g.passed (token_text (declaration body)) g.lines g.opens g.passed) s
 stuck_told after t (Some (Ok d)) g k p place (doctype body) s = still_stuck place g _ (texted_more g.passed (token_text (doctype body)) g.lines g.opens g.passed) s
-stuck_told after t (Some (Ok d)) g k p place (start name attributes space) s = still_stuck place g _ (opened_more g.passed (counted d name attributes) (tag_of p attributes) g) s
+stuck_told after t (Some (Ok d)) g k p place (start name attributes space) s = still_stuck place g _ (opened_more g.passed (counted d (scopes_of g.opens) name (bindings_of attributes)) (tag_of p attributes) (bindings_of attributes) g) s
 stuck_told after t (Some (Ok d)) g k p place (empty name attributes space) s =
-    let o = opened g.passed (counted d name attributes) (tag_of p attributes) g in
+    let o = opened g.passed (counted d (scopes_of g.opens) name (bindings_of attributes)) (tag_of p attributes) (bindings_of attributes) g in
     large_stays after (feeding t (Some (Ok d)) o k p) (closed o.passed o) place
-    (still_stuck place o (closed o.passed o) (closed_more o.passed o) (still_stuck place g o (opened_more g.passed (counted d name attributes) (tag_of p attributes) g) s))
+    (still_stuck place o (closed o.passed o) (closed_more o.passed o) (still_stuck place g o (opened_more g.passed (counted d (scopes_of g.opens) name (bindings_of attributes)) (tag_of p attributes) (bindings_of attributes) g) s))
 stuck_told after t (Some (Ok d)) g k p place (end name space) s = large_stays after (feeding t (Some (Ok d)) g k p) (closed g.passed g) place (still_stuck place g (closed g.passed g) (closed_more g.passed g) s)
 
 stuck_feed : {T : Type 0} (after : T → List Line → T) (f : Feed T) (token : Token) (place : Position) → IsStuck place f.child → IsStuck place (feed after f token).child

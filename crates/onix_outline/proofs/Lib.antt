@@ -9,3 +9,4 @@ pub mod KnownLaws
 pub mod MessageLaws
 pub mod CompositeLaws
 pub mod OutlineLaws
+pub mod NamespaceLaws

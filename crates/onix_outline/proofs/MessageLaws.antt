@@ -1,16 +1,17 @@
 -- What comes of the tokens of a document.
 use Rattle.std.proofs.Common.{◌≡◌, ℕ, Bool, true, false, List, [], Option, Some, None, Result, Ok, Err, refl, sym, ap, ◌∙◌, append-nil, fold, subst}
-use Rattle.std.specs.Prelude.{IfOk, IfErr}
+use Rattle.std.specs.Prelude.{IfOk, IfErr, IfSome, IsErrOf}
 use Rattle.std.specs.List.{flat_map, list_all}
 use Rattle.xml_text.specs.declared.fault.Fault.{Fault as DocumentFault}
 use Rattle.xml_text.specs.declared.fault.Fault.TheVariants.{Malformed, TooDeep, TooLong, LargeTag, Refused, UnknownEncoding, Read, Memory}
 use Rattle.xml_text.specs.declared.position.Position.{Position}
 use Rattle.xml_text.specs.Grammar.{Token, spelling}
 use Rattle.xml_text.specs.Faults.{AtFault}
-use Rattle.xml_text.specs.Places.{IsDocument, first_place, last_place}
+use Rattle.xml_text.specs.Places.{IsDocument, IsNoDocument, first_place, last_place}
 use Rattle.xml_text.specs.Positions.{first_position, position_past}
 use Rattle.xml_text.specs.Documents.{BeginsAt}
-use Rattle.xml_text.specs.EncodingNames.{IsTextOf, OfText}
+use Rattle.xml_text.specs.EncodingNames.{IsTextOf, OfText, IsOfUnknown}
+use Rattle.xml_text.specs.Limits.{Bound, Meets, IsDeep, IsLarge, IsLong}
 use Rattle.xml_text.specs.Tree.{Content}
 use Rattle.xml_text.specs.Trees.{IsTree}
 use Rattle.onix_outline.specs.declared.dialect.Wrong.{Wrong}
@@ -20,8 +21,10 @@ use Rattle.onix_outline.specs.Dialect.{Dialect}
 use Rattle.onix_outline.specs.Nodes.{is_known, nodes_in}
 use Rattle.onix_outline.specs.Outline.{Line, parts_of}
 use Rattle.onix_outline.specs.Sizes.{first_large}
-use Rattle.onix_outline.specs.Feed.{Feed, feed, first_feed, fits, is_sound, is_sound_with, root_of, root_place, takes_more, takes_more_with}
-use Rattle.onix_outline.specs.Faults.{Explains, IsAt, IsBehind, IsPlaceOf, IsUnknown, finished, finished_with, first_place_of, is_of_text}
+use Rattle.onix_outline.specs.private.Feed.{Feed, feed, first_feed, fits, is_sound, is_sound_with, takes_more, takes_more_with}
+use Rattle.onix_outline.specs.Roots.{root_of, root_place}
+use Rattle.onix_outline.specs.Faults.{Explains, IsAt, MeetsAt, IsPlaceOf, IsUnknown}
+use Rattle.onix_outline.specs.private.Finishing.{finished, finished_with, first_place_of, is_of_text}
 use Rattle.onix_outline.specs.Message.{IsMessage}
 use Rattle.onix_outline.proofs.FeedLaws.{tree_feeds}
 use Rattle.onix_outline.proofs.KnownLaws.{has_root, known_tree, unknown_among}
@@ -32,7 +35,7 @@ use Rattle.onix_outline.proofs.TreeLaws.{is_large, tree_kept}
 -- a message was read
 abbrev pub Reads : {T : Type 0} → (T → List Line → T) → T → Option (List ℕ) → T → Type 0
 Reads after taker bytes taken =
-    (text : List ℕ) × (d : Dialect) × (place : Position) × (inside : Content) × IsTextOf bytes text × IsMessage text d place inside × (taken ≡ fold after taker (parts_of (nodes_in d place inside)))
+    (text : List ℕ) × (d : Dialect) × (place : Position) × (inside : Content) × IsTextOf bytes text × IsMessage text d place inside × (taken ≡ fold after taker (parts_of (nodes_in d [] place inside)))
 
 -- what a call gave is one of the two
 pub record Comes {T : Type 0} (after : T → List Line → T) (taker : T) (bytes : Option (List ℕ)) (result : Result T (Stopped T)) : Type 0 where
@@ -107,7 +110,7 @@ comes {T = T} after taker bytes text tokens name inside is document tree = go f.
     root_is : f.root ≡ root_of tokens
     root_is = roots after (first_feed taker) tokens
 
-    taken : (d : Dialect) → root_of tokens ≡ Some (Ok d) → list_all is_known tokens ≡ true → fits f.child ≡ true → (o : Option Position) → first_large (nodes_in d place inside) ≡ o
+    taken : (d : Dialect) → root_of tokens ≡ Some (Ok d) → list_all is_known tokens ≡ true → fits f.child ≡ true → (o : Option Position) → first_large (nodes_in d [] place inside) ≡ o
         → Reads after taker bytes f.taker
     taken d e known size None small = (
       text,
@@ -132,7 +135,7 @@ comes {T = T} after taker bytes text tokens name inside is document tree = go f.
     go (Some (Err w)) e k known small size refused = by_refusal (Some (Err w)) e k known small size refl refused
     go (Some (Ok d)) e true known true size refused =
         let root = sym root_is ∙ e in
-        record { ok = taken d root (known_tree after taker d tokens name inside tree root known) size (first_large (nodes_in d place inside)) refl; err = tt; at = tt }
+        record { ok = taken d root (known_tree after taker d tokens name inside tree root known) size (first_large (nodes_in d [] place inside)) refl; err = tt; at = tt }
     go (Some (Ok d)) e true known false size refused = by_refusal (Some (Ok d)) e true known false size refl refused
     go (Some (Ok d)) e false known small size refused = by_refusal (Some (Ok d)) e false known small size refl refused
 
@@ -157,20 +160,52 @@ takes_sound f h = go f.root f.known (fits f.child) h
     go (Some (Ok d)) true small h = refl
     go (Some (Ok d)) false small h = h
 
-pub document_at : {T : Type 0} (after : T → List Line → T) (bytes : Option (List ℕ)) (taker : T) (start f : Feed T) (fault : DocumentFault) → start ≡ first_feed taker → (is_of_text fault ≡ true → is_sound f ≡ true)
-    → AtFault ((tokens : List Token) × OfText (BeginsAt first_place tokens) bytes × (f ≡ fold (feed after) start tokens)) fault → IsAt bytes (Document fault) f.place
-document_at after bytes taker start f fault starts sound h = go fault sound h
-  where
-    behind : is_sound f ≡ true → (tokens : List Token) → OfText (BeginsAt first_place tokens) bytes → f ≡ fold (feed after) start tokens → IsBehind bytes f.place
-    behind s tokens begins is =
-        (tokens, begins, ap (λ h. h.place) is ∙ places after start tokens (ap is_sound (sym is) ∙ s) ∙ ap (λ h. position_past h.place tokens) starts)
+-- the text goes beyond a bound behind tokens, and they were fed
+abbrev pub Goes : {T : Type 0} → (T → List Line → T) → Option (List ℕ) → Feed T → Feed T → Bound → Type 0
+Goes after bytes start f Limit = (tokens : List Token) × OfText (Meets Limit first_place tokens) bytes × (f ≡ fold (feed after) start tokens)
 
-    go : (e : DocumentFault) → (is_of_text e ≡ true → is_sound f ≡ true) → AtFault ((tokens : List Token) × OfText (BeginsAt first_place tokens) bytes × (f ≡ fold (feed after) start tokens)) e → IsAt bytes (Document e) f.place
-    go Malformed s w = behind (s refl) w.0 w.1 w.2
-    go TooDeep s w = behind (s refl) w.0 w.1 w.2
-    go TooLong s w = behind (s refl) w.0 w.1 w.2
-    go LargeTag s w = behind (s refl) w.0 w.1 w.2
-    go Refused s w = behind (s refl) w.0 w.1 w.2
-    go UnknownEncoding s w = tt
-    go Read s w = tt
-    go Memory s w = tt
+-- what is said of each fault that comes from the reading of the document
+pub record Reasons {T R : Type 0} (after : T → List Line → T) (bytes : Option (List ℕ)) (start f : Feed T) (r : Result R DocumentFault) : Type 0 where
+  pub malformed : IsErrOf r Malformed → OfText IsNoDocument bytes
+  pub deep : IsErrOf r TooDeep → Goes after bytes start f IsDeep
+  pub large : IsErrOf r LargeTag → Goes after bytes start f IsLarge
+  pub long : IsErrOf r TooLong → Goes after bytes start f IsLong
+  pub unknown : IsErrOf r UnknownEncoding → IfSome bytes IsOfUnknown
+  pub refused : IsErrOf r Refused → takes_more f ≡ false
+
+goes_at : {T : Type 0} (after : T → List Line → T) (bytes : Option (List ℕ)) (start f : Feed T) (Limit : Bound)
+    → Goes after bytes start f Limit → (place : Position) × MeetsAt Limit bytes place
+goes_at after bytes start f Limit w = (position_past first_position w.0, (w.0, w.1, refl))
+
+-- a document that was read while more was taken is refused for a reason
+pub document_explained : {T R : Type 0} (after : T → List Line → T) (bytes : Option (List ℕ)) (start f : Feed T) (fault : DocumentFault)
+    → (is_of_text fault ≡ true → takes_more f ≡ true) → Reasons {T = T} {R = R} after bytes start f (Err fault) → Explains bytes (Document fault)
+document_explained after bytes start f Malformed takes r = r.malformed refl
+document_explained after bytes start f TooDeep takes r = goes_at after bytes start f IsDeep (r.deep refl)
+document_explained after bytes start f TooLong takes r = goes_at after bytes start f IsLong (r.long refl)
+document_explained after bytes start f LargeTag takes r = goes_at after bytes start f IsLarge (r.large refl)
+document_explained after bytes start f Refused takes r = absurd (cc (sym (takes refl) ∙ r.refused refl))
+document_explained after bytes start f UnknownEncoding takes r = r.unknown refl
+document_explained after bytes start f Read takes r = tt
+document_explained after bytes start f Memory takes r = tt
+
+-- and so is its place
+pub document_at : {T R : Type 0} (after : T → List Line → T) (bytes : Option (List ℕ)) (taker : T) (start f : Feed T) (fault : DocumentFault) → start ≡ first_feed taker
+    → (is_of_text fault ≡ true → takes_more f ≡ true) → AtFault ((tokens : List Token) × OfText (BeginsAt first_place tokens) bytes × (f ≡ fold (feed after) start tokens)) fault
+    → Reasons {T = T} {R = R} after bytes start f (Err fault) → IsAt bytes (Document fault) f.place
+document_at {T = T} {R = R} after bytes taker start f fault starts takes h r = go fault takes h r
+  where
+    place_is : takes_more f ≡ true → (tokens : List Token) → f ≡ fold (feed after) start tokens → f.place ≡ position_past first_position tokens
+    place_is more tokens is =
+        ap (λ h. h.place) is ∙ places after start tokens (ap is_sound (sym is) ∙ takes_sound f more) ∙ ap (λ h. position_past h.place tokens) starts
+
+    go : (e : DocumentFault) → (is_of_text e ≡ true → takes_more f ≡ true) → AtFault ((tokens : List Token) × OfText (BeginsAt first_place tokens) bytes × (f ≡ fold (feed after) start tokens)) e
+        → Reasons {T = T} {R = R} after bytes start f (Err e) → IsAt bytes (Document e) f.place
+    go Malformed t w r = (w.0, w.1, place_is (t refl) w.0 w.2)
+    go TooDeep t w r = let g = r.deep refl in (g.0, g.1, place_is (t refl) g.0 g.2)
+    go TooLong t w r = let g = r.long refl in (g.0, g.1, place_is (t refl) g.0 g.2)
+    go LargeTag t w r = let g = r.large refl in (g.0, g.1, place_is (t refl) g.0 g.2)
+    go Refused t w r = absurd (cc (sym (t refl) ∙ r.refused refl))
+    go UnknownEncoding t w r = tt
+    go Read t w r = tt
+    go Memory t w r = tt

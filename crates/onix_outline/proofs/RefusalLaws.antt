@@ -6,10 +6,12 @@ use Rattle.xml_text.specs.Grammar.{Token, raw, reference, cdata, comment, instru
 use Rattle.xml_text.specs.Positions.{position_after, position_past}
 use Rattle.onix_outline.specs.declared.dialect.Wrong.{Wrong}
 use Rattle.onix_outline.specs.Dialect.{Dialect, counted}
+use Rattle.onix_outline.specs.Namespaces.{bindings_of}
 use Rattle.onix_outline.specs.Nodes.{is_known, tag_of}
 use Rattle.onix_outline.specs.Outline.{Line}
-use Rattle.onix_outline.specs.Growing.{Growing, no_lines, opened, closed, is_idle}
-use Rattle.onix_outline.specs.Feed.{Feed, feeding, handed, fits, settled, told, moved, feed, is_sound, is_sound_with, root_of}
+use Rattle.onix_outline.specs.private.Growing.{Growing, scopes_of, no_lines, opened, closed, is_idle}
+use Rattle.onix_outline.specs.private.Feed.{Feed, feeding, handed, fits, settled, told, moved, feed, is_sound, is_sound_with}
+use Rattle.onix_outline.specs.Roots.{root_of}
 use Rattle.onix_outline.specs.Faults.{IsRefusedRoot, IsUnknown}
 
 abbrev pub root_behind : Option (Result Dialect Wrong) → List Token → Option (Result Dialect Wrong)
@@ -72,7 +74,7 @@ told_tells after t (Some (Ok d)) g k p (declaration body) = record { root = refl
 told_tells after t (Some (Ok d)) g k p (doctype body) = record { root = refl; known = refl; place = refl }
 told_tells after t (Some (Ok d)) g k p (start name attributes space) = record { root = refl; known = refl; place = refl }
 told_tells after t (Some (Ok d)) g k p (empty name attributes space) =
-    let o = opened g.passed (counted d name attributes) (tag_of p attributes) g in
+    let o = opened g.passed (counted d (scopes_of g.opens) name (bindings_of attributes)) (tag_of p attributes) (bindings_of attributes) g in
     let s = settled_stays after (feeding t (Some (Ok d)) o k p) (closed o.passed o) in
     record { root = s.root; known = s.known; place = s.place }
 told_tells after t (Some (Ok d)) g k p (end name space) =

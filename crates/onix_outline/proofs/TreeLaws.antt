@@ -12,10 +12,12 @@ use Rattle.xml_text.specs.Tree.{Content, nothing, leaf, element, tokens_of}
 use Rattle.xml_text.specs.Trees.{IsProlog, IsRoot, IsTree}
 use Rattle.onix_outline.specs.declared.dialect.Wrong.{Wrong}
 use Rattle.onix_outline.specs.Dialect.{Dialect, counted}
+use Rattle.onix_outline.specs.Namespaces.{Binding, scope, bindings_of}
 use Rattle.onix_outline.specs.Faults.{IsLargeAt}
-use Rattle.onix_outline.specs.Feed.{Feed, feeding, feed_from, first_feed, feed, handed, moved, root_of, root_place, settled}
-use Rattle.onix_outline.specs.Growing.{growing, no_lines, open_at, opened, closed}
-use Rattle.onix_outline.specs.Nodes.{Nodes, no_nodes, Tag, tag_of, is_known, nodes_in, with_node, direct_text, content_place, place_behind}
+use Rattle.onix_outline.specs.private.Feed.{Feed, feeding, feed_from, first_feed, feed, handed, moved, settled}
+use Rattle.onix_outline.specs.Roots.{root_of, root_place}
+use Rattle.onix_outline.specs.private.Growing.{growing, no_lines, open_at, opened, closed}
+use Rattle.onix_outline.specs.Nodes.{Nodes, no_nodes, Tag, tag_of, is_known, nodes_in, with_node, within, direct_text, content_place, place_behind}
 use Rattle.onix_outline.specs.Outline.{Line, line, part}
 use Rattle.onix_outline.specs.Sizes.{element_size, first_large, is_small, lines_size, nodes_size}
 use Rattle.onix_outline.specs.Spaces.{collapsed}
@@ -25,21 +27,21 @@ use Rattle.onix_outline.proofs.LargeLaws.{IsStuck, moved_stuck, one_place, part_
 
 -- the first of the elements in the root that is too large is kept
 abbrev Keeps : {T : Type 0} → (T → List Line → T) → Dialect → Position → Content → Position → Type 0
-Keeps {T = T} after d p c place = (u : T) → first_large (nodes_in d p c) ≡ Some place → IsStuck place (fold (feed after) (inside_at u d [] [] 0 p) (tokens_of c)).child
+Keeps {T = T} after d p c place = (u : T) → first_large (nodes_in d [] p c) ≡ Some place → IsStuck place (fold (feed after) (inside_at u d [] [] 0 p) (tokens_of c)).child
 
 some_place : (p q : Position) → Some p ≡ Some q → p ≡ q
 some_place p q e = cc
 
-leaf_kept : {T : Type 0} (after : T → List Line → T) (t : T) (d : Dialect) (rest : Content) (o : Option (List ℕ)) (tag : Tag) (p : Position) (bytes : List ℕ) (place : Position)
-    → first_large (with_node o tag [] no_nodes (nodes_in d (position_after p bytes) rest)) ≡ Some place → Keeps after d (position_after p bytes) rest place
-    → IsStuck place (fold (feed after) (moved bytes (let g = opened 0 o tag no_lines in settled after (feeding t (Some (Ok d)) g true p) (closed g.passed g))) (tokens_of rest)).child
-leaf_kept after t d rest None tag p bytes place large later = later t large
-leaf_kept {T = T} after t d rest (Some name) tag p bytes place large later = go (is_small (element_size tag [] + 0)) refl large
+leaf_kept : {T : Type 0} (after : T → List Line → T) (t : T) (d : Dialect) (rest : Content) (o : Option (List ℕ)) (tag : Tag) (b : List Binding) (p : Position) (bytes : List ℕ) (place : Position)
+    → first_large (with_node o tag [] no_nodes (nodes_in d [] (position_after p bytes) rest)) ≡ Some place → Keeps after d (position_after p bytes) rest place
+    → IsStuck place (fold (feed after) (moved bytes (let g = opened 0 o tag b no_lines in settled after (feeding t (Some (Ok d)) g true p) (closed g.passed g))) (tokens_of rest)).child
+leaf_kept after t d rest None tag b p bytes place large later = later t large
+leaf_kept {T = T} after t d rest (Some name) tag b p bytes place large later = go (is_small (element_size tag [] + 0)) refl large
   where
     from : Feed T
     from = settled after (feeding t (Some (Ok d)) (growing (part name tag [] no_nodes) [] 0) true p) (growing (part name tag [] no_nodes) [] 0)
 
-    go : (b : Bool) → is_small (element_size tag [] + 0) ≡ b → (if b then first_large (nodes_in d (position_after p bytes) rest) else Some tag.place) ≡ Some place
+    go : (b : Bool) → is_small (element_size tag [] + 0) ≡ b → (if b then first_large (nodes_in d [] (position_after p bytes) rest) else Some tag.place) ≡ Some place
         → IsStuck place (fold (feed after) (moved bytes from) (tokens_of rest)).child
     go true small e =
         let fits : is_small (lines_size (part name tag [] no_nodes)) ≡ true = ap is_small (part_size name tag [] no_nodes) ∙ small in
@@ -48,21 +50,21 @@ leaf_kept {T = T} after t d rest (Some name) tag p bytes place large later = go 
         let here : IsStuck tag.place from.child = part_kept after t d name tag [] no_nodes p small in
         rw (sym (some_place tag.place place e)) (stuck after (moved bytes from) (tokens_of rest) tag.place (moved_stuck bytes from tag.place here))
 
-element_kept : {T : Type 0} (after : T → List Line → T) (t : T) (d : Dialect) (name : List ℕ) (inside : Content) (closing : List ℕ) (rest : Content) (o : Option (List ℕ)) (tag : Tag) (p place : Position) → IsClean inside
-    → first_large (with_node o tag (collapsed (direct_text inside)) (nodes_in d p inside) (nodes_in d (place_behind p inside name closing) rest)) ≡ Some place
+element_kept : {T : Type 0} (after : T → List Line → T) (t : T) (d : Dialect) (name : List ℕ) (inside : Content) (closing : List ℕ) (rest : Content) (o : Option (List ℕ)) (tag : Tag) (b : List Binding) (p place : Position) → IsClean inside
+    → first_large (with_node o tag (collapsed (direct_text inside)) (nodes_in d (within o b []) p inside) (nodes_in d [] (place_behind p inside name closing) rest)) ≡ Some place
     → Keeps after d (place_behind p inside name closing) rest place
-    → IsStuck place (fold (feed after) (feeding t (Some (Ok d)) (opened 0 o tag no_lines) true p) (tokens_of inside ++ end name closing ∷ tokens_of rest)).child
-element_kept after t d name inside closing rest None tag p place h large later =
+    → IsStuck place (fold (feed after) (feeding t (Some (Ok d)) (opened 0 o tag b no_lines) true p) (tokens_of inside ++ end name closing ∷ tokens_of rest)).child
+element_kept after t d name inside closing rest None tag b p place h large later =
     rw (fold-append (feed after) (inside_at t d [] [] 1 p) (tokens_of inside) (end name closing ∷ tokens_of rest)
     ∙ ap (λ f. fold (feed after) f (end name closing ∷ tokens_of rest)) (passes after t d [] [] 0 p inside h))
     (later t large)
-element_kept {T = T} after t d name inside closing rest (Some m) tag p place h large later = go (is_small (element_size tag text + nodes_size below)) refl large
+element_kept {T = T} after t d name inside closing rest (Some m) tag b p place h large later = go (is_small (element_size tag text + nodes_size below)) refl large
   where
     text : List ℕ
     text = collapsed (direct_text inside)
 
     below : Nodes
-    below = nodes_in d p inside
+    below = nodes_in d (scope m b ∷ []) p inside
 
     q : Position
     q = position_past p (tokens_of inside)
@@ -70,14 +72,14 @@ element_kept {T = T} after t d name inside closing rest (Some m) tag p place h l
     from : Feed T
     from = settled after (feeding t (Some (Ok d)) (growing (part m tag text below) [] 0) true q) (growing (part m tag text below) [] 0)
 
-    runs : fold (feed after) (feeding t (Some (Ok d)) (opened 0 (Some m) tag no_lines) true p) (tokens_of inside ++ end name closing ∷ tokens_of rest)
+    runs : fold (feed after) (feeding t (Some (Ok d)) (opened 0 (Some m) tag b no_lines) true p) (tokens_of inside ++ end name closing ∷ tokens_of rest)
         ≡ fold (feed after) (moved (spelling (end name closing)) from) (tokens_of rest)
     runs =
-        fold-append (feed after) (inside_at t d (line 0 m tag [] ∷ []) (open_at 0 false ∷ []) 0 p) (tokens_of inside) (end name closing ∷ tokens_of rest)
-        ∙ ap (λ f. fold (feed after) f (end name closing ∷ tokens_of rest)) (inside_feeds after t d p inside (line 0 m tag [] ∷ []) 0 false [] h (omega arith))
+        fold-append (feed after) (inside_at t d (line 0 m tag [] ∷ []) (open_at 0 false (scope m b) ∷ []) 0 p) (tokens_of inside) (end name closing ∷ tokens_of rest)
+        ∙ ap (λ f. fold (feed after) f (end name closing ∷ tokens_of rest)) (inside_feeds after t d p inside (line 0 m tag [] ∷ []) 0 false (scope m b) [] h (omega arith))
 
-    go : (b : Bool) → is_small (element_size tag text + nodes_size below) ≡ b → (if b then first_large (nodes_in d (place_behind p inside name closing) rest) else Some tag.place) ≡ Some place
-        → IsStuck place (fold (feed after) (feeding t (Some (Ok d)) (opened 0 (Some m) tag no_lines) true p) (tokens_of inside ++ end name closing ∷ tokens_of rest)).child
+    go : (small : Bool) → is_small (element_size tag text + nodes_size below) ≡ small → (if small then first_large (nodes_in d [] (place_behind p inside name closing) rest) else Some tag.place) ≡ Some place
+        → IsStuck place (fold (feed after) (feeding t (Some (Ok d)) (opened 0 (Some m) tag b no_lines) true p) (tokens_of inside ++ end name closing ∷ tokens_of rest)).child
     go true small e =
         let fits : is_small (lines_size (part m tag text below)) ≡ true = ap is_small (part_size m tag text below) ∙ small in
         rw (runs ∙ ap (λ f. fold (feed after) (moved (spelling (end name closing)) f) (tokens_of rest)) (part_ends after t d (part m tag text below) q fits)) (later (handed after t (part m tag text below)) e)
@@ -85,7 +87,7 @@ element_kept {T = T} after t d name inside closing rest (Some m) tag p place h l
         let here : IsStuck tag.place from.child = part_kept after t d m tag text below q small in
         rw (runs, sym (some_place tag.place place e)) (stuck after (moved (spelling (end name closing)) from) (tokens_of rest) tag.place (moved_stuck (spelling (end name closing)) from tag.place here))
 
-root_kept : {T : Type 0} (after : T → List Line → T) (t : T) (d : Dialect) (p : Position) (c : Content) (place : Position) → IsClean c → first_large (nodes_in d p c) ≡ Some place
+root_kept : {T : Type 0} (after : T → List Line → T) (t : T) (d : Dialect) (p : Position) (c : Content) (place : Position) → IsClean c → first_large (nodes_in d [] p c) ≡ Some place
     → IsStuck place (fold (feed after) (inside_at t d [] [] 0 p) (tokens_of c)).child
 root_kept after t d p nothing place h large = absurd cc
 root_kept after t d p (leaf (raw b) rest) place h large = root_kept after t d (position_after p (spelling (raw b))) rest place h.2 large
@@ -100,11 +102,11 @@ root_kept after t d p (leaf (doctype body) rest) place h large = absurd h.0
 root_kept after t d p (leaf (start name attributes space) rest) place h large = absurd h.0
 root_kept after t d p (leaf (end name space) rest) place h large = absurd h.0
 root_kept after t d p (leaf (empty name attributes space) rest) place h large =
-    leaf_kept after t d rest (counted d name attributes) (tag_of p attributes) p (spelling (empty name attributes space)) place large
+    leaf_kept after t d rest (counted d [] name (bindings_of attributes)) (tag_of p attributes) (bindings_of attributes) p (spelling (empty name attributes space)) place large
     (λ u e. root_kept after u d (position_after p (spelling (empty name attributes space))) rest place h.2 e)
 root_kept after t d p (element name attributes space inside closing rest) place h large =
     let q = content_place p name attributes space in
-    element_kept after t d name inside closing rest (counted d name attributes) (tag_of p attributes) q place h.0 large
+    element_kept after t d name inside closing rest (counted d [] name (bindings_of attributes)) (tag_of p attributes) (bindings_of attributes) q place h.0 large
     (λ u e. root_kept after u d (place_behind q inside name closing) rest place h.1 e)
 
 -- ---- a document
@@ -179,7 +181,7 @@ tokens_inside tokens name inside tree k =
     root_tokens (end n space ∷ tokens) name inside r k = absurd r
 
 pub tree_kept : {T : Type 0} (after : T → List Line → T) (t : T) (d : Dialect) (tokens : List Token) (name : List ℕ) (inside : Content) (place : Position) → IsTree tokens name inside
-    → root_of tokens ≡ Some (Ok d) → list_all is_known tokens ≡ true → first_large (nodes_in d (root_place first_position tokens) inside) ≡ Some place
+    → root_of tokens ≡ Some (Ok d) → list_all is_known tokens ≡ true → first_large (nodes_in d [] (root_place first_position tokens) inside) ≡ Some place
     → IsStuck place (fold (feed after) (first_feed t) tokens).child
 tree_kept after t d tokens name inside place tree e k large =
     let r = tree_runs after t d tokens name inside tree e in
@@ -224,23 +226,23 @@ none_stuck t d p place f e s = other s.first s.others (ap (λ g. g.child.lines) 
 
 pub is_large : {T : Type 0} (after : T → List Line → T) (t : T) (d : Dialect) (tokens : List Token) (place : Position) → root_of tokens ≡ Some (Ok d)
     → IsStuck place (fold (feed after) (first_feed t) tokens).child → IsLargeAt tokens place
-is_large after t d tokens place e s = (d, e, λ more name inside tree k. go more name inside tree k (first_large (nodes_in d (root_place first_position tokens) inside)) refl)
+is_large after t d tokens place e s = (d, e, λ more name inside tree k. go more name inside tree k (first_large (nodes_in d [] (root_place first_position tokens) inside)) refl)
   where
     decide : (more : List Token) (name : List ℕ) (inside : Content) → IsTree (tokens ++ more) name inside → list_all is_known (tokens ++ more) ≡ true
-        → (o : Option Position) → first_large (nodes_in d (root_place first_position tokens) inside) ≡ o → first_large (nodes_in d (root_place first_position (tokens ++ more)) inside) ≡ o
-        → root_of (tokens ++ more) ≡ Some (Ok d) → IsStuck place (fold (feed after) (first_feed t) (tokens ++ more)).child → first_large (nodes_in d (root_place first_position tokens) inside) ≡ Some place
+        → (o : Option Position) → first_large (nodes_in d [] (root_place first_position tokens) inside) ≡ o → first_large (nodes_in d [] (root_place first_position (tokens ++ more)) inside) ≡ o
+        → root_of (tokens ++ more) ≡ Some (Ok d) → IsStuck place (fold (feed after) (first_feed t) (tokens ++ more)).child → first_large (nodes_in d [] (root_place first_position tokens) inside) ≡ Some place
     decide more name inside tree k None h large root whole =
         absurd (none_stuck _ d _ place (fold (feed after) (first_feed t) (tokens ++ more)) (tree_feeds after t d (tokens ++ more) name inside tree root k large) whole)
     decide more name inside tree k (Some q) h large root whole =
         h ∙ ap (λ r. Some r) (one_place q place (fold (feed after) (first_feed t) (tokens ++ more)).child (tree_kept after t d (tokens ++ more) name inside q tree root k large) whole)
 
     go : (more : List Token) (name : List ℕ) (inside : Content) → IsTree (tokens ++ more) name inside → list_all is_known (tokens ++ more) ≡ true
-        → (o : Option Position) → first_large (nodes_in d (root_place first_position tokens) inside) ≡ o → first_large (nodes_in d (root_place first_position tokens) inside) ≡ Some place
+        → (o : Option Position) → first_large (nodes_in d [] (root_place first_position tokens) inside) ≡ o → first_large (nodes_in d [] (root_place first_position tokens) inside) ≡ Some place
     go more name inside tree k o h =
         let all = tokens ++ more in
         let whole : IsStuck place (fold (feed after) (first_feed t) all).child =
         rw (fold-append (feed after) (first_feed t) tokens more) (stuck after (fold (feed after) (first_feed t) tokens) more place s) in
         let root : root_of all ≡ Some (Ok d) = root_front tokens more (Ok d) e in
-        let large : first_large (nodes_in d (root_place first_position all) inside) ≡ o =
-        ap (λ q. first_large (nodes_in d q inside)) (place_front first_position tokens more (Ok d) e) ∙ h in
+        let large : first_large (nodes_in d [] (root_place first_position all) inside) ≡ o =
+        ap (λ q. first_large (nodes_in d [] q inside)) (place_front first_position tokens more (Ok d) e) ∙ h in
         decide more name inside tree k o h large root whole

@@ -1,13 +1,14 @@
 pub mod Names
 pub mod Spaces
+pub mod Namespaces
 pub mod Dialect
 pub mod Nodes
 pub mod Outline
 pub mod Views
-pub mod Growing
 pub mod Sizes
-pub mod Feed
+pub mod Roots
 pub mod Message
 pub mod Faults
 pub mod Composites
 pub mod Outlined
+pub mod private

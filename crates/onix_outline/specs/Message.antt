@@ -1,5 +1,5 @@
 -- A document that is an ONIX message.
-use Rattle.std.specs.Prelude.{◌≡◌, ℕ, true, List, Some, None, Ok}
+use Rattle.std.specs.Prelude.{◌≡◌, ℕ, true, List, [], Some, None, Ok}
 use Rattle.std.specs.List.{list_all}
 use Rattle.xml_text.specs.declared.position.Position.{Position}
 use Rattle.xml_text.specs.Grammar.{Token}
@@ -10,10 +10,13 @@ use Rattle.xml_text.specs.Trees.{IsTree}
 use Rattle.onix_outline.specs.Dialect.{Dialect}
 use Rattle.onix_outline.specs.Nodes.{is_known, nodes_in}
 use Rattle.onix_outline.specs.Sizes.{first_large}
-use Rattle.onix_outline.specs.Feed.{root_of, root_place}
+use Rattle.onix_outline.specs.Roots.{root_of, root_place}
 
--- The text is a document. Its root is that of a message of release 3.0 or 3.1 that is written so, and has this in it, from a place on; each reference stands for something, and no Header or Product is too large.
-pub record IsMessage (text : List ℕ) (d : Dialect) (place : Position) (inside : Content) : Type 0 where
+-- The text is a document. Its root is that of a message of release 3.0 or 3.1 that is written so,
+-- and has this in it, from a place on; each reference stands for something, and no Header or
+-- Product is too large.
+pub record IsMessage (text : List ℕ) (d : Dialect) (place : Position) (inside : Content)
+    : Type 0 where
   pub tokens : List Token
   pub name : List ℕ
   pub document : IsDocument text tokens
@@ -21,4 +24,4 @@ pub record IsMessage (text : List ℕ) (d : Dialect) (place : Position) (inside 
   pub root : root_of tokens ≡ Some (Ok d)
   pub begins : root_place first_position tokens ≡ place
   pub known : list_all is_known tokens ≡ true
-  pub fits : first_large (nodes_in d place inside) ≡ None
+  pub fits : first_large (nodes_in d [] place inside) ≡ None

@@ -1,11 +1,14 @@
 -- The elements of a message that count, as a tree.
-use Rattle.std.specs.Prelude.{ℕ, List, [], ◌∷◌, ◌++◌, Option, Some, None, unwrap_or, Bool, true, is_some}
+use Rattle.std.specs.Prelude.{ℕ, List, [], ◌∷◌, ◌++◌, Option, Some, None, unwrap_or, Bool, true}
+use Rattle.std.specs.Prelude.{is_some}
 use Rattle.xml_text.specs.declared.position.Position.{Position}
-use Rattle.xml_text.specs.Grammar.{Attribute, Token, raw, reference, cdata, start, empty, end, spelling}
+use Rattle.xml_text.specs.Grammar.{Attribute, Token, raw, reference, cdata, start, empty, end}
+use Rattle.xml_text.specs.Grammar.{spelling}
 use Rattle.xml_text.specs.Positions.{position_after, position_past}
 use Rattle.xml_text.specs.References.{reference_text}
 use Rattle.xml_text.specs.Tree.{Content, nothing, leaf, element, tokens_of}
 use Rattle.onix_outline.specs.Dialect.{Dialect, counted, format_of}
+use Rattle.onix_outline.specs.Namespaces.{Binding, Scope, scope, bindings_of}
 use Rattle.onix_outline.specs.Spaces.{collapsed}
 
 -- What the tag of an element tells: where it stands, and its attribute `dateformat`
@@ -22,7 +25,8 @@ tag_of place attributes = tagged place (format_of attributes)
 -- The elements that count, as a tree
 pub data Nodes : Type 0 where
   no_nodes : Nodes
-  -- the reference name of an element, its tag, its text, the elements in it, and those that follow it
+  -- the reference name of an element, its tag, its text, the elements in it, and those that follow
+  -- it
   node : List ℕ → Tag → List ℕ → Nodes → Nodes → Nodes
 
 -- the characters that a token stands for
@@ -37,7 +41,8 @@ abbrev pub is_known : Token → Bool
 is_known (reference body) = is_some (reference_text body)
 is_known other = true
 
--- the characters directly in an element: comments cut nothing, and those of elements in it are none of its own
+-- the characters directly in an element: comments cut nothing, and those of elements in it are none
+-- of its own
 abbrev pub direct_text : Content → List ℕ
 direct_text nothing = []
 direct_text (leaf token rest) = token_text token ++ direct_text rest
@@ -47,22 +52,35 @@ abbrev pub with_node : Option (List ℕ) → Tag → List ℕ → Nodes → Node
 with_node None tag text below rest = rest
 with_node (Some name) tag text below rest = node name tag text below rest
 
-abbrev pub leaf_nodes : Dialect → Position → Token → Nodes → Nodes
-leaf_nodes d p (empty name attributes space) rest = with_node (counted d name attributes) (tag_of p attributes) [] no_nodes rest
-leaf_nodes d p other rest = rest
+abbrev pub leaf_nodes : Dialect → List Scope → Position → Token → Nodes → Nodes
+leaf_nodes d around p (empty name attributes space) rest =
+    with_node (counted d around name (bindings_of attributes)) (tag_of p attributes) [] no_nodes
+    rest
+leaf_nodes d around p other rest = rest
 
 -- where the content of an element stands, and what follows its end tag
 abbrev pub content_place : Position → List ℕ → List Attribute → List ℕ → Position
 content_place p name attributes space = position_after p (spelling (start name attributes space))
 
 abbrev pub place_behind : Position → Content → List ℕ → List ℕ → Position
-place_behind p inside name closing = position_after (position_past p (tokens_of inside)) (spelling (end name closing))
+place_behind p inside name closing =
+    position_after (position_past p (tokens_of inside)) (spelling (end name closing))
 
--- the elements that count of what stands from a place on, each only where all around it count: the others are passed over with all below them
-abbrev pub nodes_in : Dialect → Position → Content → Nodes
-nodes_in d p nothing = no_nodes
-nodes_in d p (leaf token rest) = leaf_nodes d p token (nodes_in d (position_after p (spelling token)) rest)
-nodes_in d p (element name attributes space inside closing rest) =
-    with_node (counted d name attributes) (tag_of p attributes) (collapsed (direct_text inside))
-    (nodes_in d (content_place p name attributes space) inside)
-    (nodes_in d (place_behind (content_place p name attributes space) inside name closing) rest)
+-- the elements around what stands in one, of which this name counts
+abbrev pub within : Option (List ℕ) → List Binding → List Scope → List Scope
+within None bindings around = around
+within (Some name) bindings around = scope name bindings ∷ around
+
+-- The elements that count of what stands from a place on below these elements, each only where all
+-- around it count: the others are passed over with all below them.
+abbrev pub nodes_in : Dialect → List Scope → Position → Content → Nodes
+nodes_in d around p nothing = no_nodes
+nodes_in d around p (leaf token rest) =
+    leaf_nodes d around p token (nodes_in d around (position_after p (spelling token)) rest)
+nodes_in d around p (element name attributes space inside closing rest) =
+    let bindings = bindings_of attributes in
+    let found = counted d around name bindings in
+    let from = content_place p name attributes space in
+    with_node found (tag_of p attributes) (collapsed (direct_text inside))
+    (nodes_in d (within found bindings around) from inside)
+    (nodes_in d around (place_behind from inside name closing) rest)

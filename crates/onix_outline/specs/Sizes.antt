@@ -1,5 +1,6 @@
 -- How large a Header or a Product may be.
-use Rattle.std.specs.Prelude.{ℕ, ◌+◌, Bool, nat_le, List, [], ◌∷◌, length, Option, Some, None, if◌then◌else◌}
+use Rattle.std.specs.Prelude.{ℕ, ◌+◌, Bool, nat_le, List, [], ◌∷◌, length, Option, Some, None}
+use Rattle.std.specs.Prelude.{if◌then◌else◌}
 use Rattle.xml_text.specs.declared.position.Position.{Position}
 use Rattle.onix_outline.specs.Nodes.{Nodes, no_nodes, node, Tag}
 use Rattle.onix_outline.specs.Outline.{Line}
@@ -15,7 +16,8 @@ element_size tag text = 64 + (format_size tag.format + length text)
 -- elements, with all that is in them
 abbrev pub nodes_size : Nodes → ℕ
 nodes_size no_nodes = 0
-nodes_size (node name tag text below rest) = element_size tag text + (nodes_size below + nodes_size rest)
+nodes_size (node name tag text below rest) =
+    element_size tag text + (nodes_size below + nodes_size rest)
 
 -- lines, each as its element
 abbrev pub lines_size : List Line → ℕ
@@ -29,4 +31,6 @@ is_small size = nat_le size 4194304
 -- where the first of the elements stands that is larger, with all that is in it
 abbrev pub first_large : Nodes → Option Position
 first_large no_nodes = None
-first_large (node name tag text below rest) = if is_small (element_size tag text + nodes_size below) then first_large rest else Some tag.place
+first_large (node name tag text below rest) =
+    if is_small (element_size tag text + nodes_size below) then first_large rest
+    else Some tag.place

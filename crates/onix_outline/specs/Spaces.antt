@@ -1,8 +1,10 @@
 -- Text with each run of white space made one space, and none at the ends.
-use Rattle.std.specs.Prelude.{ℕ, Bool, true, false, List, [], ◌∷◌, Option, Some, None, if◌then◌else◌}
+use Rattle.std.specs.Prelude.{ℕ, Bool, true, false, List, [], ◌∷◌, Option, Some, None}
+use Rattle.std.specs.Prelude.{if◌then◌else◌}
 use Rattle.xml_text.specs.Grammar.{is_space}
 
--- the words of a text, with a space before each but the first; `waits` says whether white space came since the last word, `began` whether a word came
+-- the words of a text, with a space before each but the first; `waits` says whether white space
+-- came since the last word, `began` whether a word came
 abbrev pub words : Bool → Bool → List ℕ → List ℕ
 words began waits [] = []
 words began waits (b ∷ text) =

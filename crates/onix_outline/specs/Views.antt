@@ -2,6 +2,8 @@
 use Rattle.std.specs.Prelude.{List, map, option_map}
 use Rattle.onix_outline.specs.declared.line.Line.{Line}
 use Rattle.onix_outline.specs.declared.names.Word.{Word}
+use Rattle.onix_outline.specs.declared.namespaces.Binding.{Binding}
+use Rattle.onix_outline.specs.Namespaces.{Binding as Declared}
 use Rattle.onix_outline.specs.Nodes.{Tag}
 use Rattle.onix_outline.specs.Outline.{Line as Told}
 use Rattle.onix_outline.specs.Names.{Word as Spelled}
@@ -19,7 +21,14 @@ abbrev pub line_views : List Line → List Told
 line_views lines = map line_view lines
 
 abbrev pub word_view : Word → Spelled
-word_view w = record { reference = w.reference.now; short = w.short.now }
+word_view w =
+    record { composite = w.composite.now; reference = w.reference.now; short = w.short.now }
 
 abbrev pub word_views : List Word → List Spelled
 word_views words = map word_view words
+
+abbrev pub binding_view : Binding → Declared
+binding_view b = record { prefix = b.prefix.items; address = b.address.items }
+
+abbrev pub binding_views : List Binding → List Declared
+binding_views bindings = map binding_view bindings

@@ -1,12 +1,13 @@
 //! What stands in a composite, by the lines of its outline.
 
-ghost use Rattle.std.specs.Prelude.{◌≡◌, ◌<◌, ◌≤◌, IfSome, length, option_map};
-ghost use Rattle.onix_outline.specs.Composites.{text_in, text_line, deeper, IsFirst};
+ghost use Rattle.std.specs.Prelude.{◌≡◌, ℕ, ◌<◌, ◌≤◌, IfSome, length, option_map};
+ghost use Rattle.onix_outline.specs.Composites.{text_in, text_line, deeper, has_stranger, is_line_among, IsFirst};
 ghost use Rattle.onix_outline.specs.Nodes.{Nodes};
 ghost use Rattle.onix_outline.specs.Outline.{outline};
 ghost use Rattle.onix_outline.specs.Views.{line_views};
 
 use crate::line::Line;
+use crate::names::stranger;
 
 /// The first element of a composite, what stands in it, and the elements that follow it.
 #[derive(Clone, Copy)]
@@ -48,6 +49,20 @@ pub fn first_node(depth: usize, lines: &[Line]) -> Option<Node<'_>>
     }
 }
 
+// Whether one of the lines has this name.
+fn is_among(name: &[u8], lines: &[Line]) -> bool
+    ensures { result ≡ is_line_among name.now (line_views lines.now) }
+{
+    let mut rest = lines;
+    while let [line, tail @ ..] = rest {
+        if line.name == name {
+            return true;
+        }
+        rest = tail;
+    }
+    false
+}
+
 // The text of the first line of this depth and name that has one.
 fn text_line<'a>(depth: usize, name: &[u8], lines: &'a [Line]) -> Option<&'a [u8]>
     ensures { option_map (λ t. t.now) result ≡ text_line depth name.now (line_views lines.now) }
@@ -68,4 +83,13 @@ pub fn text_in<'a>(depth: usize, name: &[u8], lines: &'a [Line]) -> Option<&'a [
         → option_map (λ t. t.now) result ≡ text_in name.now nodes }
 {
     text_line(depth, name, lines)
+}
+
+/// Whether one of the elements, or of those in them, is a stranger: it is called as one that counts
+/// where it stands, and is in another namespace.
+pub fn has_stranger(lines: &[Line]) -> bool
+    ensures { (depth : ℕ) (nodes : Nodes) → line_views lines.now ≡ outline depth nodes
+        → result ≡ has_stranger nodes }
+{
+    is_among(stranger(), lines)
 }

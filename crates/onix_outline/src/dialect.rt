@@ -1,10 +1,14 @@
 //! How a message is written.
 
-ghost use Rattle.std.specs.Prelude.{◌≡◌, IfOk, option_map};
-ghost use Rattle.std.specs.Str.{bytes_eq};
-ghost use Rattle.onix_outline.specs.Dialect.{colon, prefix_of, local_of, declaration_of, address_in, is_release, dialect_of, counted, format_of};
+ghost use Rattle.std.specs.Prelude.{◌≡◌, ◌∷◌, [], IfOk, option_map};
+ghost use Rattle.onix_outline.specs.Dialect.{address_of, counted, dialect_of, format_of, is_release, root_address};
+ghost use Rattle.onix_outline.specs.private.Growing.{scopes_of};
+ghost use Rattle.onix_outline.specs.Namespaces.{scope};
+ghost use Rattle.onix_outline.specs.Views.{binding_views};
 
-use crate::names::{Naming, name_of, naming_of_root};
+use crate::grower::Grower;
+use crate::names::{Naming, name_of, naming_of_root, stranger};
+use crate::namespaces::{Binding, address_among, bindings_of, split_name, undeclared};
 use crate::spaces::fill;
 use std::alloc::{AllocError, Global};
 use std::marker::Model;
@@ -23,52 +27,21 @@ pub enum Wrong {
 #[derive(Drop)]
 pub struct Dialect {
     naming: Naming,
-    prefix: Vec<u8>,
-    declaration: Vec<u8>,
     address: Vec<u8>,
+    bindings: Vec<Binding>,
 }
 
 impl Model for Dialect {
     ghost use Rattle.onix_outline.specs.Dialect.{Dialect};
+    ghost use Rattle.onix_outline.specs.Views.{binding_views};
 
     ghost Value = { Dialect };
 
     ghost view = { λ d. record {
       naming = d.naming;
-      prefix = d.prefix.items;
-      declaration = d.declaration.items;
       address = d.address.items;
+      bindings = binding_views d.bindings.items;
     } };
-}
-
-// Where a name has its first colon.
-fn colon(name: &[u8]) -> Option<usize>
-    ensures { result ≡ colon name.now }
-{
-    name.iter().position(|b| *b == b':')
-}
-
-// The prefix of a name and its local name.
-fn split_name(name: &[u8]) -> (&[u8], &[u8])
-    ensures prefix { result.0.now ≡ prefix_of name.now }
-    ensures local { result.1.now ≡ local_of name.now }
-{
-    match colon(name) {
-        None => (b"", name),
-        Some(at) => (&name[..at], &name[at + 1..]),
-    }
-}
-
-// The attribute that declares a prefix.
-fn declaration_of(alloc: Global, prefix: &[u8]) -> Result<Vec<u8>, AllocError>
-    ensures { IfOk result (λ name. name.items ≡ declaration_of prefix.now) }
-{
-    let mut name = Vec::from_slice(alloc, b"xmlns")?;
-    if !prefix.is_empty() {
-        name.push(b':')?;
-        name.extend_from_slice(prefix)?;
-    }
-    Ok(name)
 }
 
 // Whether the release is one that is read.
@@ -80,6 +53,16 @@ fn is_release(release: &Option<Vec<u8>>) -> bool
         Some(release) => {
             release.as_slice() == b"3.0".as_slice() || release.as_slice() == b"3.1".as_slice()
         }
+    }
+}
+
+// What a prefix stands for by the declarations of the root.
+fn root_address<'a>(prefix: &[u8], bindings: &'a [Binding]) -> &'a [u8]
+    ensures { result.now ≡ root_address prefix.now (binding_views bindings.now) }
+{
+    match address_among(prefix, bindings) {
+        None => undeclared(prefix),
+        Some(address) => address,
     }
 }
 
@@ -99,49 +82,51 @@ impl Dialect {
         if !is_release(&attributes.normalized_value_of(alloc, b"release")?) {
             return Ok(Err(Wrong::Release));
         }
-        let declaration = declaration_of(alloc, prefix)?;
-        let address = match attributes.normalized_value_of(alloc, &declaration)? {
-            None => Vec::new(alloc),
-            Some(address) => address,
-        };
+        let bindings = bindings_of(alloc, attributes)?;
+        let address = Vec::from_slice(alloc, root_address(prefix, &bindings))?;
         Ok(Ok(Dialect {
             naming,
-            prefix: Vec::from_slice(alloc, prefix)?,
-            declaration,
             address,
+            bindings,
         }))
     }
 
-    // Whether a tag gives the prefix the namespace of the root.
-    fn is_in_namespace(
-        &self,
-        alloc: Global,
-        attributes: &Attributes<'_>,
-    ) -> Result<bool, AllocError>
-        ensures { IfOk result (λ is. is ≡ bytes_eq
-            (address_in self.now.declaration self.now.address attributes.now) self.now.address) }
+    // What a prefix stands for in a tag with these declarations, below what a grower has open.
+    fn address_of<'a>(
+        &'a self,
+        around: &'a Grower,
+        prefix: &[u8],
+        bindings: &'a [Binding],
+    ) -> &'a [u8]
+        ensures { result.now ≡ address_of self.now
+            (scope [] (binding_views bindings.now) ∷ scopes_of around.now.opens) prefix.now }
     {
-        match attributes.normalized_value_of(alloc, &self.declaration)? {
-            None => Ok(true),
-            Some(address) => Ok(address.as_slice() == self.address.as_slice()),
+        if let Some(address) = address_among(prefix, bindings) {
+            return address;
+        }
+        match around.address_within(prefix) {
+            Some(address) => address,
+            None => root_address(prefix, &self.bindings),
         }
     }
 
-    /// The reference name of an element that has this tag, where it counts.
+    /// The reference name of an element with this name and these declarations below what a grower
+    /// has open, where it counts; a stranger's name, where it would in the root's namespace.
     pub(crate) fn counted(
         &self,
-        alloc: Global,
+        around: &Grower,
         name: &[u8],
-        attributes: &Attributes<'_>,
-    ) -> Result<Option<&'static [u8]>, AllocError>
-        ensures { IfOk result (λ found. option_map (λ n. n.now) found
-            ≡ counted self.now name.now attributes.now) }
+        bindings: &[Binding],
+    ) -> Option<&'static [u8]>
+        ensures { option_map (λ n. n.now) result ≡ counted self.now
+            (scopes_of around.now.opens) name.now (binding_views bindings.now) }
     {
         let (prefix, local) = split_name(name);
-        if prefix == self.prefix.as_slice() && self.is_in_namespace(alloc, attributes)? {
-            Ok(name_of(self.naming, local))
+        let reference = name_of(self.naming, around.composite(), local)?;
+        if self.address_of(around, prefix, bindings) == self.address.as_slice() {
+            Some(reference)
         } else {
-            Ok(None)
+            Some(stranger())
         }
     }
 }

@@ -1,13 +1,18 @@
 //! An outline that grows from token to token.
 
-ghost use Rattle.std.specs.Prelude.{◌≡◌, ◌+◌, suc, nat_lt, [], IfOk, OnOk, Some, option_map};
-ghost use Rattle.onix_outline.specs.Feed.{fits};
-ghost use Rattle.onix_outline.specs.Growing.{growing, no_lines, change, longer, opened, closed, texted, is_idle};
+ghost use Rattle.std.specs.Prelude.{◌≡◌, ◌+◌, suc, nat_lt, [], IfOk, OnOk, Some, option_map, reverse};
+ghost use Rattle.onix_outline.specs.private.Feed.{fits};
+ghost use Rattle.onix_outline.specs.Dialect.{composite_of};
+ghost use Rattle.onix_outline.specs.private.Growing.{growing, no_lines, change, longer, opened, closed, texted, is_idle, scopes_of};
+ghost use Rattle.onix_outline.specs.Namespaces.{address_within};
 ghost use Rattle.onix_outline.specs.Nodes.{tagged};
 ghost use Rattle.onix_outline.specs.Sizes.{element_size, format_size, lines_size};
-ghost use Rattle.onix_outline.specs.Views.{line_views};
+ghost use Rattle.onix_outline.specs.Views.{binding_views, line_views};
+ghost use Rattle.onix_outline.specs.private.OpenViews.{open_views};
 
 use crate::line::Line;
+use crate::names::root;
+use crate::namespaces::{Binding, address_among};
 use crate::spaces::{push_words, waits_behind};
 use std::alloc::{AllocError, Global};
 use std::marker::Model;
@@ -19,11 +24,14 @@ const MOST_BYTES: usize = 4_194_304;
 /// What an element adds to the size of its Header or Product, beside its text and its format.
 const ELEMENT_BYTES: usize = 64;
 
-/// An open element: where its line is, and whether white space stands at the end of its text.
-#[derive(Clone, Copy)]
+/// An open element: where its line is, whether white space stands at the end of its text, its
+/// reference name, and what its tag declares.
+#[derive(Drop)]
 pub(crate) struct Open {
     pub(crate) at: usize,
     pub(crate) waits: bool,
+    pub(crate) name: &'static [u8],
+    pub(crate) bindings: Vec<Binding>,
 }
 
 /// The lines of the elements that were begun with their size, and which of them are open.
@@ -38,13 +46,15 @@ pub(crate) struct Grower {
 
 impl Model for Grower {
     ghost use Rattle.std.specs.Prelude.{◌≡◌, reverse};
-    ghost use Rattle.onix_outline.specs.Growing.{Growing, growing};
+    ghost use Rattle.onix_outline.specs.private.Growing.{Growing, growing};
     ghost use Rattle.onix_outline.specs.Sizes.{lines_size};
     ghost use Rattle.onix_outline.specs.Views.{line_views};
+    ghost use Rattle.onix_outline.specs.private.OpenViews.{open_views};
 
     ghost Value = { Growing };
 
-    ghost view = { λ g. growing (line_views g.lines.items) (reverse g.opens.items) g.passed };
+    ghost view = { λ g. growing (line_views g.lines.items)
+        (reverse (open_views g.opens.items)) g.passed };
 
     ghost invariant = { λ g. g.size ≡ lines_size (line_views g.lines.items) };
 }
@@ -77,24 +87,40 @@ fn size_with(size: usize, place: Position, format: &Option<Vec<u8>>) -> Result<u
 fn append(
     lines: &mut Vec<Line>,
     size: usize,
-    element: Open,
+    at: usize,
+    waits: bool,
     text: &[u8],
 ) -> Result<usize, AllocError>
     requires { size ≡ lines_size (line_views lines.old.items) }
     ensures lines { OnOk result (line_views lines.new.items
-        ≡ change (longer element.waits text.now) element.at (line_views lines.old.items)) }
+        ≡ change (longer waits text.now) at (line_views lines.old.items)) }
     ensures size { IfOk result (λ n. n ≡ lines_size (line_views lines.new.items)) }
 {
-    if element.at >= lines.len() {
+    if at >= lines.len() {
         return Ok(size);
     }
-    let line = &mut lines[element.at];
+    let line = &mut lines[at];
     let before = line.text.len();
-    push_words(&mut line.text, element.waits, text)?;
+    push_words(&mut line.text, waits, text)?;
     match size.checked_add(line.text.len() - before) {
         None => Err(AllocError),
         Some(size) => Ok(size),
     }
+}
+
+// What a prefix stands for by the nearest declaration of these elements, the innermost last.
+fn address_within<'a>(prefix: &[u8], opens: &'a [Open]) -> Option<&'a [u8]>
+    ensures { option_map (λ a. a.now) result
+        ≡ address_within prefix.now (scopes_of (reverse (open_views opens.now))) }
+{
+    let mut rest = opens;
+    while let [outer @ .., inner] = rest {
+        if let Some(address) = address_among(prefix, &inner.bindings) {
+            return Some(address);
+        }
+        rest = outer;
+    }
+    None
 }
 
 impl Grower {
@@ -142,6 +168,24 @@ impl Grower {
         self.passed = 0;
     }
 
+    /// The reference name of the composite that the next element stands in.
+    pub(crate) fn composite(&self) -> &'static [u8]
+        ensures { result.now ≡ composite_of (scopes_of self.now.opens) }
+    {
+        match self.opens.as_slice() {
+            [] => root(),
+            [.., inner] => inner.name,
+        }
+    }
+
+    /// What a prefix stands for by the nearest declaration of the open elements.
+    pub(crate) fn address_within(&self, prefix: &[u8]) -> Option<&[u8]>
+        ensures { option_map (λ a. a.now) result
+            ≡ address_within prefix.now (scopes_of self.now.opens) }
+    {
+        address_within(prefix, &self.opens)
+    }
+
     /// Whether an element that is passed over is open.
     pub(crate) fn is_passing(&self) -> bool
         ensures { result ≡ nat_lt 0 self.now.passed }
@@ -168,10 +212,12 @@ impl Grower {
         name: Option<&'static [u8]>,
         place: Position,
         format: Option<Vec<u8>>,
+        bindings: Vec<Binding>,
     ) -> Result<(), AllocError>
         ensures { OnOk result (self.new ≡ opened self.old.passed
             (option_map (λ n. n.now) name.entry)
-            (tagged place (option_map (λ f. f.items) format)) self.old) }
+            (tagged place (option_map (λ f. f.items) format))
+            (binding_views bindings.items) self.old) }
     {
         if self.is_passing() {
             return self.pass();
@@ -181,7 +227,7 @@ impl Grower {
                 self.passed = 1;
                 Ok(())
             }
-            Some(name) => self.begin(name, place, format),
+            Some(name) => self.begin(name, place, format, bindings),
         }
     }
 
@@ -191,10 +237,12 @@ impl Grower {
         name: &'static [u8],
         place: Position,
         format: Option<Vec<u8>>,
+        bindings: Vec<Binding>,
     ) -> Result<(), AllocError>
         requires { self.old.passed ≡ 0 }
         ensures { OnOk result (self.new ≡ opened 0 (Some name.now)
-            (tagged place (option_map (λ f. f.items) format)) self.old) }
+            (tagged place (option_map (λ f. f.items) format))
+            (binding_views bindings.items) self.old) }
     {
         let size = size_with(self.size, place, &format)?;
         let at = self.lines.len();
@@ -205,7 +253,12 @@ impl Grower {
             format,
             text: Vec::new(self.alloc),
         };
-        self.opens.push(Open { at, waits: false })?;
+        self.opens.push(Open {
+            at,
+            waits: false,
+            name,
+            bindings,
+        })?;
         self.lines.push(line)?;
         self.size = size;
         Ok(())
@@ -232,13 +285,21 @@ impl Grower {
         let Some(element) = self.opens.pop() else {
             return Ok(());
         };
-        match append(&mut self.lines, self.size, element, text) {
+        let Open {
+            at,
+            waits,
+            name,
+            bindings,
+        } = element;
+        match append(&mut self.lines, self.size, at, waits, text) {
             Ok(size) => {
                 self.size = size;
-                let waits = waits_behind(element.waits, text);
+                let waits = waits_behind(waits, text);
                 self.opens.push(Open {
-                    at: element.at,
+                    at,
                     waits,
+                    name,
+                    bindings,
                 })?;
                 Ok(())
             }

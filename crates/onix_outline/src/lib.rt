@@ -8,12 +8,13 @@ mod grower;
 pub mod laws;
 pub mod line;
 pub mod names;
+pub mod namespaces;
 pub mod outliner;
 pub mod outlines;
 pub mod reading;
 mod spaces;
 
-pub use composites::{Node, first_node, text_in};
+pub use composites::{Node, first_node, has_stranger, text_in};
 pub use dialect::{Dialect, Wrong};
 pub use laws::outlines_tell;
 pub use line::Line;

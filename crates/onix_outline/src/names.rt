@@ -1,7 +1,7 @@
 //! The names of elements.
 
 ghost use Rattle.std.specs.Prelude.{◌≡◌, option_map};
-ghost use Rattle.onix_outline.specs.Names.{name_among, name_of, naming_of_root, vocabulary, written};
+ghost use Rattle.onix_outline.specs.Names.{name_among, name_of, naming_of_root, root, stranger, vocabulary, written};
 ghost use Rattle.onix_outline.specs.Views.{word_view, word_views};
 
 /// The kinds of names that a message may be written in.
@@ -13,227 +13,317 @@ pub enum Naming {
     Short,
 }
 
-/// An element's reference name and its short tag.
+/// An element that counts: the composite that it stands in, its reference name and its short tag.
 #[derive(Clone, Copy, Debug)]
 pub struct Word {
+    pub composite: &'static [u8],
     pub reference: &'static [u8],
     pub short: &'static [u8],
 }
 
-static WORDS: [Word; 54] = [
+static WORDS: [Word; 61] = [
     Word {
+        composite: b"ONIXMessage",
         reference: b"Header",
         short: b"header",
     },
     Word {
-        reference: b"Sender",
-        short: b"sender",
-    },
-    Word {
-        reference: b"SenderIdentifier",
-        short: b"senderidentifier",
-    },
-    Word {
-        reference: b"SenderIDType",
-        short: b"m379",
-    },
-    Word {
-        reference: b"IDValue",
-        short: b"b244",
-    },
-    Word {
-        reference: b"Addressee",
-        short: b"addressee",
-    },
-    Word {
-        reference: b"AddresseeIdentifier",
-        short: b"addresseeidentifier",
-    },
-    Word {
-        reference: b"AddresseeIDType",
-        short: b"m380",
-    },
-    Word {
-        reference: b"MessageNumber",
-        short: b"m180",
-    },
-    Word {
-        reference: b"MessageRepeat",
-        short: b"m181",
-    },
-    Word {
-        reference: b"SentDateTime",
-        short: b"x307",
-    },
-    Word {
-        reference: b"DefaultPriceType",
-        short: b"x310",
-    },
-    Word {
-        reference: b"DefaultCurrencyCode",
-        short: b"m186",
-    },
-    Word {
+        composite: b"ONIXMessage",
         reference: b"Product",
         short: b"product",
     },
     Word {
+        composite: b"Header",
+        reference: b"Sender",
+        short: b"sender",
+    },
+    Word {
+        composite: b"Header",
+        reference: b"Addressee",
+        short: b"addressee",
+    },
+    Word {
+        composite: b"Header",
+        reference: b"MessageNumber",
+        short: b"m180",
+    },
+    Word {
+        composite: b"Header",
+        reference: b"MessageRepeat",
+        short: b"m181",
+    },
+    Word {
+        composite: b"Header",
+        reference: b"SentDateTime",
+        short: b"x307",
+    },
+    Word {
+        composite: b"Header",
+        reference: b"DefaultPriceType",
+        short: b"x310",
+    },
+    Word {
+        composite: b"Header",
+        reference: b"DefaultCurrencyCode",
+        short: b"m186",
+    },
+    Word {
+        composite: b"Sender",
+        reference: b"SenderIdentifier",
+        short: b"senderidentifier",
+    },
+    Word {
+        composite: b"SenderIdentifier",
+        reference: b"SenderIDType",
+        short: b"m379",
+    },
+    Word {
+        composite: b"SenderIdentifier",
+        reference: b"IDValue",
+        short: b"b244",
+    },
+    Word {
+        composite: b"Addressee",
+        reference: b"AddresseeIdentifier",
+        short: b"addresseeidentifier",
+    },
+    Word {
+        composite: b"AddresseeIdentifier",
+        reference: b"AddresseeIDType",
+        short: b"m380",
+    },
+    Word {
+        composite: b"AddresseeIdentifier",
+        reference: b"IDValue",
+        short: b"b244",
+    },
+    Word {
+        composite: b"Product",
         reference: b"RecordReference",
         short: b"a001",
     },
     Word {
+        composite: b"Product",
         reference: b"NotificationType",
         short: b"a002",
     },
     Word {
+        composite: b"Product",
         reference: b"ProductIdentifier",
         short: b"productidentifier",
     },
     Word {
-        reference: b"ProductIDType",
-        short: b"b221",
-    },
-    Word {
+        composite: b"Product",
         reference: b"ProductSupply",
         short: b"productsupply",
     },
     Word {
+        composite: b"ProductIdentifier",
+        reference: b"ProductIDType",
+        short: b"b221",
+    },
+    Word {
+        composite: b"ProductIdentifier",
+        reference: b"IDValue",
+        short: b"b244",
+    },
+    Word {
+        composite: b"ProductSupply",
         reference: b"Market",
         short: b"market",
     },
     Word {
-        reference: b"Territory",
-        short: b"territory",
-    },
-    Word {
-        reference: b"CountriesIncluded",
-        short: b"x449",
-    },
-    Word {
-        reference: b"RegionsIncluded",
-        short: b"x450",
-    },
-    Word {
-        reference: b"CountriesExcluded",
-        short: b"x451",
-    },
-    Word {
-        reference: b"RegionsExcluded",
-        short: b"x452",
-    },
-    Word {
-        reference: b"SalesRestriction",
-        short: b"salesrestriction",
-    },
-    Word {
+        composite: b"ProductSupply",
         reference: b"SupplyDetail",
         short: b"supplydetail",
     },
     Word {
+        composite: b"Market",
+        reference: b"Territory",
+        short: b"territory",
+    },
+    Word {
+        composite: b"Territory",
+        reference: b"CountriesIncluded",
+        short: b"x449",
+    },
+    Word {
+        composite: b"Territory",
+        reference: b"RegionsIncluded",
+        short: b"x450",
+    },
+    Word {
+        composite: b"Territory",
+        reference: b"CountriesExcluded",
+        short: b"x451",
+    },
+    Word {
+        composite: b"Territory",
+        reference: b"RegionsExcluded",
+        short: b"x452",
+    },
+    Word {
+        composite: b"SupplyDetail",
+        reference: b"OrderQuantityMinimum",
+        short: b"x532",
+    },
+    Word {
+        composite: b"SupplyDetail",
         reference: b"Supplier",
         short: b"supplier",
     },
     Word {
-        reference: b"SupplierRole",
-        short: b"j292",
-    },
-    Word {
-        reference: b"SupplierIdentifier",
-        short: b"supplieridentifier",
-    },
-    Word {
-        reference: b"SupplierIDType",
-        short: b"j345",
-    },
-    Word {
-        reference: b"SupplierName",
-        short: b"j137",
-    },
-    Word {
+        composite: b"SupplyDetail",
         reference: b"ProductAvailability",
         short: b"j396",
     },
     Word {
+        composite: b"SupplyDetail",
         reference: b"UnpricedItemType",
         short: b"j192",
     },
     Word {
+        composite: b"SupplyDetail",
         reference: b"Price",
         short: b"price",
     },
     Word {
+        composite: b"Supplier",
+        reference: b"SupplierRole",
+        short: b"j292",
+    },
+    Word {
+        composite: b"Supplier",
+        reference: b"SupplierIdentifier",
+        short: b"supplieridentifier",
+    },
+    Word {
+        composite: b"Supplier",
+        reference: b"SupplierName",
+        short: b"j137",
+    },
+    Word {
+        composite: b"SupplierIdentifier",
+        reference: b"SupplierIDType",
+        short: b"j345",
+    },
+    Word {
+        composite: b"SupplierIdentifier",
+        reference: b"IDValue",
+        short: b"b244",
+    },
+    Word {
+        composite: b"Price",
         reference: b"PriceType",
         short: b"x462",
     },
     Word {
+        composite: b"Price",
         reference: b"PriceQualifier",
         short: b"j261",
     },
     Word {
+        composite: b"Price",
         reference: b"PricePer",
         short: b"j239",
     },
     Word {
+        composite: b"Price",
         reference: b"PriceCondition",
         short: b"pricecondition",
     },
     Word {
-        reference: b"PriceConditionType",
-        short: b"x463",
-    },
-    Word {
+        composite: b"Price",
         reference: b"PriceConstraint",
         short: b"priceconstraint",
     },
     Word {
-        reference: b"PriceConstraintType",
-        short: b"x529",
-    },
-    Word {
+        composite: b"Price",
         reference: b"MinimumOrderQuantity",
         short: b"j263",
     },
     Word {
+        composite: b"Price",
         reference: b"PriceCoded",
         short: b"pricecoded",
     },
     Word {
+        composite: b"Price",
         reference: b"PriceAmount",
         short: b"j151",
     },
     Word {
+        composite: b"Price",
+        reference: b"UnpricedItemType",
+        short: b"j192",
+    },
+    Word {
+        composite: b"Price",
         reference: b"CurrencyCode",
         short: b"j152",
     },
     Word {
+        composite: b"Price",
         reference: b"CurrencyZone",
         short: b"x475",
     },
     Word {
-        reference: b"PriceStatus",
-        short: b"j266",
-    },
-    Word {
-        reference: b"EpubTechnicalProtection",
-        short: b"x317",
-    },
-    Word {
+        composite: b"Price",
         reference: b"EpubLicense",
         short: b"epublicense",
     },
     Word {
+        composite: b"Price",
+        reference: b"PriceTypeCode",
+        short: b"j148",
+    },
+    Word {
+        composite: b"Price",
+        reference: b"PriceEffectiveFrom",
+        short: b"j161",
+    },
+    Word {
+        composite: b"Price",
+        reference: b"PriceEffectiveUntil",
+        short: b"j162",
+    },
+    Word {
+        composite: b"Price",
+        reference: b"CountryCode",
+        short: b"b251",
+    },
+    Word {
+        composite: b"Price",
+        reference: b"Territory",
+        short: b"territory",
+    },
+    Word {
+        composite: b"Price",
         reference: b"PriceDate",
         short: b"pricedate",
     },
     Word {
+        composite: b"PriceCondition",
+        reference: b"PriceConditionType",
+        short: b"x463",
+    },
+    Word {
+        composite: b"PriceConstraint",
+        reference: b"PriceConstraintType",
+        short: b"x529",
+    },
+    Word {
+        composite: b"PriceDate",
         reference: b"PriceDateRole",
         short: b"x476",
     },
     Word {
+        composite: b"PriceDate",
         reference: b"DateFormat",
         short: b"j260",
     },
     Word {
+        composite: b"PriceDate",
         reference: b"Date",
         short: b"b306",
     },
@@ -256,13 +346,19 @@ fn written(naming: Naming, word: &Word) -> &'static [u8]
     }
 }
 
-// The reference name of the first word that is written so.
-fn name_among(naming: Naming, words: &[Word], name: &[u8]) -> Option<&'static [u8]>
-    ensures { option_map (λ t. t.now) result ≡ name_among naming (word_views words.now) name.now }
+// The reference name of the first word of a composite that is written so.
+fn name_among(
+    naming: Naming,
+    words: &[Word],
+    composite: &[u8],
+    name: &[u8],
+) -> Option<&'static [u8]>
+    ensures { option_map (λ t. t.now) result
+        ≡ name_among naming (word_views words.now) composite.now name.now }
 {
     let mut rest = words;
     while let [first, tail @ ..] = rest {
-        if written(naming, first) == name {
+        if written(naming, first) == name && first.composite == composite {
             return Some(first.reference);
         }
         rest = tail;
@@ -270,11 +366,26 @@ fn name_among(naming: Naming, words: &[Word], name: &[u8]) -> Option<&'static [u
     None
 }
 
-/// The reference name of an element that is written so, where it counts.
-pub(crate) fn name_of(naming: Naming, name: &[u8]) -> Option<&'static [u8]>
-    ensures { option_map (λ t. t.now) result ≡ name_of naming name.now }
+/// The reference name of a child of a composite that is written so, where it counts.
+pub(crate) fn name_of(naming: Naming, composite: &[u8], name: &[u8]) -> Option<&'static [u8]>
+    ensures { option_map (λ t. t.now) result ≡ name_of naming composite.now name.now }
 {
-    name_among(naming, vocabulary(), name)
+    name_among(naming, vocabulary(), composite, name)
+}
+
+/// The reference name of the root.
+pub(crate) fn root() -> &'static [u8]
+    ensures { result.now ≡ root }
+{
+    b"ONIXMessage"
+}
+
+/// The name of an element that is called as one that counts where it stands, and is in another
+/// namespace. No element of ONIX is called so.
+pub(crate) fn stranger() -> &'static [u8]
+    ensures { result.now ≡ stranger }
+{
+    b":"
 }
 
 /// The kind of names of a message whose root has this one.

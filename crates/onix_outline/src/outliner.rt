@@ -3,21 +3,24 @@
 ghost use Rattle.std.specs.Prelude.{◌≡◌, [], IfOk, OnOk, true, unwrap_or, is_some};
 ghost use Rattle.xml_text.specs.References.{reference_text};
 ghost use Rattle.xml_text.specs.View.{token_view};
-ghost use Rattle.onix_outline.specs.Feed.{feeding, first_feed, begun, ended, emptied, spoken, handed, settled, told, moved, is_sound, takes_more};
-ghost use Rattle.onix_outline.specs.Faults.{finished, first_place_of, stopped};
-ghost use Rattle.onix_outline.specs.Growing.{closed};
+ghost use Rattle.onix_outline.specs.private.Feed.{feeding, first_feed, begun, ended, emptied, spoken, handed, settled, told, moved, is_sound, takes_more};
+ghost use Rattle.onix_outline.specs.private.Finishing.{finished, first_place_of, stopped};
+ghost use Rattle.onix_outline.specs.private.Growing.{closed};
 ghost use Rattle.onix_outline.specs.Outline.{is_part};
 ghost use Rattle.onix_outline.specs.Views.{line_views};
 
 use crate::dialect::{Dialect, Wrong, format_of};
 use crate::grower::Grower;
 use crate::line::Line;
+use crate::names::stranger;
+use crate::namespaces::bindings_of;
 use crate::reading::{Fault, Stopped};
 use std::alloc::{AllocError, Global};
 use std::marker::Model;
 use xml_text::{Attributes, Piece, Position, Sink, Token, push_reference};
 
-/// What takes the outlines of a message: that of its Header and of each of its Products, in order.
+/// What takes the outlines of a message: that of its Header, of each of its Products, and of each stranger that is
+/// called so, in order.
 pub trait Taker {
     ghost use Rattle.std.specs.Prelude.{List};
     ghost use Rattle.onix_outline.specs.Outline.{Line};
@@ -25,7 +28,7 @@ pub trait Taker {
     /// What it is after an outline.
     ghost after: { Self → List Line → Self };
 
-    /// Takes an outline, whose first line is the Header or Product itself.
+    /// Takes an outline, whose first line is the Header, the Product or the stranger itself.
     fn take(&mut self, lines: &[Line]) -> Result<(), AllocError>
         ensures { OnOk result (self.new ≡ after self.old (line_views lines.now)) };
 }
@@ -42,7 +45,7 @@ pub struct Outliner<T> {
 }
 
 impl<T> Model for Outliner<T> {
-    ghost use Rattle.onix_outline.specs.Feed.{Feed, feeding};
+    ghost use Rattle.onix_outline.specs.private.Feed.{Feed, feeding};
 
     ghost Value = { Feed T };
 
@@ -69,11 +72,11 @@ fn first_place_of(lines: &[Line], place: Position) -> Position
     }
 }
 
-// Whether an element is a Header or a Product.
+// Whether an element is a Header, a Product, or a stranger that is called so.
 fn is_part(name: &[u8]) -> bool
     ensures { result ≡ is_part name.now }
 {
-    name == b"Product".as_slice() || name == b"Header".as_slice()
+    name == b"Product".as_slice() || name == b"Header".as_slice() || name == stranger()
 }
 
 impl<T: Taker + Drop> Outliner<T> {
@@ -188,9 +191,10 @@ impl<T: Taker + Drop> Outliner<T> {
                 if self.child.is_passing() {
                     return self.child.pass();
                 }
-                let name = dialect.counted(self.alloc, name, attributes)?;
+                let bindings = bindings_of(self.alloc, attributes)?;
+                let name = dialect.counted(&self.child, name, &bindings);
                 let format = format_of(self.alloc, attributes)?;
-                self.child.open(name, self.place, format)
+                self.child.open(name, self.place, format, bindings)
             }
         }
     }
@@ -302,7 +306,7 @@ impl<T: Taker + Drop> Outliner<T> {
 }
 
 impl<T: Taker + Drop> Sink for Outliner<T> {
-    ghost use Rattle.onix_outline.specs.Feed.{feed, takes_more};
+    ghost use Rattle.onix_outline.specs.private.Feed.{feed, takes_more};
 
     ghost after = { λ f token. feed T.after f token };
 

@@ -1,10 +1,11 @@
 //! The reading of messages.
 
-ghost use Rattle.std.specs.Prelude.{◌≡◌, ℕ, List, IfOk, IfErr, fold};
+ghost use Rattle.std.specs.Prelude.{◌≡◌, ℕ, List, [], IfOk, IfErr, fold};
 ghost use Rattle.xml_text.specs.EncodingNames.{IsTextOf};
 ghost use Rattle.xml_text.specs.Tree.{Content};
 ghost use Rattle.onix_outline.specs.Dialect.{Dialect};
-ghost use Rattle.onix_outline.specs.Faults.{Explains, IsAt, is_of_text};
+ghost use Rattle.onix_outline.specs.Faults.{Explains, IsAt};
+ghost use Rattle.onix_outline.specs.private.Finishing.{is_of_text};
 ghost use Rattle.onix_outline.specs.Message.{IsMessage};
 ghost use Rattle.onix_outline.specs.Nodes.{nodes_in};
 ghost use Rattle.onix_outline.specs.Outline.{parts_of};
@@ -52,8 +53,8 @@ fn is_of_text(fault: &xml_text::Fault) -> bool
     }
 }
 
-/// Reads a message, hands on its Header and each of its Products in order, and gives back what took them. Its first
-/// bytes tell its encoding.
+/// Reads a message, hands on its Header, each of its Products and each stranger that is called so, in
+/// order, and gives back what took them. Its first bytes tell its encoding.
 pub fn read_message<R: Read, T: Taker + Drop>(
     alloc: Global,
     reader: &mut R,
@@ -62,7 +63,7 @@ pub fn read_message<R: Read, T: Taker + Drop>(
     ensures message { IfOk result (λ taken. (text : List ℕ) × (d : Dialect) × (place : Position)
         × (inside : Content) × IsTextOf (R.remaining reader.old) text
         × IsMessage text d place inside
-        × (taken ≡ fold T.after taker (parts_of (nodes_in d place inside)))) }
+        × (taken ≡ fold T.after taker (parts_of (nodes_in d [] place inside)))) }
     ensures refused { IfErr result (λ stopped. Explains (R.remaining reader.old) stopped.fault) }
     ensures place { IfErr result (λ stopped.
         IsAt (R.remaining reader.old) stopped.fault stopped.place) }

@@ -1,7 +1,7 @@
 //! White space.
 
 ghost use Rattle.std.specs.Prelude.{◌≡◌, IfOk, OnOk, option_map};
-ghost use Rattle.onix_outline.specs.Growing.{grown, waits_behind};
+ghost use Rattle.onix_outline.specs.private.Growing.{grown, waits_behind};
 ghost use Rattle.onix_outline.specs.Spaces.{collapsed, filled};
 ghost use Rattle.xml_text.specs.Grammar.{is_space};
 

@@ -6,14 +6,15 @@ use Rattle.std.proofs.lemmas.Bool.{and_parts, ltb-true}
 use Rattle.std.proofs.lemmas.Grind.{flat_map-append}
 use Rattle.std.proofs.lemmas.Str.{encode_ascii}
 use Rattle.xml_text.specs.declared.encodings.Encoding.{Encoding}
-use Rattle.xml_text.specs.declared.encodings.Encoding.TheVariants.{Utf8, Ascii, Latin1, Windows1252, Utf16Big, Utf16Little}
-use Rattle.xml_text.specs.Encodings.{byte_text, code_of, windows_code}
+use Rattle.xml_text.specs.declared.encodings.Encoding.TheVariants.{Utf8, Ascii, Latin1, Latin9, Windows1252, Utf16Big, Utf16Little}
+use Rattle.xml_text.specs.Encodings.{byte_text, code_of, latin9_code, windows_code}
 use Rattle.xml_text.specs.private.NameCharacters.{is_ascii}
 
 own_code : (e : Encoding) (b : ℕ) → is_ascii b ≡ true → code_of e b ≡ b
 own_code Utf8 b h = refl
 own_code Ascii b h = ap (λ (t : Bool). if t then b else 0) h
 own_code Latin1 b h = refl
+own_code Latin9 b h = ap (λ (t : Bool). if t then b else latin9_code b) h
 own_code Windows1252 b h = ap (λ (t : Bool). if t then b else windows_code b) h
 own_code Utf16Big b h = refl
 own_code Utf16Little b h = refl

@@ -4,7 +4,7 @@ use Rattle.std.specs.Io.KnownBytes.{Consumes, IsAtEnd}
 use Rattle.std.specs.List.{flat_map}
 use Rattle.std.proofs.lemmas.Grind.{flat_map-append}
 use Rattle.xml_text.specs.declared.encodings.Encoding.{Encoding}
-use Rattle.xml_text.specs.declared.encodings.Encoding.TheVariants.{Utf8, Ascii, Latin1, Windows1252, Utf16Big, Utf16Little}
+use Rattle.xml_text.specs.declared.encodings.Encoding.TheVariants.{Utf8, Ascii, Latin1, Latin9, Windows1252, Utf16Big, Utf16Little}
 use Rattle.xml_text.specs.declared.encodings.Held.{Held}
 use Rattle.xml_text.specs.declared.encodings.Held.TheVariants.{Nothing, Byte, Lead, LeadByte}
 use Rattle.xml_text.specs.declared.texts.Part.{Part}
@@ -37,6 +37,7 @@ pub decoded-append : (e : Encoding) (h : Held) (xs ys : List ℕ) → decoded_fr
 decoded-append Utf8 h xs ys = refl
 decoded-append Ascii h xs ys = bytes-append (byte_text Ascii) xs ys
 decoded-append Latin1 h xs ys = bytes-append (byte_text Latin1) xs ys
+decoded-append Latin9 h xs ys = bytes-append (byte_text Latin9) xs ys
 decoded-append Windows1252 h xs ys = bytes-append (byte_text Windows1252) xs ys
 decoded-append Utf16Big h xs ys = decoded16-append Utf16Big h xs ys
 decoded-append Utf16Little h xs ys = decoded16-append Utf16Little h xs ys
@@ -45,6 +46,7 @@ decoded-end : (e : Encoding) (h : Held) → decoded_from e h [] ≡ ending e h +
 decoded-end Utf8 h = refl
 decoded-end Ascii h = refl
 decoded-end Latin1 h = refl
+decoded-end Latin9 h = refl
 decoded-end Windows1252 h = refl
 decoded-end Utf16Big h = sym (append-nil (ending16 h))
 decoded-end Utf16Little h = sym (append-nil (ending16 h))
@@ -53,6 +55,7 @@ none_left : (e : Encoding) → decoded_from e Nothing [] ≡ []
 none_left Utf8 = refl
 none_left Ascii = refl
 none_left Latin1 = refl
+none_left Latin9 = refl
 none_left Windows1252 = refl
 none_left Utf16Big = refl
 none_left Utf16Little = refl
@@ -100,6 +103,7 @@ ends_clean p q piece e f = e.2 ∙ of_encoding e.0 e.1 (sym (ap (follow p) e.2) 
     of_encoding Utf8 h g = refl
     of_encoding Ascii h g = refl
     of_encoding Latin1 h g = refl
+    of_encoding Latin9 h g = refl
     of_encoding Windows1252 h g = refl
     of_encoding Utf16Big h g = held_none p q h g
     of_encoding Utf16Little h g = held_none p q h g

@@ -20,3 +20,5 @@ pub mod EncodingLaws
 pub mod ReadingLaws
 pub mod HeadLaws
 pub mod ValueLaws
+pub mod OneTreeLaws
+pub mod Utf16Laws

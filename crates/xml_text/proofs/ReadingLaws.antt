@@ -1,5 +1,5 @@
 -- Where the reading of a document stands.
-use Rattle.std.proofs.Common.{◌≡◌, ℕ, ◌+◌, ◌-◌, true, false, List, [], ◌++◌, length, take, drop, Option, Some, None, Result, Ok, Err, refl, sym, ap, subst, ◌∙◌, append_assoc, take-append-drop, take-add, take_at, drop_at}
+use Rattle.std.proofs.Common.{append-nil, ◌≡◌, ℕ, ◌+◌, ◌-◌, true, false, List, [], ◌++◌, length, take, drop, Option, Some, None, Result, Ok, Err, refl, sym, ap, subst, ◌∙◌, append_assoc, take-append-drop, take-add, take_at, drop_at}
 use Rattle.std.specs.Prelude.{IfSome, IfErr, option_and_then}
 use Rattle.std.specs.Io.KnownBytes.{Consumes, IsAtEnd, prepend_known}
 use Rattle.std.proofs.KnownBytes.{Consumes-trans, prepend_known-nil}
@@ -102,9 +102,9 @@ none_follows told left window shown tokens q part s is none =
     (subst (λ (l : List ℕ). (more : List ℕ) (all : List Token) → ¬ (Completes q (l ++ more) all)) is none)
 
 pub goes_beyond : (Limit : Place → List ℕ → Type 0) (told left : Option (List ℕ)) (window shown : List ℕ) (tokens : List Token) (q : Place) (part : Option Part) → Lasts Limit
-    → State told left window tokens q part → shown ≡ window → Meets Limit q shown → IfSome told (Meets Limit first_place)
-goes_beyond Limit told left window shown tokens q part lasts s is m =
-    known_limit Limit told (prepend_known s.bad left) s.text window tokens q lasts s.read s.advances (subst (Meets Limit q) is m)
+    → (others : List Token) → State told left window tokens q part → shown ≡ window → Meets Limit q others shown → IfSome told (Meets Limit first_place (tokens ++ others))
+goes_beyond Limit told left window shown tokens q part lasts others s is m =
+    known_limit Limit told (prepend_known s.bad left) s.text window tokens q lasts s.read others s.advances (subst (Meets Limit q others) is m)
 
 pub is_garbled : (told left : Option (List ℕ)) (window : List ℕ) (tokens : List Token) (q : Place) (part : Option Part) → part ≡ None → State told left window tokens q part
     → IfSome told IsNoDocument
@@ -161,9 +161,10 @@ at_same_fault P Q Memory f h = tt
 
 -- a window that is too long
 pub too_long : (told left : Option (List ℕ)) (window : List ℕ) (tokens : List Token) (q : Place) (part : Option Part) → State told left window tokens q part → IsLong q window
-    → IfSome told (Meets IsLong first_place)
+    → IfSome told (Meets IsLong first_place tokens)
 too_long told left window tokens q part s long =
-    goes_beyond IsLong told left window window tokens q part long_lasts s refl (record { tokens = []; rest = window; place = q; leads = at_start window q; meets = long })
+    subst (λ (ts : List Token). IfSome told (Meets IsLong first_place ts)) (append-nil tokens)
+    (goes_beyond IsLong told left window window tokens q part long_lasts [] s refl (record { rest = window; place = q; leads = at_start window q; meets = long }))
 
 -- an end without bytes
 pub same_window : (before window piece : List ℕ) (part next : Part) → Grows before window part piece (Some next) → IsEnding piece → window ≡ before

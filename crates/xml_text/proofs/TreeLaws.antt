@@ -257,13 +257,13 @@ document_of bytes tokens name inside text spelled sound tree = record {
   text = text;
   spelled = spelled;
   each = sound.each;
-  ends = steps_of first_place tokens last_place (record { distinct = sound.distinct; nesting = tree_nests tokens name inside tree; count = sound.apart });
+  ends = steps_of first_place tokens last_place (record { distinct = sound.distinct; nesting = tree_nests tokens name inside tree; count = sound.apart; order = sound.order });
 }
 
 pub sound_of : (bytes : List ℕ) (tokens : List Token) → IsDocument bytes tokens → AreSound tokens
 sound_of bytes tokens d =
     let parts = parts_of first_place tokens last_place d.ends in
-    record { each = d.each; distinct = parts.distinct; apart = parts.count }
+    record { each = d.each; distinct = parts.distinct; apart = parts.count; order = parts.order }
 
 pub document_tree : (bytes : List ℕ) (tokens : List Token) → IsDocument bytes tokens → SomeTree tokens
 document_tree bytes tokens d = tree_of tokens (parts_of first_place tokens last_place d.ends).nesting

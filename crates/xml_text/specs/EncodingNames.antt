@@ -1,27 +1,37 @@
 -- The encoding that a document says it has.
-use Rattle.std.specs.Prelude.{◌≡◌, ℕ, Bool, true, false, ◌&&◌, ◌||◌, ◌==◌, codes, List, [], ◌∷◌, Option, Some, None, Ok, Err, ⊤, if◌then◌else◌, option_map, take, drop}
+use Rattle.std.specs.Prelude.{◌≡◌, ℕ, Bool, ◌||◌, ◌==◌, codes, List, [], ◌∷◌, Option, Some, None}
+use Rattle.std.specs.Prelude.{Ok, Err, ⊤, if◌then◌else◌, option_map, take, drop}
 use Rattle.std.specs.Char.{to_ascii_lowercase}
+use Rattle.std.specs.Str.{bytes_eq}
 use Rattle.xml_text.specs.declared.encodings.Encoding.{Encoding}
-use Rattle.xml_text.specs.declared.encodings.Encoding.TheVariants.{Utf8, Ascii, Latin1, Windows1252, Utf16Big, Utf16Little}
+use Rattle.xml_text.specs.declared.encodings.Encoding.TheVariants.{Utf8, Ascii, Latin1}
+use Rattle.xml_text.specs.declared.encodings.Encoding.TheVariants.{Latin9, Windows1252}
+use Rattle.xml_text.specs.declared.encodings.Encoding.TheVariants.{Utf16Big, Utf16Little}
 use Rattle.xml_text.specs.Distinct.{value_of}
 use Rattle.xml_text.specs.Encodings.{decoded}
 use Rattle.xml_text.specs.Grammar.{Attribute, begins}
 use Rattle.xml_text.specs.Reading.{attributes_at}
 use Rattle.xml_text.specs.Steps.{Step, ◌>>=◌, literal}
 
--- the name in small letters is this one
-abbrev pub is_alike : List ℕ → List ℕ → Bool
-is_alike [] [] = true
-is_alike [] (c ∷ other) = false
-is_alike (b ∷ name) [] = false
-is_alike (b ∷ name) (c ∷ other) = (to_ascii_lowercase b == c) && is_alike name other
+-- a name without its hyphens and low lines, in small letters
+abbrev pub plain_name : List ℕ → List ℕ
+plain_name [] = []
+plain_name (b ∷ name) =
+    if (b == 45) || (b == 95) then plain_name name else to_ascii_lowercase b ∷ plain_name name
 
+abbrev pub is_alike : List ℕ → List ℕ → Bool
+is_alike name plain = bytes_eq (plain_name name) plain
+
+-- The encoding of a name that a declaration gives whose bytes are those of ASCII. In UTF-16 they
+-- would not be: what says so there is UTF-8.
 abbrev pub encoding_of : List ℕ → Option Encoding
 encoding_of name =
-    if is_alike name (codes "utf-8") || is_alike name (codes "utf8") then Some Utf8
-    else if is_alike name (codes "us-ascii") then Some Ascii
-    else if is_alike name (codes "iso-8859-1") then Some Latin1
-    else if is_alike name (codes "windows-1252") then Some Windows1252
+    if is_alike name (codes "utf8") || is_alike name (codes "utf16") then Some Utf8
+    else if is_alike name (codes "usascii") || is_alike name (codes "ascii") then Some Ascii
+    else if is_alike name (codes "iso88591") || is_alike name (codes "latin1") then Some Latin1
+    else if is_alike name (codes "iso885915") then Some Latin9
+    else if is_alike name (codes "windows1252") || is_alike name (codes "cp1252")
+    then Some Windows1252
     else None
 
 -- the value of the attribute `encoding` of a declaration at the front
@@ -49,13 +59,16 @@ abbrev pub or_declared : Option (Encoding × ℕ) → List ℕ → Option (Encod
 or_declared (Some found) head = Some found
 or_declared None head = option_map (λ encoding. (encoding, 0)) (named (declared_name head))
 
--- The encoding of a document that begins so, and how many bytes its byte order mark has: the one that the mark tells, else the one of its declaration.
+-- The encoding of a document that begins so, and how many bytes its byte order mark has: the one
+-- that the mark tells, else the one of its declaration.
 abbrev pub encoding_at : List ℕ → Option (Encoding × ℕ)
 encoding_at head = or_declared (marked head) head
 
--- The text of a document's bytes, where its encoding is known. It is told within the first 1,024 bytes, and the mark is no part of the text.
+-- The text of a document's bytes, where its encoding is known. It is told within the first 1,024
+-- bytes, and the mark is no part of the text.
 abbrev pub text_of : List ℕ → Option (List ℕ)
-text_of bytes = option_map (λ found. decoded found.0 (drop found.1 bytes)) (encoding_at (take 1024 bytes))
+text_of bytes =
+    option_map (λ found. decoded found.0 (drop found.1 bytes)) (encoding_at (take 1024 bytes))
 
 -- a text is that of the bytes that a reader has left, where the reader tells them
 abbrev pub IsTextOf : Option (List ℕ) → List ℕ → Type 0

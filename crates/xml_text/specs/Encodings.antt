@@ -1,9 +1,12 @@
 -- Encodings, and the text that bytes are in one.
-use Rattle.std.specs.Prelude.{ℕ, ◌+◌, ◌-◌, ◌*◌, Bool, ◌&&◌, ◌==◌, nat_lt, nat_le, List, [], ◌∷◌, ◌++◌, Option, if◌then◌else◌, option_map, encode_utf8}
+use Rattle.std.specs.Prelude.{ℕ, ◌+◌, ◌-◌, ◌*◌, Bool, ◌&&◌, ◌==◌, nat_lt, nat_le, List, [], ◌∷◌}
+use Rattle.std.specs.Prelude.{◌++◌, Option, if◌then◌else◌, option_map, encode_utf8}
 use Rattle.std.specs.List.{flat_map}
 use Rattle.std.specs.Io.KnownBytes.{prepend_known}
 use Rattle.xml_text.specs.declared.encodings.Encoding.{Encoding}
-use Rattle.xml_text.specs.declared.encodings.Encoding.TheVariants.{Utf8, Ascii, Latin1, Windows1252, Utf16Big, Utf16Little}
+use Rattle.xml_text.specs.declared.encodings.Encoding.TheVariants.{Utf8, Ascii, Latin1}
+use Rattle.xml_text.specs.declared.encodings.Encoding.TheVariants.{Latin9, Windows1252}
+use Rattle.xml_text.specs.declared.encodings.Encoding.TheVariants.{Utf16Big, Utf16Little}
 use Rattle.xml_text.specs.declared.encodings.Held.{Held}
 use Rattle.xml_text.specs.declared.encodings.Held.TheVariants.{Nothing, Byte, Lead, LeadByte}
 
@@ -39,9 +42,23 @@ windows_code b =
     if b == 159 then 376 else
     if nat_lt b 160 then 0 else b
 
--- The code point of a byte. One that the encoding does not have is 0, a character that no document has.
+-- the code point of a byte of ISO-8859-15, which has eight others than ISO-8859-1
+abbrev pub latin9_code : ℕ → ℕ
+latin9_code b =
+    if b == 164 then 8364 else
+    if b == 166 then 352 else
+    if b == 168 then 353 else
+    if b == 180 then 381 else
+    if b == 184 then 382 else
+    if b == 188 then 338 else
+    if b == 189 then 339 else
+    if b == 190 then 376 else b
+
+-- The code point of a byte. One that the encoding does not have is 0, a character that no document
+-- has.
 abbrev pub code_of : Encoding → ℕ → ℕ
 code_of Ascii b = if nat_lt b 128 then b else 0
+code_of Latin9 b = if nat_lt b 128 then b else latin9_code b
 code_of Windows1252 b = if nat_lt b 128 then b else windows_code b
 code_of other b = b
 
@@ -62,13 +79,21 @@ is_lead u = nat_le 55296 u && nat_lt u 56320
 abbrev pub is_trail : ℕ → Bool
 is_trail u = nat_le 56320 u && nat_lt u 57344
 
--- What is held behind a unit, and the text that it completes: a character, or the first unit of a pair. A second one alone is U+0000.
+-- What is held behind a unit, and the text that it completes: a character, or the first unit of a
+-- pair. A second one alone is U+0000.
 abbrev pub after_unit : ℕ → Held × List ℕ
-after_unit u = if is_lead u then (Lead u, []) else if is_trail u then (Nothing, 0 ∷ []) else (Nothing, encode_utf8 u)
+after_unit u =
+    if is_lead u then (Lead u, [])
+    else if is_trail u then (Nothing, 0 ∷ [])
+    else (Nothing, encode_utf8 u)
 
--- The same behind the first unit of a pair: the character of the pair. Where no second unit follows, U+0000.
+-- The same behind the first unit of a pair: the character of the pair. Where no second unit
+-- follows, U+0000.
 abbrev pub after_pair : ℕ → ℕ → Held × List ℕ
-after_pair lead u = (Nothing, if is_trail u then encode_utf8 (65536 + ((lead - 55296) * 1024 + (u - 56320))) else 0 ∷ [])
+after_pair lead u = (
+  Nothing,
+  if is_trail u then encode_utf8 (65536 + ((lead - 55296) * 1024 + (u - 56320))) else 0 ∷ [],
+)
 
 -- the same behind a byte, of which two are a unit
 abbrev pub after_byte : Encoding → Held → ℕ → Held × List ℕ
@@ -84,7 +109,8 @@ held16 encoding held (b ∷ bytes) = held16 encoding (after_byte encoding held b
 
 abbrev pub text16 : Encoding → Held → List ℕ → List ℕ
 text16 encoding held [] = []
-text16 encoding held (b ∷ bytes) = (after_byte encoding held b).1 ++ text16 encoding (after_byte encoding held b).0 bytes
+text16 encoding held (b ∷ bytes) =
+    (after_byte encoding held b).1 ++ text16 encoding (after_byte encoding held b).0 bytes
 
 -- at the end of a text nothing is held; what is held there is U+0000
 abbrev pub ending16 : Held → List ℕ
@@ -103,6 +129,7 @@ abbrev pub text_from : Encoding → Held → List ℕ → List ℕ
 text_from Utf8 held bytes = bytes
 text_from Ascii held bytes = flat_map (byte_text Ascii) bytes
 text_from Latin1 held bytes = flat_map (byte_text Latin1) bytes
+text_from Latin9 held bytes = flat_map (byte_text Latin9) bytes
 text_from Windows1252 held bytes = flat_map (byte_text Windows1252) bytes
 text_from Utf16Big held bytes = text16 Utf16Big held bytes
 text_from Utf16Little held bytes = text16 Utf16Little held bytes
@@ -116,7 +143,8 @@ ending other held = []
 -- the UTF-8 of a text that ends with these bytes, behind what is held
 abbrev pub decoded_from : Encoding → Held → List ℕ → List ℕ
 decoded_from Utf8 held bytes = bytes
-decoded_from encoding held bytes = text_from encoding held bytes ++ ending encoding (held_behind encoding held bytes)
+decoded_from encoding held bytes =
+    text_from encoding held bytes ++ ending encoding (held_behind encoding held bytes)
 
 -- the UTF-8 of a text whose bytes these are
 abbrev pub decoded : Encoding → List ℕ → List ℕ

@@ -1,6 +1,20 @@
 -- The lists of the names that HTML gives to characters, by their first letter.
 use Rattle.std.specs.Prelude.{ℕ, List, [], ◌∷◌, ◌==◌, nat_le, if◌then◌else◌}
-use Rattle.xml_text.specs.declared.html_names.TheConstants.{CAPITAL_A, CAPITAL_B, CAPITAL_C, CAPITAL_D, CAPITAL_E, CAPITAL_F, CAPITAL_G, CAPITAL_H, CAPITAL_I, CAPITAL_J, CAPITAL_K, CAPITAL_L, CAPITAL_M, CAPITAL_N, CAPITAL_O, CAPITAL_P, CAPITAL_Q, CAPITAL_R, CAPITAL_S, CAPITAL_T, CAPITAL_U, CAPITAL_V, CAPITAL_W, CAPITAL_X, CAPITAL_Y, CAPITAL_Z, SMALL_A, SMALL_B, SMALL_C, SMALL_D, SMALL_E, SMALL_F, SMALL_G, SMALL_H, SMALL_I, SMALL_J, SMALL_K, SMALL_L, SMALL_M, SMALL_N, SMALL_O, SMALL_P, SMALL_Q, SMALL_R, SMALL_S, SMALL_T, SMALL_U, SMALL_V, SMALL_W, SMALL_X, SMALL_Y, SMALL_Z}
+use Rattle.xml_text.specs.declared.html_names.TheConstants.{CAPITAL_A, CAPITAL_B, CAPITAL_C}
+use Rattle.xml_text.specs.declared.html_names.TheConstants.{CAPITAL_D, CAPITAL_E, CAPITAL_F}
+use Rattle.xml_text.specs.declared.html_names.TheConstants.{CAPITAL_G, CAPITAL_H, CAPITAL_I}
+use Rattle.xml_text.specs.declared.html_names.TheConstants.{CAPITAL_J, CAPITAL_K, CAPITAL_L}
+use Rattle.xml_text.specs.declared.html_names.TheConstants.{CAPITAL_M, CAPITAL_N, CAPITAL_O}
+use Rattle.xml_text.specs.declared.html_names.TheConstants.{CAPITAL_P, CAPITAL_Q, CAPITAL_R}
+use Rattle.xml_text.specs.declared.html_names.TheConstants.{CAPITAL_S, CAPITAL_T, CAPITAL_U}
+use Rattle.xml_text.specs.declared.html_names.TheConstants.{CAPITAL_V, CAPITAL_W, CAPITAL_X}
+use Rattle.xml_text.specs.declared.html_names.TheConstants.{CAPITAL_Y, CAPITAL_Z, SMALL_A, SMALL_B}
+use Rattle.xml_text.specs.declared.html_names.TheConstants.{SMALL_C, SMALL_D, SMALL_E, SMALL_F}
+use Rattle.xml_text.specs.declared.html_names.TheConstants.{SMALL_G, SMALL_H, SMALL_I, SMALL_J}
+use Rattle.xml_text.specs.declared.html_names.TheConstants.{SMALL_K, SMALL_L, SMALL_M, SMALL_N}
+use Rattle.xml_text.specs.declared.html_names.TheConstants.{SMALL_O, SMALL_P, SMALL_Q, SMALL_R}
+use Rattle.xml_text.specs.declared.html_names.TheConstants.{SMALL_S, SMALL_T, SMALL_U, SMALL_V}
+use Rattle.xml_text.specs.declared.html_names.TheConstants.{SMALL_W, SMALL_X, SMALL_Y, SMALL_Z}
 
 -- the list of the names that begin with this capital letter
 unfoldable pub capital_names : ℕ → List ℕ

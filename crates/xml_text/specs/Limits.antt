@@ -3,25 +3,39 @@ use Rattle.std.specs.Prelude.{◌≡◌, ◌<◌, ◌≤◌, ℕ, true, List, �
 use Rattle.xml_text.specs.declared.place.Place.{Place}
 use Rattle.xml_text.specs.Distinct.{is_large}
 use Rattle.xml_text.specs.Documents.{Advances}
-use Rattle.xml_text.specs.Grammar.{Token, spelling}
+use Rattle.xml_text.specs.Grammar.{Token, start, spelling, is_token}
 use Rattle.xml_text.specs.Pieces.{HasNoToken}
 
--- The bytes begin with tokens that lead to a place, and there and of the rest this holds.
-pub record Meets (Limit : Place → List ℕ → Type 0) (from : Place) (bytes : List ℕ) : Type 0 where
-  pub tokens : List Token
+-- what may be said of a place and of what follows there
+abbrev pub Bound : Type 1
+Bound = Place → List ℕ → Type 0
+
+-- The bytes begin with these tokens, which lead to a place, and there and of the rest this holds.
+pub record Meets (Limit : Bound) (from : Place) (tokens : List Token)
+    (bytes : List ℕ) : Type 0 where
   pub rest : List ℕ
   pub place : Place
   pub leads : Advances bytes tokens rest from place
   pub meets : Limit place rest
 
--- 1,000 elements are open
+-- the rest begins with this token
+abbrev pub Follows : Token → List ℕ → Type 0
+Follows token rest = (more : List ℕ) × (rest ≡ spelling token ++ more) × (is_token token ≡ true)
+
+abbrev pub IsStart : Token → Type 0
+IsStart (start name attributes space) = Unit {0}
+IsStart other = ⊥
+
+-- 1,000 elements are open, and the start tag of another one follows
 abbrev pub IsDeep : Place → List ℕ → Type 0
-IsDeep p rest = 1000 ≤ length p.nesting.names
+IsDeep p rest = (tag : Token) × IsStart tag × Follows tag rest × (1000 ≤ length p.nesting.names)
 
 -- a tag follows with more attributes, or more bytes of them, than are taken
 abbrev pub IsLarge : Place → List ℕ → Type 0
-IsLarge p rest = (tag : Token) × (more : List ℕ) × (rest ≡ spelling tag ++ more) × (is_large tag ≡ true)
+IsLarge p rest = (tag : Token) × Follows tag rest × (is_large tag ≡ true)
 
 -- more than 4,194,304 bytes follow that begin with no token
 abbrev pub IsLong : Place → List ℕ → Type 0
-IsLong p rest = (front : List ℕ) × (more : List ℕ) × (rest ≡ front ++ more) × (4194304 < length front) × HasNoToken front
+IsLong p rest =
+    (front : List ℕ) × (more : List ℕ) × (rest ≡ front ++ more) × (4194304 < length front)
+    × HasNoToken front

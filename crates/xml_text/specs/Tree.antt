@@ -7,13 +7,15 @@ pub data Content : Type 0 where
   nothing : Content
   -- a token that is no tag, or an empty element, and what follows
   leaf : Token → Content → Content
-  -- a name, attributes, white space, what stands in the element, the white space of its end tag, and what follows it
+  -- a name, attributes, white space, what stands in the element, the white space of its end tag,
+  -- and what follows it
   element : List ℕ → List Attribute → List ℕ → Content → List ℕ → Content → Content
 
 abbrev pub tokens_of : Content → List Token
 tokens_of nothing = []
 tokens_of (leaf token rest) = token ∷ tokens_of rest
-tokens_of (element name attributes space inside closing rest) = start name attributes space ∷ (tokens_of inside ++ end name closing ∷ tokens_of rest)
+tokens_of (element name attributes space inside closing rest) =
+    start name attributes space ∷ (tokens_of inside ++ end name closing ∷ tokens_of rest)
 
 -- a leaf is no start tag and no end tag, and nothing that stands only before the root
 abbrev pub IsLeaf : Token → Type 0

@@ -7,20 +7,22 @@ use crate::attributes::read_attributes;
 use crate::encodings::Encoding;
 use crate::scan::literal;
 
-// Whether the name in small letters is this one.
-fn is_alike(name: &[u8], other: &[u8]) -> bool
-    ensures { result ≡ is_alike name.now other.now }
+// Whether the name without its hyphens and low lines, in small letters, is this one.
+fn is_alike(name: &[u8], plain: &[u8]) -> bool
+    ensures { result ≡ is_alike name.now plain.now }
 {
     let mut left = name;
-    let mut right = other;
+    let mut right = plain;
     while let [b, tail @ ..] = left {
-        match right {
-            [] => return false,
-            [c, behind @ ..] => {
-                if b.to_ascii_lowercase() != *c {
-                    return false;
+        if *b != b'-' && *b != b'_' {
+            match right {
+                [] => return false,
+                [c, behind @ ..] => {
+                    if b.to_ascii_lowercase() != *c {
+                        return false;
+                    }
+                    right = behind;
                 }
-                right = behind;
             }
         }
         left = tail;
@@ -28,17 +30,19 @@ fn is_alike(name: &[u8], other: &[u8]) -> bool
     right.is_empty()
 }
 
-// The encoding of a name, in capital letters or small ones.
+// The encoding of a name in a declaration whose bytes are those of ASCII.
 fn encoding_of(name: &[u8]) -> Option<Encoding>
     ensures { result ≡ encoding_of name.now }
 {
-    if is_alike(name, "utf-8".as_bytes()) || is_alike(name, "utf8".as_bytes()) {
+    if is_alike(name, b"utf8") || is_alike(name, b"utf16") {
         Some(Encoding::Utf8)
-    } else if is_alike(name, "us-ascii".as_bytes()) {
+    } else if is_alike(name, b"usascii") || is_alike(name, b"ascii") {
         Some(Encoding::Ascii)
-    } else if is_alike(name, "iso-8859-1".as_bytes()) {
+    } else if is_alike(name, b"iso88591") || is_alike(name, b"latin1") {
         Some(Encoding::Latin1)
-    } else if is_alike(name, "windows-1252".as_bytes()) {
+    } else if is_alike(name, b"iso885915") {
+        Some(Encoding::Latin9)
+    } else if is_alike(name, b"windows1252") || is_alike(name, b"cp1252") {
         Some(Encoding::Windows1252)
     } else {
         None
@@ -83,7 +87,8 @@ fn marked(head: &[u8]) -> Option<(Encoding, usize)>
 
 /// The encoding of a document that begins so, if it is one that is known, and how many bytes its byte order mark has:
 /// UTF-8 or UTF-16 behind their marks, else the encoding that the declaration names, in capital letters or small ones,
-/// and UTF-8 where none does. A declaration has to be there whole.
+/// with hyphens and low lines or without, and UTF-8 where none does, or where it names UTF-16, which its own bytes are
+/// not. A declaration has to be there whole.
 pub(crate) fn encoding_at(head: &[u8]) -> Option<(Encoding, usize)>
     ensures gives { result ≡ encoding_at head.now }
     ensures within { IfSome result (λ x. x.1 ≤ length head.now) }

@@ -2,7 +2,7 @@
 
 ghost use Rattle.std.specs.Prelude.{◌≡◌, ◌<◌, ◌≤◌, ◌++◌, OnOk, IfOk, encode_utf8, length, true};
 ghost use Rattle.std.specs.List.{flat_map, list_all};
-ghost use Rattle.xml_text.specs.Encodings.{windows_code, code_of, byte_text, unit_of, is_lead, is_trail, after_unit, after_pair, after_byte, held16, text16, held_behind, text_from, ending, ending16};
+ghost use Rattle.xml_text.specs.Encodings.{windows_code, latin9_code, code_of, byte_text, unit_of, is_lead, is_trail, after_unit, after_pair, after_byte, held16, text16, held_behind, text_from, ending, ending16};
 ghost use Rattle.xml_text.specs.private.NameCharacters.{is_ascii};
 
 use std::alloc::AllocError;
@@ -16,6 +16,8 @@ pub enum Encoding {
     Ascii,
     /// ISO-8859-1.
     Latin1,
+    /// ISO-8859-15.
+    Latin9,
     /// windows-1252.
     Windows1252,
     /// UTF-16 whose units have their high byte first, behind its byte order mark.
@@ -99,12 +101,44 @@ fn windows_code(b: u8) -> u32
     }
 }
 
+// The code point of a byte of ISO-8859-15.
+fn latin9_code(b: u8) -> u32
+    ensures { result ≡ latin9_code b }
+{
+    if b == 164 {
+        8364
+    } else if b == 166 {
+        352
+    } else if b == 168 {
+        353
+    } else if b == 180 {
+        381
+    } else if b == 184 {
+        382
+    } else if b == 188 {
+        338
+    } else if b == 189 {
+        339
+    } else if b == 190 {
+        376
+    } else {
+        u32::from(b)
+    }
+}
+
 // The code point of a byte.
 fn code_of(encoding: Encoding, b: u8) -> u32
     ensures { result ≡ code_of encoding b }
 {
     match encoding {
         Encoding::Ascii => { if b < 128 { u32::from(b) } else { 0 } }
+        Encoding::Latin9 => {
+            if b < 128 {
+                u32::from(b)
+            } else {
+                latin9_code(b)
+            }
+        }
         Encoding::Windows1252 => {
             if b < 128 {
                 u32::from(b)
@@ -279,6 +313,7 @@ pub(crate) fn push_decoded(
         Encoding::Utf8 => out.extend_from_slice(bytes)?,
         Encoding::Ascii => push_characters(out, encoding, bytes)?,
         Encoding::Latin1 => push_characters(out, encoding, bytes)?,
+        Encoding::Latin9 => push_characters(out, encoding, bytes)?,
         Encoding::Windows1252 => push_characters(out, encoding, bytes)?,
         Encoding::Utf16Big => return push_units(out, encoding, held, bytes),
         Encoding::Utf16Little => return push_units(out, encoding, held, bytes),

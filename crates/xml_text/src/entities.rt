@@ -2,7 +2,7 @@
 
 ghost use Rattle.std.specs.Prelude.{◌≡◌, option_map};
 ghost use Rattle.xml_text.specs.HtmlNames.{capital_names, small_names, html_names};
-ghost use Rattle.xml_text.specs.References.{past_reference, word, listed, named_text};
+ghost use Rattle.xml_text.specs.References.{past_reference, word, listed, named_text, xml_entity};
 ghost use Rattle.xml_text.specs.Steps.{Gives};
 
 use crate::html_names::{
@@ -138,10 +138,32 @@ fn listed<'a>(name: &[u8], list: &'a [u8]) -> Option<&'a [u8]>
     None
 }
 
+// The characters that XML itself gives a name.
+fn xml_entity(name: &[u8]) -> Option<&'static [u8]>
+    ensures { option_map (λ t. t.now) result ≡ xml_entity name.now }
+{
+    if name == b"amp".as_slice() {
+        Some(b"&")
+    } else if name == b"lt".as_slice() {
+        Some(b"<")
+    } else if name == b"gt".as_slice() {
+        Some(b">")
+    } else if name == b"quot".as_slice() {
+        Some(b"\"")
+    } else if name == b"apos".as_slice() {
+        Some(b"'")
+    } else {
+        None
+    }
+}
+
 /// The characters that HTML gives a name.
 #[tactic(auto, unfolding(crate::specs::References::named_text))]
 pub(crate) fn named_text(name: &[u8]) -> Option<&'static [u8]>
     ensures { option_map (λ t. t.now) result ≡ named_text name.now }
 {
-    listed(name, html_names(name))
+    match xml_entity(name) {
+        Some(text) => Some(text),
+        None => listed(name, html_names(name)),
+    }
 }

@@ -1,14 +1,17 @@
 //! Laws of the definitions: contracts of functions that have nothing to run.
 
-ghost use Rattle.std.specs.Prelude.{◌≡◌, ℕ, List, ◌++◌, true, Ok, Err};
-ghost use Rattle.std.specs.List.{flat_map};
+ghost use Rattle.std.specs.Prelude.{◌≡◌, ℕ, List, ◌++◌, true, Ok, Err, encode_utf8};
+ghost use Rattle.std.specs.List.{flat_map, list_all};
+ghost use Rattle.xml_text.specs.declared.encodings.Encoding.TheVariants.{Utf16Big, Utf16Little};
 ghost use Rattle.xml_text.specs.declared.stop.Stop.TheVariants.{More, Never};
+ghost use Rattle.xml_text.specs.Encodings.{decoded};
 ghost use Rattle.xml_text.specs.Grammar.{Token, spelling, is_token};
 ghost use Rattle.xml_text.specs.Reading.{token_at};
 ghost use Rattle.xml_text.specs.Places.{IsDocument};
 ghost use Rattle.xml_text.specs.Texts.{IsText};
 ghost use Rattle.xml_text.specs.Tree.{Content};
 ghost use Rattle.xml_text.specs.Trees.{IsTree, AreSound};
+ghost use Rattle.xml_text.specs.Utf16.{is_scalar, utf16};
 
 /// What is read is spelled so, and what is spelled so is read, whatever follows.
 pub fn tokens_are_read()
@@ -26,6 +29,12 @@ pub fn one_document()
         → a ≡ b }
 {}
 
+/// The tokens of a document are those of one tree, whose content is this.
+pub fn one_tree()
+    ensures { (tokens : List Token) (name other : List ℕ) (a b : Content)
+        → IsTree tokens name a → IsTree tokens other b → a ≡ b }
+{}
+
 /// The texts whose tokens are sound and those of a tree are the documents.
 pub fn documents_are_trees()
     ensures trees { (bytes : List ℕ) (tokens : List Token) → IsDocument bytes tokens
@@ -35,4 +44,12 @@ pub fn documents_are_trees()
     ensures documents { (bytes : List ℕ) (tokens : List Token) (name : List ℕ) (inside : Content)
         → IsText bytes → bytes ≡ flat_map spelling tokens
         → AreSound tokens → IsTree tokens name inside → IsDocument bytes tokens }
+{}
+
+/// The UTF-16 of characters is read as their UTF-8, whichever byte of its units is first.
+pub fn utf16_is_read()
+    ensures big { (text : List ℕ) → list_all is_scalar text ≡ true
+        → decoded Utf16Big (utf16 Utf16Big text) ≡ flat_map encode_utf8 text }
+    ensures little { (text : List ℕ) → list_all is_scalar text ≡ true
+        → decoded Utf16Little (utf16 Utf16Little text) ≡ flat_map encode_utf8 text }
 {}

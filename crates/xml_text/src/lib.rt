@@ -25,14 +25,15 @@ mod skim;
 mod stop;
 pub mod tags;
 mod texts;
-mod values;
+pub mod values;
 
 pub use attributes::{Attribute, Attributes};
 pub use fault::Fault;
-pub use laws::{documents_are_trees, one_document, tokens_are_read};
+pub use laws::{documents_are_trees, one_document, one_tree, tokens_are_read, utf16_is_read};
 pub use pieces::Piece;
 pub use position::Position;
 pub use reading::read_document;
 pub use references::push_reference;
 pub use sink::Sink;
 pub use tags::Token;
+pub use values::push_normalized;

@@ -3,6 +3,7 @@
 ghost use Rattle.std.specs.Prelude.{◌≡◌, ◌≤◌, ◌<◌, Some, None, OnOk, IfErr, IsErrOf, map, length};
 ghost use Rattle.std.specs.List.{list_all};
 ghost use Rattle.xml_text.specs.Grammar.{is_space, raw};
+ghost use Rattle.xml_text.specs.Limits.{IsStart};
 ghost use Rattle.xml_text.specs.Places.{nested, nests, first_nesting, opened, is_closed};
 ghost use Rattle.xml_text.specs.Faults.{IsOfPlace};
 ghost use Rattle.xml_text.specs.View.{token_view};
@@ -46,7 +47,7 @@ impl Nesting {
         ensures ok { OnOk result (nests self.old (map raw run.now) ≡ Some self.new) }
         ensures malformed { IsErrOf result Fault.Malformed
             → nests self.old (map raw run.now) ≡ None }
-        ensures deep { IsErrOf result Fault.TooDeep → MOST_OPEN ≤ length self.old.names }
+        ensures deep { ¬ (IsErrOf result Fault.TooDeep) }
         ensures large { ¬ (IsErrOf result Fault.LargeTag) }
         ensures fault { IfErr result IsOfPlace }
     {
@@ -88,6 +89,7 @@ impl Nesting {
         ensures malformed { IsErrOf result Fault.Malformed
             → nested self.old (token_view token.now) ≡ None }
         ensures deep { IsErrOf result Fault.TooDeep → MOST_OPEN ≤ length self.old.names }
+        ensures start { IsErrOf result Fault.TooDeep → IsStart (token_view token.now) }
         ensures large { ¬ (IsErrOf result Fault.LargeTag) }
         ensures fault { IfErr result IsOfPlace }
     {

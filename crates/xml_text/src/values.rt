@@ -48,7 +48,7 @@ fn split_body(bytes: &[u8]) -> (&[u8], &[u8])
 
 /// Adds a value, normalized.
 #[tactic(auto, unfolding(crate::specs::Values::normalized_from))]
-pub(crate) fn push_normalized(out: &mut Vec<u8>, value: &[u8]) -> Result<(), AllocError>
+pub fn push_normalized(out: &mut Vec<u8>, value: &[u8]) -> Result<(), AllocError>
     ensures { OnOk result (out.new.items ≡ out.old.items ++ normalized value.now) }
 {
     let mut rest = value;

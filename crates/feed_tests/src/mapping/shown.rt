@@ -5,7 +5,7 @@ use csv_records::buffer::RecordBuffer;
 use csv_records::fields::FieldBuffer;
 use csv_records::writing::write_records;
 use onix_mapping::{Composite, HeaderFault, Note, add_product, read_heading};
-use onix_message::row::{Opening, RowFault};
+use onix_message::row::Opening;
 use onix_outline::{Line, Taker};
 use std::alloc::{AllocError, Global};
 use std::marker::Model;
@@ -54,10 +54,10 @@ fn product_records<'a>(
     opening: &Opening,
     product: Composite<'a>,
     notes: &mut Vec<Note<'a>>,
-) -> Result<String, RowFault> {
+) -> Result<String, AllocError> {
     let mut fields = FieldBuffer::new(alloc);
     let mut records = RecordBuffer::new(alloc);
-    add_product(
+    let _fate = add_product(
         alloc,
         opening,
         preferred,
@@ -67,7 +67,7 @@ fn product_records<'a>(
         &mut records,
         notes,
     )?;
-    Ok(write_records(alloc, &records.as_records())?)
+    write_records(alloc, &records.as_records())
 }
 
 impl Shown {
@@ -126,7 +126,7 @@ impl Shown {
         }
     }
 
-    // The records of a Product and the notes on it, or that it is wrong.
+    // The records of a Product and the notes on it.
     fn take_product(&mut self, line: &Line, below: &[Line]) -> Result<(), AllocError> {
         let mut notes = Vec::new(self.alloc);
         let found = match &self.opening {
@@ -139,14 +139,8 @@ impl Shown {
                 &mut notes,
             ),
         };
-        match found {
-            Ok(text) => {
-                self.text.push_str(text.as_str())?;
-                self.push_notes(&notes)
-            }
-            Err(RowFault::Wrong) => self.push_name("wrong"),
-            Err(RowFault::Memory) => Err(AllocError),
-        }
+        self.text.push_str(found?.as_str())?;
+        self.push_notes(&notes)
     }
 }
 

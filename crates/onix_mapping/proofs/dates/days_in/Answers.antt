@@ -1,11 +1,12 @@
-use native.Mathlib.Numerals.{unary_clauses}
 use Rattle.onix_mapping.proofs.DateLaws.{one_more}
-use Rattle.onix_mapping.specs.DateViews.{days_view}
+use Rattle.onix_mapping.proofs.ElementLaws.{one-deeper}
+use Rattle.onix_mapping.specs.DateViews.{dated_view}
 use Rattle.onix_mapping.proofs.dates.days_in.Goals as goal
 
 pub loop-found-preserved : goal.loop-found-preserved
 loop-found-preserved c nodes e =
-    let before = c.loop-found.invariant nodes e in
-    let next = c.in-Some.ensures.next before.0 before.1 in
-    let read = c.in_ok-days_of.ensures next.0.below (simp unary_clauses next.3.below) in
-    (next.1, next.4, one_more (days_view c.loop-found.days) (days_view c.in_ok-days_of.field-0) _ before.0 next.1 next.0 _ next.2 read c.or_days-days.ensures before.2)
+    let (left, told_left, before) = c.loop-found.invariant nodes e in
+    let (d, others, parts, tells, told_others) = c.in-Some.ensures.next left told_left in
+    let below = one-deeper c.in-Some.found c.args.depth d tells in
+    let read = c.days_of.ensures d.below below.below in
+    (others, told_others, one_more (dated_view c.loop-found.dated) (dated_view c.days_of.result) _ left others d _ parts read c.and_days-dated.ensures before)

@@ -1,18 +1,35 @@
-use Rattle.std.proofs.Common.{◌+◌}
-use native.Mathlib.Numerals.{unary_clauses}
-use Rattle.onix_mapping.proofs.PriceLaws.{one_more}
-use Rattle.onix_mapping.specs.Elements.{Tells}
+use Rattle.std.proofs.Common.{◌≡◌, List, [], ◌++◌, ◌∙◌, ap, sym}
+use Rattle.std.proofs.lemmas.List.{append-nil}
+use Rattle.onix_mapping.specs.Details.{prices_in}
+use Rattle.onix_mapping.specs.Elements.{Composite}
+use Rattle.onix_mapping.specs.Details.{price_in}
 use Rattle.onix_mapping.specs.Notes.{note_views}
-use Rattle.onix_mapping.specs.Prices.{outcome, outcome_notes, outcome_records}
+use Rattle.onix_mapping.specs.Outcomes.{all_notes, all_records, outcome_notes, outcome_records}
+use Rattle.onix_mapping.specs.Prices.{Around, price_outcome}
+use Rattle.onix_mapping.proofs.ElementLaws.{one-deeper, one-more}
 use Rattle.onix_mapping.proofs.details.add_prices.Goals as goal
 
 pub loop-price-preserved : goal.loop-price-preserved
-loop-price-preserved c nodes e =
-    let before = c.loop-price.invariant nodes e in
-    let next = c.in-Some.ensures.next before.0 before.1 in
-    let tells : Tells c.in-Some.price (c.args.depth + 1) next.0 = record { element = next.3.element; below = simp unary_clauses next.3.below } in (
-      next.1,
-      next.4,
-      one_more (λ p. outcome_records (outcome c.args.opening.now p.below)) c.loop-price.records _ _ before.0 next.1 next.0 next.2 (c.in_ok-add_price.ensures.records next.0 tells) before.2,
-      one_more (λ p. outcome_notes p.element (outcome c.args.opening.now p.below)) (note_views c.loop-price.notes.items) _ _ before.0 next.1 next.0 next.2 (c.in_ok-add_price.ensures.notes next.0 tells) before.3,
+loop-price-preserved c nodes o told same =
+    let (left, told_left, rs, ns) = c.loop-price.invariant nodes o told same in
+    let (p, others, parts, tells, told_others) = c.in-Some.ensures.next left told_left in
+    let below = one-deeper c.in-Some.price c.args.depth p tells in
+    let made = c.in_ok-add_price.ensures.records p below ∙ ap (λ (a : Around). c.loop-price.records ++ outcome_records (price_outcome a p.below)) same in
+    let noted = c.in_ok-add_price.ensures.notes p below ∙ ap (λ (a : Around). note_views c.loop-price.notes.items ++ outcome_notes p.element (price_outcome a p.below)) same in (
+      others,
+      told_others,
+      one-more (λ x. outcome_records (price_in o nodes x)) _ _ _ p _ _ parts made rs,
+      one-more (λ x. outcome_notes x.element (price_in o nodes x)) _ _ _ p _ _ parts noted ns,
     )
+
+pub returns-clause-records : goal.returns-clause-records
+returns-clause-records c nodes o told same =
+    let (left, told_left, rs, ns) = c.loop-price.invariant nodes o told same in
+    let none : prices_in left ≡ [] = c.in_default.ensures.next left told_left in
+    sym (append-nil c.loop-price.records) ∙ ap (λ (cs : List Composite). c.loop-price.records ++ all_records (price_in o nodes) cs) (sym none) ∙ rs
+
+pub returns-clause-notes : goal.returns-clause-notes
+returns-clause-notes c nodes o told same =
+    let (left, told_left, rs, ns) = c.loop-price.invariant nodes o told same in
+    let none : prices_in left ≡ [] = c.in_default.ensures.next left told_left in
+    sym (append-nil (note_views c.loop-price.notes.items)) ∙ ap (λ (cs : List Composite). note_views c.loop-price.notes.items ++ all_notes (price_in o nodes) cs) (sym none) ∙ ns

@@ -2,7 +2,7 @@ use Rattle.std.proofs.Common.{◌≡◌, length, map}
 use Rattle.std.specs.Prelude.{codes}
 use Rattle.onix_mapping.specs.Details.{unpriced_price}
 use Rattle.onix_mapping.specs.Elements.{composites}
-use Rattle.onix_mapping.specs.Prices.{first_some}
+use Rattle.onix_mapping.specs.Records.{first_some}
 use Rattle.onix_outline.specs.Nodes.{Nodes}
 use Rattle.onix_outline.specs.Outline.{outline}
 use Rattle.onix_outline.specs.Views.{line_views}

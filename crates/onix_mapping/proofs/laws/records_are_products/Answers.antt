@@ -7,7 +7,7 @@ pub returns-clause-one : goal.returns-clause-one
 returns-clause-one c = product-rows
 
 pub returns-clause-none : goal.returns-clause-none
-returns-clause-none c = λ o. record { reads = refl; details = tt }
+returns-clause-none c = λ o. record { reads = refl; details = tt; utf8 = refl }
 
 pub returns-clause-joined : goal.returns-clause-joined
 returns-clause-joined c = products-joined

@@ -1,52 +1,66 @@
-use Rattle.std.proofs.Common.{◌≡◌, ◌∙◌, ◌++◌, ◌∷◌, [], None, ap, subst, sym}
-use Rattle.std.specs.Prelude.{OnOk}
+use Rattle.std.proofs.Common.{◌≡◌, ◌∙◌, ◌++◌, Option, None, ap, subst, sym}
+use Rattle.std.specs.Prelude.{IfOk, OnOk}
 use Rattle.std.specs.Result.{result_err, result_unwrap_or}
 use Rattle.std.proofs.lemmas.List.{append-nil}
-use Rattle.onix_mapping.proofs.PriceLaws.{known, early, on_ok}
+use Rattle.onix_mapping.proofs.PriceLaws.{early, known}
 use Rattle.onix_mapping.specs.Dates.{days, days_in}
-use Rattle.onix_mapping.specs.DateViews.{days_view}
-use Rattle.onix_mapping.specs.Elements.{Element}
-use Rattle.onix_mapping.specs.Notes.{note_views, reason_view}
+use Rattle.onix_mapping.specs.Notes.{Reason, note_views, reason_view}
+use Rattle.onix_mapping.specs.Outcomes.{notes_below, outcome_records}
 use Rattle.onix_mapping.specs.PriceViews.{reason_read}
-use Rattle.onix_mapping.specs.Prices.{Outcome, note_of, outcome_notes, outcome_records, right_days}
+use Rattle.onix_mapping.specs.Prices.{around_view, outcome_of, right_days}
 use Rattle.onix_mapping.proofs.prices.add_priced.Goals as goal
 
+pub returns-in-None-clause-reason : goal.returns-in-None-clause-reason
+returns-in-None-clause-reason c nodes told =
+    let area = c.area_in-area.ensures nodes told in
+    let read = c.days_in-dated.ensures nodes told in
+    let wrong : reason_read c.wrong_date.result ≡ result_err (days_in nodes) = c.wrong_date.ensures ∙ ap result_err read in
+    let right : c.right_days.result ≡ right_days nodes = c.right_days.ensures ∙ ap (λ r. result_unwrap_or r (days None None)) read in
+    let around = around_view c.args.around.now in
+    subst (λ (x : Option Reason). IfOk c.add_known.result (λ why. reason_read why ≡ x))
+    (sym (known around nodes (c.in-None.ensures nodes told area wrong))) (c.add_known.ensures.reason nodes told area right)
+
 pub returns-in-None-clause-records : goal.returns-in-None-clause-records
-returns-in-None-clause-records c t tells =
-    let area = c.area_in-area.ensures t.below tells.below in
-    let read = c.days_in-read.ensures t.below tells.below in
-    let wrong : reason_read c.wrong_date.result ≡ result_err (days_in t.below) = c.wrong_date.ensures ∙ ap result_err read in
-    let right : days_view c.right_days.result ≡ right_days t.below = c.right_days.ensures ∙ ap (λ r. result_unwrap_or r (days None None)) read in
-    subst (λ (x : Outcome). OnOk c.add_known.result (c.add_known.new.records ≡ c.args.records.now ++ outcome_records x))
-    (sym (known c.args.opening.now t.below (c.in-None.ensures t.below tells.below area wrong)))
-    (c.add_known.ensures.records t tells area right)
+returns-in-None-clause-records c nodes told =
+    let area = c.area_in-area.ensures nodes told in
+    let read = c.days_in-dated.ensures nodes told in
+    let wrong : reason_read c.wrong_date.result ≡ result_err (days_in nodes) = c.wrong_date.ensures ∙ ap result_err read in
+    let right : c.right_days.result ≡ right_days nodes = c.right_days.ensures ∙ ap (λ r. result_unwrap_or r (days None None)) read in
+    let around = around_view c.args.around.now in
+    subst (λ (x : Option Reason). OnOk c.add_known.result (c.add_known.new.records ≡ c.args.records.now ++ outcome_records (outcome_of x around nodes)))
+    (sym (known around nodes (c.in-None.ensures nodes told area wrong))) (c.add_known.ensures.records nodes told area right)
 
 pub returns-in-None-clause-notes : goal.returns-in-None-clause-notes
-returns-in-None-clause-notes c t tells =
-    let area = c.area_in-area.ensures t.below tells.below in
-    let read = c.days_in-read.ensures t.below tells.below in
-    let wrong : reason_read c.wrong_date.result ≡ result_err (days_in t.below) = c.wrong_date.ensures ∙ ap result_err read in
-    let right : days_view c.right_days.result ≡ right_days t.below = c.right_days.ensures ∙ ap (λ r. result_unwrap_or r (days None None)) read in
-    subst (λ (x : Outcome). OnOk c.add_known.result (note_views c.add_known.new.notes.items ≡ note_views c.args.notes.now.items ++ outcome_notes t.element x))
-    (sym (known c.args.opening.now t.below (c.in-None.ensures t.below tells.below area wrong)))
-    (c.add_known.ensures.notes t tells area right)
+returns-in-None-clause-notes c nodes told =
+    let area = c.area_in-area.ensures nodes told in
+    let read = c.days_in-dated.ensures nodes told in
+    let wrong : reason_read c.wrong_date.result ≡ result_err (days_in nodes) = c.wrong_date.ensures ∙ ap result_err read in
+    let right : c.right_days.result ≡ right_days nodes = c.right_days.ensures ∙ ap (λ r. result_unwrap_or r (days None None)) read in
+    let around = around_view c.args.around.now in
+    subst (λ (x : Option Reason). OnOk c.add_known.result (note_views c.add_known.new.notes.items ≡ note_views c.args.notes.now.items ++ notes_below (outcome_of x around nodes)))
+    (sym (known around nodes (c.in-None.ensures nodes told area wrong))) (c.add_known.ensures.notes nodes told area right)
+
+pub returns-in-Some-clause-reason : goal.returns-in-Some-clause-reason
+returns-in-Some-clause-reason c nodes told =
+    let area = c.area_in-area.ensures nodes told in
+    let read = c.days_in-dated.ensures nodes told in
+    let wrong : reason_read c.wrong_date.result ≡ result_err (days_in nodes) = c.wrong_date.ensures ∙ ap result_err read in
+    sym (early (around_view c.args.around.now) nodes (reason_view c.in-Some.reason) (c.in-Some.ensures nodes told area wrong))
 
 pub returns-in-Some-clause-records : goal.returns-in-Some-clause-records
-returns-in-Some-clause-records c t tells =
-    let area = c.area_in-area.ensures t.below tells.below in
-    let read = c.days_in-read.ensures t.below tells.below in
-    let wrong : reason_read c.wrong_date.result ≡ result_err (days_in t.below) = c.wrong_date.ensures ∙ ap result_err read in
-    subst (λ (x : Outcome). OnOk c.push_note.result (c.args.records.now ≡ c.args.records.now ++ outcome_records x))
-    (sym (early c.args.opening.now t.below (reason_view c.in-Some.reason) (c.in-Some.ensures t.below tells.below area wrong)))
-    (on_ok c.push_note.result (sym (append-nil c.args.records.now)))
+returns-in-Some-clause-records c nodes told =
+    let area = c.area_in-area.ensures nodes told in
+    let read = c.days_in-dated.ensures nodes told in
+    let wrong : reason_read c.wrong_date.result ≡ result_err (days_in nodes) = c.wrong_date.ensures ∙ ap result_err read in
+    let around = around_view c.args.around.now in
+    subst (λ (x : Option Reason). c.args.records.now ≡ c.args.records.now ++ outcome_records (outcome_of x around nodes))
+    (sym (early around nodes (reason_view c.in-Some.reason) (c.in-Some.ensures nodes told area wrong))) (sym (append-nil c.args.records.now))
 
 pub returns-in-Some-clause-notes : goal.returns-in-Some-clause-notes
-returns-in-Some-clause-notes c t tells =
-    let area = c.area_in-area.ensures t.below tells.below in
-    let read = c.days_in-read.ensures t.below tells.below in
-    let wrong : reason_read c.wrong_date.result ≡ result_err (days_in t.below) = c.wrong_date.ensures ∙ ap result_err read in
-    subst (λ (x : Outcome). OnOk c.push_note.result (note_views c.push_note.new.notes.items ≡ note_views c.args.notes.now.items ++ outcome_notes t.element x))
-    (sym (early c.args.opening.now t.below (reason_view c.in-Some.reason) (c.in-Some.ensures t.below tells.below area wrong)))
-    (subst
-    (λ (e : Element). OnOk c.push_note.result (note_views c.push_note.new.notes.items ≡ note_views c.args.notes.now.items ++ note_of e (reason_view c.in-Some.reason) ∷ []))
-    tells.element c.push_note.ensures)
+returns-in-Some-clause-notes c nodes told =
+    let area = c.area_in-area.ensures nodes told in
+    let read = c.days_in-dated.ensures nodes told in
+    let wrong : reason_read c.wrong_date.result ≡ result_err (days_in nodes) = c.wrong_date.ensures ∙ ap result_err read in
+    let around = around_view c.args.around.now in
+    subst (λ (x : Option Reason). note_views c.args.notes.now.items ≡ note_views c.args.notes.now.items ++ notes_below (outcome_of x around nodes))
+    (sym (early around nodes (reason_view c.in-Some.reason) (c.in-Some.ensures nodes told area wrong))) (sym (append-nil (note_views c.args.notes.now.items)))

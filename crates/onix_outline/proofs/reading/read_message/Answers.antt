@@ -1,7 +1,7 @@
 use Rattle.std.proofs.Common.{◌≡◌, ◌∙◌, true, false, ap, fold, sym}
-use Rattle.onix_outline.specs.Feed.{feed, is_sound, takes_more}
-use Rattle.onix_outline.specs.Faults.{finished, is_of_text}
-use Rattle.onix_outline.proofs.MessageLaws.{at_text, comes, refuses, takes_sound, document_at}
+use Rattle.onix_outline.specs.private.Feed.{feed, takes_more}
+use Rattle.onix_outline.specs.private.Finishing.{finished, is_of_text}
+use Rattle.onix_outline.proofs.MessageLaws.{at_text, comes, refuses, document_at, document_explained}
 use Rattle.onix_outline.proofs.reading.read_message.Goals.{else-is_of_text-via-then-is_of_text+else-not-takes_more, else-is_of_text-via-else-is_of_text}
 use Rattle.onix_outline.proofs.reading.read_message.Goals as goal
 
@@ -47,14 +47,40 @@ returns-then-not-takes_more-clause-place g c =
     rw (c.finish-then-not-takes_more.ensures ∙ ap finished is)
     (refuses after c.args.taker (g.R.Read.remaining c.args.reader.now) w.0 w.1 (ap takes_more (sym is) ∙ last)).at
 
-pub returns-else-is_of_text-clause-place : goal.returns-else-is_of_text-clause-place
-returns-else-is_of_text-clause-place g c =
-    let after = g.T.Taker.after in
+pub returns-else-is_of_text-clause-refused : goal.returns-else-is_of_text-clause-refused
+returns-else-is_of_text-clause-refused g c =
     let sink = c.read_document.new.sink in
-    let sound : is_of_text c.in-Err.fault ≡ true → is_sound sink ≡ true = λ e.
+    let takes : is_of_text c.in-Err.fault ≡ true → takes_more sink ≡ true = λ e.
     elim c.else-is_of_text.branch [
-      | else-is_of_text-via-then-is_of_text+else-not-takes_more w ↦ takes_sound sink (sym w.takes_more.ensures ∙ w.if-not-takes_more.false)
+      | else-is_of_text-via-then-is_of_text+else-not-takes_more w ↦ sym w.takes_more.ensures ∙ w.if-not-takes_more.false
       | else-is_of_text-via-else-is_of_text w ↦ absurd (cc (sym e ∙ sym c.is_of_text.ensures ∙ w.if-is_of_text.false))
     ] in
+    let said = c.in-Err.ensures in
+    rw c.stop.ensures
+    (document_explained g.T.Taker.after (g.R.Read.remaining c.args.reader.now) c.new-outliner.result sink c.in-Err.fault takes (record {
+      malformed = said.malformed;
+      deep = said.deep;
+      large = said.large;
+      long = said.long;
+      unknown = said.unknown;
+      refused = said.refused;
+    }))
+
+pub returns-else-is_of_text-clause-place : goal.returns-else-is_of_text-clause-place
+returns-else-is_of_text-clause-place g c =
+    let sink = c.read_document.new.sink in
+    let takes : is_of_text c.in-Err.fault ≡ true → takes_more sink ≡ true = λ e.
+    elim c.else-is_of_text.branch [
+      | else-is_of_text-via-then-is_of_text+else-not-takes_more w ↦ sym w.takes_more.ensures ∙ w.if-not-takes_more.false
+      | else-is_of_text-via-else-is_of_text w ↦ absurd (cc (sym e ∙ sym c.is_of_text.ensures ∙ w.if-is_of_text.false))
+    ] in
+    let said = c.in-Err.ensures in
     rw (c.stop.ensures, c.place-place.ensures)
-    (document_at after (g.R.Read.remaining c.args.reader.now) c.args.taker c.new-outliner.result sink c.in-Err.fault c.new-outliner.ensures sound c.in-Err.ensures.stopped)
+    (document_at g.T.Taker.after (g.R.Read.remaining c.args.reader.now) c.args.taker c.new-outliner.result sink c.in-Err.fault c.new-outliner.ensures takes said.stopped (record {
+      malformed = said.malformed;
+      deep = said.deep;
+      large = said.large;
+      long = said.long;
+      unknown = said.unknown;
+      refused = said.refused;
+    }))

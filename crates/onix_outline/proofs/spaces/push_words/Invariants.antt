@@ -1,5 +1,5 @@
 use Rattle.std.proofs.Common.{◌≡◌, length}
-use Rattle.onix_outline.specs.Growing.{grown}
+use Rattle.onix_outline.specs.private.Growing.{grown}
 use Rattle.onix_outline.proofs.spaces.push_words.Given as goal
 
 abbrev pub invariant-loop-rest : goal.invariant-loop-rest

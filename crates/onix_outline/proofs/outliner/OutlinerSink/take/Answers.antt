@@ -3,7 +3,7 @@ use Rattle.std.specs.Prelude.{OnOk}
 use Rattle.std.specs.List.{flat_map}
 use Rattle.xml_text.specs.Grammar.{spelling}
 use Rattle.xml_text.specs.View.{piece_view}
-use Rattle.onix_outline.specs.Feed.{moved}
+use Rattle.onix_outline.specs.private.Feed.{moved}
 use Rattle.onix_outline.proofs.FeedLaws.{raws, text_feeds}
 use Rattle.onix_outline.proofs.outliner.OutlinerSink.take.Goals as goal
 

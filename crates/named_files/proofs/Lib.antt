@@ -1,0 +1,3 @@
+pub mod NameLemmas
+pub mod PlacingLemmas
+pub mod TextLemmas

@@ -1,0 +1,4 @@
+pub mod Holdings
+pub mod Names
+pub mod PartFiles
+pub mod Texts

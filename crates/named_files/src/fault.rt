@@ -1,0 +1,59 @@
+//! Files that cannot be opened, read or written.
+
+use std::alloc::{AllocError, AllocFailed, Global};
+use std::io::Error;
+
+/// Why a file cannot be opened, read or written.
+#[derive(Drop)]
+pub enum FileFault {
+    /// The file of this name cannot be, for this reason.
+    File { name: String, why: String },
+    /// Memory ran out.
+    Memory,
+}
+
+impl From<AllocError> for FileFault {
+    fn from(_: AllocError) -> FileFault {
+        FileFault::Memory
+    }
+}
+
+impl<T: Drop> From<AllocFailed<T>> for FileFault {
+    fn from(_: AllocFailed<T>) -> FileFault {
+        FileFault::Memory
+    }
+}
+
+// What the system says of an error, without its number.
+fn without_number(text: &str) -> &str {
+    match text.split_once(" (os error ") {
+        Some((why, _)) => why,
+        None => text,
+    }
+}
+
+// The fault of the file of this name, by these words.
+fn fault_of(alloc: Global, name: &str, why: &str) -> Result<FileFault, AllocError> {
+    Ok(FileFault::File {
+        name: String::from_str(alloc, name)?,
+        why: String::from_str(alloc, why)?,
+    })
+}
+
+impl FileFault {
+    /// That of the file of this name, by these words.
+    pub fn new(alloc: Global, name: &str, why: &str) -> FileFault {
+        match fault_of(alloc, name, why) {
+            Ok(fault) => fault,
+            Err(AllocError) => FileFault::Memory,
+        }
+    }
+
+    /// That of the file of this name, by what the system says.
+    pub fn of(alloc: Global, name: &str, error: &Error) -> FileFault {
+        match format!(in alloc; "{error}") {
+            Ok(text) => FileFault::new(alloc, name, without_number(text.as_str())),
+            Err(AllocError) => FileFault::Memory,
+        }
+    }
+}

@@ -1,0 +1,8 @@
+use Rattle.onix_mapping.proofs.PriceFateLaws.{detail-has, supply-has}
+use Rattle.onix_mapping.proofs.laws.prices_stand_or_are_told.Goals as goal
+
+pub returns-clause-details : goal.returns-clause-details
+returns-clause-details c = detail-has
+
+pub returns-clause-supplies : goal.returns-clause-supplies
+returns-clause-supplies c = supply-has

@@ -1,0 +1,80 @@
+-- Which namespace an element is in, as Namespaces in XML 1.0 says.
+use Rattle.std.specs.Prelude.{ℕ, ◌==◌, List, [], ◌∷◌, Option, Some, None, suc, codes, drop, take}
+use Rattle.std.specs.Prelude.{if◌then◌else◌, position}
+use Rattle.std.specs.Option.{option_or}
+use Rattle.std.specs.Str.{bytes_eq}
+use Rattle.xml_text.specs.Grammar.{Attribute}
+use Rattle.xml_text.specs.Values.{normalized}
+
+-- ---- names
+
+abbrev pub colon : List ℕ → Option ℕ
+colon name = position (λ b. b == 58) name
+
+abbrev pub front_to : Option ℕ → List ℕ → List ℕ
+front_to None name = []
+front_to (Some at) name = take at name
+
+abbrev pub rest_from : Option ℕ → List ℕ → List ℕ
+rest_from None name = name
+rest_from (Some at) name = drop (suc at) name
+
+-- what stands before the first colon of a name, and behind it; a name without one has no prefix
+abbrev pub prefix_of : List ℕ → List ℕ
+prefix_of name = front_to (colon name) name
+
+abbrev pub local_of : List ℕ → List ℕ
+local_of name = rest_from (colon name) name
+
+-- ---- declarations
+
+-- A prefix and the address that it is declared to stand for; a name without a colon has the empty
+-- prefix, and so the default namespace
+pub record Binding : Type 0 where
+  pub prefix : List ℕ
+  pub address : List ℕ
+
+-- the prefix that an attribute of this name declares
+abbrev pub declared_prefix : List ℕ → Option (List ℕ)
+declared_prefix name =
+    if bytes_eq name (codes "xmlns") then Some []
+    else if bytes_eq (prefix_of name) (codes "xmlns") then Some (local_of name)
+    else None
+
+abbrev pub with_binding : Option (List ℕ) → List ℕ → List Binding → List Binding
+with_binding None address bindings = bindings
+with_binding (Some prefix) address bindings =
+    record { prefix = prefix; address = address } ∷ bindings
+
+-- the declarations of a tag
+abbrev pub bindings_of : List Attribute → List Binding
+bindings_of [] = []
+bindings_of (a ∷ attributes) =
+    with_binding (declared_prefix a.name) (normalized a.value) (bindings_of attributes)
+
+-- what a prefix stands for by the declarations of one tag
+abbrev pub address_among : List ℕ → List Binding → Option (List ℕ)
+address_among prefix [] = None
+address_among prefix (b ∷ bindings) =
+    if bytes_eq b.prefix prefix then Some b.address else address_among prefix bindings
+
+-- what a prefix stands for that nobody declares: `xml` has its address, and others have none
+abbrev pub undeclared : List ℕ → List ℕ
+undeclared prefix =
+    if bytes_eq prefix (codes "xml") then codes "http://www.w3.org/XML/1998/namespace" else []
+
+-- ---- the elements around
+
+-- An element that others stand in: its reference name, and the declarations of its tag
+pub record Scope : Type 0 where
+  pub name : List ℕ
+  pub bindings : List Binding
+
+abbrev pub scope : List ℕ → List Binding → Scope
+scope name bindings = record { name = name; bindings = bindings }
+
+-- what a prefix stands for by the nearest declaration of these elements, the innermost first
+abbrev pub address_within : List ℕ → List Scope → Option (List ℕ)
+address_within prefix [] = None
+address_within prefix (s ∷ around) =
+    option_or (address_among prefix s.bindings) (address_within prefix around)

@@ -1,0 +1,4 @@
+pub mod Growing
+pub mod OpenViews
+pub mod Feed
+pub mod Finishing

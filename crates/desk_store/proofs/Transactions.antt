@@ -50,18 +50,16 @@ undone_keeps L s0 s1 s2 s3 begun kept undone = λ up.
       subst (λ db. HoldsRequests db L) (sym (undone.committed up ∙ committed)) begun.committed,
     )
 
--- whatever was committed stays, and a crash leaves nothing more
-stays_seen : (s0 s3 : State) → (IsTrue s3.is_open → IsTrue s0.is_open × (s3.committed ≡ s0.committed)) → ((d : Trees) → s3.may_leave d → s0.may_leave d) → Stays (seen_in s0) (seen_in s3)
-stays_seen s0 s3 kept left = λ d. (
-  λ held up. let still = kept up in ap (λ (db : Database). db.trees) still.1 ∙ held still.0,
-  λ may. left d may,
-)
-
--- so where a transaction is undone
-undone_stays : {W : Type 0} (w : W) (s0 s1 s2 s3 : State) → HasCleanDisk s1 → BeginsWork {A = W} {E = StoreFault} s0 s1 (Ok w) → KeepsCommit s1 s2 → IsUndone s2 s3 → ((d : Trees) → s3.may_leave d → s0.may_leave d) → Stays (seen_in s0) (seen_in s3)
-undone_stays w s0 s1 s2 s3 clean begins kept undone left =
+-- where a transaction is undone, what was committed stays
+undone_holds : {W : Type 0} (w : W) (s0 s1 s2 s3 : State) → HasCleanDisk s1 → BeginsWork {A = W} {E = StoreFault} s0 s1 (Ok w) → KeepsCommit s1 s2 → IsUndone s2 s3 → (d : Trees) → (seen_in s0).holds d → (seen_in s3).holds d
+undone_holds w s0 s1 s2 s3 clean begins kept undone d held = λ up.
     let shows = (begins.begun clean).0 in
-    stays_seen s0 s3 (λ up. (shows.was_open, undone.committed up ∙ kept.committed (undone.was_open up) ∙ shows.committed_is)) left
+    let same = undone.committed up ∙ kept.committed (undone.was_open up) ∙ shows.committed_is in
+    ap (λ (db : Database). db.trees) same ∙ held shows.was_open
+
+-- and so a crash leaves nothing more
+undone_stays : {W : Type 0} (w : W) (s0 s1 s2 s3 : State) → HasCleanDisk s1 → BeginsWork {A = W} {E = StoreFault} s0 s1 (Ok w) → KeepsCommit s1 s2 → IsUndone s2 s3 → ((d : Trees) → s3.may_leave d → s0.may_leave d) → Stays (seen_in s0) (seen_in s3)
+undone_stays w s0 s1 s2 s3 clean begins kept undone left = λ d. (undone_holds w s0 s1 s2 s3 clean begins kept undone d, λ may. left d may)
 
 -- a fault in it undoes it
 asked_failed : {A B W : Type 0} (w : W) (r : Request) (answer : List Request → A) (Post : DeskRows → B → DeskRows → Type 0) (s0 s1 s2 s3 : State) (e : StoreFault) → BeginsWork {A = W} {E = StoreFault} s0 s1 (Ok w) → Achieves {A = B} Post s1 s2 (Err e)
@@ -76,6 +74,7 @@ asked_failed w r answer Post s0 s1 s2 s3 e begins done undone survives = record 
   changed = λ L keeps clean change. tt;
   question = λ is clean. undone_stays w s0 s1 s2 s3 (clean1 (clean2 clean)) begins (done.kept (clean2 clean)) (undone clean)
       (λ d may. either (begins.survives.crash (clean1 (clean2 clean)) d (either (done.survives.crash (clean2 clean) d (either (survives.crash clean d may))))));
+  undone = λ clean. undone_holds w s0 s1 s2 s3 (clean1 (clean2 clean)) begins (done.kept (clean2 clean)) (undone clean);
   fault = inr tt;
 }
   where
@@ -131,6 +130,7 @@ module _ {A W : Type 0} (w : W) (r : Request) (plain : is_question r ≡ false) 
     crash = λ L keeps clean. crash_done (Ok b) ends clean L keeps;
     changed = λ L keeps clean change. λ d may. (s2.now, sym (durable clean d may ∙ ap (λ (db : Database). db.trees) (ends.committed clean).committed), (stands_now (clean2 clean) L keeps).0);
     question = λ is. absurd (differ (sym plain ∙ is));
+    undone = λ clean. tt;
     fault = tt;
   }
     where
@@ -146,6 +146,7 @@ module _ {A W : Type 0} (w : W) (r : Request) (plain : is_question r ≡ false) 
     crash = λ L keeps clean. crash_done (Err e) ends clean L keeps;
     changed = λ L keeps clean change. tt;
     question = λ is. absurd (differ (sym plain ∙ is));
+    undone = λ clean. undone_holds w s0 s1 s2 s3 (clean1 (clean2 clean)) begins (done.kept (clean2 clean)) (ends.undone clean);
     fault = inr tt;
   }
     where
@@ -173,6 +174,7 @@ asked_alone r answer s a is nothing stands = record {
   crash = λ L keeps clean d may. inl may;
   changed = λ L keeps clean change. absurd (differ (sym (nothing L) ∙ change));
   question = λ is clean d. (λ held. held, λ may. may);
+  undone = λ clean. tt;
   fault = tt;
 }
 

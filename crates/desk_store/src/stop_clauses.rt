@@ -35,7 +35,7 @@ pub fn asked_are_runs<S: Alter>()
 {}
 
 /// A desk in two files that is opened, asked, closed and opened again is a run, by the clauses of
-/// its calls alone. So is one program behind another over the same files.
+/// its calls alone.
 pub fn sessions_are_runs<D: Disk>()
     ensures { (rules : List Rule) → SessionsAreRuns D.Disk rules }
 {}

@@ -1,19 +1,69 @@
 -- One client that was served, and which clients they were.
-use Rattle.std.proofs.Common.{◌≡◌, ◌++◌, ◌∷◌, ◌∙◌, [], ℕ, Bool, true, List, Option, Some, None, Result, map, refl, ap, sym, subst, append_assoc}
+use Rattle.std.proofs.Common.{◌≡◌, ◌++◌, ◌∷◌, ◌∙◌, [], ℕ, Bool, List, Option, Some, None, Result, Ok, Err, map, refl, ap, sym, subst, append_assoc}
 use Rattle.std.specs.Prelude.{IfSome, ⊤}
 use Rattle.std.specs.Io.KnownBytes.{Appends}
 use Rattle.std.proofs.lemmas.List.{map-append}
 use Rattle.csv_records.specs.Streams.{IsTold}
-use Rattle.price_rules.specs.declared.precedence.Rule.{Rule}
-use Rattle.series_rules.specs.Views.{DeskKind, View}
-use Rattle.desk_http.proofs.ExchangedLemmas.{received_by, was_received}
-use Rattle.onixdesk.proofs.ServingLemmas.{runs_as, serves_as}
-use Rattle.onixdesk.specs.Clients.{AreFirst, IsNext, MayCome, ServesClient}
-use Rattle.onixdesk.specs.Connections.{Connection, batch, exchange, sent_by}
-use Rattle.onixdesk.specs.Serving.{ServesConnection}
+use Rattle.series_rules.specs.Steps.{Step}
+use Rattle.desk_batch.specs.Batch.{RunsBatch, requests_of}
+use Rattle.desk_batch.specs.declared.batch.BatchFault.{BatchFault}
+use Rattle.desk_batch.specs.declared.batch.BatchFault.TheVariants as batch_fault
+use Rattle.desk_http.specs.Exchange.{Exchanges}
+use Rattle.desk_http.specs.declared.exchange.HttpFault.{HttpFault}
+use Rattle.desk_http.specs.declared.exchange.HttpFault.TheVariants as fault
+use Rattle.onixdesk.proofs.TalkEnds.{talks_as}
+use Rattle.onixdesk.specs.Clients.{AreFirst, IsNext, IsOf, MayCome, ServesClient}
+use Rattle.onixdesk.specs.Connections.{Connection, MayEnd}
+use Rattle.onixdesk.specs.Serving.{Ending, EndsAs, IsBy, ServesConnection, batch, exchange}
 use Rattle.onixdesk.specs.declared.clients.Protocol.{Protocol}
 use Rattle.onixdesk.specs.declared.clients.Protocol.TheVariants as protocol
 use Rattle.onixdesk.specs.declared.fault.Fault.{Fault}
+
+-- ---- the steps of a batch
+
+pub batch_steps : (asked : List Step → Type 0) (written : List ℕ → Type 0) (text : List ℕ) (result : Result ℕ BatchFault) → RunsBatch asked written text result
+    → (steps : List Step) × asked steps × RunsBatch (λ all. all ≡ steps) written text result
+batch_steps asked written text (Ok n) (has, talks) =
+    (talks.steps, talks.were_asked, (has, record { steps = talks.steps; text = talks.text; stop = talks.stop; talk = talks.talk; were_asked = refl; was_written = talks.was_written; result_is = talks.result_is }))
+batch_steps asked written text (Err (batch_fault.Records f)) is = ([], is.1, (is.0, refl, is.2))
+batch_steps asked written text (Err batch_fault.Read) is = ([], is.0, (refl, is.1))
+batch_steps asked written text (Err (batch_fault.Store done f)) (has, talks) =
+    (talks.steps, talks.were_asked, (has, record { steps = talks.steps; text = talks.text; stop = talks.stop; talk = talks.talk; were_asked = refl; was_written = talks.was_written; result_is = talks.result_is }))
+batch_steps asked written text (Err (batch_fault.Write done)) (has, talks) =
+    (talks.steps, talks.were_asked, (has, record { steps = talks.steps; text = talks.text; stop = talks.stop; talk = talks.talk; were_asked = refl; was_written = talks.was_written; result_is = talks.result_is }))
+batch_steps asked written text (Err (batch_fault.Memory done)) (has, talks) =
+    (talks.steps, talks.were_asked, (has, record { steps = talks.steps; text = talks.text; stop = talks.stop; talk = talks.talk; were_asked = refl; was_written = talks.was_written; result_is = talks.result_is }))
+
+-- ---- what is written to a client
+
+-- what a new output holds is what was written to it
+abbrev pub received_by : Option (List ℕ) → Option (List ℕ) → Option (List ℕ)
+received_by None holds = None
+received_by (Some held) holds = holds
+
+was_received : (held holds : Option (List ℕ)) (text : List ℕ) → IfSome held (λ bytes. bytes ≡ []) → Appends held holds text → IsTold (received_by held holds) text
+was_received None holds text new wrote = tt
+was_received (Some held) None text new wrote = absurd wrote
+was_received (Some held) (Some bytes) text new wrote = wrote ∙ ap (λ xs. xs ++ text) new
+
+module _ (written to : List ℕ → Type 0) (f : (text : List ℕ) → written text → to text) where
+  exchanges_as : (sent : Option (List ℕ)) (steps : List Step) (outcome : Result ℕ HttpFault) → Exchanges sent steps written outcome → Exchanges sent steps to outcome
+  exchanges_as sent steps (Ok status) is = (is.0, is.1, is.2, f _ is.3)
+  exchanges_as sent steps (Err (fault.Write status)) is = (is.0, is.1, is.2, (is.3.0, is.3.1, is.3.2, f _ is.3.3))
+  exchanges_as sent steps (Err fault.Read) is = (is.0, f [] is.1)
+  exchanges_as sent steps (Err (fault.Memory taken)) is = (is.0, is.1, f [] is.2)
+
+  runs_as : (steps : List Step) (text : List ℕ) (outcome : Result ℕ BatchFault) → RunsBatch (λ all. all ≡ steps) written text outcome → RunsBatch (λ all. all ≡ steps) to text outcome
+  runs_as steps text (Ok n) is = (is.0, talks_as _ _ written to (requests_of text) _ _ (λ all same. same) f (λ all stop gives. gives) is.1)
+  runs_as steps text (Err (batch_fault.Records e)) is = (is.0, is.1, f [] is.2)
+  runs_as steps text (Err batch_fault.Read) is = (is.0, f [] is.1)
+  runs_as steps text (Err (batch_fault.Store done e)) is = (is.0, talks_as _ _ written to (requests_of text) _ _ (λ all same. same) f (λ all stop gives. gives) is.1)
+  runs_as steps text (Err (batch_fault.Write done)) is = (is.0, talks_as _ _ written to (requests_of text) _ _ (λ all same. same) f (λ all stop gives. gives) is.1)
+  runs_as steps text (Err (batch_fault.Memory done)) is = (is.0, talks_as _ _ written to (requests_of text) _ _ (λ all same. same) f (λ all stop gives. gives) is.1)
+
+  ends_as : (sent : Option (List ℕ)) (steps : List Step) (ending : Ending) → EndsAs sent steps written ending → EndsAs sent steps to ending
+  ends_as sent steps (exchange outcome) is = exchanges_as sent steps outcome is
+  ends_as sent steps (batch text outcome) is = (is.0, runs_as steps text outcome is.1)
 
 -- ---- the next one
 
@@ -22,31 +72,32 @@ pub unknown_next : (sent : Option (List ℕ)) (old new : Option (List (List ℕ)
 unknown_next sent None new nobody = tt
 unknown_next sent (Some clients) new nobody = absurd nobody
 
--- what was sent is told where it is known
-told : (received : Option (List ℕ)) (text : List ℕ) → IfSome received (λ bytes. bytes ≡ text) → IsTold received text
-told None text is = tt
-told (Some bytes) text is = is
+may_end : (batches : Bool) (p : Protocol) (ending : Ending) → MayCome batches p → IsBy p ending → MayEnd batches ending
+may_end batches protocol.Exchange (exchange outcome) may is = tt
+may_end batches protocol.Batch (batch text outcome) may is = may
+may_end batches protocol.Exchange (batch text outcome) may is = absurd is
+may_end batches protocol.Batch (exchange outcome) may is = absurd is
+
+-- so it is of that by which it is read
+is_of : {R : Type 0} (speaks : R → Protocol) (reader : R) (p : Protocol) → p ≡ speaks reader → (ending : Ending) → IsBy p ending → IsOf speaks ending
+is_of speaks reader p own (exchange outcome) is = tt
+is_of speaks reader protocol.Batch own (batch text outcome) is = (reader, sym own)
+is_of speaks reader protocol.Exchange own (batch text outcome) is = absurd is
 
 -- a client was served by its protocol
-pub client_of : {D : Type 0} {k : DeskKind} (seen : D → View k) (rules : List Rule) (old new : D) (sent held holds : Option (List ℕ)) (batches : Bool) (coming left : Option (List (List ℕ)))
+pub client_of : {R : Type 0} (asked : List Step → Type 0) (speaks : R → Protocol) (reader : R) (sent held holds : Option (List ℕ)) (batches : Bool) (coming left : Option (List (List ℕ)))
     (written : List ℕ → Type 0) (result : Result ⊤ Fault) → IsNext sent coming left → IfSome held (λ bytes. bytes ≡ [])
-    → (p : Protocol) → MayCome batches p → ServesConnection seen rules p sent old new (Appends held holds) written result
-    → ServesClient seen rules batches coming left old new written result
-client_of seen rules old new sent held holds batches coming left written result next none protocol.Exchange may it = record {
-  connection = exchange (record { sent = sent; received = received_by held holds; outcome = it.outcome });
-  taken = tt;
-  next = next;
-  served = serves_as seen rules old new (Appends held holds) (λ text. IfSome (received_by held holds) (λ bytes. bytes ≡ text)) (λ text wrote. was_received held holds text none wrote) sent it.outcome it.served;
-  line = it.line;
-}
-client_of seen rules old new sent held holds batches coming left written result next none protocol.Batch may it = record {
-  connection = batch (record { sent = sent; received = received_by held holds; text = it.text; outcome = it.outcome });
-  taken = may;
-  next = next;
-  served = (
-    it.is_told,
-    runs_as seen rules old new (Appends held holds) (IsTold (received_by held holds)) (λ text wrote. told (received_by held holds) text (was_received held holds text none wrote)) it.text it.outcome it.ran,
+    → (p : Protocol) → p ≡ speaks reader → MayCome batches p → ServesConnection asked p sent (Appends held holds) written result
+    → ServesClient asked speaks batches coming left written result
+client_of asked speaks reader sent held holds batches coming left written result next none p own may it = record {
+  connection = record { sent = sent; received = received_by held holds; steps = it.steps; ending = it.ending };
+  is_served = (
+    may_end batches p it.ending may it.is_by,
+    ends_as (Appends held holds) (IsTold (received_by held holds)) (λ text wrote. was_received held holds text none wrote) sent it.steps it.ending it.ends,
   );
+  is_of = is_of speaks reader p own it.ending it.is_by;
+  next = next;
+  were_asked = it.were_asked;
   line = it.line;
 }
 
@@ -55,20 +106,21 @@ client_of seen rules old new sent held holds batches coming left written result 
 -- the connections are those of the first clients, and those that are still to come are the others
 abbrev pub AreFirstOf : Option (List (List ℕ)) → Option (List (List ℕ)) → List Connection → Type 0
 AreFirstOf coming now served =
-    IfSome coming (λ clients. (rest : List (List ℕ)) × (now ≡ Some rest) × (map sent_by served ++ map Some rest ≡ map Some clients))
+    IfSome coming (λ clients. (rest : List (List ℕ)) × (now ≡ Some rest) × (map (λ (c : Connection). c.sent) served ++ map Some rest ≡ map Some clients))
 
 pub none_first : (coming : Option (List (List ℕ))) → AreFirstOf coming coming []
 none_first None = tt
 none_first (Some clients) = (clients, refl, refl)
 
-pub one_more_first : (coming now new : Option (List (List ℕ))) (served : List Connection) (c : Connection) → AreFirstOf coming now served → IsNext (sent_by c) now new → AreFirstOf coming new (served ++ c ∷ [])
+pub one_more_first : (coming now new : Option (List (List ℕ))) (served : List Connection) (c : Connection) → AreFirstOf coming now served → IsNext c.sent now new → AreFirstOf coming new (served ++ c ∷ [])
 one_more_first None now new served c are next = tt
 one_more_first (Some clients) now new served c (rest, is, all) next =
-    let (first, others, split, sends, left) = subst (λ o. IsNext (sent_by c) o new) is next in (
+    let sent_by : Connection → Option (List ℕ) = λ (c : Connection). c.sent in
+    let (first, others, split, sends, left) = subst (λ o. IsNext c.sent o new) is next in (
       others,
       left,
       ap (λ xs. xs ++ map Some others) (map-append sent_by served (c ∷ []))
-          ∙ append_assoc (map sent_by served) (sent_by c ∷ []) (map Some others)
+          ∙ append_assoc (map sent_by served) (c.sent ∷ []) (map Some others)
           ∙ ap (λ x. map sent_by served ++ x ∷ map Some others) sends
           ∙ ap (λ xs. map sent_by served ++ map Some xs) (sym split)
           ∙ all,

@@ -1,31 +1,80 @@
 -- What the files of a desk hold once they are closed, and what a crash leaves of them.
-use Rattle.std.proofs.Common.{◌≡◌, ℕ, List, [], Option, Some, None, Result, Ok, Err, arith, inl, inr, refl, subst, sym}
+use Rattle.std.proofs.Common.{◌≡◌, ◌∙◌, ℕ, Bool, true, false, List, [], Option, arith, ap, inl, inr, refl, subst, sym}
 use Rattle.std.proofs.Math.Logic.{∥∥₁_elim}
+use Rattle.std.specs.List.{list_any}
 use Rattle.sqlite.specs.Closing.{IsCopied}
-use Rattle.sqlite.specs.Files.{file_state}
+use Rattle.sqlite.specs.Effect.{Database, IsDatabase}
+use Rattle.sqlite.specs.Files.{HoldsDatabase, IsClosed, file_state, image_of}
 use Rattle.sqlite.specs.Held.{Held}
-use Rattle.std.specs.Prelude.{⊤, IfSome, OnErr, OnOk, option_map}
+use Rattle.sqlite.specs.State.{HasCleanDisk, State}
 use Rattle.sqlite.specs.declared.file.Leftover.{Leftover}
+use Rattle.sqlite.specs.declared.file.Leftover.TheVariants as leftover
 use Rattle.sqlite_disk.specs.declared.Disk.{Ghosts}
 use Rattle.sqlite_disk.specs.declared.Files.{Files}
 use Rattle.sqlite_store.specs.declared.store.FileStore.{FileStore}
 use Rattle.sqlite_trees.specs.Props.{Trees-set}
-use Rattle.onix_message.specs.declared.faults.StoreFault.{StoreFault}
+use Rattle.sqlite_trees.specs.Tree.{Trees}
+use Rattle.sqlite_wal.specs.Reads.{AreClean}
+use Rattle.sqlite_wal.specs.Recovery.{Image}
+use Rattle.desk_tables.proofs.OneSchema.{no_meta_again}
+use Rattle.desk_tables.specs.Rows.{DeskRows}
+use Rattle.desk_tables.specs.Schema.{is_meta}
 use Rattle.price_rules.specs.declared.precedence.Rule.{Rule}
+use Rattle.series_rules.specs.Steps.{Leads, Step}
 use Rattle.series_rules.specs.Views.{LeavesOnly, View}
 use Rattle.series_rules.specs.declared.requests.Request.{Request}
+use Rattle.desk_store.specs.ContentLemmas.{rows_by_content}
 use Rattle.desk_store.specs.Desks.{AreRowsOf, KeepsRequests}
-use Rattle.desk_store.specs.Migrations.{MakesSecond}
-use Rattle.desk_store.specs.Openings.{MakesNothing}
+use Rattle.desk_store.specs.Openings.{AreFilesOf, AreFoundAs, HoldRowsOf, KeepsFiles, TakesFound}
 use Rattle.desk_store.specs.Seen.{in_tables, seen_in}
-use Rattle.onixdesk.proofs.EndLemmas.{ComesOf, task_between}
-use Rattle.onixdesk.specs.Course.{course}
-use Rattle.onixdesk.specs.FileEnds.{Closes, EndsLeaving, FileEnds, IsStatus, Path, SparesUnmigrated, SparesUnopened}
-use Rattle.onixdesk.specs.FileViews.{seen_files, seen_image, seen_left}
+use Rattle.onixdesk.proofs.EndLemmas.{ComesOf, ComesTo, leads_between, same_refl, task_as}
+use Rattle.onixdesk.specs.Closings.{Closes, RunsAndCloses}
+use Rattle.onixdesk.specs.Databases.{AreSettled}
+use Rattle.onixdesk.specs.FileEnds.{FileEnds}
+use Rattle.onixdesk.specs.FileViews.{HoldMeta, seen_files, seen_image, seen_store}
+use Rattle.onixdesk.specs.Leftovers.{HasNoFiles, SparesUnopened}
+use Rattle.onixdesk.specs.MigrationEnd.{MigrateEnds}
 use Rattle.onixdesk.specs.TaskEnds.{TaskEnds}
 use Rattle.onixdesk.specs.declared.command_line.Task.{Task}
 use Rattle.onixdesk.specs.declared.files.FilesLeft.{FilesLeft}
-use Rattle.onixdesk.specs.declared.files.FilesLeft.TheVariants.{Closed, Unclosed, Unopened}
+use Rattle.onixdesk.specs.declared.files.FilesLeft.TheVariants.{Closed, NotOpened, Unclosed, Unopened, Untouched}
+
+-- ---- opened
+
+-- the trees that were found are those that the files hold
+found_trees : (image : Image) (d was : Trees) → ∥ HoldsDatabase image d ∥₁ → AreFoundAs image was → was ≡ d
+found_trees image d was both found = ∥∥₁_elim both (Trees-set _ _) (found.1 d)
+
+no_bool : true ≡ false → ⊥
+no_bool e = absurd cc
+
+-- a table `meta` that the files hold was found
+has_meta : (db was : Database) → IsDatabase db → IsDatabase was → db.trees ≡ was.trees → list_any is_meta db.schema.tables ≡ true → (b : Bool) → list_any is_meta was.schema.tables ≡ b → list_any is_meta was.schema.tables ≡ true
+has_meta db was sound found same meta true is = is
+has_meta db was sound found same meta false is = absurd (no_bool (sym meta ∙ no_meta_again was db found is sound same))
+
+-- a database with a table `meta` is what the desk that was opened holds
+holds_meta : (image : Image) (s : State) → TakesFound image s → (d : Trees) → HoldMeta image d → (seen_in s).holds d
+holds_meta image s taken d (db, sound, trees, both, meta) = λ up.
+    let (was, found, as_found, stays) = taken.found in
+    let same : was.trees ≡ d = found_trees image d was.trees both as_found in
+    let only = stays (has_meta db was sound found (trees ∙ sym same) meta (list_any is_meta was.schema.tables) refl) in
+    ap (λ (x : Database). x.trees) (only.0 up).2 ∙ same
+
+-- a desk that was opened comes to what the files held
+pub opened_comes : (image : Image) (s : State)
+    → (HasCleanDisk s → (L : List Request) → AreFilesOf image L → KeepsRequests s L)
+    → (HasCleanDisk s → (L : List Request) → AreFilesOf image L → (d : Trees) → s.may_leave d → AreRowsOf d L)
+    → (HasCleanDisk s → TakesFound image s) → ComesTo (seen_image image) (seen_in s)
+opened_comes image s stands alone taken = record {
+  premise = λ sound. tt;
+  stands = λ sound M files. (seen_in s).by_content files.0 M files.2 (stands sound files.0 files.1);
+  alone = λ sound M files d may. rows_by_content d files.0 M files.2 (alone sound files.0 files.1 d may);
+  all = λ d each L files. each L (L, files, same_refl L);
+  holds = λ sound d held. holds_meta image s (taken sound) d held;
+}
+
+-- ---- closed
 
 -- files that were closed leave the last commit alone
 closed_alone : {D : Type 0} (g : Ghosts D) (c : Held (FileStore D g)) (files : Files D) → IsCopied c files → (M : List Request) → KeepsRequests (file_state c) M → LeavesOnly (seen_files g files) M
@@ -33,65 +82,66 @@ closed_alone g c files copied M keeps = λ d may.
     let same : d ≡ (file_state c).committed.trees = ∥∥₁_elim (copied.left may.0 may.1).both (Trees-set _ _) (may.2.1 (file_state c).committed.trees) in
     subst (λ x. AreRowsOf x M) (sym same) ((file_state c).committed, refl, (keeps copied.was_open).2)
 
--- what is left of the files of a desk comes of it
-pub left_comes : {D : Type 0} (g : Ghosts D) (rules : List Rule) (was : View in_tables) (written : _) (c : Held (FileStore D g)) (result : Result ⊤ StoreFault) (left : FilesLeft D g)
-    → Closes c result left → ComesOf (course rules was (seen_in (file_state c)) written) (seen_left left)
-left_comes g rules was written c (Ok done) (Closed files) closes = record {
+closed_comes : {D : Type 0} (g : Ghosts D) (c : Held (FileStore D g)) (files : Files D)
+    → (AreClean g files.log files.db → IsCopied c files × ((L : List Request) → KeepsRequests (file_state c) L → HoldRowsOf (image_of g files) L))
+    → ComesOf (seen_in (file_state c)) (seen_files g files)
+closed_comes g c files closes = record {
   premise = λ sound. (closes sound).0.was_clean;
   stands = λ sound M keeps. (closes sound).1 M keeps;
   left = λ sound. inr (λ M keeps. closed_alone g c files (closes sound).0 M keeps);
+  holds = λ sound d held. let copied = (closes sound).0 in subst (λ x. ∥ HoldsDatabase (image_of g files) x ∥₁) (held copied.was_open) copied.seen.both;
 }
-left_comes g rules was written c (Err fault) (Unclosed store) closes = record {
+
+unclosed_comes : {D : Type 0} (g : Ghosts D) (c : Held (FileStore D g)) (store : FileStore D g) → IsClosed c store → ComesOf (seen_in (file_state c)) (seen_store store)
+unclosed_comes g c store closes = record {
   premise = λ sound. omega (arith, closes.quiet.clean, sound);
   stands = λ sound M keeps. tt;
   left = λ sound. inl (λ x may. closes.quiet.outcomes x may);
+  holds = λ sound d held. tt;
 }
-left_comes g rules was written c (Ok done) (Unclosed store) closes = absurd closes
-left_comes g rules was written c (Ok done) (Unopened left) closes = absurd closes
-left_comes g rules was written c (Err fault) (Closed files) closes = absurd closes
-left_comes g rules was written c (Err fault) (Unopened left) closes = absurd closes
 
--- the status behind a closing
-pub is_status : {D : Type 0} {g : Ghosts D} (c : Held (FileStore D g)) (result : Result ⊤ StoreFault) (left : FilesLeft D g) → Closes c result left
-    → (own status : ℕ) → OnOk result (status ≡ own) → OnErr result (status ≡ 3) → IsStatus own status left
-is_status c (Ok done) (Closed files) closes own status ok err = ok
-is_status c (Err fault) (Unclosed store) closes own status ok err = err
-is_status c (Ok done) (Unclosed store) closes own status ok err = absurd closes
-is_status c (Ok done) (Unopened left) closes own status ok err = absurd closes
-is_status c (Err fault) (Closed files) closes own status ok err = absurd closes
-is_status c (Err fault) (Unopened left) closes own status ok err = absurd closes
-
--- a command that ended over a desk ended so over what closing it left
-pub closed_ended : {D : Type 0} (g : Ghosts D) (rules : List Rule) (was : View in_tables) (written : List ℕ → Type 0) (c : Held (FileStore D g)) (result : Result ⊤ StoreFault) (left : FilesLeft D g)
-    → Closes c result left → (task : Task) (told : Option (List ℕ)) (own status : ℕ) → OnOk result (status ≡ own) → OnErr result (status ≡ 3)
-    → TaskEnds (course rules was (seen_in (file_state c)) written) task told own → EndsLeaving rules was written task told status left
-closed_ended g rules was written c result left closes task told own status ok err ended = (
+-- a command that ended over a desk whose files were then closed, as over what these were before they were opened
+pub closed_ended : {O U D : Type 0} (g : Ghosts D) (rules : List Rule) (image : Image) (was : View in_tables) (written : List ℕ → Type 0) (left : FilesLeft O U D g) (task : Task) (told : Option (List ℕ)) (status : ℕ)
+    → ComesTo (seen_image image) was → RunsAndCloses rules was written task told status left → FileEnds image rules written task told status left
+closed_ended g rules image was written (Closed files) task told status begins (own, c, (same, closes), ended) =
+    let asks : List Step → Type 0 = λ steps. Leads rules steps (seen_image image) (seen_files g files) in (
+      subst (λ s. TaskEnds asks written task told s) (sym same)
+          (task_as (λ steps. Leads rules steps was (seen_in (file_state c))) asks written
+          (λ steps leads. leads_between rules steps (seen_image image) was (seen_in (file_state c)) (seen_files g files) begins (closed_comes g c files closes) leads) task told own ended),
+      λ clean. let copied = (closes clean).0 in ((file_state c).committed.trees, copied.seen, copied.left),
+    )
+closed_ended g rules image was written (Unclosed store) task told status begins (own, c, (three, closed), ended) = (
+  three,
   own,
-  is_status c result left closes own status ok err,
-  task_between was (course rules was (seen_in (file_state c)) written) (seen_left left) (λ L stood sound. (stood, λ only. only)) (left_comes g rules was written c result left closes) task told own ended,
+  task_as (λ steps. Leads rules steps was (seen_in (file_state c))) (λ steps. Leads rules steps (seen_image image) (seen_store store)) written
+      (λ steps leads. leads_between rules steps (seen_image image) was (seen_in (file_state c)) (seen_store store) begins (unclosed_comes g c store closed) leads) task told own ended,
 )
+closed_ended g rules image was written (Unopened left) task told status begins (own, c, closes, ended) = absurd closes
+closed_ended g rules image was written (NotOpened none) task told status begins (own, c, closes, ended) = absurd closes
+closed_ended g rules image was written (Untouched databases) task told status begins (own, c, closes, ended) = absurd closes
 
--- what is left of files that could not be opened
-module _ {D : Type 0} {g : Ghosts D} (path : Path D g) (left : Option (Leftover D g)) (found : Option (FilesLeft D g)) (is : found ≡ option_map Unopened left) where
-  pub file_unopened : (rules : List Rule) (written : List ℕ → Type 0) (task : Task) (told : Option (List ℕ)) (status : ℕ) → status ≡ 3 → written [] → IfSome left (SparesUnopened path MakesNothing)
-      → FileEnds path rules written task told status found
-  file_unopened rules written task told status three nothing spares =
-      subst (λ f. FileEnds path rules written task told status f) (sym is) (go left spares)
-    where
-      go : (o : Option (Leftover D g)) → IfSome o (SparesUnopened path MakesNothing) → FileEnds path rules written task told status (option_map Unopened o)
-      go None spares = (three, nothing)
-      go (Some l) spares = (three, nothing, spares)
+-- ---- not opened
 
-  pub migrate_unopened : IfSome left (SparesUnopened path MakesSecond) → SparesUnmigrated path found
-  migrate_unopened spares = subst (λ f. SparesUnmigrated path f) (sym is) (go left spares)
-    where
-      go : (o : Option (Leftover D g)) → IfSome o (SparesUnopened path MakesSecond) → SparesUnmigrated path (option_map Unopened o)
-      go None spares = tt
-      go (Some l) spares = spares
+-- what is left of files that could not be opened, by what they held
+pub spares_settled : {D : Type 0} (g : Ghosts D) (made : Database → DeskRows → Database → Type 0) (image : Image) (files : Files D) (left : Leftover D g) → AreSettled g image files
+    → KeepsFiles {g = g} (λ were. were ≡ files) made (image_of g files) left → KeepsFiles {g = g} (AreSettled g image) made image left
+spares_settled g made image files (leftover.Files now) settled (were, is, leaves) = (were, subst (AreSettled g image) (sym is) settled, leaves)
+spares_settled g made image files (leftover.Unopened now) settled (were, is, leaves) = (were, subst (AreSettled g image) (sym is) settled, leaves)
+spares_settled g made image files (leftover.Store it) settled kept = subst (λ i. KeepsFiles {g = g} (AreSettled g image) made i (leftover.Store it)) settled.0 kept
 
--- a command over a desk that was opened
-pub file_ended : {D : Type 0} {g : Ghosts D} (path : Path D g) (rules : List Rule) (written : List ℕ → Type 0) (task : Task) (told : Option (List ℕ)) (status : ℕ) (left : FilesLeft D g)
-    → EndsLeaving rules (seen_image path.image) written task told status left → FileEnds path rules written task told status (Some left)
-file_ended path rules written task told status (Closed files) ended = ended
-file_ended path rules written task told status (Unclosed store) ended = ended
-file_ended path rules written task told status (Unopened left) ended = absurd ended.1
+-- there are no files
+pub file_unopened : {O U D : Type 0} (g : Ghosts D) (image : Image) (rules : List Rule) (written : List ℕ → Type 0) (task : Task) (told : Option (List ℕ)) (status : ℕ) (left : FilesLeft O U D g)
+    → HasNoFiles left → status ≡ 3 → written [] → FileEnds image rules written task told status left
+file_unopened g image rules written task told status (Untouched databases) none three nothing = (three, nothing)
+file_unopened g image rules written task told status (NotOpened files) none three nothing = (three, nothing)
+file_unopened g image rules written task told status (Unopened files) none three nothing = absurd none
+file_unopened g image rules written task told status (Unclosed files) none three nothing = absurd none
+file_unopened g image rules written task told status (Closed files) none three nothing = absurd none
+
+pub migrate_unopened : {O U D : Type 0} (g : Ghosts D) (image : Image) (written : List ℕ → Type 0) (status : ℕ) (left : FilesLeft O U D g)
+    → HasNoFiles left → status ≡ 3 → written [] → MigrateEnds image written status left
+migrate_unopened g image written status (Untouched databases) none three nothing = (three, nothing)
+migrate_unopened g image written status (NotOpened files) none three nothing = (three, nothing)
+migrate_unopened g image written status (Unopened files) none three nothing = absurd none
+migrate_unopened g image written status (Unclosed files) none three nothing = absurd none
+migrate_unopened g image written status (Closed files) none three nothing = absurd none

@@ -1,207 +1,106 @@
--- A command that ended over a desk ended so over what that came from and what comes of it, as over its files before they are opened and once they are closed.
-use Rattle.std.proofs.Common.{◌≡◌, ◌∙◌, ◌⊎◌, ◌++◌, ℕ, List, [], Option, Some, None, inl, inr, arith, length, map, append-nil, append_assoc, refl, subst, sym}
-use Rattle.std.proofs.Math.Seq.{take-length}
-use Rattle.std.specs.Prelude.{take}
-use Rattle.std.specs.Borrow.{Bor}
+-- What led from one desk to another led from what that came from to what comes of it, as from the files of a desk before they are opened to those that are closed.
+use Rattle.std.proofs.Common.{◌≡◌, ◌⊎◌, ◌||◌, ℕ, Bool, true, false, List, [], ◌∷◌, Option, Some, None, Ok, Err, inl, inr, refl, sym}
+use Rattle.std.proofs.lemmas.List.Elements.{All-head, All-tail}
 use Rattle.onix_terms.specs.SeriesName.{series_name_of}
 use Rattle.price_rules.specs.declared.precedence.Rule.{Rule}
-use Rattle.series_rules.specs.Views.{DeskKind, LeavesEither, LeavesOnly, View}
+use Rattle.series_rules.proofs.Questions.{question_changes_nothing}
+use Rattle.series_rules.proofs.StepLemmas.{unchanged_all}
+use Rattle.series_rules.specs.Changes.{changes, is_question}
+use Rattle.series_rules.specs.Content.{SameContent}
+use Rattle.series_rules.specs.Steps.{AreQuestions, Follows, HasAll, Leads, Step, has_change, in_doubt, with_answered}
+use Rattle.series_rules.specs.Views.{DeskKind, LeavesOnly, View}
 use Rattle.series_rules.specs.declared.requests.Request.{Request}
-use Rattle.desk_batch.specs.Batch.{output, requests_of}
-use Rattle.desk_batch.specs.Leaves.{KeepsAnswered}
-use Rattle.onixdesk.proofs.QuestionLemmas.{without_question}
-use Rattle.onixdesk.specs.Connections.{Connection, KeepsServed, LeavesKept}
-use Rattle.onixdesk.specs.Course.{Course, course}
-use Rattle.onixdesk.specs.Deliveries.{DeliveriesEnd, KeepsDelivered}
-use Rattle.onixdesk.specs.Ends.{Ends}
-use Rattle.onixdesk.specs.GapsEnd.{with_question}
-use Rattle.onixdesk.specs.TaskEnds.{TaskEnds}
+use Rattle.onixdesk.proofs.TalkEnds.{talks_as}
+use Rattle.onixdesk.specs.TaskEnds.{GapsEnds, TaskEnds}
 use Rattle.onixdesk.specs.declared.command_line.Task.{Task}
 use Rattle.onixdesk.specs.declared.command_line.Task.TheVariants as task
 
 -- what is seen of what comes of a desk: it stands for no less, and a crash leaves nothing more, or only what the desk stood for
-pub record ComesOf {k : DeskKind} (c : Course k) (new : View k) : Type 0 where
-  pub premise : new.sound → c.sound
-  pub stands : new.sound → (M : List Request) → c.stands M → new.stands_for M
-  pub left : new.sound → ((x : k.Left) → new.may_leave x → c.left.may_leave x) ⊎ ((M : List Request) → c.stands M → LeavesOnly new M)
+pub record ComesOf {k : DeskKind} (last new : View k) : Type 0 where
+  pub premise : new.sound → last.sound
+  pub stands : new.sound → (M : List Request) → last.stands_for M → new.stands_for M
+  pub left : new.sound → ((x : k.Left) → new.may_leave x → last.may_leave x) ⊎ ((M : List Request) → last.stands_for M → LeavesOnly new M)
+  pub holds : new.sound → (x : k.Left) → last.holds x → new.holds x
 
--- what a command left comes of itself
-pub same_comes : {k : DeskKind} (rules : List Rule) (old new : View k) (written : List ℕ → Type 0) → ComesOf (course rules old new written) new
-same_comes rules old new written = record {
-  premise = λ sound. sound;
-  stands = λ sound M stands. stands;
-  left = λ sound. inl (λ x may. may);
-}
+-- what is seen of what a desk came from: each list of it is one that the desk stood for alone, and what comes to all of these it may have left
+pub record ComesTo {k : DeskKind} (old first : View k) : Type 0 where
+  pub premise : first.sound → old.sound
+  pub stands : first.sound → (L : List Request) → old.stands_for L → first.stands_for L
+  pub alone : first.sound → (L : List Request) → old.stands_for L → LeavesOnly first L
+  pub all : (x : k.Left) → ((L : List Request) → old.stands_for L → k.comes_to x L) → old.may_leave x
+  pub holds : first.sound → (x : k.Left) → old.holds x → first.holds x
 
--- what is seen of what a desk came from, where the command ended in soundness: each list of it is one that the desk stood for, and a crash left no more of the desk
-abbrev pub ComesTo : {k : DeskKind} → View k → Course k → Type 0
-ComesTo old c = (L : List Request) → old.stands_for L → c.sound → c.stood L × (LeavesOnly old L → LeavesOnly c.was L)
+pub same_refl : (L : List Request) → SameContent L L
+same_refl L = record { agreements = λ name. refl; firsts = λ series number. refl }
 
--- the same, from the one to the other
-abbrev pub between : {k : DeskKind} → View k → Course k → View k → Course k
-between old c new = course c.rules old new c.written
+sym_same : (L M : List Request) → SameContent L M → SameContent M L
+sym_same L M same = record { agreements = λ name. sym (same.agreements name); firsts = λ series number. sym (same.firsts series number) }
 
-module _ {k : DeskKind} (old : View k) (c : Course k) (new : View k) (comes : ComesOf c new) (sound : new.sound) where
-  only_still : (M : List Request) → c.stands M → LeavesOnly c.left M → LeavesOnly new M
-  only_still M stood only = go (comes.left sound)
-    where
-      go : ((x : k.Left) → new.may_leave x → c.left.may_leave x) ⊎ ((K : List Request) → c.stands K → LeavesOnly new K) → LeavesOnly new M
-      go (inl no_more) = λ x may. only x (no_more x may)
-      go (inr alone) = alone M stood
+or_both : (a b : Bool) → a ≡ false → b ≡ false → (a || b) ≡ false
+or_both false b one two = two
+or_both true b one two = absurd cc
 
-  either_still : (M K : List Request) → c.stands M → LeavesEither c.left M K → LeavesEither new M K
-  either_still M K stood either = go (comes.left sound)
-    where
-      go : ((x : k.Left) → new.may_leave x → c.left.may_leave x) ⊎ ((L : List Request) → c.stands L → LeavesOnly new L) → LeavesEither new M K
-      go (inl no_more) = λ x may. either x (no_more x may)
-      go (inr alone) = λ x may. inl (alone M stood x may)
+-- questions change nothing
+questions_change : (L : List Request) (steps : List Step) → AreQuestions steps → has_change L steps ≡ false
+questions_change L [] are = refl
+questions_change L ((r, Ok a) ∷ steps) are =
+    or_both (changes L r) (has_change (r ∷ L) steps) (question_changes_nothing L r (All-head (λ (s : Step). is_question s.0 ≡ true) (r, Ok a) steps are))
+    (questions_change (r ∷ L) steps (All-tail (λ (s : Step). is_question s.0 ≡ true) (r, Ok a) steps are))
+questions_change L ((r, Err f) ∷ steps) are = questions_change L steps (All-tail (λ (s : Step). is_question s.0 ≡ true) (r, Err f) steps are)
 
-  -- `batch`
-  batch_still : (L : List Request) (text : List ℕ) (status : ℕ) → (LeavesOnly old L → LeavesOnly c.was L) → Ends c L text status → Ends (between old c new) L text status
-  batch_still L text status from (inl a) = inl (a.0, a.1, a.2, comes.stands sound _ a.3, λ only. only_still _ a.3 (a.4 (from only)))
-  batch_still L text status from (inr (inr u)) = inr (inr (u.0, u.1, comes.stands sound _ u.2, λ only. only_still _ u.2 (u.3 (from only))))
-  batch_still L text status from (inr (inl s)) = inr (inl record {
-    status_is = s.status_is;
-    has_records = s.has_records;
-    done = s.done;
-    within = s.within;
-    answered = s.answered;
-    no_more = s.no_more;
-    all_but_one = s.all_but_one;
-    part = s.part;
-    rest = s.rest;
-    last_is = s.last_is;
-    answers_are = s.answers_are;
-    stands_after = comes.stands sound _ s.stands_after;
-    left_after = λ only. either_still _ _ s.stands_after (s.left_after (from only));
-  })
+module _ {k : DeskKind} (rules : List Rule) (steps : List Step) (old first last new : View k) (begins : ComesTo old first) (comes : ComesOf last new) (leads : Leads rules steps first last) where
+  module _ (sound : new.sound) where
+    opened : first.sound
+    opened = leads.premise (comes.premise sound)
 
-  -- where only what the desk stood for is left, whatever was written is of requests that are
-  answered_alone : (L : List Request) (text : List ℕ) (status : ℕ) → ((M : List Request) → c.stands M → LeavesOnly new M) → Ends c L text status → KeepsAnswered c.rules L (requests_of text) c.written new
-  answered_alone L text status alone (inl a) =
-      let rs = requests_of text in
-      let all : take (length rs) rs ≡ rs = take-length rs in (
-        length rs,
-        (output c.rules L rs, [], rw all (append-nil (output c.rules L rs)), a.2),
-        λ x may. (length rs, omega arith, omega arith, rw all (alone _ a.3 x may)),
-      )
-  answered_alone L text status alone (inr (inr u)) = (0, ([], [], refl, u.1), λ x may. (0, omega arith, omega arith, alone _ u.2 x may))
-  answered_alone L text status alone (inr (inl s)) = (
-    s.done,
-    (output c.rules L (take s.answered (requests_of text)) ++ s.part, s.rest, append_assoc (output c.rules L (take s.answered (requests_of text))) s.part s.rest ∙ s.last_is, s.answers_are),
-    λ x may. (s.done, omega arith, s.within, alone _ s.stands_after x may),
-  )
+    -- of every list
+    follows : (L : List Request) → old.stands_for L → Follows rules L steps old new
+    follows L stood = record {
+      answers = then.answers;
+      stands = comes.stands sound (with_answered L steps) then.stands;
+      left = λ x may. by x may (comes.left sound);
+    }
+      where
+        then : Follows rules L steps first last
+        then = leads.follows L (begins.stands opened L stood) (comes.premise sound)
 
-  answered_still : (L : List Request) (text : List ℕ) (status : ℕ) → Ends c L text status → KeepsAnswered c.rules L (requests_of text) c.written c.left → KeepsAnswered c.rules L (requests_of text) c.written new
-  answered_still L text status ended kept = go (comes.left sound)
-    where
-      go : ((x : k.Left) → new.may_leave x → c.left.may_leave x) ⊎ ((K : List Request) → c.stands K → LeavesOnly new K) → KeepsAnswered c.rules L (requests_of text) c.written new
-      go (inl no_more) = (kept.0, kept.1, λ x may. kept.2 x (no_more x may))
-      go (inr alone) = answered_alone L text status alone ended
+        go : (x : k.Left) → HasAll k (with_answered L steps) (in_doubt L steps) x ⊎ ((has_change L steps ≡ false) × first.may_leave x) → HasAll k (with_answered L steps) (in_doubt L steps) x ⊎ ((has_change L steps ≡ false) × old.may_leave x)
+        go x (inl has) = inl has
+        go x (inr left) = inr (left.0, begins.all x (λ M held. begins.alone opened M held x left.1))
 
-  -- `deliver`
-  deliveries_still : (L : List Request) (count : ℕ) (texts last : List (List ℕ)) (status : ℕ) → DeliveriesEnd c L count texts last status → DeliveriesEnd (between old c new) L count texts last status
-  deliveries_still L count texts last status (inl (d, none)) = inl (
-    record {
-      all = d.all;
-      status_is = d.status_is;
-      have_records = d.have_records;
-      answers_are = d.answers_are;
-      stands_after = comes.stands sound _ d.stands_after;
-    },
-    none,
-  )
-  deliveries_still L count texts last status (inr s) = inr record {
-    status_is = s.status_is;
-    few = s.few;
-    one = s.one;
-    have_records = s.have_records;
-    has_records = s.has_records;
-    part = s.part;
-    rest = s.rest;
-    last_is = s.last_is;
-    answers_are = s.answers_are;
-    stands_after = comes.stands sound _ s.stands_after;
+        by : (x : k.Left) → new.may_leave x → ((y : k.Left) → new.may_leave y → last.may_leave y) ⊎ ((M : List Request) → last.stands_for M → LeavesOnly new M)
+            → HasAll k (with_answered L steps) (in_doubt L steps) x ⊎ ((has_change L steps ≡ false) × old.may_leave x)
+        by x may (inl no_more) = go x (then.left x (no_more x may))
+        by x may (inr alone) = inl (inl (alone (with_answered L steps) then.stands x may))
+
+    questions : AreQuestions steps → (x : k.Left) → new.may_leave x → old.may_leave x
+    questions are x may = begins.all x (λ L held. by L held (comes.left sound))
+      where
+        by : (L : List Request) → old.stands_for L → ((y : k.Left) → new.may_leave y → last.may_leave y) ⊎ ((M : List Request) → last.stands_for M → LeavesOnly new M) → k.comes_to x L
+        by L held (inl no_more) = begins.alone opened L held x (leads.questions are (comes.premise sound) x (no_more x may))
+        by L held (inr alone) =
+            let then = leads.follows L (begins.stands opened L held) (comes.premise sound) in
+            k.by_content x (with_answered L steps) L (sym_same L (with_answered L steps) (unchanged_all L steps (questions_change L steps are))) (alone (with_answered L steps) then.stands x may)
+
+  pub leads_between : Leads rules steps old new
+  leads_between = record {
+    premise = λ sound. begins.premise (opened sound);
+    follows = λ L stood sound. follows sound L stood;
+    questions = λ are sound x may. questions sound are x may;
+    held = λ are sound x held. comes.holds sound x (leads.held are (comes.premise sound) x (begins.holds (opened sound) x held));
+    faults = leads.faults;
   }
 
-  delivered_alone : (L : List Request) (count : ℕ) (texts last : List (List ℕ)) (status : ℕ) → ((M : List Request) → c.stands M → LeavesOnly new M) → DeliveriesEnd c L count texts last status → KeepsDelivered L texts last status new
-  delivered_alone L count texts last status alone (inl (d, none)) =
-      subst (λ xs. KeepsDelivered L texts xs status new) (sym none) ([], omega arith, λ few. refl, λ x may. inl (alone _ d.stands_after x may))
-  delivered_alone L count texts last status alone (inr s) = ([], omega (arith, s.one), λ few. refl, λ x may. inl (alone _ s.stands_after x may))
-
-  delivered_still : (L : List Request) (count : ℕ) (texts last : List (List ℕ)) (status : ℕ) → DeliveriesEnd c L count texts last status → KeepsDelivered L texts last status c.left → KeepsDelivered L texts last status new
-  delivered_still L count texts last status ended kept = go (comes.left sound)
-    where
-      go : ((x : k.Left) → new.may_leave x → c.left.may_leave x) ⊎ ((K : List Request) → c.stands K → LeavesOnly new K) → KeepsDelivered L texts last status new
-      go (inl no_more) = (kept.0, kept.1, kept.2, λ x may. kept.3 x (no_more x may))
-      go (inr alone) = delivered_alone L count texts last status alone ended
-
-  -- `gaps`
-  question_alone : (L : List Request) (name : Option (List ℕ)) → ((M : List Request) → c.stands M → LeavesOnly new M) → c.stands L ⊎ c.stands (with_question L name) → LeavesOnly new L
-  question_alone L name alone (inl stood) = alone L stood
-  question_alone L None alone (inr stood) = alone L stood
-  question_alone L (Some series) alone (inr stood) = λ x may. without_question k x L series (alone _ stood x may)
-
-  question_still : (L : List Request) (name : Option (List ℕ)) → c.stands L ⊎ c.stands (with_question L name) → LeavesOnly c.left L → LeavesOnly new L
-  question_still L name stood only = go (comes.left sound)
-    where
-      go : ((x : k.Left) → new.may_leave x → c.left.may_leave x) ⊎ ((K : List Request) → c.stands K → LeavesOnly new K) → LeavesOnly new L
-      go (inl no_more) = λ x may. only x (no_more x may)
-      go (inr alone) = question_alone L name alone stood
-
-  stood_still : (L : List Request) (name : Option (List ℕ)) → c.stands L ⊎ c.stands (with_question L name) → new.stands_for L ⊎ new.stands_for (with_question L name)
-  stood_still L name (inl stood) = inl (comes.stands sound _ stood)
-  stood_still L name (inr stood) = inr (comes.stands sound _ stood)
-
-  -- `serve`
-  served_still : (L : List Request) (served : List Connection) → (LeavesOnly old L → LeavesOnly c.was L) → KeepsServed c.rules L served c.stands c.was c.left → KeepsServed c.rules L served new.stands_for old new
-  served_still L served from keeps = record {
-    kept = keeps.kept;
-    doubted = keeps.doubted;
-    are_served = keeps.are_served;
-    stands_after = comes.stands sound _ keeps.stands_after;
-    left_after = λ only. go (keeps.left_after (from only)) (comes.left sound);
-  }
-    where
-      go : LeavesKept keeps.doubted keeps.kept c.left → ((x : k.Left) → new.may_leave x → c.left.may_leave x) ⊎ ((K : List Request) → c.stands K → LeavesOnly new K) → LeavesKept keeps.doubted keeps.kept new
-      go leaves (inl no_more) = λ x may. leaves x (no_more x may)
-      go leaves (inr alone) = λ x may. inl (alone _ keeps.stands_after x may)
-
-pub task_between : {k : DeskKind} (old : View k) (c : Course k) (new : View k) → ComesTo old c → ComesOf c new → (task : Task) (told : Option (List ℕ)) (status : ℕ) → TaskEnds c task told status → TaskEnds (between old c new) task told status
-task_between old c new begins comes task.Batch told status ended = (
-  ended.0,
-  ended.1,
-  λ L stood sound.
-      let from = begins L stood (comes.premise sound) in
-      let end = ended.2 L from.0 (comes.premise sound) in
-      (batch_still old c new comes sound L ended.0 status from.1 end.0, λ only. answered_still old c new comes sound L ended.0 status end.0 (end.1 (from.1 only))),
-)
-task_between old c new begins comes (task.Deliver names) told status ended = (
-  ended.0,
-  ended.1,
-  ended.2,
-  λ L stood sound.
-      let from = begins L stood (comes.premise sound) in
-      let end = ended.3 L from.0 (comes.premise sound) in
-      let count = length (map (λ (name : Bor (List ℕ)). name.now) names.items) in (
-        deliveries_still old c new comes sound L count ended.0 ended.1 status end.0,
-        λ only. delivered_still old c new comes sound L count ended.0 ended.1 status end.0 (end.1 (from.1 only)),
-      ),
-)
-task_between old c new begins comes (task.Gaps name) told status ended = λ L stood sound.
-    let from = begins L stood (comes.premise sound) in
-    let end = ended L from.0 (comes.premise sound) in
-    let named = series_name_of name.now in
-    ((end.0.0, stood_still old c new comes sound L named end.0.1), λ only. question_still old c new comes sound L named end.0.1 (end.1 (from.1 only)))
-task_between old c new begins comes (task.Serve port requests batches) told status ended = (
-  ended.0,
-  (
-    ended.1.0,
-    ended.1.1,
-    λ L stood sound.
-        let from = begins L stood (comes.premise sound) in
-        served_still old c new comes sound L ended.0 from.1 (ended.1.2 L from.0 (comes.premise sound)),
-  ),
-  ended.2,
-  ended.3,
-)
+-- a command that asked so asked as well so
+pub task_as : (asked asks : List Step → Type 0) (written : List ℕ → Type 0) → ((steps : List Step) → asked steps → asks steps) → (task : Task) (told : Option (List ℕ)) (status : ℕ) → TaskEnds asked written task told status → TaskEnds asks written task told status
+task_as asked asks written f task.Batch told status (text, is, inl (has, talks)) = (text, is, inl (has, talks_as asked asks written written _ _ _ f (λ t was. was) (λ steps stop given. given) talks))
+task_as asked asks written f task.Batch told status (text, is, inr (three, none, nothing)) = (text, is, inr (three, f [] none, nothing))
+task_as asked asks written f (task.Deliver names) told status ended =
+    (ended.0, ended.1, ended.2, ended.3, talks_as asked asks written written _ _ _ f (λ t was. was) (λ steps stop given. given) ended.4)
+task_as asked asks written f (task.Gaps name) told status ended = by (series_name_of name.now) ended
+  where
+    by : (o : Option (List ℕ)) → GapsEnds asked written o status → GapsEnds asks written o status
+    by (Some series) talks = talks_as asked asks written written _ _ _ f (λ t was. was) (λ steps stop given. given) talks
+    by None end = (f [] end.0, end.1)
+task_as asked asks written f (task.Serve port requests batches) told status ended =
+    (ended.0, (ended.1.0, ended.1.1, f _ ended.1.2), ended.2, ended.3)

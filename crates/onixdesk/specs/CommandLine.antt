@@ -59,7 +59,8 @@ command_of name words = record (new_shape name) { rules = words }
 abbrev pub batch_command : Shape
 batch_command = command_of (codes "batch") []
 
--- convert [--parts P] [--number N | --number-offset K] [--sender TYPE,VALUE] [--addressee TYPE,VALUE] [--id-type TT] [--leave-out-wrong] [-o FOLDER] [FILE..]
+-- convert [--parts P] [--number N | --number-offset K] [--sender TYPE,VALUE] [--addressee TYPE,VALUE] [--id-type TT]
+-- [--wrong none|few|all] [-o FOLDER] [FILE..]
 abbrev pub convert_command : Shape
 convert_command = command_of (codes "convert") (
     number_option (codes "parts") 1 9999
@@ -68,7 +69,7 @@ convert_command = command_of (codes "convert") (
     ∷ text_option (codes "sender")
     ∷ text_option (codes "addressee")
     ∷ text_option (codes "id-type")
-    ∷ flag_option (codes "leave-out-wrong")
+    ∷ text_option (codes "wrong")
     ∷ short_option (codes "folder") 111
     ∷ some_operands (codes "file") 0
     ∷ []

@@ -2,6 +2,7 @@
 use Rattle.std.specs.Prelude.{◌≡◌, ◌<◌, ℕ, List, [], ◌∷◌, Bool, true, Option, Some, None, ◌&&◌, ◌==◌, if◌then◌else◌, codes, is_some, length, map, nat_lt, option_map, unwrap_or}
 use Rattle.std.specs.Char.{is_ascii_digit}
 use Rattle.std.specs.Option.{option_map_or}
+use Rattle.std.specs.Str.{bytes_eq}
 use Rattle.clap.specs.Walk.{Row}
 use Rattle.onix_terms.specs.Code.{code2_of}
 use Rattle.onix_terms.specs.Digits.{digits_of}
@@ -10,7 +11,9 @@ use Rattle.onix_message.specs.Fields.{is_clean}
 use Rattle.onix_mapping.specs.Parties.{Pair, pair}
 use Rattle.onix_conversion.specs.Conversion.{Options}
 use Rattle.onix_conversion.specs.Views.{options_view}
-use Rattle.onixdesk.specs.Words.{has_flag, text_in, texts_in}
+use Rattle.onix_conversion.specs.declared.options.Allowed.{Allowed}
+use Rattle.onix_conversion.specs.declared.options.Allowed.TheVariants.{AllWrong, FewWrong, NoWrong}
+use Rattle.onixdesk.specs.Words.{text_in, texts_in}
 use Rattle.onixdesk.specs.declared.convert_words.BadWords.{BadWords}
 use Rattle.onixdesk.specs.declared.convert_words.BadWords.TheVariants as bad
 use Rattle.onixdesk.specs.declared.convert_words.Conversion.{Conversion}
@@ -42,6 +45,14 @@ identifier_of (first ∷ second ∷ comma ∷ value) =
     then Some (pair (first ∷ second ∷ []) value) else None
 identifier_of other = None
 
+-- of how many wrong products a message is taken, by its word
+abbrev pub allowed_of : List ℕ → Option Allowed
+allowed_of word =
+    if bytes_eq word (codes "none") then Some NoWrong
+    else if bytes_eq word (codes "few") then Some FewWrong
+    else if bytes_eq word (codes "all") then Some AllWrong
+    else None
+
 -- what the word of an option is read as, or the default where it has none
 abbrev pub word_or : {A : Type 0} → (List ℕ → Option A) → A → List Row → List ℕ → Option A
 word_or read default own name = option_map_or read (text_in own name) (Some default)
@@ -63,7 +74,7 @@ AreOptions own o =
     × (word_as identifier_of own (codes "sender") ≡ Some o.choices.sender)
     × (word_as identifier_of own (codes "addressee") ≡ Some o.choices.addressee)
     × (word_or code2_of (codes "06") own (codes "id-type") ≡ Some o.choices.id_type)
-    × (o.leave_out_wrong ≡ has_flag own (codes "leave-out-wrong"))
+    × (word_or allowed_of FewWrong own (codes "wrong") ≡ Some o.wrong)
 
 -- several FILEs need a folder, and no number is for all of them
 abbrev pub AreForFiles : Asked → Type 0
@@ -89,6 +100,7 @@ IsWrongWord own named.NumberOffset word = IsUnread digits_of own (codes "number-
 IsWrongWord own named.Sender word = IsUnread identifier_of own (codes "sender") word
 IsWrongWord own named.Addressee word = IsUnread identifier_of own (codes "addressee") word
 IsWrongWord own named.IdType word = IsUnread code2_of own (codes "id-type") word
+IsWrongWord own named.Wrong word = IsUnread allowed_of own (codes "wrong") word
 
 -- words are refused for the word of that option, which is such
 abbrev pub IsOf : OptionName → (List ℕ → Type 0) → BadWords → Type 0

@@ -1,45 +1,56 @@
 -- The two files of a desk, as a desk is seen: before they are opened, and as a command leaves them.
-use Rattle.std.specs.Prelude.{List}
-use Rattle.sqlite.specs.Files.{IsCleanLeft, image_of, over_files}
-use Rattle.sqlite.specs.declared.file.Leftover.{Leftover}
+use Rattle.std.specs.Prelude.{◌≡◌, List, true}
+use Rattle.std.specs.List.{list_any}
+use Rattle.sqlite.specs.Effect.{Database, IsDatabase}
+use Rattle.sqlite.specs.Files.{HoldsDatabase, image_of, over_files}
 use Rattle.sqlite_disk.specs.declared.Disk.{Ghosts}
 use Rattle.sqlite_disk.specs.declared.Files.{Files}
 use Rattle.sqlite_store.specs.declared.store.FileStore.{FileStore}
+use Rattle.sqlite_trees.specs.Tree.{Trees}
 use Rattle.sqlite_trees.specs.View.{IsClean}
 use Rattle.sqlite_wal.specs.Files.{outcomes}
 use Rattle.sqlite_wal.specs.Reads.{AreClean}
 use Rattle.sqlite_wal.specs.Recovery.{Image}
+use Rattle.desk_tables.specs.Schema.{is_meta}
 use Rattle.series_rules.specs.Content.{SameContent, same_trans}
 use Rattle.series_rules.specs.Views.{View}
 use Rattle.series_rules.specs.declared.requests.Request.{Request}
 use Rattle.desk_store.specs.ContentLemmas.{rows_by_content}
 use Rattle.desk_store.specs.Desks.{AreRowsOf}
-use Rattle.desk_store.specs.Openings.{AreFilesOf, AreFoundAs, HoldRowsOf, left_in}
+use Rattle.desk_store.specs.Openings.{AreFilesOf, AreFoundAs, HoldRowsOf}
 use Rattle.desk_store.specs.Seen.{in_tables}
-use Rattle.onixdesk.specs.declared.files.FilesLeft.{FilesLeft}
-use Rattle.onixdesk.specs.declared.files.FilesLeft.TheVariants.{Closed, Unclosed, Unopened}
 
--- two files before they are opened: they hold what a list comes to, and once they are opened only the rows of such a list are left
+-- two files hold these trees, those of a database with a table `meta` of a desk
+abbrev pub HoldMeta : Image → Trees → Type 0
+HoldMeta image d =
+    (db : Database) × IsDatabase db × (db.trees ≡ d) × ∥ HoldsDatabase image d ∥₁
+    × (list_any is_meta db.schema.tables ≡ true)
+
+-- two files before they are opened: they hold what a list comes to, and once they are opened only
+-- the rows of such a list are left. A database without a table `meta` may get the tables of a desk
 abbrev pub seen_image : Image → View in_tables
 seen_image image = record {
   sound = Unit {0};
   stands_for = λ M. (L : List Request) × AreFilesOf image L × SameContent L M;
   by_content = λ L M same files. (files.0, files.1, same_trans files.0 L M files.2 same);
-  holds = λ d. AreFoundAs image d;
+  holds = HoldMeta image;
   may_leave = λ d. (L : List Request) → AreFilesOf image L → AreRowsOf d L;
 }
 
-pub held_by_content : (image : Image) (L M : List Request) → SameContent L M → HoldRowsOf image L → HoldRowsOf image M
+pub held_by_content : (image : Image) (L M : List Request) → SameContent L M → HoldRowsOf image L
+    → HoldRowsOf image M
 held_by_content image L M same held = (held.0, held.1, rows_by_content held.0 L M same held.2)
 
--- two files that were closed: they hold the rows of a list, and a crash leaves files in which the next opening finds those
+-- two files that were closed: they hold the rows of a list, and a crash leaves files in which the
+-- next opening finds those
 abbrev pub seen_files : {D : Type 0} → (g : Ghosts D) → Files D → View in_tables
 seen_files g files = record {
   sound = AreClean g files.log files.db;
   stands_for = HoldRowsOf (image_of g files);
   by_content = held_by_content (image_of g files);
-  holds = λ d. AreFoundAs (image_of g files) d;
-  may_leave = λ d. (image : Image) × outcomes g files.log files.db image × AreFoundAs image d;
+  holds = λ d. ∥ HoldsDatabase (image_of g files) d ∥₁;
+  may_leave = λ d.
+      (image : Image) × outcomes g files.log files.db image × AreFoundAs image d;
 }
 
 -- the store of a desk whose files could not be closed: nothing is said but what a crash leaves
@@ -51,19 +62,3 @@ seen_store {g} store = record {
   holds = λ d. Unit {0};
   may_leave = (over_files {g = g}).recovers store;
 }
-
--- what is left of files that could not be opened, likewise
-abbrev pub seen_unopened : {D : Type 0} → {g : Ghosts D} → Leftover D g → View in_tables
-seen_unopened left = record {
-  sound = IsCleanLeft left;
-  stands_for = λ M. Unit {0};
-  by_content = λ L M same is. is;
-  holds = λ d. Unit {0};
-  may_leave = left_in left;
-}
-
--- what a command leaves of the files of a desk
-abbrev pub seen_left : {D : Type 0} → {g : Ghosts D} → FilesLeft D g → View in_tables
-seen_left {g} (Closed files) = seen_files g files
-seen_left (Unclosed store) = seen_store store
-seen_left (Unopened left) = seen_unopened left

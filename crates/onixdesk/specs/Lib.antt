@@ -1,12 +1,13 @@
 pub mod RulesFile
-pub mod Course
-pub mod Ends
 pub mod Deliveries
-pub mod GapsEnd
+pub mod Unknown
+pub mod Databases
+pub mod Leftovers
 pub mod MigrationEnd
 pub mod Serving
 pub mod Connections
 pub mod Clients
+pub mod Streams
 pub mod Sending
 pub mod TaskEnds
 pub mod FileViews
@@ -17,3 +18,4 @@ pub mod CommandLine
 pub mod Asked
 pub mod CommandNames
 pub mod FileEnds
+pub mod Closings

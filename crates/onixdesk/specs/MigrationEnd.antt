@@ -1,16 +1,46 @@
 -- How the command `migrate` ends.
-use Rattle.std.specs.Prelude.{◌≡◌, ◌⊎◌, ◌++◌, ℕ, List, [], codes}
+use Rattle.std.specs.Prelude.{◌≡◌, ◌⊎◌, ℕ, List, [], codes}
+use Rattle.sqlite.specs.Files.{image_of}
+use Rattle.sqlite_disk.specs.declared.Disk.{Ghosts}
+use Rattle.sqlite_disk.specs.declared.Files.{Files}
+use Rattle.sqlite_wal.specs.Reads.{AreClean}
+use Rattle.sqlite_wal.specs.Recovery.{Image}
+use Rattle.series_rules.specs.declared.requests.Request.{Request}
+use Rattle.desk_store.specs.ClosedFiles.{HoldOneDatabase}
+use Rattle.desk_store.specs.Migrations.{AreFilesOfEither, AreMigrated, IsTrueAnswer, MakesSecond}
+use Rattle.desk_store.specs.Openings.{AreEmptyFiles, AreFilesWith, HoldRowsOf}
 use Rattle.desk_store.specs.declared.migrating.MigrateAnswer.{MigrateAnswer}
 use Rattle.desk_store.specs.declared.migrating.MigrateAnswer.TheVariants.{Migrated, AlreadyTwo}
+use Rattle.desk_http.specs.Writing.{WritesFront}
+use Rattle.onixdesk.specs.Leftovers.{SparesUnopened}
+use Rattle.onixdesk.specs.declared.files.FilesLeft.{FilesLeft}
+use Rattle.onixdesk.specs.declared.files.FilesLeft.TheVariants.{Closed, NotOpened, Unclosed, Unopened, Untouched}
 
 -- the line that says what a migration did
 abbrev pub migration_line : MigrateAnswer → List ℕ
 migration_line Migrated = codes "migrated\n"
 migration_line AlreadyTwo = codes "schema 2\n"
 
--- how the command can end: with 0 and the line of an answer written, or with 3 and nothing or a first part of that line. IsDone: a migration with that answer was done. Written: these bytes were written
-abbrev pub MigrationEnd : (MigrateAnswer → Type 0) → (List ℕ → Type 0) → ℕ → Type 0
-MigrationEnd is_done written status =
-    ((answer : MigrateAnswer) × is_done answer × written (migration_line answer) × (status ≡ 0))
-    -- a fault ended it: the migration was not done, or a first part of its line is written
-    ⊎ ((status ≡ 3) × (written [] ⊎ ((answer : MigrateAnswer) × is_done answer × ((part rest : List ℕ) × (part ++ rest ≡ migration_line answer) × written part))))
+-- a migration with that answer was done: it is true of what the files held, and those that are left
+-- hold what was made of that, of the same requests; so a crash leaves them
+pub record IsMigrationDone {D : Type 0} (g : Ghosts D) (image : Image) (answer : MigrateAnswer)
+    (files : Files D) : Type 0 where
+  pub made : AreMigrated answer image (image_of g files)
+  pub is_true : IsTrueAnswer (AreFilesWith image) (AreEmptyFiles image) answer
+  pub holds : (L : List Request) → AreFilesOfEither image L → HoldRowsOf (image_of g files) L
+  pub kept : HoldOneDatabase g files
+
+-- How the command can end over files that held `image`. Where the files are left closed, a migration
+-- was done, and its line is written with 0, or a first part of it with 3. Else the status is 3,
+-- nothing is written, and no migration was done. Written: these bytes were written
+abbrev pub MigrateEnds : {O U D : Type 0} → {g : Ghosts D} → Image → (List ℕ → Type 0) → ℕ
+    → FilesLeft O U D g → Type 0
+MigrateEnds {g = g} image written status (Closed files) =
+    (answer : MigrateAnswer) × (AreClean g files.log files.db → IsMigrationDone g image answer files)
+    × (((status ≡ 0) × written (migration_line answer))
+    ⊎ ((status ≡ 3) × WritesFront written (migration_line answer)))
+MigrateEnds image written status (Unopened left) =
+    (status ≡ 3) × written [] × SparesUnopened image MakesSecond left
+MigrateEnds image written status (Unclosed store) = ⊥
+MigrateEnds image written status (NotOpened none) = (status ≡ 3) × written []
+MigrateEnds image written status (Untouched databases) = (status ≡ 3) × written []

@@ -1,10 +1,9 @@
 -- How the command `batch` ends that sends its batch to an open desk, whose answers it writes.
-use Rattle.std.specs.Prelude.{◌≡◌, ◌-◌, ◌++◌, ◌∷◌, ◌||◌, ◌⊎◌, ℕ, Bool, false, List, [], Option, None, Result, Ok, Err, ⊤, codes, length, if◌then◌else◌}
+use Rattle.std.specs.Prelude.{◌≡◌, ◌-◌, ◌++◌, ◌∷◌, ◌||◌, ◌⊎◌, ℕ, Bool, false, List, [], Option, Result, Ok, Err, ⊤, codes, length, if◌then◌else◌}
 use Rattle.std.specs.Str.{bytes_eq}
 use Rattle.csv_records.specs.RecordTexts.{records_of}
 use Rattle.csv_records.specs.Streams.{IsTold}
-use Rattle.desk_batch.specs.Batch.{requests_of}
-use Rattle.onixdesk.specs.Ends.{HasRecords}
+use Rattle.desk_batch.specs.Batch.{HasRecords, requests_of}
 use Rattle.onixdesk.specs.declared.fault.Fault.{Fault}
 
 -- the names that begin the answer to a request that changes something, and a refusal
@@ -45,8 +44,11 @@ abbrev pub has_refusal : List (List (List ℕ)) → Bool
 has_refusal [] = false
 has_refusal (row ∷ rows) = begins_refusal row || has_refusal rows
 
--- The batch of a text was sent, and each of its requests has an answer among those that came, which were written. Came: what comes of the desk, where that is known; sent: these bytes were sent; written: these bytes were written; refused: an answer is a refusal
-pub record IsAnsweredThere (text : List ℕ) (came : Option (List ℕ)) (sent written : List ℕ → Type 0) (refused : Bool) : Type 0 where
+-- The batch of a text was sent, and each of its requests has an answer among those that came, which
+-- were written. Came: what comes of the desk, where that is known; sent, written: these bytes were
+-- sent, were written; refused: an answer is a refusal
+pub record IsAnsweredThere (text : List ℕ) (came : Option (List ℕ)) (sent written : List ℕ → Type 0)
+    (refused : Bool) : Type 0 where
   pub has_records : HasRecords text
   pub all_sent : sent text
   pub answers : List ℕ
@@ -59,19 +61,26 @@ pub record IsAnsweredThere (text : List ℕ) (came : Option (List ℕ)) (sent wr
 abbrev pub WritesCame : Option (List ℕ) → (List ℕ → Type 0) → Type 0
 WritesCame came written = (some rest : List ℕ) × IsTold came (some ++ rest) × written some
 
--- how sending the batch of a text, of so many requests, can end: with all answers written, and whether one is a refusal; or with a first part of what came
-abbrev pub SendFits : List ℕ → Option (List ℕ) → (List ℕ → Type 0) → (List ℕ → Type 0) → Result Bool Fault → Type 0
+-- how sending the batch of a text can end: with all answers written, and whether one is a refusal;
+-- or with a first part of what came
+abbrev pub SendFits : List ℕ → Option (List ℕ) → (List ℕ → Type 0) → (List ℕ → Type 0)
+    → Result Bool Fault → Type 0
 SendFits text came sent written (Ok refused) = IsAnsweredThere text came sent written refused
 SendFits text came sent written (Err f) = WritesCame came written
 
 -- how taking the answers to so many requests can end
 abbrev pub TakesAnswers : ℕ → Option (List ℕ) → (List ℕ → Type 0) → Result Bool Fault → Type 0
 TakesAnswers asked came written (Ok refused) =
-    (answers : List ℕ) × IsTold came answers × (unanswered asked (records_of answers) ≡ 0) × (refused ≡ has_refusal (records_of answers)) × written answers
+    (answers : List ℕ) × IsTold came answers × (unanswered asked (records_of answers) ≡ 0)
+    × (refused ≡ has_refusal (records_of answers)) × written answers
 TakesAnswers asked came written (Err f) = WritesCame came written
 
--- how the command can end with this status: the batch of the input was sent and answered, with 0, or 1 for a refusal; or a fault ended it, with 3, and a first part of the answers is written. Of what goes over the socket no clause can say which bytes they are. Told: what the input tells of its bytes
-abbrev pub SendEnds : Option (List ℕ) → (List ℕ → Type 0) → ℕ → Type 0
-SendEnds told written status =
-    ((text : List ℕ) × IsTold told text × (refused : Bool) × IsAnsweredThere text None (λ _. ⊤) written refused × (status ≡ (if refused then 1 else 0)))
-    ⊎ ((status ≡ 3) × WritesCame None written)
+-- how the command can end with this status: the batch of the input was sent and answered, with 0, or
+-- 1 for a refusal; or a fault ended it, with 3, and a first part of the answers is written. Told:
+-- what the input tells of its bytes. Came: what comes of the desk, where that is known
+abbrev pub SendEnds : Option (List ℕ) → Option (List ℕ) → (List ℕ → Type 0) → ℕ → Type 0
+SendEnds told came written status =
+    ((text : List ℕ) × IsTold told text × (refused : Bool)
+    × IsAnsweredThere text came (λ _. ⊤) written refused
+    × (status ≡ (if refused then 1 else 0)))
+    ⊎ ((status ≡ 3) × WritesCame came written)

@@ -16,12 +16,16 @@ pub enum Protocol {
 pub trait Clients {
     ghost use Rattle.std.specs.Prelude.{◌≡◌, Bool, List, Option, ℕ};
     ghost use Rattle.onixdesk.specs.Clients.{Accepts};
+    ghost use Rattle.onixdesk.specs.declared.clients.Protocol.{Protocol};
 
     // Whether some may send batches.
     ghost takes_batches: { Bool };
 
     // What each client sends that is still to come, where that is known.
     ghost coming: { Self → Option (List (List ℕ)) };
+
+    // By what a client is served that is read so.
+    ghost speaks: { Self.Reader → Protocol };
 
     /// Reads what a client sends.
     type Reader: Read + Drop;
@@ -31,7 +35,7 @@ pub trait Clients {
     /// Waits for the next client, and gives its protocol and the two ways of its connection, or
     /// `None` where it was gone before that was accepted.
     fn accept(&mut self) -> Result<Option<(Protocol, Self::Reader, Self::Writer)>, Fault>
-        ensures { Accepts Self.Reader.remaining Self.Writer.contents takes_batches
+        ensures { Accepts Self.Reader.remaining speaks Self.Writer.contents takes_batches
             (coming self.old) (coming self.new) result };
 
     /// Closes the connection of a client.

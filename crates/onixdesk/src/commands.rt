@@ -228,13 +228,14 @@ fn id_type<'a>(alloc: Global) -> Arg<'a>
     )
 }
 
-fn leave_out_wrong<'a>(alloc: Global) -> Arg<'a>
-    ensures { IsWord (flag_option (codes "leave-out-wrong")) result }
+fn wrong<'a>(alloc: Global) -> Arg<'a>
+    ensures { IsWord (text_option (codes "wrong")) result }
 {
-    flag_option(
+    text_option(
         alloc,
-        "leave-out-wrong",
-        "Leave out products that the desk would call malformed, where else the FILE is refused",
+        "wrong",
+        "none|few|all",
+        "How many products of a FILE may be wrong before it is refused; few without it: ten, or one in a hundred, but not two that are more than half",
     )
 }
 
@@ -272,7 +273,7 @@ fn convert<'a>(alloc: Global) -> Result<Command<'a>, AllocError>
         .arg(sender(alloc))?
         .arg(addressee(alloc))?
         .arg(id_type(alloc))?
-        .arg(leave_out_wrong(alloc))?
+        .arg(wrong(alloc))?
         .arg(folder(alloc))?
         .arg(feeds(alloc))
 }

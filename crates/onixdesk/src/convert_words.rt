@@ -8,12 +8,13 @@ ghost use Rattle.onix_terms.specs.Number.{number_of};
 ghost use Rattle.onix_message.specs.Fields.{is_control};
 ghost use Rattle.onix_mapping.specs.PartyViews.{pair_view};
 ghost use Rattle.onix_conversion.specs.Views.{options_view};
-ghost use Rattle.onixdesk.specs.ConvertWords.{AreOptions, AsksFor, AsksNothing, IsOf, IsUnread, asked_view, files_named, identifier_of, is_value, word_as, word_or};
+ghost use Rattle.onix_conversion.specs.declared.options.Allowed.TheVariants.{FewWrong};
+ghost use Rattle.onixdesk.specs.ConvertWords.{AreOptions, AsksFor, AsksNothing, IsOf, IsUnread, allowed_of, asked_view, files_named, identifier_of, is_value, word_as, word_or};
 ghost use Rattle.onixdesk.specs.Words.{words_in};
 
-use crate::words::{has_flag, text_in, texts_in};
+use crate::words::{text_in, texts_in};
 use clap::ArgMatches;
-use onix_conversion::Options;
+use onix_conversion::{Allowed, Options};
 use onix_files::{Run, STANDARD_INPUT};
 use onix_mapping::{Choices, Pair};
 use onix_terms::code::Code2;
@@ -36,6 +37,7 @@ pub enum OptionName {
     Sender,
     Addressee,
     IdType,
+    Wrong,
 }
 
 impl OptionName {
@@ -48,6 +50,7 @@ impl OptionName {
             OptionName::Sender => "--sender <TYPE,VALUE>",
             OptionName::Addressee => "--addressee <TYPE,VALUE>",
             OptionName::IdType => "--id-type <TT>",
+            OptionName::Wrong => "--wrong <none|few|all>",
         }
     }
 
@@ -57,6 +60,7 @@ impl OptionName {
             OptionName::Parts | OptionName::Number | OptionName::NumberOffset => NINE_DIGITS,
             OptionName::Sender | OptionName::Addressee => IDENTIFIER,
             OptionName::IdType => "two digits",
+            OptionName::Wrong => "none, few or all",
         }
     }
 }
@@ -222,6 +226,37 @@ fn id_type_of<'a>(words: &ArgMatches<'a>) -> Result<&'a [u8], BadWords<'a>>
     }
 }
 
+// Of how many wrong products a message is taken, by its word.
+fn allowed_of(word: &str) -> Option<Allowed>
+    ensures { result ≡ allowed_of word.now }
+{
+    match word {
+        "none" => Some(Allowed::NoWrong),
+        "few" => Some(Allowed::FewWrong),
+        "all" => Some(Allowed::AllWrong),
+        _ => None,
+    }
+}
+
+// Of how many wrong products a message is taken.
+fn wrong_of<'a>(words: &ArgMatches<'a>) -> Result<Allowed, BadWords<'a>>
+    ensures ok { IfOk result (λ a. word_or allowed_of FewWrong (words_in words.now)
+        (codes "wrong") ≡ Some a) }
+    ensures err { IfErr result (IsOf OptionName.Wrong
+        (IsUnread allowed_of (words_in words.now) (codes "wrong"))) }
+{
+    let Some(word) = text_in(words, "wrong") else {
+        return Ok(Allowed::FewWrong);
+    };
+    match allowed_of(word) {
+        Some(allowed) => Ok(allowed),
+        None => Err(BadWords::Value {
+            option: OptionName::Wrong,
+            word,
+        }),
+    }
+}
+
 // The files that are named, or standard input where none is.
 fn files_of<'a>(alloc: Global, words: &ArgMatches<'a>) -> Result<Vec<&'a str>, AllocError>
     ensures { IfOk result (λ files. map (λ name. name.now) files.items
@@ -248,6 +283,7 @@ fn options_of<'a>(words: &ArgMatches<'a>) -> Result<Options<'a>, BadWords<'a>>
     let sender = pair_of(words, "sender", OptionName::Sender)?;
     let addressee = pair_of(words, "addressee", OptionName::Addressee)?;
     let id_type = id_type_of(words)?;
+    let wrong = wrong_of(words)?;
     let choices = Choices {
         parts,
         number,
@@ -256,10 +292,7 @@ fn options_of<'a>(words: &ArgMatches<'a>) -> Result<Options<'a>, BadWords<'a>>
         addressee,
         id_type,
     };
-    Ok(Options {
-        choices,
-        leave_out_wrong: has_flag(words, "leave-out-wrong"),
-    })
+    Ok(Options { choices, wrong })
 }
 
 /// What words that clap let pass ask of `convert`: each is read by its rule, and what is not there has

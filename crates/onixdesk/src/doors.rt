@@ -137,11 +137,14 @@ impl<'a> Doors<'a> {
 
 impl<'a> Clients for Doors<'a> {
     ghost use Rattle.std.specs.Prelude.{None, true};
+    ghost use Rattle.onixdesk.specs.Streams.{protocol_of};
 
     ghost takes_batches = { true };
 
     // Of what a client sends and is sent over a socket no clause can say which bytes they are.
     ghost coming = { λ doors. None };
+
+    ghost speaks = { λ way. protocol_of way.stream };
 
     type Reader = Timed<'a>;
 

@@ -1,10 +1,12 @@
 //! The program `onixdesk`: the intake of a bookshop's buying desk on the command line. `command_line`
 //! reads its words by the `commands` of clap, and `convert_words` those of `convert`, from the `words`
-//! that clap found; `rules` reads the precedence table, `database` looks at the database file, and
-//! `fault` has the texts of what can go wrong. The commands are `batch`, `deliver`, `gaps` and `serve`, each over any desk; `program` gives
-//! them one in a database file, or in memory. `serve` is reached at a `port`, or at its `doors`;
-//! `sending` is a batch to a desk that is open. `migrate` brings a database file of an earlier version
-//! to the one that is kept now. What each request is answered is proved in `series_rules`.
+//! that clap found; `rules` reads the precedence table, and `fault` has the texts of what can go wrong.
+//! `database` looks at the database file, and `databases` opens it, by its path (`paths`). The commands
+//! are `batch`, `deliver`, `gaps` and `serve`, each over any desk; `program` gives them one in a
+//! database file, or in memory. `serve` is reached at a `port`, or at its `doors`; `sending` is a batch
+//! to a desk that is open (`open_desks`), at one of the `sockets`. `migrate` brings a database file of
+//! an earlier version to the one that is kept now. What each request is answered is proved in
+//! `series_rules`.
 #![tactic(auto)]
 
 mod batch;
@@ -14,6 +16,7 @@ mod commands;
 mod connection;
 mod convert_words;
 mod database;
+mod databases;
 mod deliver;
 mod doors;
 mod fault;
@@ -21,6 +24,8 @@ mod files;
 mod gaps;
 mod laws;
 mod migrate;
+mod open_desks;
+mod paths;
 mod port;
 mod program;
 mod rules;
@@ -34,7 +39,10 @@ ghost use Rattle.std.specs.Prelude.{◌≤◌, IfOk};
 
 use crate::command_line::print_wrong;
 use crate::fault::{Fault, report};
+use crate::paths::Paths;
 use crate::program::run;
+use crate::sockets::Sockets;
+use named_files::HostFiles;
 use sqlite::Unknown;
 use std::alloc::AllocError;
 use std::io::ErrorKind;
@@ -50,7 +58,9 @@ fn run_words(rt: &HostRuntime, words: std::env::Args) -> Result<u8, AllocError>
     let (status, left) = run(
         rt,
         words.as_slice(),
-        Unknown,
+        Paths { start: Unknown },
+        &mut Sockets,
+        &mut HostFiles::new(rt),
         &mut rt.stdin(),
         &mut rt.stdout(),
         &mut rt.stderr(),

@@ -1,15 +1,18 @@
 //! The command `migrate`: a database file of version 1 is brought to version 2.
 
-ghost use Rattle.std.specs.Prelude.{◌≡◌, ◌≤◌};
+ghost use Rattle.std.specs.Prelude.{◌≡◌, ◌≤◌, IsTrue};
 ghost use Rattle.std.specs.Io.KnownBytes.{Appends};
-ghost use Rattle.onixdesk.specs.FileEnds.{MigrateEnds, path_of};
-ghost use Rattle.onixdesk.specs.MigrationEnd.{migration_line};
+ghost use Rattle.sqlite_wal.specs.Recovery.{Image};
+ghost use Rattle.onixdesk.specs.Databases.{AreSettled};
+ghost use Rattle.onixdesk.specs.MigrationEnd.{MigrateEnds, migration_line};
 
 use crate::fault::{Fault, report};
-use crate::files::{FilesLeft, unopened};
+use crate::files::FilesLeft;
 use csv_records::streams::{WriteFault, write_whole};
-use desk_store::{MigrateAnswer, migrate};
-use sqlite::{FileFrom, Start};
+use desk_store::{MigrateAnswer, migrate_files};
+use sqlite::{Files, Options};
+use sqlite_disk::Disk;
+use std::alloc::Global;
 use std::io::Write;
 
 // The line that says what a migration did.
@@ -22,31 +25,35 @@ fn line(answer: MigrateAnswer) -> &'static str
     }
 }
 
-/// Brings the desk in the database file of that name to version 2, and writes `migrated`, or
-/// `schema 2` where it is of that version and stays as it is. `start` says what the file and its log
-/// hold. Gives 0, or 3 after a fault, which is reported; and what is left of the two files, where they
-/// were opened.
-pub fn run<S: Start, W: Write, E: Write>(
-    rt: &HostRuntime,
-    name: &str,
-    start: S,
+/// Brings the desk in two files, the database and its log, to version 2, and writes `migrated`, or
+/// `schema 2` where it is of that version and stays as it is. Gives 0, or 3 after a fault, which is
+/// reported; and what is left of the files.
+pub fn run<O, U, D: Disk + Drop, W: Write, E: Write>(
+    alloc: Global,
+    files: Files<D>,
+    options: Options,
     output: &mut W,
     errors: &mut E,
-) -> (u8, Option<FilesLeft<FileFrom<S>>>)
+) -> (u8, FilesLeft<O, U, D>)
+    requires log { IsTrue (D.Disk.is_usable files.log) }
+    requires db { IsTrue (D.Disk.is_usable files.db) }
     ensures status { result.0 ≤ 3 }
     // What is written is true of the files that are left, and these hold the same requests.
-    ensures end { MigrateEnds (path_of S.Start)
-        (Appends (W.contents output.old) (W.contents output.new)) result.0 result.1 }
+    ensures end { (image : Image) → AreSettled D.Disk image files
+        → MigrateEnds image (Appends (W.contents output.old) (W.contents output.new))
+        result.0 result.1 }
 {
-    let (answer, files) = match migrate(rt, name, start) {
+    let (answer, files) = match migrate_files(alloc, files, options) {
         Ok(migrated) => migrated,
-        Err((fault, left)) => return (report(&Fault::from(fault), errors), unopened(left)),
+        Err((fault, left)) => {
+            return (
+                report(&Fault::from(fault), errors),
+                FilesLeft::Unopened(left),
+            );
+        }
     };
     match write_whole(output, line(answer).as_bytes()) {
-        Ok(()) => (0, Some(FilesLeft::Closed(files))),
-        Err(WriteFault) => (
-            report(&Fault::Output, errors),
-            Some(FilesLeft::Closed(files)),
-        ),
+        Ok(()) => (0, FilesLeft::Closed(files)),
+        Err(WriteFault) => (report(&Fault::Output, errors), FilesLeft::Closed(files)),
     }
 }

@@ -46,11 +46,14 @@ impl<'a> Port<'a> {
 
 impl<'a> Clients for Port<'a> {
     ghost use Rattle.std.specs.Prelude.{None, false};
+    ghost use Rattle.onixdesk.specs.Streams.{protocol_of};
 
     ghost takes_batches = { false };
 
     // Of what a client sends and is sent over a socket no clause can say which bytes they are.
     ghost coming = { λ port. None };
+
+    ghost speaks = { λ way. protocol_of way.stream };
 
     type Reader = Timed<'a>;
 
@@ -60,7 +63,7 @@ impl<'a> Clients for Port<'a> {
         match self.listener.accept() {
             Ok((stream, _)) => match Timed::both(self.rt, Stream::Port(stream), self.limit) {
                 Some((reader, writer)) => Ok(Some((Protocol::Exchange, reader, writer))),
-                None => Err(Fault::Port(self.number)),
+                None => Ok(None),
             },
             Err(error) => {
                 if is_lost(&error) {

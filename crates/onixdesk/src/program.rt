@@ -1,27 +1,30 @@
 //! The program run on its words: the command line, the rules file, the desk, and then the command.
 
-ghost use Rattle.std.specs.Prelude.{◌≤◌, IfErr, IfOk, map};
+ghost use Rattle.std.specs.Prelude.{◌≤◌, IfErr, IfOk, IsTrue, map};
 ghost use Rattle.std.specs.Io.KnownBytes.{Appends};
-ghost use Rattle.onixdesk.specs.Course.{course};
-ghost use Rattle.onixdesk.specs.FileEnds.{ActionEnds, AreRulesOf, Closes, FileEnds, InvocationEnds, IsUnruled, EndsLeaving, MigrateEnds, NewDeskEnds, RunEnds, path_of};
-ghost use Rattle.onixdesk.specs.FileViews.{seen_left};
+ghost use Rattle.series_rules.specs.Steps.{Asked};
+ghost use Rattle.sqlite_wal.specs.Recovery.{Image};
+ghost use Rattle.onixdesk.specs.Closings.{RunsAndCloses};
+ghost use Rattle.onixdesk.specs.Databases.{AreSettled};
+ghost use Rattle.onixdesk.specs.FileEnds.{ActionEnds, AreRulesOf, FileEnds, InvocationEnds, IsUnruled, NewDeskEnds, RunEnds};
+ghost use Rattle.onixdesk.specs.MigrationEnd.{MigrateEnds};
 ghost use Rattle.onixdesk.specs.TaskEnds.{TaskEnds};
 
 use crate::command_line::{self, Action, Database, Invocation, Reading, Task};
-use crate::database::look_at;
+use crate::databases::{Databases, open_database};
 use crate::fault::{Fault, report};
-use crate::files::{FilesLeft, unopened};
+use crate::files::FilesLeft;
+use crate::open_desks::OpenDesks;
 use crate::rules::{RulesFault, open_table, report_rules};
 use crate::{batch, deliver, gaps, migrate, sending, serve};
 use desk_memory::MemoryDesk;
 use desk_store::DeskStore;
+use named_files::NamedFiles;
 use onix_files::convert_files;
-use onix_message::StoreFault;
 use price_rules::precedence::Precedence;
 use series_rules::desk::Desk;
-use sqlite::{FileFrom, FileStore, Start};
+use sqlite::{FileStore, Files, Options};
 use sqlite_disk::Disk;
-use std::fs::metadata;
 use std::io::{Read, Write};
 use std::rt::HostRuntime;
 
@@ -36,9 +39,8 @@ fn run_task<D: Desk, R: Read, W: Write, E: Write>(
     errors: &mut E,
 ) -> u8
     ensures status { result ≤ 3 }
-    ensures premise { (D.seen desk.new).sound → (D.seen desk.old).sound }
-    ensures end { TaskEnds (course precedence.now (D.seen desk.old) (D.seen desk.new)
-        (Appends (W.contents output.old) (W.contents output.new)))
+    ensures end { TaskEnds (Asked D.seen precedence.now desk.old desk.new)
+        (Appends (W.contents output.old) (W.contents output.new))
         task.now (R.remaining input.old) result }
 {
     match task {
@@ -85,18 +87,8 @@ fn run_in_memory<R: Read, W: Write, E: Write>(
     status
 }
 
-// Closes the files of a desk, and gives what is left of them, beside the fault where they could not be.
-fn close<D: Disk + Drop>(desk: DeskStore<FileStore<D>>) -> (Result<(), StoreFault>, FilesLeft<D>)
-    ensures { Closes desk.tables.connection result.0 result.1 }
-{
-    match desk.close_files() {
-        Ok(files) => (Ok(()), FilesLeft::Closed(files)),
-        Err((fault, store)) => (Err(fault), FilesLeft::Unclosed(store)),
-    }
-}
-
 // Runs a command over a desk in two files, and closes them.
-fn run_and_close<D: Disk + Drop, R: Read, W: Write, E: Write>(
+fn run_and_close<O, U, D: Disk + Drop, R: Read, W: Write, E: Write>(
     rt: &HostRuntime,
     mut desk: DeskStore<FileStore<D>>,
     precedence: &Precedence,
@@ -104,103 +96,128 @@ fn run_and_close<D: Disk + Drop, R: Read, W: Write, E: Write>(
     input: &mut R,
     output: &mut W,
     errors: &mut E,
-) -> (u8, FilesLeft<D>)
+) -> (u8, FilesLeft<O, U, D>)
     ensures status { result.0 ≤ 3 }
-    ensures premise { (seen_left result.1).sound →
-        (⟦<DeskStore<FileStore<D>> as Desk>⟧.seen desk).sound }
-    // The command ends over the files that are left as over any desk, but that the status is 3 where they
-    // could not be closed.
-    ensures end { EndsLeaving precedence.now (⟦<DeskStore<FileStore<D>> as Desk>⟧.seen desk)
+    // The command ends as over any desk, whose files are then closed; the status is 3 where they
+    // could not be.
+    ensures end { RunsAndCloses precedence.now (⟦<DeskStore<FileStore<D>> as Desk>⟧.seen desk)
         (Appends (W.contents output.old) (W.contents output.new))
         task.now (R.remaining input.old) result.0 result.1 }
 {
     let status = run_task(rt, &mut desk, precedence, task, input, output, errors);
-    let (closed, left) = close(desk);
-    match closed {
-        Ok(()) => (status, left),
-        Err(fault) => (report(&Fault::from(fault), errors), left),
+    match desk.close_files() {
+        Ok(files) => (status, FilesLeft::Closed(files)),
+        Err((fault, store)) => {
+            let status = report(&Fault::from(fault), errors);
+            (status, FilesLeft::Unclosed(store))
+        }
     }
 }
 
-// Runs a command over the desk in a database file, where `start` says what that and its log hold.
-fn run_in_file<S: Start, R: Read, W: Write, E: Write>(
+// Runs a command over the desk in two files that were opened.
+fn run_over_files<O, U, D: Disk + Drop, R: Read, W: Write, E: Write>(
     rt: &HostRuntime,
-    db: &Database<'_>,
-    start: S,
+    files: Files<D>,
+    options: Options,
     precedence: &Precedence,
     task: &Task<'_>,
     input: &mut R,
     output: &mut W,
     errors: &mut E,
-) -> (u8, Option<FilesLeft<FileFrom<S>>>)
+) -> (u8, FilesLeft<O, U, D>)
+    requires log { IsTrue (D.Disk.is_usable files.log) }
+    requires db { IsTrue (D.Disk.is_usable files.db) }
     ensures status { result.0 ≤ 3 }
-    ensures end { FileEnds (path_of S.Start) precedence.now
+    ensures end { (image : Image) → AreSettled D.Disk image files → FileEnds image precedence.now
         (Appends (W.contents output.old) (W.contents output.new))
         task.now (R.remaining input.old) result.0 result.1 }
 {
-    if let Err(fault) = look_at(rt, db, &metadata(rt, db.name), errors) {
-        return (report(&fault, errors), None);
-    }
-    match DeskStore::open(rt, db.name, start) {
-        Ok(desk) => {
-            let (status, left) = run_and_close(rt, desk, precedence, task, input, output, errors);
-            (status, Some(left))
+    match DeskStore::open_files(rt.alloc(), files, options) {
+        Ok(desk) => run_and_close(rt, desk, precedence, task, input, output, errors),
+        Err((fault, left)) => {
+            let status = report(&Fault::from(fault), errors);
+            (status, FilesLeft::Unopened(left))
         }
-        Err((fault, left)) => (report(&Fault::from(fault), errors), unopened(left)),
     }
 }
 
-// Brings the desk in a database file to the present version.
-fn migrate_file<S: Start, W: Write, E: Write>(
+// Runs a command over the desk in the database file of a name.
+fn run_in_file<O: Databases, R: Read, W: Write, E: Write>(
     rt: &HostRuntime,
     db: &Database<'_>,
-    start: S,
+    databases: O,
+    precedence: &Precedence,
+    task: &Task<'_>,
+    input: &mut R,
     output: &mut W,
     errors: &mut E,
-) -> (u8, Option<FilesLeft<FileFrom<S>>>)
+) -> (u8, FilesLeft<O, O::NotOpened, O::File>)
     ensures status { result.0 ≤ 3 }
-    ensures end { MigrateEnds (path_of S.Start)
+    ensures end { FileEnds (O.held databases db.now.name.now) precedence.now
+        (Appends (W.contents output.old) (W.contents output.new))
+        task.now (R.remaining input.old) result.0 result.1 }
+{
+    match open_database(rt, db, databases, errors) {
+        Ok((files, options)) => {
+            run_over_files(rt, files, options, precedence, task, input, output, errors)
+        }
+        Err((fault, none)) => (report(&fault, errors), none),
+    }
+}
+
+// Brings the desk in the database file of a name to the present version.
+fn migrate_file<O: Databases, W: Write, E: Write>(
+    rt: &HostRuntime,
+    db: &Database<'_>,
+    databases: O,
+    output: &mut W,
+    errors: &mut E,
+) -> (u8, FilesLeft<O, O::NotOpened, O::File>)
+    ensures status { result.0 ≤ 3 }
+    ensures end { MigrateEnds (O.held databases db.now.name.now)
         (Appends (W.contents output.old) (W.contents output.new)) result.0 result.1 }
 {
-    match look_at(rt, db, &metadata(rt, db.name), errors) {
-        Ok(()) => migrate::run(rt, db.name, start, output, errors),
-        Err(fault) => (report(&fault, errors), None),
+    match open_database(rt, db, databases, errors) {
+        Ok((files, options)) => migrate::run(rt.alloc(), files, options, output, errors),
+        Err((fault, none)) => (report(&fault, errors), none),
     }
 }
 
 // Does what is asked under the rules of a precedence table.
-fn run_action<S: Start, R: Read, W: Write, E: Write>(
+fn run_action<O: Databases, K: OpenDesks, F: NamedFiles, R: Read, W: Write, E: Write>(
     rt: &HostRuntime,
     action: &Action<'_>,
-    start: S,
+    databases: O,
+    desks: &mut K,
+    files: &mut F,
     precedence: &Precedence,
     input: &mut R,
     output: &mut W,
     errors: &mut E,
-) -> (u8, Option<FilesLeft<FileFrom<S>>>)
+) -> (u8, FilesLeft<O, O::NotOpened, O::File>)
     ensures status { result.0 ≤ 3 }
-    ensures end { ActionEnds ⟦<MemoryDesk as Desk>⟧.seen (path_of S.Start) precedence.now
+    ensures end { ActionEnds ⟦<MemoryDesk as Desk>⟧.seen (O.held databases) (K.answers desks.old)
+        F.is_told (F.holds files.old) (F.holds files.new)
         (Appends (W.contents output.old) (W.contents output.new))
-        (R.remaining input.old) action.now result.0 result.1 }
+        (R.remaining input.old) precedence.now action.now result.0 result.1 }
 {
     match action {
         Action::InMemory(task) => {
-            (
-                run_in_memory(rt, precedence, task, input, output, errors),
-                None,
-            )
+            let status = run_in_memory(rt, precedence, task, input, output, errors);
+            (status, FilesLeft::Untouched(databases))
         }
-        Action::InFile { db, task } => {
-            run_in_file(rt, db, start, precedence, task, input, output, errors)
+        Action::InFile { db, task } => run_in_file(
+            rt, db, databases, precedence, task, input, output, errors,
+        ),
+        Action::Migrate { db } => migrate_file(rt, db, databases, output, errors),
+        Action::Send { socket } => {
+            let status = sending::run(rt, desks, socket, input, output, errors);
+            (status, FilesLeft::Untouched(databases))
         }
-        Action::Migrate { db } => migrate_file(rt, db, start, output, errors),
-        Action::Send { socket } => (sending::run(rt, socket, input, output, errors), None),
         Action::Convert(conversion) => {
-            let files = conversion.files.as_slice();
-            (
-                convert_files(rt, &conversion.run, files, input, output, errors),
-                None,
-            )
+            let names = conversion.files.as_slice();
+            let status = convert_files(rt, &conversion.run, names, files, input, output, errors);
+            (status, FilesLeft::Untouched(databases))
         }
     }
 }
@@ -216,22 +233,25 @@ fn rules_of(rt: &HostRuntime, name: Option<&str>) -> Result<Precedence, RulesFau
     }
 }
 
-/// Does what a command line asks, under the rules of a file or under none. `start` says what the
-/// database file and its log hold. Gives the exit status, and what is left of the two files, where a
-/// command opened them.
+/// Does what a command line asks, under the rules of a file or under none. `databases` has the
+/// database file that it may name, `desks` the open desk, and `files` opens and makes those of
+/// `convert`. Gives the exit status, and what is left of the two files of the database.
 ///
 /// Each list of requests that the files held, with those that took effect, is what they hold then;
 /// what is written is of their answers; and a crash leaves just that.
-pub fn run_invocation<S: Start, R: Read, W: Write, E: Write>(
+pub fn run_invocation<O: Databases, K: OpenDesks, F: NamedFiles, R: Read, W: Write, E: Write>(
     rt: &HostRuntime,
     invocation: &Invocation<'_>,
-    start: S,
+    databases: O,
+    desks: &mut K,
+    files: &mut F,
     input: &mut R,
     output: &mut W,
     errors: &mut E,
-) -> (u8, Option<FilesLeft<FileFrom<S>>>)
+) -> (u8, FilesLeft<O, O::NotOpened, O::File>)
     ensures status { result.0 ≤ 3 }
-    ensures end { InvocationEnds ⟦<MemoryDesk as Desk>⟧.seen (path_of S.Start)
+    ensures end { InvocationEnds ⟦<MemoryDesk as Desk>⟧.seen (O.held databases)
+        (K.answers desks.old) F.is_told (F.holds files.old) (F.holds files.new)
         (Appends (W.contents output.old) (W.contents output.new))
         (R.remaining input.old) invocation.now result.0 result.1 }
 {
@@ -239,13 +259,16 @@ pub fn run_invocation<S: Start, R: Read, W: Write, E: Write>(
         Ok(precedence) => precedence,
         Err(fault) => {
             let name = invocation.rules.unwrap_or("");
-            return (report_rules(&fault, name, errors), None);
+            let status = report_rules(&fault, name, errors);
+            return (status, FilesLeft::Untouched(databases));
         }
     };
     let ended = run_action(
         rt,
         &invocation.action,
-        start,
+        databases,
+        desks,
+        files,
         &precedence,
         input,
         output,
@@ -257,38 +280,58 @@ pub fn run_invocation<S: Start, R: Read, W: Write, E: Write>(
 
 /// Runs the program on these words, of which the first is its name, and gives its exit status:
 /// 0, or 1 where an answer was a refusal, 2 for a bad command line or rules file, 3 for a fault of
-/// storage, a file, input, output, the port or the socket, or when out of memory. The command line is judged first,
-/// then the rules file, then what the command itself meets. `start` says what the database file and its
-/// log hold; beside the status comes what is left of them.
-pub fn run<S: Start, R: Read, W: Write, E: Write>(
+/// storage, a file, input, output, the port or the socket, or when out of memory. The command line
+/// is judged first, then the rules file, then what the command itself meets. `databases` has the
+/// database file that the words may name, `desks` the open desk, and `files` opens and makes those
+/// of `convert`; beside the status comes what is left of the database's files.
+pub fn run<O: Databases, K: OpenDesks, F: NamedFiles, R: Read, W: Write, E: Write>(
     rt: &HostRuntime,
     words: &[&str],
-    start: S,
+    databases: O,
+    desks: &mut K,
+    files: &mut F,
     input: &mut R,
     output: &mut W,
     errors: &mut E,
-) -> (u8, Option<FilesLeft<FileFrom<S>>>)
+) -> (u8, FilesLeft<O, O::NotOpened, O::File>)
     ensures status { result.0 ≤ 3 }
-    ensures end { RunEnds ⟦<MemoryDesk as Desk>⟧.seen (path_of S.Start)
-        (Appends (W.contents output.old) (W.contents output.new))
+    ensures end { RunEnds ⟦<MemoryDesk as Desk>⟧.seen (O.held databases) (K.answers desks.old)
+        F.is_told (F.holds files.old) (F.holds files.new) (Appends (W.contents output.old) (W.contents output.new))
         (R.remaining input.old) (map (λ word. word.now) words.now) result.0 result.1 }
 {
     let alloc = rt.alloc();
     match command_line::read(alloc, words) {
-        Reading::Run(invocation) => run_invocation(rt, &invocation, start, input, output, errors),
-        Reading::Help(text) => (
-            command_line::print_help(text.as_str(), output, errors),
-            None,
-        ),
-        Reading::Wrong(text) => (command_line::print_wrong(text.as_str(), errors), None),
+        Reading::Run(invocation) => {
+            run_invocation(
+                rt,
+                &invocation,
+                databases,
+                desks,
+                files,
+                input,
+                output,
+                errors,
+            )
+        }
+        Reading::Help(text) => {
+            let status = command_line::print_help(text.as_str(), output, errors);
+            (status, FilesLeft::Untouched(databases))
+        }
+        Reading::Wrong(text) => {
+            let status = command_line::print_wrong(text.as_str(), errors);
+            (status, FilesLeft::Untouched(databases))
+        }
         Reading::NoDatabase => {
             let status = command_line::print_wrong("onixdesk: migrate needs --db\n", errors);
-            (status, None)
+            (status, FilesLeft::Untouched(databases))
         }
         Reading::NoBatch => {
             let status = command_line::print_wrong("onixdesk: --batches goes with batch\n", errors);
-            (status, None)
+            (status, FilesLeft::Untouched(databases))
         }
-        Reading::Memory => (report(&Fault::Memory, errors), None),
+        Reading::Memory => (
+            report(&Fault::Memory, errors),
+            FilesLeft::Untouched(databases),
+        ),
     }
 }

@@ -1,45 +1,27 @@
 //! The command `batch` with `--batches`: the batch of standard input is sent to a desk that is open,
 //! and its answers come to standard output. Nothing of a desk is opened here.
 
-ghost use Rattle.std.specs.Prelude.{◌≡◌, ◌-◌, ◌||◌, ◌≤◌, if◌then◌else◌, IfOk, None, OnErr, OnOk, length, ⊤};
+ghost use Rattle.std.specs.Prelude.{◌≡◌, ◌-◌, ◌||◌, ◌≤◌, if◌then◌else◌, IfOk, OnErr, OnOk, length, ⊤};
 ghost use Rattle.std.specs.Io.KnownBytes.{Appends};
 ghost use Rattle.csv.specs.Records.{fields_of};
 ghost use Rattle.csv_records.specs.RecordTexts.{records_of};
 ghost use Rattle.csv_records.specs.Streams.{IsTold};
 ghost use Rattle.desk_batch.specs.Batch.{requests_of};
-ghost use Rattle.onixdesk.specs.Ends.{HasRecords};
+ghost use Rattle.desk_batch.specs.Batch.{HasRecords};
 ghost use Rattle.onixdesk.specs.Sending.{SendEnds, SendFits, TakesAnswers, WritesCame, begins_answer, begins_refusal, has_refusal, is_name_of_change, is_name_of_report, unanswered};
 
 use crate::fault::{Fault, report};
-use crate::sockets::connect;
+use crate::open_desks::OpenDesks;
 use csv::StringRecord;
 use csv_records::reading::{LIMIT, RecordReader};
 use csv_records::streams::{InputFault, WriteFault, read_input, write_whole};
 use desk_batch::request_rows::read_requests;
 use std::alloc::{AllocError, Global};
 use std::io::{Read, Write};
-use std::net::Shutdown;
-use std::os::unix::net::UnixStream;
 use std::rt::HostRuntime;
 
 // How many bytes are taken at once.
 const CHUNK: usize = 4096;
-
-// The way to the desk. To flush it says that all is sent, so that the desk begins to answer.
-#[derive(Drop)]
-struct Sender<'a> {
-    stream: &'a UnixStream,
-}
-
-impl<'a> Write for Sender<'a> {
-    fn write(&mut self, bytes: &[u8]) -> std::io::Result<usize> {
-        self.stream.write(bytes)
-    }
-
-    fn flush(&mut self) -> std::io::Result<()> {
-        self.stream.shutdown(Shutdown::Write)
-    }
-}
 
 // Whether a name begins the answer to a request that changes something, or a refusal.
 fn is_change(name: &str) -> bool
@@ -212,19 +194,18 @@ fn send_batch<T: Write, S: Read, W: Write>(
 }
 
 // Sends a text to the desk at a socket.
-fn send_to<W: Write>(
+fn send_to<K: OpenDesks, W: Write>(
     rt: &HostRuntime,
+    desks: &mut K,
     socket: &str,
     text: &[u8],
     output: &mut W,
 ) -> Result<bool, Fault>
-    // Of what goes over a socket no clause can say which bytes they are.
-    ensures { SendFits text.now None (λ _. ⊤)
+    ensures { SendFits text.now (K.answers desks.old socket.now) (λ _. ⊤)
         (Appends (W.contents output.old) (W.contents output.new)) result }
 {
-    let stream = connect(rt, socket)?;
-    let mut to = Sender { stream: &stream };
-    send_batch(rt.alloc(), text, &mut to, &mut &stream, output)
+    let (mut from, mut to) = desks.connect(rt, socket)?;
+    send_batch(rt.alloc(), text, &mut to, &mut from, output)
 }
 
 // The text of the input, up to the limit of a batch.
@@ -242,22 +223,23 @@ fn read_text<R: Read>(alloc: Global, input: &mut R) -> Result<Vec<u8>, Fault>
 /// Sends the batch of the input to the desk that listens at a socket, and writes the answers as they
 /// come. Gives 0, or 1 where an answer is a refusal, or 3 after a fault of the input, the output or
 /// the socket, which is reported; a missing answer is a fault of the socket.
-pub fn run<R: Read, W: Write, E: Write>(
+pub fn run<K: OpenDesks, R: Read, W: Write, E: Write>(
     rt: &HostRuntime,
+    desks: &mut K,
     socket: &str,
     input: &mut R,
     output: &mut W,
     errors: &mut E,
 ) -> u8
     ensures status { result ≤ 3 }
-    ensures end { SendEnds (R.remaining input.old)
+    ensures end { SendEnds (R.remaining input.old) (K.answers desks.old socket.now)
         (Appends (W.contents output.old) (W.contents output.new)) result }
 {
     let text = match read_text(rt.alloc(), input) {
         Ok(text) => text,
         Err(fault) => return report(&fault, errors),
     };
-    match send_to(rt, socket, text.as_slice(), output) {
+    match send_to(rt, desks, socket, text.as_slice(), output) {
         Ok(false) => 0,
         Ok(true) => 1,
         Err(fault) => report(&fault, errors),

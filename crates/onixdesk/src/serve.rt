@@ -4,7 +4,7 @@
 ghost use Rattle.std.specs.Prelude.{◌≤◌, is_some};
 ghost use Rattle.std.specs.Io.KnownBytes.{Appends};
 ghost use Rattle.onixdesk.specs.Clients.{ServesNext};
-ghost use Rattle.onixdesk.specs.Course.{course};
+ghost use Rattle.series_rules.specs.Steps.{Asked};
 ghost use Rattle.onixdesk.specs.Serving.{WritesWhole, listening_line};
 ghost use Rattle.onixdesk.specs.TaskEnds.{ConnectionsServed, ServeEnds};
 
@@ -28,8 +28,8 @@ fn serve_next<D: Desk, C: Clients, O: Write>(
     clients: &mut C,
     output: &mut O,
 ) -> Result<(), Fault>
-    ensures { ServesNext D.seen precedence.now C.takes_batches
-        (C.coming clients.old) (C.coming clients.new) desk.old desk.new
+    ensures { ServesNext (Asked D.seen precedence.now desk.old desk.new) C.speaks
+        C.takes_batches (C.coming clients.old) (C.coming clients.new)
         (Appends (O.contents output.old) (O.contents output.new)) result }
 {
     match clients.accept() {
@@ -65,12 +65,11 @@ pub fn serve_clients<D: Desk, C: Clients, O: Write, E: Write>(
     errors: &mut E,
 ) -> u8
     ensures status { result ≤ 3 }
-    ensures premise { (D.seen desk.new).sound → (D.seen desk.old).sound }
     // Each client was replied to or answered as the desk makes it, and what was answered is kept,
     // by an exchange or within a batch: behind a fault of the store too. The lines are written, each
-    // whole but perhaps the last; with 0 they are all.
-    ensures end { ConnectionsServed (course precedence.now (D.seen desk.old) (D.seen desk.new)
-        (Appends (O.contents output.old) (O.contents output.new)))
+    // whole but perhaps the last; with 0 they are all. A batch comes of a reader that speaks batches.
+    ensures end { ConnectionsServed (Asked D.seen precedence.now desk.old desk.new)
+        (Appends (O.contents output.old) (O.contents output.new)) C.speaks
         C.takes_batches (C.coming clients.old) requests result }
 {
     'serving: for _served in 0..requests {
@@ -103,9 +102,8 @@ fn serve_at<D: Desk, C: Clients, O: Write, E: Write>(
     errors: &mut E,
 ) -> u8
     ensures status { result ≤ 3 }
-    ensures premise { (D.seen desk.new).sound → (D.seen desk.old).sound }
-    ensures end { ServeEnds (course precedence.now (D.seen desk.old) (D.seen desk.new)
-        (Appends (O.contents output.old) (O.contents output.new)))
+    ensures end { ServeEnds (Asked D.seen precedence.now desk.old desk.new)
+        (Appends (O.contents output.old) (O.contents output.new))
         C.takes_batches number requests result }
 {
     match print_listening(number, output) {
@@ -129,9 +127,8 @@ fn serve_opened<D: Desk, C: Clients + Drop, O: Write, E: Write>(
     errors: &mut E,
 ) -> u8
     ensures status { result ≤ 3 }
-    ensures premise { (D.seen desk.new).sound → (D.seen desk.old).sound }
-    ensures end { ServeEnds (course precedence.now (D.seen desk.old) (D.seen desk.new)
-        (Appends (O.contents output.old) (O.contents output.new)))
+    ensures end { ServeEnds (Asked D.seen precedence.now desk.old desk.new)
+        (Appends (O.contents output.old) (O.contents output.new))
         C.takes_batches number requests result }
 {
     match opened {
@@ -163,9 +160,8 @@ fn listen<D: Desk, O: Write, E: Write>(
     errors: &mut E,
 ) -> u8
     ensures status { result ≤ 3 }
-    ensures premise { (D.seen desk.new).sound → (D.seen desk.old).sound }
-    ensures end { ServeEnds (course precedence.now (D.seen desk.old) (D.seen desk.new)
-        (Appends (O.contents output.old) (O.contents output.new)))
+    ensures end { ServeEnds (Asked D.seen precedence.now desk.old desk.new)
+        (Appends (O.contents output.old) (O.contents output.new))
         (is_some batches.entry) number requests result }
 {
     match batches {
@@ -199,10 +195,9 @@ pub fn run<D: Desk, O: Write, E: Write>(
     errors: &mut E,
 ) -> u8
     ensures status { result ≤ 3 }
-    ensures premise { (D.seen desk.new).sound → (D.seen desk.old).sound }
     // As `serve_clients`, behind the line of the port; with batches only where a socket is named.
-    ensures end { ServeEnds (course precedence.now (D.seen desk.old) (D.seen desk.new)
-        (Appends (O.contents output.old) (O.contents output.new)))
+    ensures end { ServeEnds (Asked D.seen precedence.now desk.old desk.new)
+        (Appends (O.contents output.old) (O.contents output.new))
         (is_some batches.entry) number requests result }
 {
     match Routes::new(rt.alloc()) {

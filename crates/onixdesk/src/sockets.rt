@@ -1,8 +1,10 @@
-//! The socket of the file system at which an open desk takes batches.
+//! The sockets of the file system at which open desks take batches.
 
 use crate::fault::Fault;
+use crate::open_desks::OpenDesks;
 use std::fs::{Metadata, Permissions, remove_file, set_permissions, symlink_metadata};
-use std::io::ErrorKind;
+use std::io::{self, ErrorKind, Write};
+use std::net::Shutdown;
 use std::os::unix::fs::{FileTypeExt, PermissionsExt};
 use std::os::unix::net::{UnixListener, UnixStream};
 use std::rt::HostRuntime;
@@ -41,10 +43,43 @@ pub fn listen(rt: &HostRuntime, path: &str) -> Result<UnixListener, Fault> {
     }
 }
 
-/// Connects to the desk that listens at a socket of the file system.
-pub fn connect(rt: &HostRuntime, path: &str) -> Result<UnixStream, Fault> {
-    match UnixStream::connect(rt, path) {
-        Ok(stream) => Ok(stream),
-        Err(_) => Err(Fault::Socket),
+/// The way to a desk. To flush it says that all is sent, so that the desk begins to answer.
+#[derive(Drop)]
+pub struct Sender {
+    stream: UnixStream,
+}
+
+impl Write for Sender {
+    fn write(&mut self, bytes: &[u8]) -> io::Result<usize> {
+        self.stream.write(bytes)
+    }
+
+    fn flush(&mut self) -> io::Result<()> {
+        self.stream.shutdown(Shutdown::Write)
+    }
+}
+
+/// The sockets of the file system.
+#[derive(Drop)]
+pub struct Sockets;
+
+impl OpenDesks for Sockets {
+    ghost use Rattle.std.specs.Prelude.{None};
+
+    // Of what comes over a socket no clause can say which bytes they are.
+    ghost answers = { λ sockets name. None };
+
+    type Reader = UnixStream;
+
+    type Writer = Sender;
+
+    fn connect(&mut self, rt: &HostRuntime, name: &str) -> Result<(UnixStream, Sender), Fault> {
+        let Ok(stream) = UnixStream::connect(rt, name) else {
+            return Err(Fault::Socket);
+        };
+        match stream.try_clone() {
+            Ok(reader) => Ok((reader, Sender { stream })),
+            Err(_) => Err(Fault::Socket),
+        }
     }
 }

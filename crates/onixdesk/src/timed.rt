@@ -1,6 +1,7 @@
 //! A connection whose reads and writes are limited in time.
 
 ghost use Rattle.std.specs.Io.{ReadsAtMost, WritesAtMost};
+ghost use Rattle.std.specs.Prelude.{◌≡◌, IfSome};
 
 use std::io::{Read, Result, Write};
 use std::net::TcpStream;
@@ -92,7 +93,9 @@ pub struct Timed<'a> {
 
 impl<'a> Timed<'a> {
     /// One way of this connection, with so much time for all its reads, or for all its writes.
-    pub fn new(rt: &'a HostRuntime, stream: Stream, limit: Duration) -> Timed<'a> {
+    pub fn new(rt: &'a HostRuntime, stream: Stream, limit: Duration) -> Timed<'a>
+        ensures { result.stream ≡ stream }
+    {
         Timed {
             rt,
             stream,
@@ -105,7 +108,9 @@ impl<'a> Timed<'a> {
         rt: &'a HostRuntime,
         stream: Stream,
         limit: Duration,
-    ) -> Option<(Timed<'a>, Timed<'a>)> {
+    ) -> Option<(Timed<'a>, Timed<'a>)>
+        ensures { IfSome result (λ ways. ways.0.stream ≡ stream) }
+    {
         let Ok(other) = stream.try_clone() else {
             return None;
         };

@@ -4,7 +4,7 @@ pub mod LawProofs
 pub mod PriceLaws
 pub mod GapLaw
 pub mod HeldNumbers
-pub mod RunLemmas
 pub mod TraceLemmas
 pub mod Elements
 pub mod OfferLaw
+pub mod StepLemmas

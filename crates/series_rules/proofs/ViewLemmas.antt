@@ -16,6 +16,7 @@ asks_of r answer old new (Ok a) is told = record {
   crash = λ L stands sound x may. inl ((told.stays sound x).1 may);
   changed = λ L stands sound did. let kept = question_changes_nothing L r is in absurd cc;
   question = λ asks. told.stays;
+  undone = λ sound. tt;
   fault = tt;
 }
 asks_of r answer old new (Err f) is told = record {
@@ -25,6 +26,7 @@ asks_of r answer old new (Err f) is told = record {
   crash = λ L stands sound x may. inl ((told.stays sound x).1 may);
   changed = λ L stands sound did. tt;
   question = λ asks. told.stays;
+  undone = λ sound x held. (told.stays sound x).0 held;
   fault = told.fault;
 }
 

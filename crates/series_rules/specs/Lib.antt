@@ -15,7 +15,7 @@ pub mod Content
 pub mod Changes
 pub mod Views
 pub mod Traces
+pub mod Steps
 pub mod Laws
 pub mod OfferLaws
 pub mod PriceLaws
-pub mod Runs

@@ -61,6 +61,8 @@ pub record Asks {A : Type 0} {k : DeskKind} (r : Request) (answer : List Request
       → OnOk result (LeavesOnly new (r ∷ L))
   -- a question changes nothing
   pub question : is_question r ≡ true → new.sound → Stays old new
+  -- after a fault it holds what it did, of a list or not
+  pub undone : new.sound → OnErr result ((x : k.Left) → old.holds x → new.holds x)
   pub fault : IfErr result (IsFaultOf k)
 
 -- A desk was asked a question, with that answer after each list. It stands for what it did, and nothing changed

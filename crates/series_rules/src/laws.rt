@@ -3,7 +3,11 @@
 ghost use Rattle.series_rules.specs.Laws.{AgreementsAreDistinct, NextIsLeast, FrontIsExact, ByContentAlone, FrontOnlyGrows, GapsAreTrue};
 ghost use Rattle.series_rules.specs.OfferLaws.{OffersAreTrue};
 ghost use Rattle.series_rules.specs.PriceLaws.{CalendarsAreTrue, ChoiceIsTrue, PricesAreTrue};
+ghost use Rattle.series_rules.specs.Steps.{TracesLead};
+ghost use Rattle.price_rules.specs.declared.precedence.Rule.{Rule};
+ghost use Rattle.std.specs.Prelude.{List};
 
+use crate::desk::Desk;
 use price_rules::laws::{calendar_is_exact, choice_is_exact, current_is_exact};
 
 /// No two agreements share a name, nor a sender and addressee. What is found by its name is found
@@ -70,3 +74,13 @@ pub fn calendars_are_true()
 {
     calendar_is_exact();
 }
+
+/// Whatever is asked of a desk, one request after the other: for every list that it stood for, each
+/// answer is the definition's, and it stands for the list with the requests that were answered. A
+/// crash leaves all of these and at most one request that had a fault of the store, behind which no
+/// answer changed something; or, while no answer has changed something, what it could leave before.
+/// Questions add nothing to that, and beside questions a fault leaves what the desk holds, of a list
+/// or not. Each fault is `Memory` or one that the desk may give.
+pub fn traces_lead<D: Desk>()
+    ensures { (rules : List Rule) → TracesLead D.seen rules }
+{}

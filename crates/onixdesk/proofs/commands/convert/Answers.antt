@@ -19,6 +19,6 @@ returns c =
     let p4 = with_word c.in_ok-arg-3.field-0 c.in_ok-arg-4.field-0 c.sender.result _ _ p3 c.sender.ensures c.in_ok-arg-4.ensures in
     let p5 = with_word c.in_ok-arg-4.field-0 c.in_ok-arg-5.field-0 c.addressee.result _ _ p4 c.addressee.ensures c.in_ok-arg-5.ensures in
     let p6 = with_word c.in_ok-arg-5.field-0 c.in_ok-arg-6.field-0 c.id_type.result _ _ p5 c.id_type.ensures c.in_ok-arg-6.ensures in
-    let p7 = with_word c.in_ok-arg-6.field-0 c.in_ok-arg-7.field-0 c.leave_out_wrong.result _ _ p6 c.leave_out_wrong.ensures c.in_ok-arg-7.ensures in
+    let p7 = with_word c.in_ok-arg-6.field-0 c.in_ok-arg-7.field-0 c.wrong.result _ _ p6 c.wrong.ensures c.in_ok-arg-7.ensures in
     let p8 = with_word c.in_ok-arg-7.field-0 c.in_ok-arg-8.field-0 c.folder.result _ _ p7 c.folder.ensures c.in_ok-arg-8.ensures in
     IfOk-weaker c.arg-9.result _ _ (λ made adds. with_word c.in_ok-arg-8.field-0 made c.feeds.result _ _ p8 c.feeds.ensures adds) c.arg-9.ensures

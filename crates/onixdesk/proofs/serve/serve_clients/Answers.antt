@@ -1,10 +1,13 @@
-use Rattle.std.proofs.Common.{◌≡◌, ◌++◌, ◌∷◌, ◌⊎◌, [], inl, inr, ⊎_elim, length, length-append, arith, refl, append-nil, subst}
+use Rattle.std.proofs.Common.{◌≡◌, ◌++◌, ◌∷◌, ◌⊎◌, [], inl, inr, ⊎_elim, length, length-append, arith, refl, append-nil, subst, sym}
 use Rattle.std.proofs.KnownBytes.{Appends-nil, Appends-trans}
+use Rattle.std.proofs.lemmas.List.Elements.{All-nil, All-push}
 use Rattle.std.specs.Io.KnownBytes.{Appends}
-use Rattle.onixdesk.specs.Connections.{lines_of}
+use Rattle.series_rules.specs.Steps.{Asked}
+use Rattle.onixdesk.specs.Clients.{IsOf}
+use Rattle.onixdesk.specs.Connections.{Connection, IsServed, lines_of}
 use Rattle.onixdesk.proofs.ClientLemmas.{first_of, none_first, one_more_first}
 use Rattle.onixdesk.proofs.LineLemmas.{cut_line, one_more_line, whole_lines}
-use Rattle.onixdesk.proofs.ServingLemmas.{kept_same, none_served, none_taken, one_more_served, one_more_taken, premise_of}
+use Rattle.onixdesk.proofs.ServingLemmas.{one_more_asked, steps_of}
 use Rattle.onixdesk.proofs.serve.serve_clients.Goals as goal
 
 -- with `Ok` a client was served
@@ -14,13 +17,13 @@ of_ok (inr nobody) = absurd nobody.0
 
 pub serving-init : goal.serving-init
 serving-init g c = record {
-  premise = λ sound. sound;
   served = [];
   counted = refl;
-  taken = none_taken g.C.Clients.takes_batches;
+  all = All-nil (IsServed g.C.Clients.takes_batches);
+  each = All-nil (λ (d : Connection). IsOf g.C.Clients.speaks d.ending);
   first = none_first (g.C.Clients.coming c.args.clients.now);
   lines = Appends-nil (g.O.Write.contents c.args.output.now);
-  keeps = λ L stands sound. none_served c.args.precedence.now L (g.D.Desk.seen c.args.desk.now) stands;
+  asked = refl;
 }
 
 pub serving-preserved : goal.serving-preserved
@@ -28,28 +31,15 @@ serving-preserved g c =
     let inv = c.serving.invariant in
     let it = of_ok c.in-Ok.ensures in
     let one = it.connection in
-    let seen = g.D.Desk.seen in
-    let rules = c.args.precedence.now in
-    let new = c.serve_next.new.desk in
     record {
-      premise = λ sound. inv.premise (premise_of seen rules c.serving.desk new one it.served sound);
       served = inv.served ++ one ∷ [];
       counted = omega (arith, inv.counted, length-append inv.served (one ∷ []));
-      taken = one_more_taken g.C.Clients.takes_batches inv.served one inv.taken it.taken;
+      all = All-push (IsServed g.C.Clients.takes_batches) inv.served one inv.all it.is_served;
+      each = All-push (λ (d : Connection). IsOf g.C.Clients.speaks d.ending) inv.served one inv.each it.is_of;
       first = one_more_first (g.C.Clients.coming c.args.clients.now) (g.C.Clients.coming c.serving.clients) (g.C.Clients.coming c.serve_next.new.clients) inv.served one inv.first it.next;
       lines = one_more_line _ _ _ inv.served one inv.lines it.line;
-      keeps = λ L stands sound.
-          one_more_served seen rules c.serving.desk new L inv.served (seen c.args.desk.now) one
-          (inv.keeps L stands (premise_of seen rules c.serving.desk new one it.served sound)) it.served sound;
+      asked = one_more_asked g.D.Desk.seen c.args.precedence.now c.args.desk.now c.serving.desk c.serve_next.new.desk inv.served one inv.asked it.were_asked;
     }
-
-pub returns-in-Err-clause-premise : goal.returns-in-Err-clause-premise
-returns-in-Err-clause-premise g c =
-    let inv = c.serving.invariant in
-    ⊎_elim
-    (λ it sound. inv.premise (premise_of g.D.Desk.seen c.args.precedence.now c.serving.desk c.serve_next.new.desk it.connection it.served sound))
-    (λ nobody sound. inv.premise (subst (λ d. (g.D.Desk.seen d).sound) nobody.1 sound))
-    c.in-Err.ensures
 
 pub returns-in-Err-clause-end : goal.returns-in-Err-clause-end
 returns-in-Err-clause-end g c =
@@ -59,17 +49,16 @@ returns-in-Err-clause-end g c =
     let after = g.C.Clients.coming c.serve_next.new.clients in
     let seen = g.D.Desk.seen in
     let rules = c.args.precedence.now in
-    let old = c.serving.desk in
-    let new = c.serve_next.new.desk in
     ⊎_elim
     (λ it.
     let one = it.connection in (
       inv.served ++ one ∷ [],
       first_of at_first after (inv.served ++ one ∷ []) (one_more_first at_first before after inv.served one inv.first it.next),
+      All-push (λ (d : Connection). IsOf g.C.Clients.speaks d.ending) inv.served one inv.each it.is_of,
       (
         omega (arith, inv.counted, length-append inv.served (one ∷ [])),
-        one_more_taken g.C.Clients.takes_batches inv.served one inv.taken it.taken,
-        λ L stands sound. one_more_served seen rules old new L inv.served (seen c.args.desk.now) one (inv.keeps L stands (premise_of seen rules old new one it.served sound)) it.served sound,
+        All-push (IsServed g.C.Clients.takes_batches) inv.served one inv.all it.is_served,
+        one_more_asked seen rules c.args.desk.now c.serving.desk c.serve_next.new.desk inv.served one inv.asked it.were_asked,
       ),
       cut_line _ _ _ inv.served one inv.lines it.line,
       λ zero. absurd (omega (arith, zero, c.report.ensures)),
@@ -77,10 +66,11 @@ returns-in-Err-clause-end g c =
     (λ nobody. (
       inv.served,
       first_of at_first before inv.served inv.first,
+      inv.each,
       (
         omega (arith, inv.counted),
-        inv.taken,
-        λ L stands sound. kept_same seen rules old new L inv.served (seen c.args.desk.now) nobody.1 (inv.keeps L stands (subst (λ d. (seen d).sound) nobody.1 sound)),
+        inv.all,
+        subst (λ d. Asked seen rules c.args.desk.now d (steps_of inv.served)) (sym nobody.1) inv.asked,
       ),
       whole_lines _ _ inv.served (subst (Appends _ _) (append-nil (lines_of inv.served)) (Appends-trans _ _ _ _ _ inv.lines nobody.2)),
       λ zero. absurd (omega (arith, zero, c.report.ensures)),
@@ -93,7 +83,8 @@ returns-clause-end g c =
     let all : length inv.served ≡ c.args.requests = omega (arith, inv.counted) in (
       inv.served,
       first_of (g.C.Clients.coming c.args.clients.now) (g.C.Clients.coming c.serving.clients) inv.served inv.first,
-      (omega (arith, all), inv.taken, λ L stands sound. inv.keeps L stands sound),
+      inv.each,
+      (omega (arith, all), inv.all, inv.asked),
       whole_lines _ _ inv.served inv.lines,
       λ zero. (all, inv.lines),
     )

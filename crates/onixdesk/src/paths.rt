@@ -1,0 +1,45 @@
+//! The database files at paths of the file system.
+
+use crate::databases::Databases;
+use onix_message::StoreFault;
+use sqlite::{FileFrom, Files, Start};
+use sqlite_std_file::OpenError;
+use std::io::ErrorKind;
+use std::rt::HostRuntime;
+
+/// The database files at paths. `start` says what the one that is opened and its log hold.
+#[derive(Drop)]
+pub struct Paths<S: Start> {
+    pub start: S,
+}
+
+// Why files could not be opened: for want of memory, or they cannot be used.
+fn fault_of(error: &OpenError) -> StoreFault {
+    match error {
+        OpenError::OutOfMemory => StoreFault::Memory,
+        OpenError::Io(error) if error.kind() == ErrorKind::OutOfMemory => StoreFault::Memory,
+        _ => StoreFault::Unusable,
+    }
+}
+
+impl<S: Start> Databases for Paths<S> {
+    ghost use Rattle.sqlite_wal.specs.Files.{image_at};
+
+    // Whatever the name: `start` is used up by the one opening.
+    ghost held = { λ paths name. image_at S.Start };
+
+    type File = FileFrom<S>;
+
+    type NotOpened = ();
+
+    fn open(self, rt: &HostRuntime, name: &str) -> Result<Files<FileFrom<S>>, (StoreFault, ())> {
+        // SQLite keeps no file of such a name.
+        if name == ":memory:" || name.starts_with("file:") {
+            return Err((StoreFault::Unusable, ()));
+        }
+        match sqlite_std_file::open(rt, name, self.start) {
+            Ok(files) => Ok(files),
+            Err(error) => Err((fault_of(&error), ())),
+        }
+    }
+}

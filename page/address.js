@@ -1,7 +1,7 @@
 // Addresses: of what stands beside the page, and the part behind `#`, which is the name of a view, and
 // behind a `?` what is asked there.
 
-const VIEWS = ["article", "missing"];
+const VIEWS = ["article", "order", "missing"];
 
 /** What an address may ask for. */
 export const ASKED = ["isbn", "day", "quantity", "country", "currency", "type"];

@@ -1,5 +1,5 @@
 // Amounts of the desk, texts such as 11.500, in the page's language. They never become binary numbers:
-// Intl takes the text as it is.
+// Intl takes the text as it is, and sums are of whole thousandths.
 
 import { formatter } from "./wording.js";
 
@@ -21,15 +21,45 @@ export function money(amount, currency) {
   return inLanguage(amount, currency, { style: "currency", currency });
 }
 
+/** An amount with its currency and its sign, such as +£9.85. */
+export function signedMoney(amount, currency) {
+  return inLanguage(amount, currency, { style: "currency", currency, signDisplay: "exceptZero" });
+}
+
 /** The same without the currency. */
 export function bareMoney(amount, currency) {
   return inLanguage(amount, currency, {});
 }
 
-const thousandths = (amount) => {
+function thousandths(amount) {
   const [whole, decimals = ""] = amount.split(".");
   return BigInt(whole + decimals.padEnd(3, "0"));
-};
+}
+
+function amountOf(count) {
+  const digits = String(count < 0n ? -count : count).padStart(4, "0");
+  return `${count < 0n ? "-" : ""}${digits.slice(0, -3)}.${digits.slice(-3)}`;
+}
+
+/** What so many copies at an amount cost, exactly. */
+export function times(amount, copies) {
+  return amountOf(thousandths(amount) * BigInt(copies));
+}
+
+/** The sum of amounts, exactly. */
+export function sumOf(amounts) {
+  return amountOf(amounts.reduce((sum, amount) => sum + thousandths(amount), 0n));
+}
+
+/** By how much one amount is more than another, which may be below nothing. */
+export function difference(one, other) {
+  return amountOf(thousandths(one) - thousandths(other));
+}
+
+/** Whether an amount is nothing at all. */
+export function isNothing(amount) {
+  return thousandths(amount) === 0n;
+}
 
 /** Orders amounts, the least first, and `null`, which is no price, last. */
 export function compareAmounts(one, other) {

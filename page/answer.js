@@ -1,25 +1,27 @@
-// The answer of a day: from whom the shop buys, and the table of offers.
+// The answer of a day: the sentence that says what to do, what speaks against it, and the table of offers.
 
-import { inWords, today } from "./days.js";
+import { money, times } from "./amounts.js";
+import {
+  conditionsOf, copiesInWords, detailsOf, kindOfAnswer, sentenceOf, sumInWords, unknownRule,
+} from "./decision.js";
+import { inWords, timeInWords } from "./days.js";
 import { element } from "./elements.js";
-import { areUnpriced, choiceInWords, countInWords, keyOf, offersTable, ORDERS } from "./offers.js";
+import { areUnpriced, keyOf, ORDERS } from "./offers.js";
+import { offersInWords, offersTable, referencesTable } from "./offers-table.js";
+import { kindOf } from "./price-types.js";
+import { betterQuantities, changesOf } from "./quantities.js";
+import { messagesNotes } from "./reports.js";
+import { wholesalerOf } from "./settings.js";
 import { keep, recall } from "./storage.js";
-import { codeInWords, say, sayCount } from "./wording.js";
+import { formatter, say } from "./wording.js";
 
 const KEY = "onixdesk-order";
 
-const found = (id) => document.getElementById(id);
+// How many offers are shown at first: a book of more is one that many small sellers offer.
+const FIRST_OFFERS = 50;
 
-function questionInWords({ isbn, day, country, currency, type, quantity }) {
-  return say("article.question", {
-    isbn,
-    day: inWords(day),
-    country,
-    currency,
-    type: codeInWords("priceTypes", type),
-    copies: sayCount("article.copies", Number(quantity)),
-  });
-}
+const found = (id) => document.getElementById(id);
+const isOfChosen = (choice) => (offer) => keyOf(offer) === keyOf(choice);
 
 /** The order that the buyer chose last, in this browser. */
 function keptOrder() {
@@ -27,15 +29,52 @@ function keptOrder() {
   return Object.hasOwn(ORDERS, by) ? by : "series";
 }
 
-export class Answer {
-  #settings;
-  #addressWith;
-  #shown;
+/** What speaks against the number of copies, of the chosen offer. */
+function copiesNotes({ choice, copies, question }) {
+  if (choice === null || copies === undefined) return [];
+  const { fewer, more } = betterQuantities(changesOf(choice, copies), Number(question.quantity));
+  return Object.entries({ fewer, more }).flatMap(([name, better]) => {
+    if (better === undefined) return [];
+    const { quantity, amount } = better;
+    const [each, sum] = [amount, times(amount, quantity)].map((all) => money(all, question.currency));
+    return [say(`article.${name}`, { copies: copiesInWords(quantity), amount: each, sum })];
+  });
+}
 
-  /** `addressWith` gives the address of the question with something else; `reorder` hears of an order. */
-  constructor(settings, addressWith, reorder) {
-    this.#settings = settings;
-    this.#addressWith = addressWith;
+/** Who has a price for more copies, of a book that nobody has one of for so few. */
+function moreOnlyNotes({ offers, copies, question }, settings) {
+  if (copies === undefined || !areUnpriced(offers)) return [];
+  return offers.flatMap((offer) => {
+    const first = changesOf(offer, copies).find(({ amount }) => amount !== null);
+    if (first === undefined) return [];
+    const wholesaler = wholesalerOf(settings, offer.series);
+    const amount = money(first.amount, question.currency);
+    return [say("article.onlyCopies", { wholesaler, copies: copiesInWords(first.quantity), amount })];
+  });
+}
+
+/** Until when the price of the chosen offer holds, where it ends. */
+function untilNotes({ choice, holds, question }, settings) {
+  const until = choice === null ? undefined : holds?.get(keyOf(choice));
+  if (until?.last === undefined) return [];
+  const [last, from] = [inWords(until.last), inWords(until.from)];
+  const wholesaler = wholesalerOf(settings, choice.series);
+  if (until.then === null) return [say("article.untilNone", { last, from, wholesaler })];
+  const amount = money(until.then, question.currency);
+  return [say("article.until", { last, from, wholesaler, amount })];
+}
+
+export class Answer {
+  #place;
+  #shown;
+  #isWhole = false;
+
+  /**
+   * `place` has the settings, the reports on messages, and `addressWith`, which gives the address of the
+   * question with something else; `reorder` hears of an order.
+   */
+  constructor(place, reorder) {
+    this.#place = place;
     const options = Object.keys(ORDERS).map((by) =>
       element("option", { value: by }, say(`article.orders.${by}`)),
     );
@@ -43,63 +82,61 @@ export class Answer {
     found("order").value = keptOrder();
     found("order").addEventListener("change", () => {
       keep(KEY, { by: found("order").value });
-      this.#draw();
+      this.#drawOffers();
       reorder();
+    });
+    found("show-all").addEventListener("click", () => {
+      this.#isWhole = true;
+      this.#drawOffers();
+    });
+    place.reports.subscribe(() => {
+      this.noteDay();
+      this.#draw();
     });
   }
 
   clear(words = "") {
     this.#shown = undefined;
+    this.#isWhole = false;
+    found("verdict").className = "verdict";
     found("article-status").replaceChildren(words);
+    found("answer-time").textContent = "";
     found("answer").hidden = true;
-    found("offers").replaceChildren();
+    for (const id of ["notes", "offers", "references-table"]) found(id).replaceChildren();
   }
 
-  /** Shows the offers and the choice of a question. */
-  show(answer) {
+  /** Shows the offers and the choice of a question; `before` is what was said until it changed. */
+  show(answer, before) {
     this.#shown = answer;
-    const sentences = choiceInWords(answer, this.#settings);
-    const status = [countInWords(answer.offers), ...sentences].map((words, at) =>
-      element(at === 1 ? "strong" : "span", {}, words, " "),
-    );
-    found("article-status").replaceChildren(...status);
-    found("asked").textContent = questionInWords(answer.question);
-    this.noteDay();
+    if (before !== undefined) {
+      const time = timeInWords(answer.time);
+      answer.changed = say("article.changed", { time, sentence: before });
+    }
+    this.#drawSentence();
+    this.noteTime(answer.time);
     this.#draw();
-    found("answer").hidden = false;
+    found("answer").hidden = answer.offers.length === 0;
   }
 
-  /** Adds the offers at each of the quantities. */
-  addCopies(copies) {
-    this.#shown.copies = copies;
+  /** Adds what is known of the shown answer by now: `copies`, `types` or `holds`. */
+  add(parts) {
+    Object.assign(this.#shown, parts);
     this.#draw();
   }
 
-  /** Says that other price types are asked for. */
-  awaitTypes() {
-    found("article-status").querySelector(".types")?.remove();
-    found("article-status").append(element("span", { class: "types" }, say("article.askingTypes")));
+  /** The sentence and the sum that are shown. */
+  inWords() {
+    return [this.#sentence(), sumInWords(this.#shown)].filter((words) => words !== "").join(": ");
   }
 
-  /** Adds the price types that the offers have in place of the one asked for. */
-  addTypes(types) {
-    const items = types.map((type) => {
-      const link = { href: this.#addressWith({ type }) };
-      return element("li", {}, element("a", link, codeInWords("priceTypes", type)));
-    });
-    const words = say(items.length > 0 ? "article.otherTypes" : "article.noOtherType");
-    const list = items.length > 0 ? [element("ul", {}, ...items)] : [];
-    const part = element("div", { class: "types" }, words, ...list);
-    found("article-status").querySelector(".types").replaceWith(part);
+  /** Says of which time the answer is. */
+  noteTime(time) {
+    found("answer-time").textContent = say("article.asOf", { time: timeInWords(time) });
   }
 
-  /** Says of which day the offers are, and lets one that is not today stand out. */
+  /** Says anew what depends on which day is today, and on the words of rules. */
   noteDay() {
-    if (this.#shown === undefined) return;
-    const { day } = this.#shown.question;
-    const isOther = day !== today();
-    const note = isOther ? [" ", element("span", { class: "other-day" }, say("article.notToday"))] : [];
-    found("answer-heading").replaceChildren(say("article.offers", { day: inWords(day) }), ...note);
+    if (this.#shown !== undefined) this.#drawSentence();
   }
 
   /** The offers of a calendar, in the order in which the table has them. */
@@ -109,19 +146,96 @@ export class Answer {
     return [...offers].sort((one, other) => placeOf(one) - placeOf(other));
   }
 
+  #sentence() {
+    const { settings } = this.#place;
+    return [conditionsOf(this.#shown.question, settings), sentenceOf(this.#shown, settings)]
+      .filter((words) => words !== "")
+      .join(" ");
+  }
+
+  #drawSentence() {
+    const { settings } = this.#place;
+    const conditions = conditionsOf(this.#shown.question, settings);
+    const sum = sumInWords(this.#shown);
+    const parts = [
+      ...(conditions === "" ? [] : [element("span", { class: "unusual" }, conditions), " "]),
+      sentenceOf(this.#shown, settings),
+    ];
+    const sentence = [element("strong", { class: "sentence" }, ...parts)];
+    if (sum !== "") sentence.push(" ", element("strong", { class: "sum" }, sum));
+    const status = [
+      element("p", { class: "decision" }, ...sentence),
+      element("p", { class: "details" }, detailsOf(this.#shown, settings).join(" · ")),
+    ];
+    const words = status.map(({ textContent }) => textContent).join("");
+    // A screen reader reads what is put there anew, even if it is the same.
+    if (found("article-status").textContent === words) return;
+    found("verdict").className = `verdict ${kindOfAnswer(this.#shown)}`;
+    found("article-status").replaceChildren(...status);
+  }
+
+  /** The offers, in the order that the buyer chose. */
   #inOrder() {
     return ORDERS[found("order").value](this.#shown.offers);
   }
 
   #draw() {
     if (this.#shown === undefined) return;
-    const answer = { ...this.#shown, offers: this.#inOrder() };
-    found("order-field").hidden = answer.offers.length < 2 || areUnpriced(answer.offers);
-    const place = found("offers");
-    if (answer.offers.length === 0) place.replaceChildren();
-    else {
-      const rows = offersTable("answer-heading", answer, this.#settings, this.#addressWith);
-      place.replaceChildren(rows);
-    }
+    this.#drawNotes();
+    this.#drawOffers();
+  }
+
+  #drawNotes() {
+    const { settings, reports } = this.#place;
+    const answer = this.#shown;
+    const isRetail = answer.choice !== null && kindOf(answer.question.type) === "retail";
+    const series = [...new Set(answer.offers.map((offer) => offer.series))];
+    const all = [
+      answer.changed,
+      ...(isRetail ? [say("article.notPaid")] : []),
+      ...untilNotes(answer, settings),
+      ...copiesNotes(answer),
+      ...moreOnlyNotes(answer, settings),
+      unknownRule(answer.choice, settings),
+    ].filter((words) => words !== undefined);
+    const notes = [...all.map((words) => [words]), ...messagesNotes(series, reports)];
+    const items = notes.map((parts) => element("li", { class: "note" }, ...parts));
+    const place = found("notes");
+    if (place.textContent === items.map(({ textContent }) => textContent).join("")) return;
+    place.replaceChildren(...items);
+  }
+
+  #drawOffers() {
+    const answer = this.#shown;
+    if (answer === undefined) return;
+    found("answer-heading").textContent = offersInWords(answer.question);
+    const offers = this.#firstOffers();
+    const isFew = answer.offers.length < 2 || areUnpriced(answer.offers);
+    found("order-field").hidden = isFew;
+    const { length } = answer.offers;
+    const isWhole = offers.length === length;
+    found("show-all").hidden = isWhole;
+    found("show-all").textContent = say("article.showAll", { count: formatter(Intl.NumberFormat).format(length) });
+    if (length === 0) return;
+    this.#keepingFocus(found("offers"), offersTable("answer-heading", offers, answer, this.#place));
+    const references = referencesTable("references-heading", offers, this.#place.settings);
+    found("references-table").replaceChildren(references);
+  }
+
+  /** The offers to show, at first not too many, with the chosen one before all others where it is left out. */
+  #firstOffers() {
+    const offers = this.#inOrder();
+    if (this.#isWhole || offers.length <= FIRST_OFFERS) return offers;
+    const { choice } = this.#shown;
+    const chosen = choice === null ? [] : offers.filter(isOfChosen(choice));
+    return [...chosen, ...offers.filter((offer) => !chosen.includes(offer))].slice(0, FIRST_OFFERS);
+  }
+
+  /** Puts a table in the place of another one, with the focus at the link that has it. */
+  #keepingFocus(place, table) {
+    const links = [...place.querySelectorAll("a")];
+    const at = links.indexOf(document.activeElement);
+    place.replaceChildren(table);
+    if (at >= 0) place.querySelectorAll("a")[at]?.focus({ preventScroll: true });
   }
 }

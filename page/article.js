@@ -1,63 +1,74 @@
-// The view of an article: the question, its answer, and the calendar.
+// The view of an article: the question, its answer, which is asked for anew each minute, and the calendar.
 
 import { addressOf, ASKED, RANGE } from "./address.js";
 import { Answer } from "./answer.js";
 import { askCalendar, askCopies, askDay, askTypes } from "./asking.js";
-import { calendarPicture, calendarTable, legendOf } from "./calendar.js";
-import { endOfMonths, lengthOf, plusDays, today } from "./days.js";
+import { CalendarPart } from "./calendar-part.js";
+import { copiesInWords } from "./decision.js";
+import { today } from "./days.js";
 import { isAbandoned } from "./desk.js";
 import { readAll } from "./fields.js";
 import { Form, markAll, refuse, textsFor } from "./form.js";
-import { withoutHyphens } from "./isbn.js";
-import { areUnpriced, keyOf } from "./offers.js";
+import { keyOf } from "./offers.js";
+import { changesOf, firstQuantities } from "./quantities.js";
+import { holdsUntil } from "./spans.js";
 import { say } from "./wording.js";
 
-const YEAR = 12;
+const MINUTE = 60_000;
 
-// How often the view looks whether another day has begun.
-const LOOK = 20_000;
+// How often the view looks whether another day has begun, and whether its answer is a minute old.
+const LOOK = 5_000;
 
 const found = (id) => document.getElementById(id);
 
-function moved({ from, until }, lengths) {
-  const days = lengthOf({ from, until }) * lengths;
-  return { from: plusDays(from, days), until: plusDays(until, days) };
+const asText = (values) => JSON.stringify(ASKED.map((name) => values[name]));
+
+/** Of each offer of a calendar until when its price of a day holds. */
+function holdsOf(offers, { day }) {
+  return new Map(offers.map((offer) => [keyOf(offer), holdsUntil(offer, day)]));
 }
 
-// What the buttons of the calendar do to its range.
-const MOVES = {
-  earlier: (range) => moved(range, -1),
-  later: (range) => moved(range, 1),
-  month: ({ from }) => ({ from, until: endOfMonths(from, 1) }),
-  year: ({ from }) => ({ from, until: endOfMonths(from, YEAR) }),
-};
+/** The offers that have no price for any number of copies. */
+function withoutPrice({ offers, copies }) {
+  return offers.filter((offer) => changesOf(offer, copies).every(({ amount }) => amount === null));
+}
 
-/** The view, over the settings; `watch` is told when the desk is down and up. */
+/** The view, over the settings and the reports on messages; `watch` is told when the desk is down and up. */
 export class Article {
   #settings;
   #watch;
-  #form = new Form();
+  #form;
   #answer;
+  #calendar;
   #asking = new AbortController();
   #timer;
   #given = {};
   #texts = {};
   #answered;
-  #calendar;
+  // An ISBN that ends in a wrong digit and that the buyer has asked for all the same.
+  #wantedAnyway;
+  // When the last question was asked; none since the fields are as usual again.
+  #lastAsked;
+  #isAsking = false;
 
-  constructor(settings, watch) {
+  constructor(settings, reports, watch) {
     this.#settings = settings;
     this.#watch = watch;
+    this.#form = new Form(settings);
     const addressWith = (changes) => addressOf("article", { ...this.#given, ...changes });
-    this.#answer = new Answer(settings, addressWith, () => this.#drawCalendar());
+    this.#answer = new Answer({ settings, reports, addressWith }, () => this.#calendar.draw());
+    this.#calendar = new CalendarPart(
+      { settings, ordered: (offers) => this.#answer.ordered(offers) },
+      () => this.#form.range(),
+      (range) => this.#go({ ...this.#texts, day: this.#given.day, ...range }),
+    );
     found("question").addEventListener("submit", (event) => this.#submit(event));
-    found("range").addEventListener("submit", (event) => this.#submitRange(event));
-    found("to-today").addEventListener("click", () => this.#toToday());
-    for (const [id, move] of Object.entries(MOVES)) {
-      found(id).addEventListener("click", () => this.#move(move));
+    for (const kind of ["input", "change"]) {
+      found("question").addEventListener(kind, (event) => this.#edited(event));
     }
-    document.addEventListener("visibilitychange", () => this.#followToday());
-    new ResizeObserver(() => this.#drawPicture()).observe(found("picture"));
+    found("as-usual").addEventListener("click", () => this.#asUsual());
+    found("ask-anyway").addEventListener("click", () => this.#askAnyway());
+    document.addEventListener("visibilitychange", () => this.#look());
   }
 
   /** Shows what the address asks for. */
@@ -65,12 +76,15 @@ export class Article {
     this.leave();
     this.#given = given;
     this.#texts = textsFor(given, this.#settings);
-    const keepsFocus = found("range").contains(document.activeElement);
+    const keepsFocus = found("calendar").contains(document.activeElement);
     this.#form.fill(this.#texts, given.day !== undefined);
-    if (!keepsFocus) this.#form.focusIsbn();
+    if (!keepsFocus) {
+      this.#form.focusIsbn();
+      window.scrollTo(0, 0);
+    }
     if (given.isbn === undefined) this.#clear();
     else this.#ask();
-    this.#timer = setInterval(() => this.#followToday(), LOOK);
+    this.#timer = setInterval(() => this.#look(), LOOK);
   }
 
   leave() {
@@ -85,22 +99,32 @@ export class Article {
     return values.isbn === undefined ? say("article.view") : say("article.titled", values);
   }
 
+  /** Begins an ISBN at its first digit, which some other place of the page has got. */
+  beginIsbn() {
+    this.#form.setIsbn("");
+    this.#begins();
+  }
+
+  /** Asks for what a scanner has read. */
+  scanned(code) {
+    this.#form.setIsbn(code);
+    this.#begins();
+    this.#submit();
+  }
+
   /** Waits for no answer any longer. */
   #stop() {
     this.#asking.abort();
+    this.#isAsking = false;
     this.#watch.up();
   }
 
-  #clear(words) {
-    this.#answer.clear(words);
-    this.#clearCalendar();
-    found("calendar").hidden = true;
+  #clear() {
+    this.#answer.clear();
+    this.#calendar.clear();
     this.#answered = undefined;
-  }
-
-  #clearCalendar() {
-    for (const id of ["picture", "spans", "calendar-asked"]) found(id).replaceChildren();
-    this.#calendar = undefined;
+    found("not-looked-for").hidden = true;
+    this.#noteOutdated();
   }
 
   /** Goes to the address of a question; where the page is there already, it is asked anew. */
@@ -115,7 +139,7 @@ export class Article {
   }
 
   #submit(event) {
-    event.preventDefault();
+    event?.preventDefault();
     const asked = this.#form.asked();
     const { values, problems, remarks } = readAll(asked);
     if (!markAll(ASKED, problems)) {
@@ -127,126 +151,190 @@ export class Article {
     // A day is in the address where it is not today's, so that tomorrow the same address asks for that
     // day. What looks wrong stays as it was typed.
     const day = values.day === today() ? undefined : values.day;
-    const isbn = remarks.isbn === undefined ? values.isbn : withoutHyphens(asked.isbn);
+    const isbn = remarks.isbn === undefined ? values.isbn : asked.isbn.trim();
+    const country = remarks.country === undefined ? values.country : asked.country.trim().toUpperCase();
     // A range that was set stays while the day lies in it.
     const { from, until } = this.#given;
     const range = from <= values.day && values.day <= until ? { from, until } : {};
-    this.#go({ ...values, isbn, day, ...range });
+    this.#go({ ...values, isbn, day, country, ...range });
   }
 
-  #submitRange(event) {
-    event.preventDefault();
-    this.#move((range) => range);
+  /** The first digit of another book: after a while, its question begins with one copy and today. */
+  #begins() {
+    const minutes = this.#settings.minutesToUsual;
+    if (this.#lastAsked === undefined || Date.now() - this.#lastAsked < minutes * MINUTE) return;
+    this.#lastAsked = undefined;
+    this.#form.setUsual();
+    this.#noteOutdated();
   }
 
-  #move(move) {
-    const { values, problems } = readAll(this.#form.range());
-    if (!markAll(RANGE, problems)) return;
-    const { day } = this.#given;
-    this.#go({ ...this.#texts, day, ...move(values) });
+  #edited({ target }) {
+    if (target === found("isbn")) this.#begins();
+    this.#noteOutdated();
   }
 
-  #toToday() {
-    this.#form.setToday();
-    if (this.#given.isbn === undefined) this.#form.focusIsbn();
-    else this.#go({ ...this.#given, day: undefined, from: undefined, until: undefined });
+  /** Dims an answer that is not that of the fields any more, and says so. */
+  #noteOutdated() {
+    const { values } = readAll(this.#form.asked());
+    const isOutdated = this.#answered !== undefined && asText(values) !== this.#answered.asked;
+    found("answer-part").classList.toggle("outdated", isOutdated);
+    found("outdated").hidden = !isOutdated;
+    if (!isOutdated) return;
+    const { isbn, quantity } = this.#answered.question;
+    found("outdated").textContent = say("article.outdated", { isbn, copies: copiesInWords(quantity) });
+  }
+
+  #asUsual() {
+    const { isbn } = this.#given;
+    if (isbn === undefined) {
+      this.#form.fill(textsFor({ isbn: found("isbn").value }, this.#settings), false);
+      this.#form.focusIsbn();
+    } else this.#go({ isbn });
+  }
+
+  #askAnyway() {
+    this.#wantedAnyway = this.#given.isbn;
+    this.#form.focusIsbn();
+    this.#ask();
   }
 
   /** Where another day has begun, it is the one asked for, unless the buyer set one. */
-  #followToday() {
+  #look() {
     if (this.#timer === undefined) return;
     this.#form.followToday();
     this.#answer.noteDay();
-    const isLate = this.#given.day === undefined && this.#texts.day !== today();
-    if (!isLate || this.#answered === undefined) return;
-    this.#texts = textsFor(this.#given, this.#settings);
-    this.#form.fillRange(this.#texts);
-    this.#stop();
-    this.#ask();
+    if (this.#answered === undefined || this.#isAsking) return;
+    if (this.#given.day === undefined && this.#texts.day !== today()) {
+      this.#texts = textsFor(this.#given, this.#settings);
+      this.#form.fillRange(this.#texts);
+      this.#stop();
+      this.#ask();
+      return;
+    }
+    const isSeen = document.visibilityState === "visible";
+    if (isSeen && Date.now() - this.#answered.checked >= MINUTE) this.#askAnew();
+  }
+
+  /** Does what asks the desk, unless nobody waits for it any longer. */
+  async #whileWanted(questions) {
+    this.#asking.abort();
+    this.#asking = new AbortController();
+    const { signal } = this.#asking;
+    this.#isAsking = true;
+    try {
+      await questions(signal);
+    } catch (fault) {
+      if (!isAbandoned(fault)) throw fault;
+    } finally {
+      if (!signal.aborted) this.#isAsking = false;
+    }
   }
 
   /** Asks what the texts say. */
   async #ask() {
     const { values, problems, remarks } = readAll(this.#texts);
-    this.#form.remark(remarks.isbn);
-    const asked = JSON.stringify(ASKED.map((name) => values[name]));
+    const asked = asText(values);
     // Where only the range is another one, the offers stay, and the buttons with the focus.
     if (this.#answered?.asked !== asked) this.#clear();
     if (!markAll(ASKED, problems)) return;
-    this.#asking = new AbortController();
-    const { signal } = this.#asking;
-    try {
-      if (this.#answered === undefined) await this.#askForDay(values, asked, signal);
-      if (this.#answered === undefined) return;
-      if (markAll(RANGE, problems)) await this.#askForCalendar(values, signal);
-      await this.#askForMore(this.#answered, signal);
-    } catch (fault) {
-      if (!isAbandoned(fault)) throw fault;
+    if (remarks.isbn !== undefined && this.#wantedAnyway !== this.#given.isbn) {
+      this.#notLookedFor(remarks.isbn);
+      return;
     }
+    markAll(RANGE, problems);
+    await this.#whileWanted(async (signal) => {
+      const calendar = this.#askForCalendar(values, signal);
+      if (this.#answered === undefined) await this.#askForDay(values, asked, signal);
+      if (this.#answered === undefined || this.#answered.offers.length === 0) return;
+      await Promise.all([this.#showCalendar(values, await calendar), this.#askForMore(signal)]);
+    });
+  }
+
+  /** The calendar of a question, which is waited for later; `undefined` where its range is wrong. */
+  #askForCalendar(question, signal) {
+    if (question.from === undefined || question.until === undefined) return Promise.resolve(undefined);
+    const calendar = askCalendar(question, signal, this.#watch);
+    // Where nobody waits any longer, the other questions say so too.
+    calendar.catch(() => {});
+    return calendar;
+  }
+
+  #notLookedFor(words) {
+    found("isbn-wrong").textContent = words;
+    found("isbn").setAttribute("aria-invalid", "true");
+    found("not-looked-for-words").textContent = say("article.notLookedFor", { isbn: this.#given.isbn });
+    found("not-looked-for").hidden = false;
   }
 
   /** Shows the offers and the choice; nothing is answered where they were refused. */
   async #askForDay(question, asked, signal) {
     this.#answer.clear(say("article.asking"));
+    this.#lastAsked = Date.now();
     const day = await askDay(question, signal, this.#watch);
     if (day.refusal !== undefined) {
       this.#answer.clear();
       refuse(day.refusal);
       return;
     }
-    this.#answer.show(day);
-    this.#answered = { ...day, asked };
-    found("calendar").hidden = day.offers.length === 0;
+    this.#answered = { ...day, asked, checked: Date.now() };
+    this.#answer.show(this.#answered);
   }
 
-  async #askForCalendar(question, signal) {
-    const outcome = await askCalendar(question, signal, this.#watch);
-    this.#clearCalendar();
+  /** Says what the desk refused; after a fault of its own the shown answer is not asked for anew. */
+  #refused(outcome) {
+    refuse(outcome);
+    if (outcome.kind === "fault") this.#answered.checked = Infinity;
+  }
+
+  #showCalendar(question, outcome) {
+    if (outcome === undefined) return;
     if (outcome.kind !== "answer") {
-      refuse(outcome);
+      this.#calendar.clear();
+      found("calendar").hidden = false;
+      this.#refused(outcome);
       return;
     }
-    this.#calendar = { offers: outcome.body.offers, question };
-    found("calendar-asked").textContent = legendOf(question);
-    this.#drawCalendar();
+    const { offers } = outcome.body;
+    this.#answer.add({ holds: holdsOf(offers, question), question });
+    this.#calendar.show({ offers, question, choice: this.#answered.choice });
   }
 
-  /** What the answer is worth more with: other quantities, or, where it has no price, other types. */
-  async #askForMore(answered, signal) {
-    const { offers, isWhole } = answered;
-    if (isWhole || offers.length === 0) return;
+  /** What the answer is worth more with: other numbers of copies, and, without any price, other types. */
+  async #askForMore(signal) {
+    const answered = this.#answered;
+    if (answered.isWhole) return;
     const { quantities } = this.#settings;
-    if (quantities.length > 0) {
-      this.#answer.addCopies(await askCopies(answered, quantities, signal, this.#watch));
-    }
-    if (areUnpriced(offers)) {
-      this.#answer.awaitTypes();
-      this.#answer.addTypes(await askTypes(answered, signal, this.#watch));
+    const first = firstQuantities(Number(answered.question.quantity), quantities);
+    const show = (copies) => this.#answer.add({ copies });
+    show(await askCopies(answered, first, show, signal, this.#watch));
+    const lacking = withoutPrice(answered);
+    if (lacking.length > 0) {
+      this.#answer.add({ types: await askTypes(answered.question, lacking, signal, this.#watch) });
     }
     answered.isWhole = true;
   }
 
-  /** Draws the calendar with the offers in the order of the table above it. */
-  #drawCalendar() {
-    if (this.#calendar === undefined) return;
-    const { offers, question } = this.#calendar;
-    const ordered = this.#answer.ordered(offers);
-    found("spans").replaceChildren(calendarTable("spans-heading", ordered, question, this.#settings));
-    found("picture").replaceChildren();
-    this.#drawPicture();
-  }
-
-  /** Draws the picture as wide as its place is. */
-  #drawPicture() {
-    const place = found("picture");
-    const pixels = Math.floor(place.clientWidth);
-    if (this.#calendar === undefined || pixels === 0) return;
-    if (place.dataset.pixels === String(pixels) && place.hasChildNodes()) return;
-    const { offers, question } = this.#calendar;
-    const { choice } = this.#answered;
-    const chosen = choice === null ? undefined : keyOf(choice);
-    const ordered = this.#answer.ordered(offers);
-    place.dataset.pixels = pixels;
-    place.replaceChildren(calendarPicture(ordered, question, chosen, this.#settings, pixels));
+  /** Asks once more what is shown, and says what has changed. */
+  #askAnew() {
+    const { question, asked } = this.#answered;
+    return this.#whileWanted(async (signal) => {
+      const [day, calendar] = await Promise.all([
+        askDay(question, signal, this.#watch), this.#askForCalendar(question, signal),
+      ]);
+      this.#answered.checked = Date.now();
+      if (day.refusal !== undefined) {
+        this.#refused(day.refusal);
+        return;
+      }
+      const state = ({ offers, choice }) => JSON.stringify([offers, choice]);
+      if (state(day) === state(this.#answered)) this.#answer.noteTime(day.time);
+      else {
+        const before = this.#answer.inWords();
+        this.#answered = { ...day, asked, checked: Date.now() };
+        this.#answer.show(this.#answered, before);
+      }
+      if (this.#answered.offers.length === 0) return;
+      await Promise.all([this.#showCalendar(question, calendar), this.#askForMore(signal)]);
+    });
   }
 }

@@ -1,12 +1,19 @@
-// What the view of an article asks the desk, one question after the other.
+// What the view of an article asks the desk. Questions that do not wait for each other are asked at once.
 
 import { ask } from "./desk.js";
 import { dayKeys, rangeKeys } from "./fields.js";
-import { areUnpriced, keyOf } from "./offers.js";
+import { keyOf } from "./offers.js";
+import { nextQuantity, withAnswer } from "./quantities.js";
 import { codesOf } from "./wording.js";
 
 // How often the price and the choice are asked for until both are of the same moment.
 const TRIES = 3;
+
+// The types that most wholesalers send, which are asked for before all others.
+const COMMON_TYPES = ["05", "02", "04", "01", "07"];
+
+// How many questions look for where prices change: a wholesaler with more changes is told by some of them.
+const MOST_QUESTIONS = 32;
 
 function isOfOneMoment(offers, choice) {
   if (choice === null) return true;
@@ -16,16 +23,18 @@ function isOfOneMoment(offers, choice) {
 const askOfDay = (what, question, signal, watch) =>
   ask(`articles/${question.isbn}/${what}`, dayKeys(question), signal, watch);
 
-/** The offers and the choice of a day, or a `refusal` that is no answer. */
+/** The offers and the choice of a day, with the `time` of the answer, or a `refusal` that is no answer. */
 export async function askDay(question, signal, watch) {
   for (let tries = 1; ; tries += 1) {
-    const price = await askOfDay("price", question, signal, watch);
-    if (price.kind !== "answer") return { refusal: price };
-    const choice = await askOfDay("choice", question, signal, watch);
-    if (choice.kind !== "answer") return { refusal: choice };
-    const answer = { question, offers: price.body.offers, choice: choice.body.choice };
+    const [price, choice] = await Promise.all(
+      ["price", "choice"].map((what) => askOfDay(what, question, signal, watch)),
+    );
+    const refusal = [price, choice].find(({ kind }) => kind !== "answer");
+    if (refusal !== undefined) return { refusal };
+    const { offers } = price.body;
+    const answer = { question, offers, choice: choice.body.choice, time: new Date() };
     // A message that came between the two may have changed the price.
-    if (tries === TRIES || isOfOneMoment(answer.offers, answer.choice)) return answer;
+    if (tries === TRIES || isOfOneMoment(offers, answer.choice)) return answer;
   }
 }
 
@@ -34,27 +43,60 @@ export function askCalendar(question, signal, watch) {
   return ask(`articles/${question.isbn}/calendar`, rangeKeys(question), signal, watch);
 }
 
-/** The offers of an answer at each of the quantities, those that the desk answers. */
-export async function askCopies({ question, offers }, quantities, signal, watch) {
-  const answers = [];
-  for (const quantity of quantities.map(String)) {
-    if (quantity === question.quantity) {
-      answers.push({ quantity, offers });
-      continue;
-    }
-    const price = await askOfDay("price", { ...question, quantity }, signal, watch);
-    if (price.kind === "answer") answers.push({ quantity, offers: price.body.offers });
+/** The offers of a question at a number of copies, as an answer; `undefined` where the desk refuses. */
+async function askQuantity(question, quantity, signal, watch) {
+  const price = await askOfDay("price", { ...question, quantity: String(quantity) }, signal, watch);
+  return price.kind === "answer" ? { quantity, offers: price.body.offers } : undefined;
+}
+
+/**
+ * The offers of an answer at each of the quantities, which `show` gets as soon as they are there, and at those
+ * between which a price changes.
+ */
+export async function askCopies({ question, offers }, quantities, show, signal, watch) {
+  const asked = Number(question.quantity);
+  const others = quantities.filter((quantity) => quantity !== asked);
+  const found = await Promise.all(
+    others.map((quantity) => askQuantity(question, quantity, signal, watch)),
+  );
+  let answers = [{ quantity: asked, offers }];
+  for (const answer of found) if (answer !== undefined) answers = withAnswer(answers, answer);
+  show(answers);
+  for (let count = 0; count < MOST_QUESTIONS; count += 1) {
+    const next = nextQuantity(answers);
+    if (next === undefined) break;
+    const answer = await askQuantity(question, next, signal, watch);
+    if (answer === undefined) break;
+    answers = withAnswer(answers, answer);
   }
   return answers;
 }
 
-/** The other price types that the page has words for and of which an offer has a price. */
-export async function askTypes({ question }, signal, watch) {
-  const types = [];
-  for (const type of codesOf("priceTypes")) {
-    if (type === question.type) continue;
+/** The types to look for in place of one, the common ones first. */
+function otherTypes(type) {
+  return [...new Set([...COMMON_TYPES, ...codesOf("priceTypes")])].filter((code) => code !== type);
+}
+
+/**
+ * The price types that each of the offers has, by its key: of those that the page has words for. The common
+ * ones are asked for at once, the others one after the other while an offer has none yet.
+ */
+export async function askTypes(question, offers, signal, watch) {
+  const types = new Map(offers.map((offer) => [keyOf(offer), []]));
+  const askType = async (type) => {
     const price = await askOfDay("price", { ...question, type }, signal, watch);
-    if (price.kind === "answer" && !areUnpriced(price.body.offers)) types.push(type);
+    if (price.kind !== "answer") return;
+    for (const offer of price.body.offers) {
+      if (offer.amount !== null) types.get(keyOf(offer))?.push({ type, amount: offer.amount });
+    }
+  };
+  const all = otherTypes(question.type);
+  const common = all.slice(0, all.findIndex((type) => !COMMON_TYPES.includes(type)));
+  await Promise.all(common.map(askType));
+  for (const type of all.slice(common.length)) {
+    if ([...types.values()].every((found) => found.length > 0)) break;
+    await askType(type);
   }
+  for (const found of types.values()) found.sort((one, other) => one.type.localeCompare(other.type));
   return types;
 }

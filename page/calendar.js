@@ -3,9 +3,8 @@
 import { bareMoney, money } from "./amounts.js";
 import { dayInShort, fromDesk, inWords, numberOf, ticksOf } from "./days.js";
 import { drawn, element, table } from "./elements.js";
-import { keyOf, referenceOf } from "./offers.js";
-import { seriesInWords } from "./settings.js";
-import { codeInWords, say, sayCount, sayParts } from "./wording.js";
+import { keyOf, nameOf } from "./offers.js";
+import { say, sayCount, sayParts, wordsOfCode } from "./wording.js";
 
 // Lengths in pixels. A sign's width is that of a wide digit in the picture's font.
 const SIGN = 8;
@@ -40,7 +39,8 @@ function placeBelow(texts, whole) {
   return { placed, rows: ends.length };
 }
 
-function barOf(span, scale, currency) {
+/** The bar of a span; of the chosen offer, the one that has the day asked for stands out. */
+function barOf(span, scale, { currency, day }, isChosen) {
   const [first, last] = [fromDesk(span.first), fromDesk(span.last)];
   const [left, right] = [scale.at(first), scale.at(last, 1)];
   const days = { from: inWords(first), until: inWords(last) };
@@ -52,9 +52,10 @@ function barOf(span, scale, currency) {
   }
   const amount = money(span.amount, currency);
   const title = say("calendar.span", { amount, ...days });
+  const className = isChosen && first <= day && day <= last ? "span chosen" : "span";
   const shape = drawn(
     "rect",
-    { class: "span", x: left, y: 0.5, width: right - left, height: BAR - 1 },
+    { class: className, x: left, y: 0.5, width: right - left, height: BAR - 1 },
     drawn("title", {}, title),
   );
   Object.assign(shape.dataset, { first: span.first, last: span.last, amount: span.amount });
@@ -99,9 +100,9 @@ function textsBelow(placed) {
   });
 }
 
-function lane(offer, question, scale) {
+function lane(offer, question, scale, isChosen) {
   const line = placeOfDay(question, scale);
-  const bars = offer.spans.map((span) => barOf(span, scale, question.currency));
+  const bars = offer.spans.map((span) => barOf(span, scale, question, isChosen));
   const texts = bars
     .filter(({ text }) => text !== undefined)
     .map((bar) => ({ ...bar, inside: placeInside(bar, line) }));
@@ -137,13 +138,11 @@ function axis(question, scale) {
   return svg(scale.whole, AXIS, "axis", base, ...ticks, ...ends, ...dayLine(placeOfDay(question, scale), 5));
 }
 
-/** The name of an offer's lane. */
-function laneName(offer, settings) {
-  return element("span", {}, ...sayParts("calendar.lane", {
-    wholesaler: seriesInWords(settings, offer.series),
-    reference: referenceOf(offer),
-    availability: codeInWords("availabilities", offer.availability),
-  }));
+/** The name of an offer among all offers of a calendar. */
+function laneName(offer, offers, settings) {
+  const words = wordsOfCode("availabilities", offer.availability) ?? offer.availability;
+  const wholesaler = element("span", {}, ...nameOf(offer, offers, settings));
+  return element("span", {}, ...sayParts("calendar.lane", { wholesaler, availability: words }));
 }
 
 /** The picture of a calendar's offers, so many pixels wide. `chosen` is the key of the chosen offer. */
@@ -151,7 +150,7 @@ export function calendarPicture(offers, question, chosen, settings, whole) {
   const scale = scaleOf(question, whole);
   const lanes = offers.map((offer) => {
     const isChosen = keyOf(offer) === chosen;
-    const name = laneName(offer, settings);
+    const name = laneName(offer, offers, settings);
     const words = isChosen
       ? sayParts("calendar.chosenLane", { lane: name, day: inWords(question.day) })
       : [name];
@@ -159,12 +158,17 @@ export function calendarPicture(offers, question, chosen, settings, whole) {
       "div",
       { class: isChosen ? "offer chosen" : "offer" },
       element("p", { class: "lane-name" }, ...words),
-      lane(offer, question, scale),
+      lane(offer, question, scale, isChosen),
     );
   });
   const days = { from: inWords(question.from), until: inWords(question.until) };
   const label = sayCount("calendar.picture", offers.length, days);
   return element("div", { role: "img", "aria-label": label }, ...lanes, axis(question, scale));
+}
+
+/** From when to when a calendar goes, for its heading. */
+export function calendarInWords({ from, until }) {
+  return say("calendar.titled", { from: inWords(from), until: inWords(until) });
 }
 
 /** What the signs of the picture mean. */
@@ -173,10 +177,10 @@ export function legendOf({ day, from, until }) {
   return say(isInside ? "calendar.legend" : "calendar.legendOutside", { day: inWords(day) });
 }
 
-function rowsOf(offer, currency, settings) {
+function rowsOf(offer, offers, currency, settings) {
   return offer.spans.map(({ first, last, amount }) => ({
     cells: [
-      [laneName(offer, settings)],
+      [laneName(offer, offers, settings)],
       [inWords(fromDesk(first))],
       [inWords(fromDesk(last))],
       [amount === null ? say("calendar.noPrice") : money(amount, currency)],
@@ -189,6 +193,6 @@ export function calendarTable(heading, offers, { currency }, settings) {
   return table(
     heading,
     ["offer", "first", "last", "price"].map((name) => say(`calendar.${name}`)),
-    offers.flatMap((offer) => rowsOf(offer, currency, settings)),
+    offers.flatMap((offer) => rowsOf(offer, offers, currency, settings)),
   );
 }

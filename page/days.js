@@ -7,6 +7,7 @@ const LAST = "9999-12-31";
 const MILLISECONDS = 86_400_000;
 
 const LONG = { day: "numeric", month: "long", year: "numeric" };
+const FULL = { weekday: "short", ...LONG };
 const SHORT = { day: "numeric", month: "short", year: "numeric" };
 
 function instant(day) {
@@ -75,6 +76,11 @@ export function inWords(day) {
   return formatted(day, LONG);
 }
 
+/** A day in words with its day of the week, such as Thu 10 April 2025. */
+export function inFullWords(day) {
+  return formatted(day, FULL);
+}
+
 /** A day in short words, such as 10 Apr 2025. */
 export function dayInShort(day) {
   return formatted(day, SHORT);
@@ -126,4 +132,9 @@ function monthTicks({ from, until }, most) {
 export function ticksOf(from, until, pixels) {
   const range = { from, until };
   return lengthOf(range) <= 62 ? dayTicks(range, pixels / 26) : monthTicks(range, pixels / 44);
+}
+
+/** The time of a clock, with its seconds. */
+export function timeInWords(time) {
+  return formatter(Intl.DateTimeFormat, { timeStyle: "medium" }).format(time);
 }

@@ -9,6 +9,9 @@ const AGAIN_SECONDS = 5;
 // The desk or the web server cannot answer just now; 429 is the web server's, asked too often.
 const DOWN = [429, 502, 503, 504];
 
+// Faults of the desk's storage that asking again makes no better, or worse.
+const LASTING = ["memory", "size"];
+
 function urlOf(path, keys) {
   const url = urlBeside(`desk/${path}`);
   url.search = new URLSearchParams(keys);
@@ -25,12 +28,17 @@ async function bodyOf(reply) {
   }
 }
 
+/** What a reply of a desk that is down says; a `fault` where asking again by itself would be no good. */
+function downOutcome(status, body) {
+  const reason = wordsOfCode("down.reasons", body?.reason) ?? "";
+  const words = [say(`down.${status}`), reason].join(" ").trim();
+  if (status !== 503 || !LASTING.includes(body?.reason)) return { kind: "down", words };
+  return { kind: "fault", words: `${words} ${say("down.notAgain")}` };
+}
+
 /** A reply as an answer, a refusal in the desk's word, a desk that is down, or something else. */
 function outcomeOf(status, body) {
-  if (DOWN.includes(status)) {
-    const reason = wordsOfCode("down.reasons", body?.reason) ?? "";
-    return { kind: "down", words: [say(`down.${status}`), reason].join(" ").trim() };
-  }
+  if (DOWN.includes(status)) return downOutcome(status, body);
   if (body?.answer === "refused") return { kind: "refused", reason: body.reason };
   if (status === 200 && body?.answer !== undefined) return { kind: "answer", body };
   const path = status === 401 || status === 403 ? "wrong.forbidden" : "wrong.strange";
@@ -69,8 +77,8 @@ function pause(signal) {
 }
 
 /**
- * Asks until the desk answers or refuses. While it is down, `watch.down` has the words for it;
- * `watch.up` is called where it replies.
+ * Asks until the desk answers or refuses, or says that it lacks memory. While it is down, `watch.down` has the
+ * words for it; `watch.up` is called where it replies.
  */
 export async function ask(path, keys, signal, watch) {
   for (;;) {

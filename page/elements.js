@@ -21,26 +21,31 @@ export function drawn(name, attributes = {}, ...children) {
   return built(document.createElementNS(DRAWING, name), attributes, children);
 }
 
-function cell(column, content, isFirst) {
-  const attributes = { role: isFirst ? "rowheader" : "cell", "data-column": column };
+function cell({ name, className }, content, isFirst) {
+  const attributes = { role: isFirst ? "rowheader" : "cell", "data-column": name, class: className };
   if (isFirst) attributes.scope = "row";
   return element(isFirst ? "th" : "td", attributes, ...content);
 }
 
+const columnOf = (column) => (typeof column === "string" ? { name: column } : column);
+
+/** A row of a table with those columns: of `cells`, a list of children for each, and `className`. */
+export function tableRow(columns, { cells, className }) {
+  const made = cells.map((content, at) => cell(columnOf(columns[at]), content, at === 0));
+  return element("tr", { role: "row", class: className }, ...made);
+}
+
 /**
- * A table, named by the heading with that id. `rows` are objects of `cells`, a list of children for
- * each column, and `className`. The roles are written out, since a table that is laid out in blocks on a
- * narrow screen loses them.
+ * A table, named by the heading with that id, of rows as `tableRow` has them. A column is its name, or an
+ * object of `name` and the `className` of its cells. The roles are written out, since a table that is laid
+ * out in blocks on a narrow screen loses them.
  */
 export function table(heading, columns, rows) {
-  const heads = columns.map((name) => element("th", { role: "columnheader", scope: "col" }, name));
-  const body = rows.map(({ cells, className }) =>
-    element(
-      "tr",
-      { role: "row", class: className },
-      ...cells.map((content, at) => cell(columns[at], content, at === 0)),
-    ),
+  const all = columns.map(columnOf);
+  const heads = all.map(({ name, className }) =>
+    element("th", { role: "columnheader", scope: "col", class: className }, name),
   );
+  const body = rows.map((row) => tableRow(all, row));
   return element(
     "table",
     { role: "table", "aria-labelledby": heading },

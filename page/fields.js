@@ -1,25 +1,28 @@
 // The fields of a question: what each text means, and what is wrong with it, in words.
 
 import { isDay, toDesk } from "./days.js";
-import { checkDigit, checkSign, isTen, toThirteen, withoutHyphens } from "./isbn.js";
-import { say, sayCount } from "./wording.js";
+import { isbnsIn, plain } from "./isbn-in-text.js";
+import { isChecked, isTen, toThirteen, withoutHyphens } from "./isbn.js";
+import { formatter, say, sayCount } from "./wording.js";
 
 const value = (text) => ({ value: text });
 const problem = (words) => ({ problem: words });
 
-/** A value with a remark, unless its last sign is the one that belongs there. */
-function checked(text, came, right) {
-  return came === right ? value(text) : { value: text, remark: say("wrong.isbnCheck", { right }) };
-}
-
+/**
+ * The one ISBN of a text, in whatever stands around it. Digits that end in another sign than they should are
+ * those of no book, or of another one: they have a `remark`, and nobody guesses which digit is wrong.
+ */
 function readIsbn(text) {
-  const digits = withoutHyphens(text).toUpperCase();
+  const found = isbnsIn(text);
+  if (found.length === 1) return value(found[0]);
+  if (found.length > 1) return problem(sayCount("wrong.isbnSeveral", found.length));
+  const digits = withoutHyphens(plain(text)).toUpperCase();
   if (digits === "") return problem(say("wrong.isbnEmpty"));
-  if (isTen(digits)) return checked(toThirteen(digits), digits.at(-1), checkSign(digits));
+  if (isTen(digits)) return { value: toThirteen(digits), remark: say("wrong.isbnCheck") };
   const sign = digits.match(/[^0-9]/u)?.[0];
   if (sign !== undefined) return problem(say("wrong.isbnLetters", { sign }));
   if (digits.length !== 13) return problem(sayCount("wrong.isbnDigits", digits.length));
-  return checked(digits, digits.at(-1), checkDigit(digits));
+  return isChecked(digits) ? value(digits) : { value: digits, remark: say("wrong.isbnCheck") };
 }
 
 function readDay(text) {
@@ -34,6 +37,21 @@ function codeReader(grammar, wrong) {
   };
 }
 
+/** The code of a country that another one stands for, such as GB for UK; the same code where none is. */
+function canonicalCountry(code) {
+  return new Intl.Locale(`und-${code}`).region ?? code;
+}
+
+/** A country; one that has another code in ONIX is asked for by that. */
+function readCountry(text) {
+  const read = codeReader(/^[A-Z]{2}$/, "wrong.country")(text);
+  if (read.problem !== undefined) return read;
+  const right = canonicalCountry(read.value);
+  if (right === read.value) return read;
+  const words = formatter(Intl.DisplayNames, { type: "region" }).of(right);
+  return { value: right, remark: say("article.alias", { code: read.value, words, right }) };
+}
+
 function readQuantity(text) {
   const digits = text.trim();
   const isQuantity = /^\d{1,6}$/.test(digits) && Number(digits) > 0;
@@ -44,7 +62,7 @@ function readQuantity(text) {
 const READERS = {
   isbn: readIsbn,
   day: readDay,
-  country: codeReader(/^[A-Z]{2}$/, "wrong.country"),
+  country: readCountry,
   currency: codeReader(/^[A-Z]{3}$/, "wrong.currency"),
   type: codeReader(/^\d\d$/, "wrong.type"),
   quantity: readQuantity,

@@ -1,13 +1,17 @@
-// The fields of a question about an article: what they begin with, what their codes mean, and what is
-// wrong with them.
+// The fields of a question about an article: what they begin with, what their codes mean, what is not as the
+// shop asks mostly, and what is wrong with them.
 
 import { ASKED, RANGE } from "./address.js";
-import { endOfMonths, isDay, plusMonths, today } from "./days.js";
+import { endOfMonths, inFullWords, isDay, plusMonths, today } from "./days.js";
 import { element } from "./elements.js";
-import { codeInWords, codesOf, formatter, say, wordsOfCode } from "./wording.js";
+import { readAll } from "./fields.js";
+import { codeInWords, codesOf, formatter, say, sayParts, wordsOfCode } from "./wording.js";
 
 const YEAR = 12;
 const NAMES = { country: "region", currency: "currency" };
+
+// The fields that stand behind "change".
+const FOLDED = ["day", "country", "currency", "type"];
 
 const found = (id) => document.getElementById(id);
 
@@ -31,12 +35,19 @@ function mark(name, words) {
   else found(name).setAttribute("aria-invalid", "true");
 }
 
+/** Unfolds the fields behind "change", or folds them. */
+function unfold(isOpen) {
+  found("more").hidden = !isOpen;
+  found("change").setAttribute("aria-expanded", String(isOpen));
+}
+
 /** Says what is wrong with fields, the first of which gets the focus; gives whether nothing is. */
 export function markAll(fields, problems) {
   for (const name of fields) mark(name, problems[name] ?? "");
-  const first = fields.find((name) => problems[name] !== undefined);
-  if (first !== undefined) found(first).focus();
-  return first === undefined;
+  const wrong = fields.filter((name) => problems[name] !== undefined);
+  if (wrong.some((name) => FOLDED.includes(name))) unfold(true);
+  if (wrong.length > 0) found(wrong[0]).focus();
+  return wrong.length === 0;
 }
 
 /** Writes below a field what its code means, as the browser knows it. */
@@ -48,12 +59,8 @@ function explain(name) {
   } catch {
     // It is no code of this kind.
   }
-  found(`${name}-words`).textContent = words ?? "";
-}
-
-/** Writes below the price type its words, which a narrow screen cuts off in the field. */
-function explainType() {
-  found("type-words").textContent = wordsOfCode("priceTypes", found("type").value) ?? "";
+  const remark = readAll({ [name]: code }).remarks[name];
+  found(`${name}-words`).textContent = remark ?? words ?? "";
 }
 
 /** Offers the types that have words, and one more where the address or desk.json names it. */
@@ -67,20 +74,30 @@ function fillTypes(chosen) {
   found("type").value = chosen;
 }
 
+/** A price type in nodes; on a narrow screen its code alone is shown. */
+function typeParts(code) {
+  const words = wordsOfCode("priceTypes", code);
+  if (words === undefined) return [code];
+  return sayParts("article.wordsOfCode", { words: element("span", { class: "on-wide" }, words), code });
+}
+
 function textsOf(fields) {
   return Object.fromEntries(fields.map((name) => [name, found(name).value]));
 }
 
 export class Form {
+  #settings;
   // The today that stands in the field since the form was filled; none where the address sets a day.
   #today;
 
-  constructor() {
-    for (const name of Object.keys(NAMES)) {
-      found(name).addEventListener("input", () => explain(name));
-    }
-    found("type").addEventListener("change", explainType);
-    found("day").addEventListener("input", () => this.noteDay());
+  constructor(settings) {
+    this.#settings = settings;
+    found("question").addEventListener("input", () => this.describe());
+    found("question").addEventListener("change", () => this.describe());
+    found("change").addEventListener("click", () => {
+      unfold(found("more").hidden);
+      if (!found("more").hidden) found("day").focus();
+    });
   }
 
   /** Fills the fields with texts, of which the day is today's or was set. */
@@ -89,10 +106,7 @@ export class Form {
     for (const name of ASKED) found(name).value = texts[name];
     this.fillRange(texts);
     this.#today = isSet ? undefined : texts.day;
-    Object.keys(NAMES).forEach(explain);
-    explainType();
-    this.noteDay();
-    this.remark();
+    this.describe();
     markAll([...ASKED, ...RANGE], {});
     found("question-wrong").textContent = "";
   }
@@ -107,9 +121,11 @@ export class Form {
     found("isbn").select();
   }
 
-  /** Says what looks wrong with the ISBN, which is asked for all the same. */
-  remark(words = "") {
-    found("isbn-remark").textContent = words;
+  /** Puts another ISBN in the place of this one; with the empty text the next digits are one. */
+  setIsbn(text) {
+    found("isbn").value = text;
+    found("isbn").focus({ preventScroll: true });
+    this.describe();
   }
 
   /** The question in the fields; a day that nobody touched is today's. */
@@ -128,29 +144,54 @@ export class Form {
       this.#today = today();
       if (found("day").value !== this.#today) found("day").value = this.#today;
     }
-    this.noteDay();
+    this.describe();
   }
 
-  setToday() {
+  /** One copy, and today, as the next question begins with. */
+  setUsual() {
+    found("quantity").value = "1";
     this.#today = today();
     found("day").value = this.#today;
-    this.noteDay();
+    this.describe();
   }
 
-  /** Lets a set day that is not today stand out. */
-  noteDay() {
-    const day = found("day").value;
-    const isOther = isDay(day) && day !== today();
-    found("day-field").classList.toggle("other-day", isOther);
-    found("day-words").hidden = !isOther;
-    found("day-note").textContent = isOther ? say("article.notToday") : "";
+  /** Says in one line what the folded fields have, and lets what is not as usual stand out. */
+  describe() {
+    Object.keys(NAMES).forEach(explain);
+    const { day, country, currency, type, quantity } = textsOf(ASKED);
+    const code = country.trim().toUpperCase();
+    const right = readAll({ country }).values.country ?? code;
+    const isToday = day === today();
+    const words = isDay(day) ? inFullWords(day) : "";
+    found("day-words").textContent = words;
+    const usual = {
+      day: isToday,
+      country: right === this.#settings.country,
+      currency: currency.trim().toUpperCase() === this.#settings.currency,
+      type: type === this.#settings.type,
+      quantity: quantity.trim() === "1",
+    };
+    const shown = {
+      day: say(isToday ? "article.today" : "article.notToday", { day: words }),
+      country: right === code ? code : say("article.standsFor", { code, right }),
+      currency: currency.trim().toUpperCase(),
+      type: typeParts(type),
+    };
+    for (const name of FOLDED) {
+      found(`${name}-shown`).replaceChildren(...[shown[name]].flat());
+      found(`${name}-shown`).classList.toggle("unusual", !usual[name]);
+    }
+    found("quantity").classList.toggle("unusual", !usual.quantity);
+    found("as-usual").hidden = Object.values(usual).every((isUsual) => isUsual);
   }
 }
 
 /** Says in words what the desk refused, or that it was not the desk that replied. */
 export function refuse({ kind, reason, words }) {
-  if (kind === "strange") found("question-wrong").textContent = words;
-  else if (reason === "bad-range") markAll(["until"], { until: say("wrong.range") });
-  else if (reason === "bad-query") found("question-wrong").textContent = say("wrong.query");
+  if (kind === "strange" || kind === "fault") found("question-wrong").textContent = words;
+  else if (reason === "bad-range") {
+    found("calendar").open = true;
+    markAll(["until"], { until: say("wrong.range") });
+  } else if (reason === "bad-query") found("question-wrong").textContent = say("wrong.query");
   else found("question-wrong").textContent = say("wrong.refused", { reason });
 }

@@ -1,11 +1,12 @@
 // ISBNs as they are typed, scanned or copied.
 
-// White space, and what is used as a hyphen.
-const BETWEEN = /[\s\u00ad\u200b\u2010-\u2015\u2212\ufe58\ufe63\uff0d-]/g;
+// What may stand between the digits of an ISBN: spaces, and what is used as a hyphen.
+const BETWEEN = "[ \\u00a0\\u00ad\\u2000-\\u200b\\u202f\\ufeff\\u2010-\\u2015\\u2212\\ufe58\\ufe63\\uff0d-]";
+const ALL_BETWEEN = new RegExp(BETWEEN, "g");
 
-/** A text without what may stand between the digits of an ISBN. */
+/** A text without what may stand between the digits of an ISBN, or around it. */
 export function withoutHyphens(text) {
-  return text.replace(BETWEEN, "");
+  return text.trim().replace(ALL_BETWEEN, "");
 }
 
 /** Whether a text is ten digits, the last of which may be an X. */
@@ -32,4 +33,9 @@ export function checkSign(text) {
 export function toThirteen(ten) {
   const digits = `978${ten.slice(0, 9)}`;
   return digits + checkDigit(digits);
+}
+
+/** Whether ten or thirteen digits end in the sign that belongs there. */
+export function isChecked(digits) {
+  return digits.at(-1) === (isTen(digits) ? checkSign(digits) : checkDigit(digits));
 }

@@ -1,15 +1,18 @@
 // The page: its texts and settings, and the view that the address names.
 
-import { readAddress } from "./address.js";
+import { addressOf, readAddress } from "./address.js";
 import { Article } from "./article.js";
 import { element } from "./elements.js";
 import { Missing } from "./missing.js";
-import { loadSettings, loadWords } from "./settings.js";
-import { labelAll, say, speak } from "./wording.js";
+import { Order } from "./order.js";
+import { Reports } from "./reports.js";
+import { Scanner } from "./scan.js";
+import { loadRules, loadSettings, loadWords } from "./settings.js";
+import { formatter, labelAll, say, sayCount, speak } from "./wording.js";
 
 const found = (id) => document.getElementById(id);
 
-/** What the views tell of the desk, in the note above them. */
+/** What a view tells of the desk, in the note above it. */
 const watch = {
   down(words) {
     const note = found("down");
@@ -45,25 +48,62 @@ function show(views) {
       shown.leave();
     }
   }
+  // Another view has the way back to what was asked here.
+  if (location.hash !== "") found(`to-${view}`).href = location.hash;
   views[view].show(given);
-  document.title = say("page.title", { view: views[view].title() });
+  document.title = say("page.title", { view: views[view].title(), shop: found("shop").textContent });
+}
+
+/** Counts at the tab what is missing, in every view, and the wholesalers that are silent. */
+function countMissing(settings, reports) {
+  const states = settings.series.map(({ name }) => reports.stateOf(name));
+  const count = states.reduce((sum, state) => sum + state.count, 0);
+  const silent = states.filter(({ isSilent }) => isSilent).length;
+  const number = formatter(Intl.NumberFormat).format(count);
+  const words = sayCount("missing.atTab", count);
+  const missing = element("span", { class: "count", "aria-hidden": "true" }, number);
+  const heard = element("span", { class: "heard" }, words);
+  const quiet = element("span", { class: "tag unusual" }, sayCount("missing.silentAtTab", silent));
+  const parts = [...(count > 0 ? [" ", missing, heard] : []), ...(silent > 0 ? [" ", quiet] : [])];
+  found("missing-count").replaceChildren(...parts);
+}
+
+/** A bar code that is scanned in another view is asked for in that of an article. */
+function scanIn(article) {
+  const isOpen = () => readAddress(location.hash).view === "article";
+  return {
+    field: found("isbn"),
+    begin: () => isOpen() && article.beginIsbn(),
+    scanned: (code) => {
+      if (isOpen()) article.scanned(code);
+      else location.hash = addressOf("article", { isbn: code });
+    },
+  };
 }
 
 async function start() {
   const { settings, problems } = await loadSettings();
-  const words = await loadWords(settings.language);
+  const [words, rules] = await Promise.all([loadWords(settings.language), loadRules()]);
+  settings.rules = rules ?? [];
   speak(settings.language, words.texts);
   document.documentElement.lang = settings.language;
   labelAll(document);
+  if (settings.shop !== "") found("shop").textContent = say("page.shop", { shop: settings.shop });
   showProblems("desk.json", problems);
   showProblems("words.json", words.problems);
-  const views = { article: new Article(settings, watch), missing: new Missing(settings, watch) };
+  const reports = new Reports(settings);
+  const article = new Article(settings, reports, watch);
+  const order = new Order(settings, reports, watch);
+  const views = { article, order, missing: new Missing(settings, reports, watch) };
+  reports.subscribe(() => countMissing(settings, reports));
+  new Scanner(scanIn(article));
   found("skip").addEventListener("click", (event) => {
     event.preventDefault();
     found("content").focus();
   });
   window.addEventListener("hashchange", () => show(views));
   show(views);
+  reports.begin();
 }
 
 start();

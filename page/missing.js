@@ -1,20 +1,14 @@
-// The view of missing messages: for each series where it stands, how many wait, and what is missing.
+// The view of missing messages: for each wholesaler where its series stands, how many wait, and what is missing.
 
-import { inWords, today } from "./days.js";
-import { ask, isAbandoned } from "./desk.js";
+import { inWords, timeInWords, today } from "./days.js";
 import { element } from "./elements.js";
-import { daysSince, see } from "./seen.js";
-import { seriesInWords, wholesalerOf } from "./settings.js";
+import { allOf, howMany, rangesInShort } from "./reports.js";
+import { lastOfSender, rangesOfSender } from "./request.js";
+import { seriesInWords } from "./settings.js";
 import { strip, stripLegend } from "./strip.js";
-import { formatter, say, sayCount } from "./wording.js";
-
-const MINUTE = 60_000;
+import { say, sayCount } from "./wording.js";
 
 const found = (id) => document.getElementById(id);
-const clock = () => formatter(Intl.DateTimeFormat, { timeStyle: "medium" }).format(new Date());
-
-const howMany = ([from, to]) => to - from + 1;
-const allOf = (ranges) => ranges.reduce((sum, range) => sum + howMany(range), 0);
 
 function rangeInWords(range) {
   const [from, until] = range;
@@ -31,16 +25,30 @@ function standsInWords({ first, next }) {
   return say("missing.stands", { first, last: next - 1, next });
 }
 
-function requestFor(report, series) {
+const glnInWords = (path, gln) => (gln === undefined ? "" : say(path, { gln }));
+
+/** The request to send again what is missing, in the wholesaler's own numbers. */
+export function requestFor(report, series, { shop }) {
   const { first, next, held, missing } = report;
-  return say(next === first ? "missing.requestAtStart" : "missing.request", {
-    wholesaler: series.words,
-    name: series.name,
-    ranges: rangesInWords(missing),
-    messages: sayCount("missing.messages", allOf(missing)),
-    last: next - 1,
-    held,
-  });
+  const ranges = rangesOfSender(missing, series);
+  const last = lastOfSender(next, series);
+  const isNothing = next === first || last < 1;
+  const parts = [
+    say("missing.request.to", { wholesaler: series.words, gln: glnInWords("missing.request.gln", series.sender) }),
+    ...(shop === "" && series.addressee === undefined
+      ? []
+      : [say("missing.request.from", { shop, gln: glnInWords("missing.request.gln", series.addressee) })]),
+    say("missing.request.date", { day: inWords(today()) }),
+    "",
+    say("missing.request.body", {
+      ranges: rangesInShort(ranges),
+      messages: sayCount("missing.messages", allOf(ranges)),
+    }),
+    "",
+    isNothing ? say("missing.request.none") : say("missing.request.applied", { last }),
+    ...(held > 0 ? [say("missing.request.held")] : []),
+  ];
+  return `${parts.map((part) => part.trim()).join("\n")}\n`;
 }
 
 /** Copies a text, or, where the browser does not let the page, shows it to be copied. */
@@ -56,95 +64,88 @@ async function copy(text, series, place) {
   }
 }
 
-function missingPart(report, series) {
+/** A link that opens a mail with the request in the buyer's own program. */
+function mailLink(text, series) {
+  if (series.mail === undefined) return [];
+  const subject = encodeURIComponent(say("missing.request.subject"));
+  const body = encodeURIComponent(text.replaceAll("\n", "\r\n"));
+  const href = `mailto:${series.mail}?subject=${subject}&body=${body}`;
+  return [" ", element("a", { href, class: "button" }, say("missing.mail", { mail: series.mail }))];
+}
+
+function missingPart(report, series, settings) {
   const items = report.missing.map((range) => element("li", {}, rangeInWords(range)));
   const done = element("div", { class: "copied", role: "status" });
   const button = element("button", { type: "button" }, say("missing.copy"));
-  button.addEventListener("click", () => copy(requestFor(report, series), series, done));
+  const text = requestFor(report, series, settings);
+  // The day of the request is that on which it is copied.
+  button.addEventListener("click", () => copy(requestFor(report, series, settings), series, done));
   return [
     element("p", { class: "lacks" }, sayCount("missing.missing", allOf(report.missing))),
     element("ul", { class: "ranges" }, ...items),
     element("div", { class: "strip-place" }),
     stripLegend(),
-    element("p", { class: "buttons" }, button),
+    element("p", { class: "buttons" }, button, ...mailLink(text, series)),
     done,
   ];
 }
 
-function reportPart(report, series) {
+function reportPart(report, series, state, settings) {
   const wait = report.held === 0 ? say("missing.noneWait") : sayCount("missing.wait", report.held);
   const stands = element("p", {}, standsInWords(report), " ", wait);
   const since = element("p", { class: "since" });
-  if (report.missing.length === 0) {
-    return [stands, since, element("p", { class: "complete" }, say("missing.complete"))];
-  }
-  return [stands, since, ...missingPart(report, series)];
+  if (report.missing.length > 0) return [stands, since, ...missingPart(report, series, settings)];
+  const className = state.isSilent ? "no-number" : "complete";
+  return [stands, since, element("p", { class: className }, say("missing.complete"))];
 }
 
 /** Since when the page has seen a series as it is, and a word where that is longer than it may be. */
-function sinceInWords(seen, series) {
-  const count = daysSince(seen, today());
-  if (count === 0) return [say("missing.sinceToday")];
-  const words = sayCount("missing.since", count, { day: inWords(seen.since) });
-  if (!isSilent(seen, series)) return [words];
+function sinceInWords(seen, series, { days, isSilent }) {
+  if (days === 0) return [];
+  const words = sayCount("missing.since", days, { day: inWords(seen.since) });
+  if (!isSilent) return [words];
   const silent = sayCount("missing.silent", series.days, { wholesaler: series.words });
   return [words, " ", element("strong", {}, silent)];
 }
 
-function isSilent(seen, { days }) {
-  return days !== undefined && daysSince(seen, today()) > days;
-}
-
 function refusalPart({ kind, reason, words }, { name }) {
   const told = { "unknown-series": say("wrong.series", { name }) };
-  const text = kind === "strange" ? words : (told[reason] ?? say("wrong.refused", { reason }));
+  const isTold = kind === "strange" || kind === "fault";
+  const text = isTold ? words : (told[reason] ?? say("wrong.refused", { reason }));
   return [element("p", { class: "wrong" }, text)];
 }
 
-/** The view, over the settings; `watch` is told when the desk is down and up. */
+/** The view, over the settings and the reports; `watch` is told when the desk is down and up. */
 export class Missing {
   #settings;
+  #reports;
   #watch;
-  #asking = new AbortController();
-  #timer;
-  #outcomes = new Map();
-  #seen = new Map();
   #shown = new Map();
 
-  constructor(settings, watch) {
+  constructor(settings, reports, watch) {
     this.#settings = settings;
+    this.#reports = reports;
     this.#watch = watch;
-    const heads = settings.series.map(({ name }) =>
-      element("h2", { id: `series-${name}` }, seriesInWords(settings, name)),
-    );
-    const cards = settings.series.map(({ name }, at) =>
-      element(
-        "section",
-        { class: "card", "aria-labelledby": heads[at].id },
-        heads[at],
-        element("div", { id: `report-${name}` }),
-      ),
-    );
-    found("series").replaceChildren(...cards);
+    found("series").replaceChildren(...settings.series.map((series) => this.#card(series)));
+    reports.subscribe((series) => {
+      if (series === undefined) this.#drawWhole();
+      else this.#drawCard(series);
+    });
     new ResizeObserver(() => this.#drawStrips()).observe(found("series"));
   }
 
-  /** Asks at once, and once more each minute until the view is left. */
+  /** Asks at once, and tells of the desk until the view is left. */
   show() {
-    this.leave();
     if (this.#settings.series.length === 0) {
       this.#say(say("missing.noSeries"));
       return;
     }
-    if (this.#outcomes.size === 0) this.#say(say("missing.asking"));
-    this.#asking = new AbortController();
-    this.#round(this.#asking.signal);
+    if (this.#reports.time === undefined) this.#say(say("missing.asking"));
+    this.#reports.show(this.#watch);
   }
 
   leave() {
-    clearTimeout(this.#timer);
-    this.#asking.abort();
-    this.#watch.up();
+    this.#reports.leave();
   }
 
   /** The title of the view, for the window. */
@@ -152,27 +153,14 @@ export class Missing {
     return say("missing.view");
   }
 
-  /** Asks about each series, one after the other: the desk answers one question at a time. */
-  async #round(signal) {
-    const begun = Date.now();
-    try {
-      for (const series of this.#settings.series) {
-        const outcome = await ask(`series/${series.name}/gaps`, {}, signal, this.#watch);
-        this.#outcomes.set(series.name, outcome);
-        if (outcome.kind === "answer") {
-          this.#seen.set(series.name, see(series.name, outcome.body, today()));
-        }
-        this.#drawCard(series, outcome);
-      }
-      found("as-of").textContent = say("missing.asOf", { time: clock() });
-      this.#say(this.#summary());
-    } catch (fault) {
-      if (isAbandoned(fault)) return;
-      throw fault;
-    }
-    // While the desk is down the round goes on, and asks again by itself.
-    const rest = Math.max(0, begun + MINUTE - Date.now());
-    this.#timer = setTimeout(() => this.#round(signal), rest);
+  #card({ name }) {
+    const heading = element("h2", { id: `series-${name}` }, seriesInWords(this.#settings, name));
+    return element(
+      "section",
+      { class: "card", id: `card-${name}`, "aria-labelledby": heading.id },
+      heading,
+      element("div", { id: `report-${name}` }),
+    );
   }
 
   /** Says something in the live region, unless it is what stands there. */
@@ -181,48 +169,66 @@ export class Missing {
     if (place.textContent !== words) place.textContent = words;
   }
 
+  #drawWhole() {
+    if (this.#settings.series.length === 0) return;
+    found("as-of").textContent = say("missing.asOf", { time: timeInWords(this.#reports.time) });
+    this.#say(this.#summary());
+    this.#orderCards();
+  }
+
   #summary() {
-    const outcomes = [...this.#outcomes.values()];
-    const reports = outcomes.filter(({ kind }) => kind === "answer").map(({ body }) => body);
-    const lacking = reports.filter(({ missing }) => missing.length > 0);
-    const count = lacking.reduce((sum, { missing }) => sum + allOf(missing), 0);
+    const states = this.#settings.series.map((series) => ({ ...this.#reports.stateOf(series.name), ...series }));
+    const lacking = states.filter(({ count }) => count > 0);
+    const count = lacking.reduce((sum, state) => sum + state.count, 0);
     const messages = sayCount("missing.messages", count);
-    const wholesalers = lacking.map(({ series }) => wholesalerOf(this.#settings, series)).join(", ");
+    const wholesalers = lacking.map(({ words }) => words).join(", ");
     const sentences = lacking.length > 0
       ? [sayCount("missing.someMissing", lacking.length, { messages, wholesalers })]
       : [];
-    const without = outcomes.length - reports.length;
+    const without = states.filter(({ isWatched }) => !isWatched).length;
     if (without > 0) sentences.push(sayCount("missing.notAsked", without));
-    if (sentences.length === 0) sentences.push(say("missing.allThere"));
-    return [...sentences, ...this.#silence()].join(" ");
+    if (sentences.length === 0) sentences.push(sayCount("missing.allThere", states.length));
+    const silent = states.filter(({ isSilent }) => isSilent).map(({ words }) => words);
+    if (silent.length > 0) {
+      sentences.push(say("missing.silentSeries", { wholesalers: silent.join(", ") }));
+    }
+    return sentences.join(" ");
   }
 
-  /** Names the series that have been silent for longer than they may be. */
-  #silence() {
-    const silent = this.#settings.series.filter((series) => {
-      const seen = this.#seen.get(series.name);
-      return seen !== undefined && isSilent(seen, series);
-    });
-    if (silent.length === 0) return [];
-    return [say("missing.silentSeries", { wholesalers: silent.map(({ words }) => words).join(", ") })];
+  /** Puts what lacks messages first, then what is silent or has no report, and what is whole behind it. */
+  #orderCards() {
+    const weight = ({ name }) => {
+      const { count, isSilent, isWatched } = this.#reports.stateOf(name);
+      return count > 0 ? 0 : isSilent || !isWatched ? 1 : 2;
+    };
+    const { series } = this.#settings;
+    const ordered = [...series].sort((one, other) => weight(one) - weight(other));
+    const cards = ordered.map(({ name }) => found(`card-${name}`));
+    cards.forEach((card, at) => card.classList.toggle("whole", weight(ordered[at]) === 2));
+    if (cards.every((card, at) => card === found("series").children[at])) return;
+    const focus = document.activeElement;
+    found("series").replaceChildren(...cards);
+    focus?.focus({ preventScroll: true });
   }
 
   /** Draws a report that changed; another one keeps what the buyer has in hand there. */
-  #drawCard(series, outcome) {
+  #drawCard(series) {
+    const outcome = this.#reports.outcomeOf(series.name);
+    const state = this.#reports.stateOf(series.name);
     const place = found(`report-${series.name}`);
-    const state = JSON.stringify(outcome);
-    if (this.#shown.get(series.name) !== state) {
-      this.#shown.set(series.name, state);
+    const text = JSON.stringify([outcome, state.isSilent]);
+    if (this.#shown.get(series.name) !== text) {
+      this.#shown.set(series.name, text);
       const part = outcome.kind === "answer"
-        ? reportPart(outcome.body, series)
+        ? reportPart(outcome.body, series, state, this.#settings)
         : refusalPart(outcome, series);
       const hadFocus = place.contains(document.activeElement);
       place.replaceChildren(...part);
       if (hadFocus) place.querySelector("button")?.focus();
     }
     // Days go by while nothing else changes.
-    const seen = this.#seen.get(series.name);
-    place.querySelector(".since")?.replaceChildren(...sinceInWords(seen, series));
+    const seen = this.#reports.seenOf(series.name);
+    place.querySelector(".since")?.replaceChildren(...sinceInWords(seen, series, state));
     this.#drawStrips();
   }
 
@@ -232,7 +238,7 @@ export class Missing {
       const place = found(`report-${name}`).querySelector(".strip-place");
       const pixels = Math.floor(place?.clientWidth ?? 0);
       if (pixels === 0 || place.dataset.pixels === String(pixels)) continue;
-      const report = this.#outcomes.get(name).body;
+      const report = this.#reports.outcomeOf(name).body;
       place.dataset.pixels = pixels;
       place.replaceChildren(strip(report, rangesInWords(report.missing), pixels));
     }

@@ -1,18 +1,27 @@
-// desk.json and words.json, which the operator writes: the names of series, what the fields begin with,
-// the page's language and words. What is wrong with them is a `path` of the words for it, and `values`.
+// desk.json, words.json and rules.toml, which the operator writes: the names of series, what the fields begin
+// with, the page's language and words, and those of rules. What is wrong with them is a `path` of the words for
+// it, and `values`.
 
 import { urlBeside } from "./address.js";
+import { isChecked } from "./isbn.js";
 import { withOwnWords } from "./own-words.js";
+import { ruleWords } from "./rules.js";
 import { say, shippedWords } from "./wording.js";
 
 const FILE = "desk.json";
 const WORDS = "words.json";
+const RULES = "rules.toml";
 
 const NEEDED = ["series", "country", "currency", "price_type"];
-const KEYS = [...NEEDED, "language", "quantities", "rules"];
-const SERIES_KEYS = ["name", "words", "days_without_message"];
+const KEYS = [...NEEDED, "shop", "language", "quantities", "minutes_to_usual"];
+const SERIES_KEYS = [
+  "name", "words", "days_without_message", "parts", "number_offset", "sender", "addressee", "mail",
+  "free_from",
+];
 const LANGUAGE = "en-GB";
 const MOST_QUANTITIES = 8;
+const MINUTES_TO_USUAL = 10;
+const DAY = 1440;
 
 const isText = (value) => typeof value === "string";
 const isObject = (value) => typeof value === "object" && value !== null && !Array.isArray(value);
@@ -54,6 +63,35 @@ function checkKeys(given, known, problems, path, values = {}) {
   }
 }
 
+/** Whether a value is a GLN, whose last digit is made as that of an ISBN. */
+const isGln = (value) => isText(value) && /^\d{13}$/.test(value) && isChecked(value);
+
+const isAmount = (value) => isText(value) && /^\d{1,9}(\.\d{1,3})?$/.test(value);
+
+const isMail = (value) => isText(value) && /^[^\s@<>,;:?&"]+@[^\s@<>,;:?&"]+$/.test(value);
+
+// What a series may have beside its name and words: under which name the page has it, what it may be, and the
+// path of what is said where it is something else.
+const OPTIONAL = {
+  days_without_message: ["days", (value) => isCount(value, 9999), "seriesDays"],
+  parts: ["parts", (value) => isCount(value, 9999), "seriesParts"],
+  number_offset: ["offset", (value) => value === 0 || isCount(value, 999_999_999), "seriesOffset"],
+  sender: ["sender", isGln, "seriesGln"],
+  addressee: ["addressee", isGln, "seriesGln"],
+  mail: ["mail", isMail, "seriesMail"],
+  free_from: ["freeFrom", isAmount, "seriesFree"],
+};
+
+function readOptional(item, number, problems) {
+  const found = {};
+  for (const [key, [name, isRight, path]] of Object.entries(OPTIONAL)) {
+    if (item[key] === undefined) continue;
+    if (isRight(item[key])) found[name] = item[key];
+    else tell(problems, path, { key, number, value: shown(item[key]) });
+  }
+  return found;
+}
+
 /** One series, or `undefined` with what is wrong with it added to the problems. */
 function readSeries(item, number, earlier, problems) {
   if (!isObject(item) || !isText(item.name) || !isText(item.words)) {
@@ -70,10 +108,7 @@ function readSeries(item, number, earlier, problems) {
     return undefined;
   }
   checkKeys(item, SERIES_KEYS, problems, "seriesUnknown", { number });
-  const days = item.days_without_message;
-  const isRight = days === undefined || isCount(days, 9999);
-  if (!isRight) tell(problems, "seriesDays", { number, value: shown(days) });
-  return { name: item.name, words: item.words, days: isRight ? days : undefined };
+  return { name: item.name, words: item.words, ...readOptional(item, number, problems) };
 }
 
 function readAllSeries(given, problems) {
@@ -103,15 +138,19 @@ function readObject(text, problems) {
 }
 
 function settingsOf(given, problems) {
-  const areTexts = (value) => Array.isArray(value) && value.every(isText);
+  const isMinutes = (value) => value === 0 || isCount(value, DAY);
   return {
+    shop: read(given, "shop", isText, "", problems, "shop"),
     language: read(given, "language", isLanguage, LANGUAGE, problems, "language"),
     series: readAllSeries(given, problems),
     country: readCode(given, "country", /^[A-Z]{2}$/, problems, "country"),
     currency: readCode(given, "currency", /^[A-Z]{3}$/, problems, "currency"),
     type: readCode(given, "price_type", /^\d\d$/, problems, "priceType"),
     quantities: read(given, "quantities", areQuantities, [], problems, "quantities"),
-    rules: read(given, "rules", areTexts, [], problems, "rules"),
+    minutesToUsual: read(
+      given, "minutes_to_usual", isMinutes, MINUTES_TO_USUAL, problems, "minutesToUsual",
+    ),
+    rules: [],
   };
 }
 
@@ -123,7 +162,8 @@ export function readSettings(text) {
   for (const key of NEEDED) {
     if (!Object.hasOwn(given, key)) tell(problems, "lacks", { key });
   }
-  checkKeys(given, KEYS, problems, "unknown");
+  if (Object.hasOwn(given, "rules")) tell(problems, "rules");
+  checkKeys(given, [...KEYS, "rules"], problems, "unknown");
   return { settings: settingsOf(given, problems), problems };
 }
 
@@ -144,6 +184,12 @@ export async function loadSettings() {
   const { text, problem } = await load(FILE);
   if (problem === undefined) return readSettings(text);
   return { settings: settingsOf({}, []), problems: [problem] };
+}
+
+/** The words of the shop's rules, as rules.toml has them now; `undefined` where it cannot be read. */
+export async function loadRules() {
+  const { text } = await load(RULES, true);
+  return text === undefined ? undefined : ruleWords(text);
 }
 
 /** The words of a language with those of the page's words.json, and what is wrong with that. */

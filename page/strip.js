@@ -40,6 +40,26 @@ function pieceShape({ kind, from, to }, at, whole) {
   return shape;
 }
 
+// The width of a digit of the strip's font, at most.
+const SIGN = 8;
+
+/** The first and last number of each missing piece, below it, where there is room beside the others. */
+function edgeTexts(pieces, at, whole, [first, last]) {
+  let end = String(first).length * SIGN + SIGN;
+  const most = whole - String(last).length * SIGN - SIGN;
+  const texts = [];
+  for (const { kind, from, to } of pieces) {
+    if (kind !== "missing") continue;
+    const words = from === to ? String(from) : `${from}–${to}`;
+    const length = words.length * SIGN;
+    const x = (at(from) + at(to + 1)) / 2;
+    if (x - length / 2 < end || x + length / 2 > most) continue;
+    end = x + length / 2 + SIGN;
+    texts.push(drawn("text", { class: "edge", x, y: HEIGHT - 4, "text-anchor": "middle" }, words));
+  }
+  return texts;
+}
+
 /** The strip of a report that has missing numbers, with `ranges` as their words. */
 export function strip(report, ranges, whole) {
   const pieces = piecesOf(report);
@@ -59,6 +79,7 @@ export function strip(report, ranges, whole) {
       "aria-label": say("missing.strip", { from, until, ranges }),
     },
     ...order.map((piece) => pieceShape(piece, at, whole)),
+    ...edgeTexts(pieces, at, whole, [from, until]),
     drawn("text", { class: "end", x: 0, y: HEIGHT - 4 }, String(from)),
     drawn("text", { class: "end", x: whole, y: HEIGHT - 4, "text-anchor": "end" }, String(until)),
   );

@@ -8,32 +8,48 @@ from tests.page.site import Site
 from tests.page.week import ISBN, OTHER_ISBN, article
 from tests.running import Outcome
 
-NORTH = ["North Books (north)", "N-100", "21 – in stock"]
-SOUTH = ["South Books (south)", "S1", "21 – in stock"]
-WEST = ["Western Wholesale (west)", "W-7", "31 – out of stock"]
-NONE = "no price for this question"
-SAME = "no change"
-BREAK = "1 copy: £11.8010 copies: £9.95"
+NORTH = ["North Books", "in stock 21"]
+SOUTH = ["South Books", "in stock 21"]
+WEST = ["Western Wholesale", "out of stock 31"]
+NONE = "no retail price"
+SAME = "same at 10, 25 and 999,999"
+SAME_FOR_TEN = "same at 1, 25 and 999,999"
+BREAK = "1: £11.8010: £9.95"
+RISE = "until 14 Apr 2025, then £10.75"
+ON = "beyond 9 Mar 2026"
 
 ONE_COPY = [
-    [*NORTH, "£11.50", SAME, "Chosen by rule 2"],
-    [*SOUTH, "£11.80", BREAK, ""],
-    [*WEST, "£8.00", SAME, ""],
+    [*NORTH, "£11.50", "–", SAME, RISE],
+    [*SOUTH, "£11.80", "+£0.30", BREAK, ON],
+    [*WEST, "£8.00", "-£3.50 rules 1 to 2 do not take it", SAME, ON],
 ]
 TEN_COPIES = [
-    [*NORTH, "£11.50", SAME, ""],
-    [*SOUTH, "£9.95", BREAK, "Chosen by rule 1"],
-    [*WEST, "£8.00", SAME, ""],
+    [*NORTH, "£11.50", "+£1.55", SAME_FOR_TEN, RISE],
+    [*SOUTH, "£9.95", "–", BREAK, ON],
+    [*WEST, "£8.00", "-£1.95 rule 1 does not take it", SAME_FOR_TEN, ON],
 ]
-WAITING = "…"
+
+# The cells of each offer: of the first one the wholesaler, without the marks behind it.
+ROWS = """
+return [...document.querySelectorAll('#offers tbody tr')].map((row) => [...row.children].map((cell) =>
+  (cell.querySelector('.name') ?? cell).textContent));
+"""
+# What is still asked for: other quantities, other types, the calendar.
+WAITING = ("…", "or before")
+
+
+def has_calendar(browser: Browser) -> bool:
+    """Whether the calendar is there, folded or not, with what it says of each offer."""
+    return bool(browser.run("return !document.getElementById('calendar').hidden"))
 
 
 def answered(browser: Browser) -> list[list[str]]:
-    """The rows of the offers, once the other quantities are answered too."""
+    """The rows of the offers, once all that is asked beside their prices is answered too."""
 
     def rows() -> list[list[str]]:
-        found = browser.rows("#offers")
-        return [] if any(WAITING in row for row in found) else found
+        found: list[list[str]] = browser.run(ROWS)
+        waits = any(word in cell for row in found for cell in row for word in WAITING)
+        return found if has_calendar(browser) and not waits else []
 
     return browser.wait(rows) or []
 
@@ -42,39 +58,46 @@ def said(browser: Browser, words: str) -> bool:
     return words in browser.wait_for_text("#article-status", words)
 
 
+def noted(browser: Browser, words: str) -> bool:
+    """Whether something is noted below the answer."""
+    return words in browser.wait_for_text("#notes", words)
+
+
+def chosen_rows(browser: Browser) -> list[list[str]]:
+    """The class of each offer's row, and what is said behind the wholesaler of being chosen."""
+    rows: list[list[str]] = browser.run(
+        """return [...document.querySelectorAll('#offers tbody tr')]
+          .map((row) => [row.className, row.querySelector('.mark')?.textContent ?? ''])"""
+    )
+    return rows
+
+
 def one_copy(site: Site, browser: Browser) -> Iterator[Outcome]:
     browser.open(article())
     yield Outcome("one copy: the offers", answered(browser), ONE_COPY)
-    chosen = "The shop’s choice is North Books, retail price £11.50."
-    rule = "Rule 2 of the shop chooses it: “Else whoever has the book”."
-    yield Outcome("one copy: the choice", said(browser, f"{chosen} {rule}"), True)
-    classes = browser.run(
-        """return [...document.querySelectorAll('#offers tbody tr')].map((row) => row.className)"""
-    )
-    yield Outcome("one copy: only the chosen row is marked", classes, ["chosen", "", ""])
-    price_type = "price type 02 – recommended retail price, with tax"
-    question = f"{ISBN} on 10 April 2025 in GB, GBP, {price_type}, 1 copy"
-    yield Outcome("one copy: what was asked", browser.text("#asked"), question)
+    sentence = "On 10 April 2025: North Books: retail price £11.50"
+    details = f"ISBN {ISBN} · in stock · rule 2: “Else whoever has the book”"
+    yield Outcome("one copy: the answer", browser.text("#article-status"), f"{sentence}\n{details}")
+    yield Outcome("one copy: the rule's offer", chosen_rows(browser), [["", "rule 2"], ["", ""], ["", ""]])
 
 
 def ten_copies(site: Site, browser: Browser) -> Iterator[Outcome]:
     browser.open(article(quantity="10"))
     yield Outcome("ten copies: the offers", answered(browser), TEN_COPIES)
-    chosen = "The shop’s choice is South Books, retail price £9.95."
-    yield Outcome("ten copies: the choice", said(browser, chosen), True)
+    yield Outcome("ten copies: the choice", said(browser, "South Books: retail price £9.95"), True)
 
 
 def another_country(site: Site, browser: Browser) -> Iterator[Outcome]:
     browser.open(article(country="IE", quantity="10"))
-    prices = [row[3] for row in answered(browser)]
+    prices = [row[2] for row in answered(browser)]
     yield Outcome("Ireland: South does not sell there", prices, ["£11.50", NONE, "£8.00"])
 
 
 def no_rule(site: Site, browser: Browser) -> Iterator[Outcome]:
     browser.open(article(OTHER_ISBN))
-    rows = [["North Books (north)", "N-200", "40 – not available", "£25.00", SAME, ""]]
+    rows = [["North Books", "not available 40", "£25.00", SAME, ON]]
     yield Outcome("no rule: the offer", answered(browser), rows)
-    words = "No rule of the shop admits one of these offers, so none is chosen."
+    words = "No rule of the shop takes one of these offers, so none is chosen"
     yield Outcome("no rule: it is said", said(browser, words), True)
 
 
@@ -83,9 +106,9 @@ def no_offer(site: Site, browser: Browser) -> Iterator[Outcome]:
     browser.open(article())
     answered(browser)
     browser.run("location.hash = arguments[0]", article("9780000000002"))
-    yield Outcome("no offer: it is said", said(browser, "No wholesaler offers this book."), True)
-    yield Outcome("no offer: no table", browser.all("#offers tr"), [])
-    yield Outcome("no offer: no calendar", browser.one("#calendar").is_displayed(), False)
+    yield Outcome("no offer: it is said", said(browser, "No wholesaler offers this book"), True)
+    shown = [browser.one(part).is_displayed() for part in ("#answer", "#calendar")]
+    yield Outcome("no offer: no table and no calendar", shown, [False, False])
 
 
 def typed_question(site: Site, browser: Browser) -> Iterator[Outcome]:
@@ -111,18 +134,22 @@ def typed_question(site: Site, browser: Browser) -> Iterator[Outcome]:
     browser.open(address)
     yield Outcome("the address brings the answer back", answered(browser), rows)
     browser.run("location.hash = arguments[0]", article(quantity="10"))
-    browser.wait(lambda: "10 April 2025" in browser.text("#answer-heading"))
+    browser.wait(lambda: "On 10 April 2025" in browser.text("#article-status"))
     browser.driver.back()
-    browser.wait(lambda: "10 April 2025" not in browser.text("#answer-heading"))
+    browser.wait(lambda: "On 10 April 2025" not in browser.text("#article-status"))
     yield Outcome("back to the question before", answered(browser), rows)
-    yield Outcome("the window's title", browser.driver.title, f"ISBN {ISBN} – onixdesk")
+    yield Outcome("the window's title", browser.driver.title, f"ISBN {ISBN} – High Street Books · buying")
+    browser.one("#to-missing").click()
+    browser.wait_for_text("#as-of", "As of")
+    browser.one("#to-article").click()
+    yield Outcome("the question is there again behind another view", answered(browser), rows)
 
 
 def own_type(site: Site, browser: Browser) -> Iterator[Outcome]:
     """A type that has no words here can be asked for by the address."""
     browser.open(article(type="77"))
-    prices = [row[3] for row in answered(browser)]
-    yield Outcome("a type without words: the answer", prices, [NONE] * 3)
+    prices = [row[2] for row in answered(browser)]
+    yield Outcome("a type without words: the answer", prices, ["no price of this type"] * 3)
     shown = browser.run("return document.querySelector('#type').selectedOptions[0].textContent")
     yield Outcome("a type without words: its field", shown, "77 – no words for this code")
 
@@ -136,8 +163,9 @@ def one_moment(site: Site, browser: Browser) -> Iterator[Outcome]:
         window.asked = [];
         window.fetch = async (url, ...rest) => {
           window.asked.push(String(url).replace(/.*\\//, '').replace(/\\?.*/, ''));
+          const isLater = window.asked.filter((what) => what === 'price').length > 1;
           const reply = await real(url, ...rest);
-          if (window.asked.filter((what) => what === 'price').length > 1) return reply;
+          if (isLater) return reply;
           if (!String(url).includes('/price?')) return reply;
           const text = (await reply.text()).replace('11.500', '11.400');
           return new Response(text, { status: 200 });
@@ -149,8 +177,36 @@ def one_moment(site: Site, browser: Browser) -> Iterator[Outcome]:
     rows = answered(browser)
     yield Outcome("price and choice of one moment", rows, ONE_COPY)
     # The page may still be fetching files of its own.
-    asked = browser.run("return window.asked.filter((what) => ['price', 'choice'].includes(what)).slice(0, 4)")
-    yield Outcome("they are asked for again", asked, ["price", "choice"] * 2)
+    asked = browser.run("return window.asked.filter((what) => what === 'choice').length")
+    yield Outcome("they are asked for again", asked, 2)
+
+
+# Sixty offers of one book, of which the last one is chosen, in the place of the desk's replies.
+MANY = """
+const real = window.fetch;
+const offers = Array.from({ length: 60 }, (_, at) => (
+  { amount: '5.000', availability: '21', place: 1, reference: `R${at}`, series: 'odd' }));
+const bodies = {
+  price: { answer: 'price', offers },
+  choice: { answer: 'choice', choice: { ...offers[59], rule: 1 } },
+  calendar: { answer: 'calendar', offers: [] },
+};
+window.fetch = async (url, ...rest) => {
+  const what = /\\/desk\\/articles\\/\\d+\\/(\\w+)/.exec(url)?.[1];
+  return what === undefined ? real(url, ...rest) : new Response(JSON.stringify(bodies[what]), { status: 200 });
+};
+location.hash = arguments[0];
+"""
+
+
+def many_offers(site: Site, browser: Browser) -> Iterator[Outcome]:
+    """Of very many offers fifty are shown at first, with the chosen one before all others."""
+    browser.open("")
+    browser.run(MANY, article(type="05"))
+    rows = answered(browser)
+    yield Outcome("many offers: the first of them", (len(rows), rows[0][0]), (50, "odd R59"))
+    browser.one("#show-all").click()
+    yield Outcome("many offers: all of them", len(browser.run(ROWS)), 60)
 
 
 CASES = [
@@ -162,4 +218,5 @@ CASES = [
     typed_question,
     own_type,
     one_moment,
+    many_offers,
 ]

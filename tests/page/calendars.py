@@ -4,6 +4,7 @@ from collections.abc import Iterator, Sequence
 from datetime import date
 from typing import Any
 
+from tests.page.articles import has_calendar
 from tests.page.browser import Browser
 from tests.page.site import Site
 from tests.page.week import HOSTILE_ISBN, ISBN, article
@@ -65,9 +66,16 @@ def are_near(came: Lanes, wanted: Lanes) -> bool:
     return all(abs(a - b) < NEAR for one, two in zip(flat, other) for a, b in zip(one, two))
 
 
+def unfold(browser: Browser) -> None:
+    """Unfolds the calendar and its table, and waits until they are drawn."""
+    browser.wait(lambda: has_calendar(browser))
+    browser.run("for (const id of ['calendar', 'spans-part']) document.getElementById(id).open = true")
+    browser.wait(lambda: browser.all("#picture svg.lane") and browser.all("#spans tr"))
+
+
 def open_calendar(browser: Browser, isbn: str, first: date, last: date, **given: str) -> None:
     browser.open(article(isbn, **{"from": first.isoformat(), "until": last.isoformat()}, **given))
-    browser.wait(lambda: browser.all("#picture svg.lane") and browser.all("#spans tr"))
+    unfold(browser)
 
 
 def asked(site: Site, isbn: str, first: date, last: date) -> list[dict[str, Any]]:
@@ -131,6 +139,19 @@ def line(site: Site, browser: Browser) -> Iterator[Outcome]:
     yield Outcome("a day outside is said", said, True)
 
 
+CHOSEN = """
+return [...document.querySelectorAll('#picture .span.chosen')].map(({ dataset }) => [dataset.first, dataset.last]);
+"""
+
+
+def chosen_span(site: Site, browser: Browser) -> Iterator[Outcome]:
+    """Only the time in which the chosen price holds stands out: who is chosen on another day is not said."""
+    open_calendar(browser, ISBN, date(2025, 3, 25), date(2025, 4, 25))
+    yield Outcome("the chosen span", browser.run(CHOSEN), [["20250401", "20250414"]])
+    open_calendar(browser, ISBN, date(2025, 4, 15), date(2025, 4, 25))
+    yield Outcome("no chosen span where the day lies outside", browser.run(CHOSEN), [])
+
+
 def gaps(site: Site, browser: Browser) -> Iterator[Outcome]:
     first, last = date(2025, 3, 30), date(2025, 4, 4)
     yield from measured(site, browser, "gaps", HOSTILE_ISBN, first, last)
@@ -140,7 +161,9 @@ def gaps(site: Site, browser: Browser) -> Iterator[Outcome]:
 def year(site: Site, browser: Browser) -> Iterator[Outcome]:
     """A year at once, as the view begins and by its button."""
     browser.open(article())
-    browser.wait(lambda: browser.all("#picture svg.lane"))
+    unfold(browser)
+    heading = "Calendar of prices, 10 March 2025 to 9 March 2026"
+    yield Outcome("its heading says from when to when", browser.text("#calendar-heading"), heading)
     values = [browser.one(field).get_attribute("value") for field in ("#from", "#until")]
     yield Outcome("the view begins with a year", values, ["2025-03-10", "2026-03-09"])
     first, last = date(2024, 2, 29), date(2025, 2, 27)
@@ -180,9 +203,9 @@ def same_table(site: Site, browser: Browser) -> Iterator[Outcome]:
     first, last = date(2025, 3, 25), date(2025, 4, 25)
     open_calendar(browser, ISBN, first, last)
     names = {
-        "north": "North Books (north), N-100, 21 – in stock",
-        "south": "South Books (south), S1, 21 – in stock",
-        "west": "Western Wholesale (west), W-7, 31 – out of stock",
+        "north": "North Books, in stock",
+        "south": "South Books, in stock",
+        "west": "Western Wholesale, out of stock",
     }
     wanted = [
         [names[series], in_words(begin), in_words(end), f"£{amount[:-1]}"]
@@ -211,4 +234,4 @@ def resized(site: Site, browser: Browser) -> Iterator[Outcome]:
         yield Outcome(f"the picture in a window of {width}", fits, True)
 
 
-CASES = [week, line, gaps, year, buttons, same_table, resized]
+CASES = [week, line, chosen_span, gaps, year, buttons, same_table, resized]

@@ -22,7 +22,7 @@ window.Date = class extends Real {
 # A browser tells a page that it is seen again, as on the morning after.
 SEEN_AGAIN = "window.daysAhead = arguments[0]; document.dispatchEvent(new Event('visibilitychange'))"
 
-OTHER = "document.getElementById('day-field').classList.contains('other-day')"
+OTHER = "document.getElementById('day-shown').classList.contains('unusual')"
 
 
 def in_words(day: date) -> str:
@@ -34,7 +34,14 @@ def value(browser: Browser) -> str:
 
 
 def heading(browser: Browser, words: str) -> str:
-    return browser.wait_for_text("#answer-heading", words)
+    """The heading of the offers, which a screen reader reads, once it has these words."""
+    text = "return document.getElementById('answer-heading').textContent"
+    browser.wait(lambda: words in browser.run(text))
+    return str(browser.run(text))
+
+
+def shown_day(browser: Browser) -> str:
+    return browser.text("#day-shown")
 
 
 def with_clock(browser: Browser, ahead: int = 0) -> Callable[[], object]:
@@ -54,6 +61,7 @@ def over_night(site: Site, browser: Browser) -> Iterator[Outcome]:
     answered(browser)
     yield Outcome("today is not in the address", "day=" in browser.run("return location.hash"), False)
     yield Outcome("today is no other day", heading(browser, "Offers"), f"Offers on {in_words(today)}")
+    answered(browser)
     browser.run(SEEN_AGAIN, 1)
     came = heading(browser, in_words(tomorrow))
     yield Outcome("over night the answer is of the new day", came, f"Offers on {in_words(tomorrow)}")
@@ -76,18 +84,19 @@ def set_day(site: Site, browser: Browser) -> Iterator[Outcome]:
     browser.open(article())
     answered(browser)
     yield Outcome("a set day stands out at its field", browser.run(f"return {OTHER}"), True)
-    words = "Offers on 10 April 2025 not today"
-    yield Outcome("a set day stands out above the offers", browser.text("#answer-heading"), words)
-    yield Outcome("a set day is said beside the field", browser.text("#day-note"), "not today")
+    sentence = browser.text("#article-status .sentence")
+    yield Outcome("a set day is said in the sentence", sentence.startswith("On 10 April 2025: "), True)
+    yield Outcome("a set day is said in words", shown_day(browser), "Thu, 10 April 2025, not today")
     browser.run(SEEN_AGAIN, 1)
     yield Outcome("a set day stays over night", value(browser), "2025-04-10")
     browser.run("window.daysAhead = 0")
-    browser.one("#to-today").click()
+    browser.one("#as-usual").click()
     came = heading(browser, in_words(today))
-    yield Outcome("back to today by a button", came, f"Offers on {in_words(today)}")
+    yield Outcome("back to today by the button", came, f"Offers on {in_words(today)}")
     yield Outcome("back to today: the address", "day=" in browser.run("return location.hash"), False)
     yield Outcome("back to today: the field", value(browser), today.isoformat())
     answered(browser)
+    yield Outcome("back to today: in words", shown_day(browser), f"Today, {today:%a}, {in_words(today)}")
     browser.run(SEEN_AGAIN, 1)
     tomorrow = in_words(today + timedelta(days=1))
     yield Outcome("and it follows today again", heading(browser, tomorrow), f"Offers on {tomorrow}")

@@ -2,7 +2,9 @@
 
 from collections.abc import Iterator
 
+from tests.page.articles import answered
 from tests.page.browser import Browser
+from tests.page.calendars import unfold
 from tests.page.site import Site
 from tests.page.week import HOSTILE, HOSTILE_ISBN, LONG, TURNING, TURNING_ISBN, article
 from tests.running import Outcome
@@ -12,11 +14,15 @@ def references(site: Site, browser: Browser) -> Iterator[Outcome]:
     browser.open("")
     browser.complaints()
     browser.open(article(HOSTILE_ISBN))
-    browser.wait(lambda: browser.all("#picture svg.lane") and browser.all("#spans tr"))
-    rows = browser.rows("#offers")
-    yield Outcome("hostile references in the offers", [row[1] for row in rows], [HOSTILE, LONG])
-    yield Outcome("a series that desk.json does not name", {row[0] for row in rows}, {"odd"})
-    offers = [f"odd, {HOSTILE}, 21 – in stock", f"odd, {LONG}, 20 – available"]
+    unfold(browser)
+    browser.run("document.getElementById('references').open = true")
+    names = [row[0] for row in answered(browser)]
+    yield Outcome("hostile references in the offers", names, [f"odd {HOSTILE}", f"odd {LONG}"])
+    rows = browser.rows("#references-table")
+    yield Outcome("hostile references in their table", rows, [["odd", HOSTILE], ["odd", LONG]])
+    marks = browser.texts("#offers .tag.quiet")
+    yield Outcome("a wholesaler that desk.json does not name", marks, ["not watched"] * 2)
+    offers = [f"odd {HOSTILE}, in stock", f"odd {LONG}, available"]
     lanes = browser.run(
         """return [...document.querySelectorAll('#picture .lane-name')].map((name) => name.textContent)"""
     )
@@ -32,6 +38,10 @@ def references(site: Site, browser: Browser) -> Iterator[Outcome]:
         """return [...document.querySelectorAll('#offers thead th')].map((head) => head.offsetHeight)"""
     )
     yield Outcome(f"beside a long reference, {heights}", max(heights) < 60, True)
+    lines = browser.run(
+        """return [...document.querySelectorAll('#offers .reference')].map((found) => found.offsetHeight)"""
+    )
+    yield Outcome(f"a long reference takes two lines of the table, {lines}", max(lines) < 60, True)
     wide = browser.run("return document.documentElement.scrollWidth <= innerWidth")
     yield Outcome("a long reference breaks", wide, True)
 
@@ -56,7 +66,7 @@ STRANGE = "&utm_source=mail&__proto__=x&constructor=y&offers=1"
 def unknown_names(site: Site, browser: Browser) -> Iterator[Outcome]:
     """What a mail or another program adds to an address does no harm, to the calendar's buttons either."""
     browser.open(article() + STRANGE)
-    browser.wait(lambda: browser.all("#picture svg.lane"))
+    unfold(browser)
     browser.complaints()
     for id in ("later", "earlier", "month", "year"):
         before = browser.run("return location.hash")
@@ -88,7 +98,8 @@ def turning(site: Site, browser: Browser) -> Iterator[Outcome]:
     """A reference in a script from right to left leaves what stands beside it in its place."""
     browser.size(1400, 900)
     browser.open(article(TURNING_ISBN, **{"from": "2025-04-10", "until": "2025-04-11"}))
-    browser.wait(lambda: browser.all("#picture svg.lane") and browser.all("#spans tr"))
+    unfold(browser)
+    browser.run("document.getElementById('references').open = true")
     for reference in TURNING:
         for place in ("#picture .lane-name", "#spans tbody th"):
             came = browser.run(AROUND, place, reference)
@@ -98,7 +109,7 @@ def turning(site: Site, browser: Browser) -> Iterator[Outcome]:
             .length""",
             reference,
         )
-        yield Outcome(f"{reference!a} is kept apart: table, picture, calendar", holders, 3)
+        yield Outcome(f"{reference!a} is kept apart in each of four places", holders, 4)
     browser.size(1100, 900)
 
 

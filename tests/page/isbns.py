@@ -17,7 +17,7 @@ THIRTEEN = "9780306406157"
 ENDING_IN_X = ["0-8044-2957-X", "080442957x"]
 ITS_THIRTEEN = "9780804429573"
 
-REMARK = "Is a digit mistyped? The last sign should be {}. It is asked for all the same."
+REMARK = "This is no ISBN: a digit is wrong, or two are swapped. Compare it with the book."
 
 
 def scan(browser: Browser, text: str) -> None:
@@ -27,7 +27,7 @@ def scan(browser: Browser, text: str) -> None:
 
 def asked(browser: Browser, isbn: str) -> bool:
     """Whether the page shows the answer for an ISBN."""
-    shown = browser.wait(lambda: browser.text("#asked").startswith(isbn), 10)
+    shown = browser.wait(lambda: f"ISBN {isbn}" in browser.text("#article-status"), 10)
     return bool(shown and answered(browser) is not None)
 
 
@@ -42,8 +42,10 @@ def scanned(site: Site, browser: Browser) -> Iterator[Outcome]:
         yield Outcome(f"the focus after {isbn}, and what is selected", browser.run(FOCUS), ["isbn", isbn])
     browser.one("#quantity").clear()
     browser.one("#quantity").send_keys("10\n")
-    browser.wait(lambda: browser.text("#asked").endswith("10 copies"))
+    browser.wait_for_text("#article-status", "£9.95")
     yield Outcome("the focus after another question", browser.run(FOCUS), ["isbn", ISBN])
+    answered(browser)
+    browser.one("#calendar > summary").click()
     browser.one("#month").click()
     browser.wait(lambda: "until=" in browser.run("return location.hash"))
     scan_place = browser.run(FOCUS)[0]
@@ -76,7 +78,7 @@ def ten_digits(site: Site, browser: Browser) -> Iterator[Outcome]:
         given = browser.run("return location.hash").partition("&")[0]
         yield Outcome(f"{typed}: the address", given, f"#article?isbn={isbn}")
         yield Outcome(f"{typed}: its field", browser.one("#isbn").get_attribute("value"), isbn)
-        yield Outcome(f"{typed}: nothing to remark", browser.text("#isbn-remark"), "")
+        yield Outcome(f"{typed}: nothing to remark", browser.text("#isbn-wrong"), "")
 
 
 # No-break and ordinary hyphens, dashes, a minus, a soft hyphen, and spaces of several widths.
@@ -98,33 +100,61 @@ def hyphens(site: Site, browser: Browser) -> Iterator[Outcome]:
         yield Outcome(f"hyphens: {typed!a}", asked(browser, ISBN), True)
 
 
+# What stands around an ISBN that is copied from a mail, an invoice or the web, and what a scanner adds to it: the
+# code of a price, and the 0 of a trade unit.
+SURROUNDED = [
+    f"ISBN: {ISBN}",
+    f"“{ISBN}”,",
+    f"{ISBN} (hardback)",
+    f"https://books.example.org/{ISBN}?from=mail",
+    "".join(chr(ord(digit) + 0xFEE0) for digit in ISBN),
+    "".join(chr(0x660 + int(digit)) for digit in ISBN),
+    f"{ISBN}51299",
+    f"0{ISBN}",
+]
+
+
+def surrounded(site: Site, browser: Browser) -> Iterator[Outcome]:
+    """The ISBN is taken out of what stands around it."""
+    browser.open("")
+    for typed in SURROUNDED:
+        browser.run("location.hash = '#article'")
+        browser.run("document.getElementById('isbn').value = arguments[0]", typed)
+        browser.one("#question button.main").click()
+        came = browser.wait(lambda: f"isbn={ISBN}&" in browser.run("return location.hash"), 10)
+        yield Outcome(f"taken out of {typed!a}", came, True)
+
+
 def check_digits(site: Site, browser: Browser) -> Iterator[Outcome]:
-    """A wrong last digit is told beside the field, and the desk is asked all the same."""
-    for typed, isbn, right in [
-        ("978-1-234567-89-4", "9781234567894", "7"),
-        ("0-306-40615-3", THIRTEEN, "2"),
-        ("0-8044-2957-3", ITS_THIRTEEN, "X"),
+    """A wrong digit is told and not mended, and the desk is asked where the buyer wants that alone."""
+    for typed, isbn in [
+        ("978-1-234567-89-4", "9781234567894"),
+        ("978-1-2345-6798-7", "9781234567987"),
+        ("0-306-40615-3", THIRTEEN),
+        ("0-8044-2957-3", ITS_THIRTEEN),
     ]:
         browser.open("")
         browser.wait(lambda: browser.run(FOCUS)[0] == "isbn")
         before = site.mark()
-        scan(browser, typed)
-        told = browser.wait_for_text("#isbn-remark", "mistyped")
-        yield Outcome(f"{typed}: the remark", told, REMARK.format(right))
-        yield Outcome(f"{typed}: what was asked", asked_any(browser, isbn), True)
-        yield Outcome(f"{typed}: the desk was asked", site.lines_since(before)[:2], ["200", "200"])
-        kept = browser.one("#isbn").get_attribute("value")
-        yield Outcome(f"{typed}: its digits stay", kept, typed.replace("-", ""))
-        state = browser.run("return document.activeElement.getAttribute('aria-invalid')")
-        yield Outcome(f"{typed}: it is not refused", state, None)
+        browser.one("#isbn").send_keys(f"{typed}\n")
+        told = browser.wait_for_text("#isbn-wrong", "digit")
+        yield Outcome(f"{typed}: the remark", told, REMARK)
+        yield Outcome(f"{typed}: not looked for", browser.text("#not-looked-for strong"), f"Not looked for: {typed}")
+        yield Outcome(f"{typed}: no answer", browser.text("#article-status"), "")
+        asked = [line for line in site.requests() if f"/{isbn}/" in line]
+        yield Outcome(f"{typed}: the desk was not asked", asked, [])
+        yield Outcome(f"{typed}: its digits stay", browser.one("#isbn").get_attribute("value"), typed)
+        browser.one("#ask-anyway").click()
+        yield Outcome(f"{typed}: asked all the same", asked_any(browser, isbn), True)
+        yield Outcome(f"{typed}: by the desk", "200" in site.lines_since(before), True)
     browser.open(article())
     answered(browser)
-    yield Outcome("a right ISBN has no remark", browser.text("#isbn-remark"), "")
+    yield Outcome("a right ISBN has no remark", browser.text("#isbn-wrong"), "")
 
 
 def asked_any(browser: Browser, isbn: str) -> bool:
     """Whether the page asked for an ISBN, whether it is offered or not."""
-    return bool(browser.wait(lambda: browser.text("#asked").startswith(isbn), 10))
+    return bool(browser.wait(lambda: f"ISBN {isbn}" in browser.text("#article-status"), 10))
 
 
-CASES = [scanned, next_one_is_not_lost, ten_digits, hyphens, check_digits]
+CASES = [scanned, next_one_is_not_lost, ten_digits, hyphens, surrounded, check_digits]

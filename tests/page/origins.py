@@ -73,6 +73,9 @@ def policies(site: Site) -> list[tuple[str, str, list[Field], int]]:
         ("GET", "/nginx.conf", [], 404),
         ("GET", "/../passwords", [], 400),
         ("GET", "/words.json", [], 200),
+        ("GET", "/rules.toml", [], 200),
+        ("GET", "/rules.toml", from_site("cross-site"), 403),
+        ("POST", "/rules.toml", [("Content-Length", "0")], 403),
         ("POST", "/words.json", [("Content-Length", "0")], 403),
     ]
 
@@ -264,10 +267,9 @@ def own_host_alone(site: Site, browser: Browser) -> Iterator[Outcome]:
     kinds = {(status, method, host) for status, method, host, _ in lines}
     yield Outcome("what nginx was asked for", kinds, {("200", "GET", NAME)})
     desk = [target.partition("?")[0] for _, _, _, target in lines if target.startswith("/desk/")]
-    questions = ("price", "choice", "calendar", "price", "price")
-    wanted = [f"/desk/articles/{ISBN}/{what}" for what in questions]
-    wanted += [f"/desk/series/{name}/gaps" for name in ("north", "south", "west")]
-    yield Outcome("what the desk was asked for", desk, wanted)
+    wanted = {f"/desk/articles/{ISBN}/{what}" for what in ("price", "choice", "calendar")}
+    wanted |= {f"/desk/series/{name}/gaps" for name in ("north", "south", "west")}
+    yield Outcome("what the desk was asked for", set(desk), wanted)
     seen = {urlsplit(address).path for address in addresses}
     yield Outcome("nginx and the browser agree", seen, {target.partition("?")[0] for *_, target in lines})
     yield Outcome("the browser has nothing to complain of", browser.complaints(), [])

@@ -2,10 +2,12 @@
 
 import contextlib
 import json
+import re
 from collections.abc import Iterator
 
-from tests.page.articles import SAME, answered, said
+from tests.page.articles import ROWS, SAME, answered, chosen_rows, noted, said
 from tests.page.browser import Browser
+from tests.page.calendars import unfold
 from tests.page.site import Site
 from tests.page.week import NET_ISBN, article
 from tests.running import Outcome
@@ -16,83 +18,96 @@ NET = {"type": "05", "currency": "GBP", "country": "GB"}
 @contextlib.contextmanager
 def settings(site: Site, **changes: object) -> Iterator[None]:
     """Puts other settings into the shop's desk.json for a time."""
-    path = site.own / "desk.json"
-    before = path.read_text(encoding="utf-8")
-    path.write_text(json.dumps(json.loads(before) | changes), encoding="utf-8")
+    site.write_settings(None, **changes)
     try:
         yield
     finally:
-        path.write_text(before, encoding="utf-8")
+        site.write_settings()
 
 
 def kinds(site: Site, browser: Browser) -> Iterator[Outcome]:
     """To buy at a price is said of a net price alone."""
     browser.open(article(NET_ISBN, **NET))
     rows = answered(browser)
-    yield Outcome("a net price: it is said", said(browser, "Buy from net at £8.125 a copy."), True)
-    yield Outcome("a net price: the offers", [row[3] for row in rows], ["£8.49", "£8.125", "no price for this question"])
-    yield Outcome("a net price: its column", browser.texts("#offers thead th")[3], "Price a copy")
+    yield Outcome("a net price: it is said", said(browser, "Buy 1 from net at £8.125 a copy"), True)
+    yield Outcome("a net price: the offers", [row[2] for row in rows], ["£8.49", "£8.125", "no net price"])
+    yield Outcome("a net price: its column", browser.texts("#offers thead th")[2], "Net, 1 copy")
+    marks = [["", ""], ["chosen", "chosen, rule 2"], ["", ""]]
+    yield Outcome("a net price: the chosen offer is marked", chosen_rows(browser), marks)
     browser.open(article(NET_ISBN, **NET | {"type": "42"}))
     answered(browser)
-    words = "The shop’s choice is net, retail price £19.99."
-    yield Outcome("a retail price: it is named", said(browser, words), True)
-    yield Outcome("a retail price: nobody buys at it", "Buy from" in browser.text("#article-status"), False)
-    yield Outcome("a retail price: its column", browser.texts("#offers thead th")[3], "Retail price")
+    yield Outcome("a retail price: it is named", said(browser, "net: retail price £19.99"), True)
+    told = "A retail price is not what the shop pays: ask for a net price before you buy."
+    yield Outcome("a retail price: it is no reason to buy", noted(browser, told), True)
+    yield Outcome("a retail price: nobody buys at it", "Buy" in browser.text("#article-status"), False)
+    yield Outcome("a retail price: its column", browser.texts("#offers thead th")[2], "Retail price")
 
 
 def other_types(site: Site, browser: Browser) -> Iterator[Outcome]:
-    """Where no offer has a price of the type, that is said, with the types that they have."""
+    """An offer without a price of the type stays in sight, with the types that it has, beside priced ones too."""
+    types = [
+        "05 – supplier's net price, without tax, £8.49",
+        "05 – supplier's net price, without tax, £8.125",
+        "42 – publisher's retail price, with tax, £19.99",
+    ]
+    browser.open(article(NET_ISBN, **NET))
+    yield Outcome("beside net prices: what another offer has", answered(browser)[2][2:5], ["no net price", "", types[2]])
     browser.open(article(NET_ISBN, **NET | {"type": "02"}))
-    answered(browser)
-    words = "No offer has a price of type 02 – recommended retail price, with tax for this question."
+    rows = answered(browser)
+    words = "No wholesaler has a price for 1 copy of type 02 – recommended retail price, with tax"
     yield Outcome("no price of the type: it is said", said(browser, words), True)
-    browser.wait_for_text("#article-status", "There are prices")
-    status = browser.text("#article-status")
-    yield Outcome("no price of the type: no rule is blamed", "rule" in status, False)
-    links = browser.texts("#article-status a")
-    wanted = ["05 – supplier's net price, without tax", "42 – publisher's retail price, with tax"]
-    yield Outcome("no price of the type: the types that there are", links, wanted)
-    browser.one("#article-status a").click()
-    yield Outcome("another type by its link", said(browser, "Buy from net at £8.125 a copy."), True)
+    yield Outcome("no price of the type: no rule is blamed", "rule" in browser.text("#article-status"), False)
+    yield Outcome("no price of the type: the types that there are", [row[3] for row in rows], types)
+    browser.one("#offers tbody a").click()
+    yield Outcome("another type by its link", said(browser, "Buy 1 from net at £8.125 a copy"), True)
+    answered(browser)
+    begun = len(site.requests())
     browser.open(article(NET_ISBN, **NET | {"type": "02", "currency": "USD"}))
-    words = "None has one of another type either."
-    yield Outcome("no price of any type", said(browser, words), True)
-    yield Outcome("no price of any type: no links", browser.all("#article-status a"), [])
+    words = "no price of any type for this day, country and currency"
+    yield Outcome("no price of any type", [row[3] for row in answered(browser)], [words] * 3)
+    asked = re.findall(r"/price\?\S*type=(\d\d)", "\n".join(site.requests()[begun:]))
+    first = sorted(list(dict.fromkeys(asked))[:5])
+    yield Outcome("the types that most send are asked for first", first, ["01", "02", "04", "05", "07"])
 
 
 def quantities(site: Site, browser: Browser) -> Iterator[Outcome]:
     browser.open(article(NET_ISBN, **NET))
     copies = [row[4] for row in answered(browser)]
-    yield Outcome("where prices change", copies, ["1 copy: £8.4925 copies: £7.99", SAME, ""])
-    browser.one("#offers .copies li:last-child a").click()
-    browser.wait(lambda: browser.text("#asked").endswith("25 copies"))
-    yield Outcome("other copies by a link", said(browser, "Buy from net at £7.99 a copy."), True)
-    yield Outcome("other copies: the price", answered(browser)[0][3:5], ["£7.99", copies[0]])
-    with settings(site, quantities=[1, 24, 25]):
+    wanted = ["1: £8.4925: £7.99", SAME]
+    yield Outcome("where prices change", copies[:2], wanted)
+    link = browser.one("#offers .copies a")
+    yield Outcome("the name of a link to other copies", link.accessible_name, "25 copies from net: £7.99")
+    link.click()
+    yield Outcome("other copies by a link", said(browser, "Buy 25 from net at £7.99 a copy"), True)
+    yield Outcome("other copies: the sum", browser.text("#article-status .sum"), "£199.75")
+    yield Outcome("other copies: the price", answered(browser)[0][2::2], ["£7.99", wanted[0]])
+    with settings(site, quantities=[1, 24]):
         browser.open(article(NET_ISBN, **NET))
-        came = answered(browser)[0][4]
-    yield Outcome("the quantities are those of desk.json", came, copies[0])
-    asked = [line.partition("quantity=")[2] for line in site.requests()[-2:]]
-    yield Outcome("they are what the desk is asked", asked, ["24", "25"])
+        answered(browser)
+        came = browser.run(ROWS)[0][4]
+    yield Outcome("a change beyond those of desk.json is found", came, wanted[0])
 
 
 def order(site: Site, browser: Browser) -> Iterator[Outcome]:
     browser.open(article(NET_ISBN, **NET))
     answered(browser)
-    browser.wait(lambda: browser.all("#picture svg.lane"))
+    unfold(browser)
     by = browser.one("#order")
     yield Outcome("offers in the desk's order", by.get_attribute("value"), "series")
     choose(browser, "price")
-    yield Outcome("offers by price", [row[1] for row in browser.rows("#offers")], ["K-2", "K-1", "K-3"])
-    lanes = [name.split(", ")[1] for name in browser.texts("#picture .lane-name")]
-    yield Outcome("the calendar by price", lanes, ["K-2", "K-1", "K-3"])
-    table = [row[0].split(", ")[1] for row in browser.rows("#spans")]
-    yield Outcome("its table by price", table, ["K-2", "K-1", "K-3"])
+    wanted = ["net K-2", "net K-1", "net K-3"]
+    yield Outcome("offers by price", [row[0] for row in browser.run(ROWS)], wanted)
+    lanes = [name.split(", ")[0] for name in browser.texts("#picture .lane-name")]
+    yield Outcome("the calendar by price", lanes, wanted)
+    table = [row[0].split(", ")[0] for row in browser.rows("#spans")]
+    yield Outcome("its table by price", table, wanted)
     browser.open(article())
-    names = [row[1] for row in answered(browser)]
-    yield Outcome("another article is by price too", names, ["W-7", "N-100", "S1"])
+    names = [row[0] for row in answered(browser)]
+    wanted = ["Western Wholesale", "North Books", "South Books"]
+    yield Outcome("another article is by price too", names, wanted)
     choose(browser, "series")
-    yield Outcome("and back", [row[1] for row in browser.rows("#offers")], ["N-100", "S1", "W-7"])
+    back = [row[0] for row in browser.run(ROWS)]
+    yield Outcome("and back", back, ["North Books", "South Books", "Western Wholesale"])
 
 
 def choose(browser: Browser, by: str) -> None:
@@ -121,15 +136,17 @@ def german(site: Site, browser: Browser) -> Iterator[Outcome]:
 def in_german(browser: Browser) -> Iterator[Outcome]:
     browser.open(article(NET_ISBN, **EURO))
     rows = answered(browser)
-    amounts = [row[3].replace("\u00a0", " ") for row in rows]
-    yield Outcome("German amounts", amounts, ["1.234,50 €", "24,00 €", "kein Preis für diese Frage"])
+    amounts = [row[2].replace("\u00a0", " ") for row in rows]
+    yield Outcome("German amounts", amounts, ["1.234,50 €", "24,00 €", "kein Nettopreis"])
     status = browser.text("#article-status").replace("\u00a0", " ")
-    yield Outcome("German sentences", "Bei net kaufen, zu 24,00 € je Exemplar." in status, True)
-    yield Outcome("German days", browser.text("#answer-heading"), "Angebote am 10. April 2025 nicht heute")
-    yield Outcome("German words of codes", rows[0][2], "21 – am Lager")
+    sentence = "Am 10. April 2025, in DE, in EUR, nach Preisart 05: 1 bei net kaufen, zu 24,00 € je Exemplar"
+    yield Outcome("a German sentence", status.startswith(sentence), True)
+    yield Outcome("German words of codes", rows[0][1], "am Lager 21")
+    unfold(browser)
     bars = browser.wait(lambda: browser.texts("#picture text.amount"))
     yield Outcome("German amounts in the picture", bars, ["1.234,50", "24,00"])
     yield Outcome("the language of the page", browser.run("return document.documentElement.lang"), "de")
+    browser.one("#change").click()
     labels = browser.texts("label")
     yield Outcome("German labels", [text for text in labels if text in ("Day", "Copies", "Price type")], [])
     yield Outcome("German countries", browser.text("#country-words"), "Deutschland")
@@ -140,19 +157,26 @@ def own_words(site: Site, browser: Browser) -> Iterator[Outcome]:
     path = site.own / "words.json"
     own = {
         "page": {"name": "Gardeners' buying"},
-        "article": {"copies": {"one": "a single copy", "other": "{count} copies"}, "nothing": "x", "day": 5},
+        "article": {
+            "copies": {"one": "a single copy", "other": "{count} copies"},
+            "price": {"retail": "Ladies and gentlemen, {copies}"},
+            "nothing": "x",
+            "day": 5,
+        },
         "priceTypes": {"02": "the usual price", "77": "house price"},
         "__proto__": "x",
         "wrong": "x",
     }
     text = json.dumps(own)
     path.write_text(text, encoding="utf-8")
+    site.write_settings(shop="")
     browser.open(article(quantity="1"))
     answered(browser)
+    site.write_settings()
     yield Outcome("own words: a name", browser.text("header .name"), "Gardeners' buying")
-    asked = browser.text("#asked")
-    yield Outcome("own words: a form for a count", asked.endswith("a single copy"), True)
-    yield Outcome("own words: a code", "02 – the usual price" in asked, True)
+    column = browser.run("return document.querySelector('#offers thead th:nth-child(3)').textContent")
+    yield Outcome("own words: a form for a count", column, "Ladies and gentlemen, a single copy")
+    yield Outcome("own words: a code", browser.text("#type-shown"), "the usual price (02)")
     codes = browser.run("return [...document.querySelectorAll('#type option')].map(({ value }) => value)")
     yield Outcome("own words: a code more", codes[-1], "77")
     yield Outcome("own words: all else stays", browser.text("#order-field label"), "Order of offers")

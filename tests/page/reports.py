@@ -1,6 +1,5 @@
 """The view of missing messages."""
 
-import re
 from collections.abc import Iterator
 from datetime import date, timedelta
 
@@ -38,7 +37,8 @@ return [...strip.querySelectorAll('rect')].map((piece) => {
 """
 
 
-SEEN = "This browser has seen it like this since today."
+# Nothing is said of a series of which a message has come today, or which the browser sees for the first time.
+SEEN = ""
 
 
 def open_missing(browser: Browser) -> None:
@@ -48,7 +48,7 @@ def open_missing(browser: Browser) -> None:
 
 def reported(site: Site, browser: Browser) -> Iterator[Outcome]:
     open_missing(browser)
-    said = "5 messages missing in 1 series: North Books."
+    said = "5 messages missing from 1 wholesaler: North Books."
     yield Outcome("missing: in all", browser.text("#missing-status"), said)
     heads = ["North Books (north)", "South Books (south)", "Western Wholesale (west)"]
     yield Outcome("missing: the series of desk.json", browser.texts("#series h2"), heads)
@@ -57,9 +57,27 @@ def reported(site: Site, browser: Browser) -> Iterator[Outcome]:
     ranges = ["3 to 4 (2 messages)", "6 to 8 (3 messages)"]
     yield Outcome("missing: north's ranges", browser.texts(f"{NORTH} .ranges li"), ranges)
     south = "Messages 1 to 3 are applied; the next one is 4. No message waits."
-    yield Outcome("missing: south", browser.texts(f"{SOUTH} p"), [south, SEEN, "Nothing is missing."])
+    yield Outcome("missing: south", browser.texts(f"{SOUTH} p"), [south, SEEN, "No number is missing."])
     west = "Message 40 is applied; the next one is 41. No message waits."
-    yield Outcome("missing: west", browser.texts(f"{WEST} p"), [west, SEEN, "Nothing is missing."])
+    yield Outcome("missing: west", browser.texts(f"{WEST} p"), [west, SEEN, "No number is missing."])
+
+
+def ordered(site: Site, browser: Browser) -> Iterator[Outcome]:
+    """What lacks messages comes first, what is silent then, and what is whole takes a line."""
+    series = [{"name": name, "words": name, "days_without_message": 3} for name in ("south", "west", "north")]
+    site.write_settings(series=series)
+    open_missing(browser)
+    kept = browser.run(REMEMBERED)
+    kept["west"]["since"] = days_ago(5)
+    browser.run(REMEMBER, kept)
+    open_missing(browser)
+    cards = browser.run("return [...document.querySelectorAll('.card')].map(({ id, className }) => [id, className])")
+    wanted = [["card-north", "card"], ["card-west", "card"], ["card-south", "card whole"]]
+    yield Outcome("what needs somebody comes first", cards, wanted)
+    green = browser.run("return [...document.querySelectorAll('.complete')].map((found) => found.parentElement.id)")
+    yield Outcome("a silent wholesaler is not green", green, ["report-south"])
+    browser.run("localStorage.clear()")
+    site.write_settings()
 
 
 def strip(site: Site, browser: Browser) -> Iterator[Outcome]:
@@ -75,24 +93,37 @@ def strip(site: Site, browser: Browser) -> Iterator[Outcome]:
     label = browser.one(f"{NORTH} svg.strip").accessible_name
     wanted = "Numbers 1 to 9. Missing: 3 to 4 (2 messages), 6 to 8 (3 messages)."
     yield Outcome("strip: its name", label, wanted)
+    edges = browser.run("return [...document.querySelectorAll('#report-north .edge')].map((text) => text.textContent)")
+    yield Outcome("strip: the numbers of what is missing", edges, ["3–4", "6–8"])
 
 
 def red(site: Site, browser: Browser) -> Iterator[Outcome]:
     open_missing(browser)
-    wanted = ["lacks", "missing", "missing", "missing", "ranges li", "ranges li"]
+    wanted = ["count", "edge", "edge", "lacks", "missing", "missing", "missing", "ranges li", "ranges li"]
     yield Outcome("red where messages are missing", sorted(browser.run(RED)), wanted)
     browser.open("#article")
     browser.one("#isbn").send_keys("1\n")
     browser.wait_for_text("#isbn-wrong", "digit")
-    yield Outcome("red nowhere else", browser.run(RED), [])
+    browser.wait_for_text("#missing-count", "5")
+    yield Outcome("red nowhere else, but for their count at the tab", browser.run(RED), ["count"])
 
 
-REQUEST = (
-    "To North Books\n\n"
-    'These messages of your ONIX series "north" to us have not reached us: 3 to 4 (2 messages), 6 to 8 '
-    "(3 messages) (5 messages in all). Please send them again, each with its own message number and "
-    "unchanged contents.\n\n"
-    "We have applied your messages up to number 2; 2 later ones wait for the missing ones.\n"
+def request(*parts: str) -> str:
+    """A request with today's day in its third line."""
+    today = date.today()
+    return "\n".join(parts).replace("DAY", f"{today.day} {today:%B} {today.year}") + "\n"
+
+
+REQUEST = request(
+    "To North Books",
+    "From High Street Books",
+    "DAY",
+    "",
+    "These of your ONIX messages to us have not reached us: 3 to 4, 6 to 8 (5 messages in all). Please send them "
+    "again, each with its own message number and unchanged contents.",
+    "",
+    "We have applied your messages up to number 2.",
+    "Later ones have come, and wait for the missing ones.",
 )
 
 
@@ -173,7 +204,7 @@ def silent(site: Site, browser: Browser) -> Iterator[Outcome]:
     yield Outcome("longer than it may be", browser.text(f"{NORTH} .since"), late)
     yield Outcome("as long as it may be", browser.text(f"{SOUTH} .since"), since_words(3))
     yield Outcome("where no number of days is named", browser.text(f"{WEST} .since"), since_words(400))
-    said = "5 messages missing in 1 series: North Books. Silent for longer than usual: North Books."
+    said = "5 messages missing from 1 wholesaler: North Books. Silent for longer than usual: North Books."
     yield Outcome("the silent ones in all", browser.text("#missing-status"), said)
     yield Outcome("silence is not red", "since" in browser.run(RED), False)
     kept["south"] = {"state": "3 3 0", "since": days_ago(8)}
@@ -198,17 +229,16 @@ def nothing_kept(site: Site, browser: Browser) -> Iterator[Outcome]:
 
 def unknown_series(site: Site, browser: Browser) -> Iterator[Outcome]:
     """A series of desk.json that nobody agreed is told at that series; the others are shown."""
-    path = site.own / "desk.json"
     text = (PAGE / "desk.json").read_text(encoding="utf-8")
-    path.write_text(text.replace('"name": "south"', '"name": "sooth"'), encoding="utf-8")
+    site.write_settings(text.replace('"name": "south"', '"name": "sooth"'))
     open_missing(browser)
     words = 'The desk has no agreement with the name “sooth”. Look at desk.json, or make the agreement.'
     yield Outcome("an unknown series", browser.text("#report-sooth"), words)
     yield Outcome("beside an unknown series", "40" in browser.text(WEST), True)
     said = browser.text("#missing-status")
-    wanted = "5 messages missing in 1 series: North Books. 1 series has no report."
+    wanted = "5 messages missing from 1 wholesaler: North Books. 1 wholesaler has no report."
     yield Outcome("an unknown series, in all", said, wanted)
-    path.write_text(text, encoding="utf-8")
+    site.write_settings()
 
 
 def each_minute(site: Site, browser: Browser) -> Iterator[Outcome]:
@@ -232,8 +262,9 @@ def each_minute(site: Site, browser: Browser) -> Iterator[Outcome]:
     yield Outcome("after a minute: the focus", focus, "Copy a request to send them again")
     for number in (6, 7, 8):
         site.tell_desk(empty_message(number))
-    said = browser.wait_for_text("#missing-status", "Nothing")
-    yield Outcome("after two minutes", said, "Nothing is missing in any series.")
+    said = browser.wait_for_text("#missing-status", "No number")
+    wanted = "No number is missing from the 3 wholesalers that this page watches."
+    yield Outcome("after two minutes", said, wanted)
     browser.run("location.hash = '#article'")
     yield Outcome("no red where nothing is missing", browser.run(RED), [])
 
@@ -249,10 +280,7 @@ def late_start(site: Site, browser: Browser) -> Iterator[Outcome]:
     site.stop_desk()
     site.room.run("--db", "shop.db", "batch", given=LATE.encode())
     site.start_desk()
-    text = (PAGE / "desk.json").read_text(encoding="utf-8")
-    late = '"series": [{"name": "late", "words": "Late Books"}]'
-    text = re.sub(r'"series": \[.*?\]', late, text, flags=re.S)
-    (site.own / "desk.json").write_text(text, encoding="utf-8")
+    site.write_settings(series=[{"name": "late", "words": "Late Books"}])
     open_missing(browser)
     begins = "Nothing has come that could be applied; it begins with message 9000000."
     words = f"{begins} 1 later message waits for what is missing."
@@ -262,5 +290,5 @@ def late_start(site: Site, browser: Browser) -> Iterator[Outcome]:
     yield Outcome("a late start: its strip", came, wanted)
 
 
-CASES = [reported, strip, red, copied, kept_in_hand, silent, nothing_kept, unknown_series]
+CASES = [reported, ordered, strip, red, copied, kept_in_hand, silent, nothing_kept, unknown_series]
 OVER_TIME = [each_minute, late_start]

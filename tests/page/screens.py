@@ -1,8 +1,13 @@
 """Narrow screens, paper, and what a screen reader and weak eyes have of the page."""
 
+import contextlib
 from collections.abc import Iterator
+from datetime import date
+from typing import Any
 
+from tests.page.articles import answered, has_calendar
 from tests.page.browser import Browser
+from tests.page.calendars import unfold
 from tests.page.site import Site
 from tests.page.week import HOSTILE_ISBN, article
 from tests.running import Outcome
@@ -78,11 +83,24 @@ def shown(browser: Browser, address: str) -> None:
     # Until what the view asked for is there, or what is wrong with it is told.
     browser.wait(
         lambda: browser.run(
-            """return document.querySelector('#spans tr') !== null
+            """return !document.querySelector('#calendar').hidden
               || document.querySelector('#as-of').textContent !== ''
               || document.querySelector('#isbn-wrong').textContent !== ''"""
         )
     )
+    if has_calendar(browser):
+        answered(browser)
+        unfold(browser)
+        browser.run("document.getElementById('references').open = true")
+
+
+@contextlib.contextmanager
+def preferring(browser: Browser, feature: str, value: str) -> Iterator[None]:
+    """Emulates what a buyer's system prefers."""
+    media = {"features": [{"name": feature, "value": value}]}
+    browser.driver.execute_cdp_cmd("Emulation.setEmulatedMedia", media)
+    yield
+    browser.driver.execute_cdp_cmd("Emulation.setEmulatedMedia", {"features": []})
 
 
 def narrow(site: Site, browser: Browser) -> Iterator[Outcome]:
@@ -106,28 +124,123 @@ def paper(site: Site, browser: Browser) -> Iterator[Outcome]:
         yield Outcome(f"paper: {name}: no fields", seen, [])
         yield Outcome(f"paper: {name}: nothing beyond", browser.run(BEYOND), [False, []])
     shown(browser, VIEWS["article"])
-    parts = ["#asked", "#article-status", "#offers", "#picture", "#spans"]
-    yield Outcome("paper: the answers", [browser.one(part).is_displayed() for part in parts], [True] * 5)
+    parts = ["header .name", "#day-shown", "#article-status", "#answer-time", "#offers", "#picture", "#spans"]
+    yield Outcome("paper: the answers", [browser.one(part).is_displayed() for part in parts], [True] * 7)
     browser.driver.execute_cdp_cmd("Emulation.setEmulatedMedia", {"media": ""})
     browser.size(1100, 900)
 
 
+# The least contrast of the borders of fields to what is around them.
+BORDERS = """
+const light = (text) => {
+  const parts = text.match(/[\\d.]+/g).slice(0, 3).map((part) => part / 255);
+  const [red, green, blue] = parts.map((share) => share <= 0.04045 ? share / 12.92 : ((share + 0.055) / 1.055) ** 2.4);
+  return 0.2126 * red + 0.7152 * green + 0.0722 * blue + 0.05;
+};
+const back = light(getComputedStyle(document.body).backgroundColor);
+return Math.min(...[...document.querySelectorAll('input, select, button:not(.link)')].map((field) => {
+  const edge = light(getComputedStyle(field).borderTopColor);
+  return Math.max(edge, back) / Math.min(edge, back);
+}));
+"""
+LEAST_BORDER = 3
+
+
+def weak_texts(browser: Browser) -> list[Any]:
+    return [text for text in browser.run(CONTRAST) if text[1] < LEAST_CONTRAST]
+
+
 def contrast(site: Site, browser: Browser) -> Iterator[Outcome]:
+    """By day and by night."""
+    for scheme in ("light", "dark"):
+        with preferring(browser, "prefers-color-scheme", scheme):
+            for name, address in VIEWS.items():
+                shown(browser, address)
+                yield Outcome(f"contrast, {scheme}: {name} has texts", len(browser.run(CONTRAST)) > 10, True)
+                yield Outcome(f"contrast, {scheme}: {name}", weak_texts(browser), [])
+            border = browser.run(BORDERS)
+            yield Outcome(f"contrast, {scheme}: fields, {border}", border >= LEAST_BORDER, True)
+            browser.run(
+                """for (const id of ['down', 'settings-wrong', 'not-looked-for']) {
+                  document.getElementById(id).hidden = false;
+                  document.getElementById(id).append('words');
+                }"""
+            )
+            yield Outcome(f"contrast, {scheme}: notes", weak_texts(browser), [])
+
+
+SMALL = """
+return [...document.querySelectorAll('a, button, input, select, summary, textarea')].filter((found) => {
+  const box = found.getBoundingClientRect();
+  return found.getClientRects().length > 0 && box.right > 0 && (box.height < 24 || box.width < 24);
+}).map((found) => found.outerHTML.slice(0, 80));
+"""
+
+
+def targets(site: Site, browser: Browser) -> Iterator[Outcome]:
+    """What is pressed has room for a finger."""
+    for width in (1100, 360):
+        browser.size(width, 800)
+        for name in ("article", "a wrong article", "missing"):
+            shown(browser, VIEWS[name])
+            browser.run("document.getElementById('more').hidden = false")
+            yield Outcome(f"targets of 24 pixels, {width}: {name}", browser.run(SMALL), [])
+    browser.size(1100, 900)
+
+
+def first_sight(site: Site, browser: Browser) -> Iterator[Outcome]:
+    """The answer begins within 200 pixels: on a screen, at 200 % zoom of it, and on a phone."""
+    for width, height in ((1280, 720), (640, 360), (360, 740)):
+        browser.size(width, height)
+        browser.open(article(day=date.today().isoformat()))
+        answered(browser)
+        top = browser.run("return document.getElementById('verdict').getBoundingClientRect().top")
+        yield Outcome(f"{width} x {height}: the answer begins at {top}", top <= 200, True)
+    browser.size(1100, 900)
+
+
+def forced_colours(site: Site, browser: Browser) -> Iterator[Outcome]:
+    """Where the system sets the colours, the view that is open is the one that is underlined."""
+    with preferring(browser, "forced-colors", "active"):
+        browser.open("")
+        browser.wait(lambda: browser.one("#day").get_attribute("value"))
+        edges = browser.run(
+            """const back = getComputedStyle(document.body).backgroundColor;
+            return [...document.querySelectorAll('nav a')].map((link) => [
+              link.getAttribute('aria-current'), getComputedStyle(link).borderBottomColor === back])"""
+        )
+    yield Outcome("forced colours: the line below a view", edges, [["page", False], [None, True], [None, True]])
+
+
+def hyphens(site: Site, browser: Browser) -> Iterator[Outcome]:
     browser.open("")
-    for name, address in VIEWS.items():
-        shown(browser, address)
-        texts = browser.run(CONTRAST)
-        yield Outcome(f"contrast: {name} has texts", len(texts) > 10, True)
-        weak = [text for text in texts if text[1] < LEAST_CONTRAST]
-        yield Outcome(f"contrast: {name}", weak, [])
-    browser.run(
-        """for (const id of ['down', 'settings-wrong']) {
-          document.getElementById(id).hidden = false;
-          document.getElementById(id).append('words');
-        }"""
-    )
-    weak = [text for text in browser.run(CONTRAST) if text[1] < LEAST_CONTRAST]
-    yield Outcome("contrast: notes", weak, [])
+    style = browser.run("return getComputedStyle(document.querySelector('main')).hyphens")
+    yield Outcome("long words have hyphens", style, "auto")
+
+
+# Holds each answer of the desk back, and notes how many questions wait at once.
+HELD = """
+const real = window.fetch;
+window.most = 0;
+let waiting = 0;
+window.fetch = async (url, ...rest) => {
+  if (!String(url).includes('/desk/articles/')) return real(url, ...rest);
+  waiting += 1;
+  window.most = Math.max(window.most, waiting);
+  await new Promise((resolve) => setTimeout(resolve, 200));
+  waiting -= 1;
+  return real(url, ...rest);
+};
+location.hash = arguments[0];
+"""
+
+
+def at_once(site: Site, browser: Browser) -> Iterator[Outcome]:
+    """Questions that do not wait for each other are asked at once."""
+    browser.open("")
+    browser.run(HELD, article())
+    answered(browser)
+    yield Outcome("price, choice and calendar at once", browser.run("return window.most") >= 3, True)
 
 
 # Roles that a screen reader stops at, each of which has to have a name.
@@ -168,6 +281,7 @@ def accessible(site: Site, browser: Browser) -> Iterator[Outcome]:
 
 def fields(site: Site, browser: Browser) -> Iterator[Outcome]:
     shown(browser, VIEWS["a wrong article"])
+    browser.one("#change").click()
     found = nodes(browser)
     labels = [(role, name) for role, name, _ in found if role in ("textbox", "combobox", "Date")]
     wanted = [
@@ -177,7 +291,7 @@ def fields(site: Site, browser: Browser) -> Iterator[Outcome]:
     yield Outcome("accessible: the fields", sorted(labels), wanted)
     told = next(description for role, name, description in found if (role, name) == ("textbox", "ISBN"))
     words = (
-        "Thirteen digits, or ten; hyphens and spaces do not matter. These are 2 digits. An ISBN is "
+        "Thirteen digits, or ten; what stands around them does not matter. These are 2 digits. An ISBN is "
         "thirteen, or ten."
     )
     yield Outcome("accessible: what is wrong is told with its field", told, words)
@@ -191,7 +305,8 @@ def live(site: Site, browser: Browser) -> Iterator[Outcome]:
     yield Outcome("accessible: the live region", status, "status")
     found = nodes(browser)
     tables = [name for role, name, _ in found if role == "table"]
-    yield Outcome("accessible: the tables", tables, ["Offers on 10 April 2025 not today", "The same as a table"])
+    names = ["Offers on 10 April 2025", "References of the wholesalers", "The same as a table"]
+    yield Outcome("accessible: the tables", tables, names)
     picture = [name for role, name, _ in found if role == "image"]
     days = "from 25 March 2025 to 25 April 2025"
     words = f"Prices of 3 offers {days}, drawn to scale. The table below says the same."
@@ -208,4 +323,6 @@ def live(site: Site, browser: Browser) -> Iterator[Outcome]:
     yield Outcome("accessible: the language", language, "en-GB")
 
 
-CASES = [narrow, paper, contrast, accessible, fields, live]
+CASES = [
+    narrow, paper, contrast, targets, first_sight, forced_colours, hyphens, at_once, accessible, fields, live,
+]

@@ -15,6 +15,9 @@ from tests.page import (
     hostile,
     isbns,
     keyboard,
+    misleading,
+    order_screens,
+    orders,
     origins,
     passwords,
     pictures,
@@ -45,6 +48,8 @@ SEQUENCES = [
     Sequence("minutes", [*reports.OVER_TIME, *passwords.CASES, *origins.AT_THE_END]),
     Sequence("questions", [*articles.CASES, *isbns.CASES, *days.CASES, *prices.CASES]),
     Sequence("views", [*calendars.CASES, *reports.CASES, *hostile.CASES, *refusals.CASES]),
+    Sequence("orders", [*orders.CASES, *order_screens.CASES]),
+    Sequence("misleading", misleading.CASES),
     Sequence("screens", [*keyboard.CASES, *screens.CASES, *origins.CASES]),
 ]
 PICTURES = Sequence("pictures", pictures.CASES)

@@ -21,6 +21,7 @@ from tools.root import ROOT
 from tools.words import Word
 
 PAGE = ROOT / "page"
+RULES = ROOT / "examples/shop/rules.toml"
 
 NAME = "desk.example.org"
 USER = "buyer"
@@ -29,7 +30,7 @@ CONNECTIONS = 100_000
 DATABASE = "shop.db"
 
 # A browser that is driven opens more pages a second than a shop's buyers do.
-RATE = "rate=10r/s"
+RATE = "rate=100r/s"
 NO_LIMIT = "rate=10000r/s"
 
 # The desk's line for a request that nothing else of the tests makes.
@@ -101,8 +102,11 @@ class Site:
         # The shop's own files lie apart from the page.
         self.own = room.path("own")
         self.own.mkdir(exist_ok=True)
-        for name in ("desk.json", "words.json"):
-            (self.page / name).rename(self.own / name)
+        (self.page / "words.json").rename(self.own / "words.json")
+        (self.page / "desk.json").unlink()
+        self.write_settings()
+        self.rules = room.path("rules.toml")
+        shutil.copy(RULES, self.rules)
         self._prepare()
 
     def _prepare(self) -> None:
@@ -131,11 +135,18 @@ class Site:
             ("/etc/nginx/onixdesk.passwords", f"{folder}/passwords"),
             ("/opt/onixdesk/page", str(self.page)),
             ("/etc/onixdesk/page", str(self.own)),
+            ("/etc/onixdesk/rules.toml", str(self.rules)),
         ]:
             if written not in text:
                 raise ValueError(f"examples/page/nginx.conf does not have {written}")
             text = text.replace(written, here)
         self.room.write("site.conf", text.encode())
+
+    def write_settings(self, text: str | None = None, **changes: object) -> None:
+        """Puts the sample into the shop's desk.json, with other settings, or another text. The prices of the week
+        are retail prices."""
+        sample = json.loads((PAGE / "desk.json").read_text(encoding="utf-8")) | {"price_type": "02"}
+        (self.own / "desk.json").write_text(text or json.dumps(sample | changes), encoding="utf-8")
 
     def start_nginx(self) -> None:
         words: list[Word] = ["-e", self.room.path("error.log"), "-c", self.room.path("nginx.conf")]
@@ -150,7 +161,7 @@ class Site:
 
     def start_desk(self) -> None:
         """Starts `serve`, whose lines go to the end of a file."""
-        words: list[Word] = ["--db", DATABASE, "--rules", ROOT / "examples/shop/rules.toml"]
+        words: list[Word] = ["--db", DATABASE, "--rules", self.rules]
         words += ["serve", "--port", str(self.desk_port), "--requests", str(CONNECTIONS)]
         starts = self.desk_lines().count(self._listening()) + 1
         with open(self.room.path("lines"), "ab") as lines:

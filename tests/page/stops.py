@@ -4,8 +4,9 @@ import contextlib
 import sqlite3
 from collections.abc import Iterator
 
-from tests.page.articles import ONE_COPY, answered
+from tests.page.articles import ONE_COPY, answered, has_calendar
 from tests.page.browser import Browser
+from tests.page.calendars import unfold
 from tests.page.site import DATABASE, Site
 from tests.page.week import ISBN, article
 from tests.running import Outcome
@@ -20,7 +21,7 @@ def down(browser: Browser, words: str) -> bool:
 def back(browser: Browser, name: str) -> Iterator[Outcome]:
     yield Outcome(f"{name}: answered by itself", answered(browser), ONE_COPY)
     yield Outcome(f"{name}: the note is gone", browser.one("#down").is_displayed(), False)
-    yield Outcome(f"{name}: the whole answer", bool(browser.wait(lambda: browser.all("#picture svg"))), True)
+    yield Outcome(f"{name}: the whole answer", has_calendar(browser), True)
 
 
 def stopped(site: Site, browser: Browser) -> Iterator[Outcome]:
@@ -38,7 +39,7 @@ def stopped(site: Site, browser: Browser) -> Iterator[Outcome]:
 
 def silent(site: Site, browser: Browser) -> Iterator[Outcome]:
     browser.open(article(quantity="10"))
-    browser.wait(lambda: browser.all("#picture svg"))
+    unfold(browser)
     site.freeze_desk()
     browser.run("location.hash = arguments[0]", article())
     browser.wait(lambda: "Asking" in browser.text("#article-status"))
@@ -110,4 +111,36 @@ def missing_view(site: Site, browser: Browser) -> Iterator[Outcome]:
     yield Outcome("missing messages: the note is gone", gone, True)
 
 
-CASES = [stopped, silent, faulty, unreached, missing_view]
+# A desk that lacks memory for a question, in the place of the desk's reply.
+LACKING = """
+const real = window.fetch;
+window.asked = 0;
+window.fetch = async (url, ...rest) => {
+  if (!String(url).includes('/desk/articles/')) return real(url, ...rest);
+  window.asked += 1;
+  return new Response('{"answer":"fault","reason":"memory"}', { status: 503 });
+};
+location.hash = arguments[0];
+"""
+
+
+def lacking_memory(site: Site, browser: Browser) -> Iterator[Outcome]:
+    """After a want of memory the page does not ask again by itself, which would bring the desk down once more."""
+    browser.open("")
+    browser.run(LACKING, article())
+    words = (
+        "The desk has a fault of its storage. It has too little memory at the moment. The page does not ask "
+        "again by itself: “Ask” does."
+    )
+    told = browser.wait_for_text("#question-wrong", "memory")
+    yield Outcome("a want of memory is told", told, words)
+    asked = browser.run("return window.asked")
+    again = browser.wait(lambda: browser.run("return window.asked") > asked, 8)
+    yield Outcome("after a want of memory it is not asked again", again, False)
+    yield Outcome("a want of memory: no note that it is", browser.one("#down").is_displayed(), False)
+    browser.one("#question button.main").click()
+    came = browser.wait(lambda: browser.run("return window.asked") > asked)
+    yield Outcome("the buyer asks again", came, True)
+
+
+CASES = [stopped, silent, faulty, unreached, lacking_memory, missing_view]

@@ -65,6 +65,35 @@ Price,42,19.99,,,,,,
 EndMessage,16
 """
 
+# Prices that fall with the copies, end and rise; of nothing; for five copies at least; and dearer for ten.
+BREAKS_ISBN = "9781402037597"
+ZERO_ISBN = "9780804429573"
+FIVE_ISBN = "9780201896855"
+DEARER_ISBN = "9780131103627"
+BREAKS_MESSAGE = f"""Message,2,{NET_SENDER},{SHOP},2,1,20250307,05,GBP
+Product,B-1,03,15,{BREAKS_ISBN}
+ProductSupply,GB,,
+SupplyDetail,04,06,8000000000008,Net,21,
+Price,,4.36,,,,,,20250430
+Price,,4.14,,,,,,20250430,10
+Price,,3.76,,,,,,20250430,50
+Price,,4.58,,,,,20250501,
+Product,B-2,03,15,{ZERO_ISBN}
+ProductSupply,GB,,
+SupplyDetail,04,06,8000000000008,Net,21,
+Price,,0,,,,,,
+Product,B-3,03,15,{FIVE_ISBN}
+ProductSupply,GB,,
+SupplyDetail,04,06,8000000000008,Net,21,
+Price,,5.00,,,,,,,5
+Product,B-4,03,15,{DEARER_ISBN}
+ProductSupply,GB,,
+SupplyDetail,04,06,8000000000008,Net,21,
+Price,,8.66,,,,,,
+Price,,10.59,,,,,,,10
+EndMessage,21
+"""
+
 # References that turn what comes behind them round, unless they are kept apart from it.
 TURNING_ISBN = "9780000000026"
 TURNING = ["one\u202etwo", "\u05d0\u05d1\u05d2"]
@@ -82,11 +111,11 @@ EndMessage,7
 def fill(room: Room) -> None:
     """Makes the database of the week with the gaps, the hostile texts and the net prices."""
     week = (ROOT / "examples/shop/week.csv").read_text(encoding="utf-8")
-    batch = (week + GAPS + HOSTILE_MESSAGE + TURNING_MESSAGE + NET_MESSAGE).encode()
+    batch = (week + GAPS + HOSTILE_MESSAGE + TURNING_MESSAGE + NET_MESSAGE + BREAKS_MESSAGE).encode()
     rules = ROOT / "examples/shop/rules.toml"
     filled = room.run("--db", DATABASE, "--rules", rules, "batch", given=batch)
     # Some of the week's answers are refusals; of the messages behind it none is.
-    behind = [b"applied,odd,1,", b"applied,odd,2,", b"applied,net,1,"]
+    behind = [b"applied,odd,1,", b"applied,odd,2,", b"applied,net,1,", b"applied,net,2,"]
     if filled.status != 1 or any(answer not in filled.output for answer in behind):
         raise RuntimeError(f"the database of the test: {filled.output!r} {filled.errors!r}")
 

@@ -3,7 +3,9 @@
 import assert from "node:assert/strict";
 import { afterEach, test } from "node:test";
 
-import { bareMoney, compareAmounts, money } from "../page/amounts.js";
+import {
+  bareMoney, compareAmounts, difference, isNothing, money, signedMoney, sumOf, times,
+} from "../page/amounts.js";
 import { shippedWords, speak } from "../page/wording.js";
 
 const speaking = (language) => speak(language, shippedWords(language));
@@ -47,4 +49,23 @@ test("amounts are ordered by what they are, and no price is last", () => {
   const amounts = ["10.000", null, "9.500", "9.250", "100.000", "9.500"];
   const ordered = [...amounts].sort(compareAmounts);
   assert.deepEqual(ordered, ["9.250", "9.500", "9.500", "10.000", "100.000", null]);
+});
+
+test("sums are exact", () => {
+  assert.equal(times("0.105", 3), "0.315");
+  assert.equal(times("999999999.999", 999999), "999998999999000.001");
+  assert.equal(sumOf(["0.100", "0.200", "9007199254740993.001"]), "9007199254740993.301");
+  assert.equal(sumOf([]), "0.000");
+});
+
+test("differences have a sign", () => {
+  assert.equal(difference("13.990", "4.140"), "9.850");
+  assert.equal(difference("4.140", "4.645"), "-0.505");
+  assert.equal(signedMoney("9.850", "GBP"), "+£9.85");
+  assert.equal(signedMoney("-0.505", "GBP"), "-£0.505");
+  assert.equal(signedMoney("0.000", "GBP"), "£0.00");
+});
+
+test("nothing is nothing however it is written", () => {
+  assert.deepEqual(["0.000", "0", "0.001", "10.000"].map(isNothing), [true, true, false, false]);
 });

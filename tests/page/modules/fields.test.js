@@ -27,13 +27,32 @@ test("the last sign of ten may be a small x", () => {
   assert.deepEqual([values.isbn, remarks], ["9780804429573", {}]);
 });
 
-test("an ISBN with a wrong last sign has a value and a remark", () => {
+test("an ISBN with a wrong last sign has a remark, which names no digit that would make it another book's", () => {
   const thirteen = readAll({ isbn: "9780306406158" });
   assert.equal(thirteen.values.isbn, "9780306406158");
-  assert.match(thirteen.remarks.isbn, /7/);
+  assert.doesNotMatch(thirteen.remarks.isbn, /\d/);
   const ten = readAll({ isbn: "0306406153" });
   assert.equal(ten.values.isbn, "9780306406157");
-  assert.match(ten.remarks.isbn, /2/);
+  assert.doesNotMatch(ten.remarks.isbn, /\d/);
+});
+
+test("an ISBN is read out of what stands around it, and several are told", () => {
+  const { values, remarks } = readAll({ isbn: "ISBN: 978-0-306-40615-7 (hardback)" });
+  assert.deepEqual([values.isbn, remarks], ["9780306406157", {}]);
+  assert.match(readAll({ isbn: "9780306406157 9783161484100" }).problems.isbn, /2 ISBNs/);
+  assert.equal(readAll({ isbn: "9780306406157, 0306406152" }).values.isbn, "9780306406157");
+});
+
+// As ISO 3166 has them: GB is the United Kingdom's code, RU that of what SU was, CW of what AN is split into.
+test("a country that has another code is asked for by that, and it is said", () => {
+  for (const [code, right] of [["UK", "GB"], ["uk", "GB"], ["SU", "RU"], ["AN", "CW"], ["YU", "RS"]]) {
+    const { values, remarks } = readAll({ country: code });
+    assert.equal(values.country, right);
+    assert.match(remarks.country, new RegExp(`${code.toUpperCase()}.*${right}`));
+  }
+  for (const code of ["GB", "DE", "IE", "EL", "XX"]) {
+    assert.deepEqual(readAll({ country: code }), { values: { country: code }, problems: {}, remarks: {} });
+  }
 });
 
 test("copies are 1 to 999999", () => {

@@ -3,7 +3,8 @@
 import assert from "node:assert/strict";
 import { test } from "node:test";
 
-import { checkDigit, checkSign, isTen, toThirteen, withoutHyphens } from "../page/isbn.js";
+import { isbnsIn } from "../page/isbn-in-text.js";
+import { checkDigit, checkSign, isChecked, isTen, toThirteen, withoutHyphens } from "../page/isbn.js";
 
 const PAIRS = [
   ["0306406152", "9780306406157"],
@@ -47,4 +48,40 @@ test("hyphens and spaces of any kind are taken out, and nothing else", () => {
   assert.equal(withoutHyphens("978-0-306\u201040615\u20137"), "9780306406157");
   assert.equal(withoutHyphens("\u00a0978\u2212 0306\u00ad406157\t"), "9780306406157");
   assert.equal(withoutHyphens("978.0/306"), "978.0/306");
+});
+
+const BOOK = "9780306406157";
+
+test("an ISBN is found in what stands around it", () => {
+  for (const text of [
+    "9780306406157", "978-0-306-40615-7", "0-306-40615-2", "ISBN: 978-0-306-40615-7", "ISBN-13: 9780306406157",
+    '"9780306406157"', "9780306406157,", "'0306406152'", "0-306-40615-2 (hardback)",
+    "https://shop.example.org/books/9780306406157?ref=2", "https://example.com/dp/0306406152/ref=x",
+    "９７８０３０６４０６１５７", "٩٧٨٠٣٠٦٤٠٦١٥٧", "978030640615751299", "9780306406157 51299", "978030640615705",
+    "09780306406157", "urn:isbn:9780306406157",
+  ]) {
+    assert.deepEqual(isbnsIn(text), [BOOK], text);
+  }
+  assert.deepEqual(isbnsIn("080442957x"), ["9780804429573"]);
+  assert.deepEqual(isbnsIn("0 8044 2957 X, 2 copies"), ["9780804429573"]);
+});
+
+test("several ISBNs are found in order", () => {
+  const both = [BOOK, "9783161484100"];
+  for (const text of [
+    "9780306406157\n9783161484100", "9780306406157 9783161484100",
+    "0306406152;316148410X", "2 x 9780306406157\t3 x 978-3-16-148410-0\r\n",
+  ]) {
+    assert.deepEqual(isbnsIn(text), both, text);
+  }
+});
+
+// 9781402037579 is 9781402037597 with two digits swapped; of its thirteen some ten may end rightly by chance.
+test("no ISBN is found where a digit is wrong", () => {
+  for (const text of ["9781402037579", "978-1-4020-3757-9", "0306406153", "9780306406158", "97803064061570", "123", ""]) {
+    assert.deepEqual(isbnsIn(text), [], text);
+  }
+  assert.equal(isChecked("9781402037579"), false);
+  assert.equal(isChecked("9781402037597"), true);
+  assert.equal(isChecked("080442957X"), true);
 });

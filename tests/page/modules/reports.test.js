@@ -1,10 +1,11 @@
-// Since when a series is as it is, which prices depend on copies, and who pays a price.
+// Since when a series is as it is, what a wholesaler is asked to send again, and who pays a price.
 
 import assert from "node:assert/strict";
 import { test } from "node:test";
 
+import { rangesInShort } from "../page/reports.js";
+import { lastOfSender, numberOfSender, rangesOfSender } from "../page/request.js";
 import { kindOf } from "../page/price-types.js";
-import { changesOf } from "../page/quantities.js";
 import { daysSince, lookAt } from "../page/seen.js";
 import { texts } from "../page/words/en.js";
 
@@ -33,24 +34,28 @@ test("what was kept and cannot be is passed over", () => {
   }
 });
 
-const offer = (reference, amount) => ({ series: "north", reference, place: 1, amount });
-const answers = (...amounts) =>
-  amounts.map(([quantity, amount]) => ({ quantity, offers: [offer("other", "1.000"), offer("R", amount)] }));
-
-test("where a price changes", () => {
-  const changes = changesOf(offer("R"), answers(["1", "11.800"], ["5", "11.800"], ["10", "9.950"], ["25", "9.950"]));
-  assert.deepEqual(changes, [{ quantity: "1", amount: "11.800" }, { quantity: "10", amount: "9.950" }]);
-  assert.equal(changesOf(offer("R"), answers(["1", "8.000"], ["10", "8.000"])).length, 1);
+// `convert --parts 5` makes of message 10 those of the numbers 46 to 50, and with `--number-offset 100` those of
+// message 110: 546 to 550.
+test("messages are asked for by the wholesaler's own numbers", () => {
+  assert.deepEqual([45, 46, 50, 51].map((number) => numberOfSender(number, { parts: 5 })), [9, 10, 10, 11]);
+  assert.equal(numberOfSender(546, { parts: 5, offset: 100 }), 10);
+  assert.equal(numberOfSender(7, {}), 7);
+  assert.deepEqual(rangesOfSender([[46, 50]], { parts: 5 }), [[10, 10]]);
+  assert.deepEqual(rangesOfSender([[46, 47], [49, 52]], { parts: 5 }), [[10, 11]]);
+  assert.deepEqual(rangesOfSender([[3, 4], [7, 9]], {}), [[3, 4], [7, 9]]);
+  assert.deepEqual(rangesOfSender([[103, 104]], { offset: 100 }), [[3, 4]]);
 });
 
-test("a price that begins with some copies", () => {
-  const changes = changesOf(offer("R"), answers(["1", null], ["10", "9.950"]));
-  assert.deepEqual(changes, [{ quantity: "1", amount: null }, { quantity: "10", amount: "9.950" }]);
+test("the last message that is applied is whole", () => {
+  assert.equal(lastOfSender(46, { parts: 5 }), 9);
+  assert.equal(lastOfSender(48, { parts: 5 }), 9);
+  assert.equal(lastOfSender(51, { parts: 5 }), 10);
+  assert.equal(lastOfSender(103, { offset: 100 }), 2);
+  assert.equal(lastOfSender(1, {}), 0);
 });
 
-test("an offer that one answer does not have is not compared there", () => {
-  const gone = [...answers(["1", "8.000"]), { quantity: "10", offers: [] }];
-  assert.deepEqual(changesOf(offer("R"), gone), [{ quantity: "1", amount: "8.000" }]);
+test("ranges in short", () => {
+  assert.equal(rangesInShort([[3, 4], [7, 7]]), "3 to 4, 7");
 });
 
 // As code list 58 of the standard names them: "supplier's net price", plain, alternative, for special sales

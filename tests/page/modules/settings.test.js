@@ -22,12 +22,14 @@ test("what is not named is as the page has it", () => {
   const { settings, problems } = readSettings(JSON.stringify(RIGHT));
   assert.deepEqual(problems, []);
   assert.deepEqual(settings, {
+    shop: "",
     language: "en-GB",
     series: [{ name: "north", words: "North Books", days: 3 }],
     country: "DE",
     currency: "EUR",
     type: "05",
     quantities: [],
+    minutesToUsual: 10,
     rules: [],
   });
 });
@@ -51,6 +53,42 @@ test("quantities are whole numbers, each greater than the one before it, at most
   }
 });
 
+const SERIES = { name: "a", words: "A" };
+const withSeries = (more) => ({ ...RIGHT, series: [{ ...SERIES, ...more }] });
+
+// 4012345000009 is a GLN of the agreements of the samples.
+test("what a request to a wholesaler needs", () => {
+  const more = { parts: 5, number_offset: 0, sender: "4012345000009", addressee: "5012345678900", mail: "edi@north.example" };
+  const { settings, problems } = readSettings(JSON.stringify(withSeries(more)));
+  assert.deepEqual(problems, []);
+  assert.deepEqual(settings.series, [
+    { ...SERIES, parts: 5, offset: 0, sender: "4012345000009", addressee: "5012345678900", mail: "edi@north.example" },
+  ]);
+  for (const [key, values] of Object.entries({
+    parts: [0, 10000, "5", 1.5],
+    number_offset: [-1, 1.5, "1"],
+    sender: ["4012345000008", "401234500000", 4012345000009],
+    addressee: ["", "GLN"],
+    mail: ["north.example", "a@b?bcc=c@d", "a@b, c@d", "A <a@b>", 1],
+  })) {
+    for (const value of values) {
+      const [problem, ...others] = problemsOf(withSeries({ [key]: value }));
+      assert.deepEqual([problem?.values.key, others], [key, []], `${key} ${value}`);
+    }
+  }
+});
+
+test("minutes after which the next question is as usual", () => {
+  for (const minutes of [0, 10, 1440]) assert.deepEqual(problemsOf({ ...RIGHT, minutes_to_usual: minutes }), []);
+  for (const minutes of [-1, 1441, "10", null]) {
+    assert.equal(problemsOf({ ...RIGHT, minutes_to_usual: minutes }).length, 1, String(minutes));
+  }
+});
+
+test("words of rules in desk.json are told to count no more", () => {
+  assert.deepEqual(problemsOf({ ...RIGHT, rules: ["South first"] }).map(({ path }) => path), ["settings.rules"]);
+});
+
 test("languages are those that Intl could have", () => {
   for (const language of ["de", "de-AT", "en-GB", "fr", "zh-Hant-TW"]) {
     assert.deepEqual(problemsOf({ ...RIGHT, language }), [], language);
@@ -64,6 +102,15 @@ test("days without a message are a whole number", () => {
   const withDays = (days) => ({ ...RIGHT, series: [{ name: "a", words: "", days_without_message: days }] });
   assert.deepEqual(problemsOf(withDays(9999)), []);
   for (const days of [0, -1, 1.5, "3", null, 10000]) assert.equal(problemsOf(withDays(days)).length, 1, String(days));
+});
+
+test("from what sum on carriage is free is a text of an amount", () => {
+  const withAmount = (amount) => ({ ...RIGHT, series: [{ name: "a", words: "", free_from: amount }] });
+  for (const amount of ["0", "50", "50.00", "999999999.999"]) assert.deepEqual(problemsOf(withAmount(amount)), [], amount);
+  assert.equal(readSettings(JSON.stringify(withAmount("50.00"))).settings.series[0].freeFrom, "50.00");
+  for (const amount of [50, "50,00", "-1", "", "1.2345", "1e3", null]) {
+    assert.equal(problemsOf(withAmount(amount)).length, 1, String(amount));
+  }
 });
 
 test("a series in words", () => {

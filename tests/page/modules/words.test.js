@@ -31,7 +31,7 @@ test("no text is empty, and German is not English", () => {
   const english = Object.fromEntries(textsOf(en));
   // What is a name, a sign or a form for numbers alone may be the same.
   const same = textsOf(de).filter(([path, text]) => text === english[path] && /[a-z]{3}/.test(text.replaceAll(/\{\w+\}/g, "")));
-  assert.deepEqual(same.map(([path]) => path), ["page.name", "page.title"]);
+  assert.deepEqual(same.map(([path]) => path), ["page.name"]);
 });
 
 test("each text that index.html names is there", () => {
@@ -39,6 +39,13 @@ test("each text that index.html names is there", () => {
   const paths = [...html.matchAll(/data-(?:text|label)="([^"]+)"/g)].map(([, path]) => path);
   assert.ok(paths.length > 20);
   for (const path of paths) assert.equal(typeof say(path), "string", path);
+});
+
+test("index.html has each module loaded at once", () => {
+  const html = readFileSync("../page/index.html", "utf8");
+  const preloaded = [...html.matchAll(/rel="modulepreload" href="([^"]+)"/g)].map(([, name]) => name).sort();
+  const files = readdirSync("../page", { recursive: true }).filter((name) => name.endsWith(".js"));
+  assert.deepEqual(preloaded, files.filter((name) => name !== "main.js").sort());
 });
 
 test("each text that a module names is there", () => {

@@ -1,0 +1,167 @@
+// The table of the offers of a day: what each costs, how much more than the chosen one, for how long, and why
+// one of them misleads.
+
+import { compareAmounts, difference, money, signedMoney } from "./amounts.js";
+import { copiesInWords, kindOfAnswer } from "./decision.js";
+import { dayInShort, inWords } from "./days.js";
+import { element, table } from "./elements.js";
+import { keyOf, nameOf, referenceOf } from "./offers.js";
+import { kindOf } from "./price-types.js";
+import { changesOf, firstQuantities } from "./quantities.js";
+import { wholesalerOf } from "./settings.js";
+import { codeInWords, formatter, say, sayCount, wordsOfCode } from "./wording.js";
+
+const number = (count) => formatter(Intl.NumberFormat).format(count);
+const tag = (className, words) => element("span", { class: `tag ${className}` }, words);
+
+/** What a wholesaler's messages lack, as marks behind its name. */
+export function marksOf(series, reports) {
+  const found = reports.stateOf(series);
+  if (!found.isWatched) return [tag("quiet", say("article.unwatchedTag"))];
+  const missing = found.count > 0 ? [say("article.missingTag", { count: number(found.count) })] : [];
+  const silent = found.isSilent ? [sayCount("article.silentTag", found.days)] : [];
+  return [...missing, ...silent].map((words) => tag("unusual", words));
+}
+
+function nameCell(offer, answer, { settings, reports }) {
+  const { choice, question, offers } = answer;
+  const isChosen = choice !== null && keyOf(choice) === keyOf(offer);
+  const words = kindOf(question.type) === "retail" ? "article.ruleTakes" : "article.ruleChooses";
+  const chosen = isChosen ? [tag("mark", say(words, { rule: choice.rule }))] : [];
+  const parts = [element("span", { class: "name" }, ...nameOf(offer, offers, settings))];
+  for (const mark of [...chosen, ...marksOf(offer.series, reports)]) parts.push(" ", mark);
+  return parts;
+}
+
+function availabilityCell({ availability }) {
+  const words = wordsOfCode("availabilities", availability) ?? say("article.unknownCode");
+  return [words, " ", element("small", { class: "code" }, availability)];
+}
+
+function priceCell({ amount }, { type, currency }) {
+  if (amount !== null) return [money(amount, currency)];
+  return [element("span", { class: "lacking" }, say(`article.noPriceOf.${kindOf(type)}`))];
+}
+
+/** How much more an offer costs than the chosen one, and why a cheaper one is not chosen. */
+function differenceCell(offer, { choice, question }) {
+  if (choice === null || offer.amount === null) return [""];
+  if (keyOf(choice) === keyOf(offer)) return ["–"];
+  const words = signedMoney(difference(offer.amount, choice.amount), question.currency);
+  if (compareAmounts(offer.amount, choice.amount) >= 0) return [words];
+  return [words, " ", element("small", {}, sayCount("article.cheaper", choice.rule))];
+}
+
+/** The types that an offer has in place of the one asked for, as links. */
+function typesCell(found, { currency }, addressWith) {
+  if (found === undefined) return [say("article.askingTypes")];
+  if (found.length === 0) return [element("span", { class: "lacking" }, say("article.noOtherType"))];
+  const links = found.map(({ type, amount }) => {
+    const words = codeInWords("priceTypes", type);
+    const text = say("article.otherType", { words, amount: money(amount, currency) });
+    return element("li", {}, element("a", { href: addressWith({ type }) }, text));
+  });
+  return [element("ul", { class: "plain" }, ...links)];
+}
+
+/** What is known of other numbers of copies, or, of an offer without any price, of other types. */
+function copiesCell(offer, { question, copies, types }, { settings, addressWith }) {
+  if (copies === undefined) return [say("article.askingCopies")];
+  const changes = changesOf(offer, copies);
+  if (changes.every(({ amount }) => amount === null)) {
+    return typesCell(types?.get(keyOf(offer)), question, addressWith);
+  }
+  const asked = Number(question.quantity);
+  if (changes.length === 1) {
+    const counts = firstQuantities(asked, settings.quantities).filter((quantity) => quantity !== asked);
+    const list = formatter(Intl.ListFormat).format(counts.map(number));
+    return [element("span", { class: "lacking" }, say("article.sameForCopies", { counts: list }))];
+  }
+  const wholesaler = wholesalerOf(settings, offer.series);
+  return [copiesList(changes, { asked, currency: question.currency, wholesaler, addressWith })];
+}
+
+/** The changes of an offer's price, and the number that was asked for, wherever it lies. */
+function withAsked(changes, asked) {
+  if (changes.some(({ quantity }) => quantity === asked)) return changes;
+  const here = changes.findLast(({ quantity }) => quantity < asked);
+  if (here === undefined) return changes;
+  const at = changes.indexOf(here) + 1;
+  return changes.toSpliced(at, 0, { quantity: asked, amount: here.amount, isExact: true });
+}
+
+function copiesList(changes, { asked, currency, wholesaler, addressWith }) {
+  const items = withAsked(changes, asked).map(({ quantity, amount, isExact }) => {
+    const price = amount === null ? say("article.noPrice") : money(amount, currency);
+    const path = isExact ? "article.atCopies" : "article.aboutCopies";
+    const words = say(path, { count: number(quantity), price });
+    if (quantity === asked) return element("li", {}, element("strong", {}, words));
+    const copies = copiesInWords(quantity);
+    const label = `${say("article.copiesFrom", { copies, wholesaler })}: ${price}`;
+    const link = { href: addressWith({ quantity: String(quantity) }), "aria-label": label };
+    return element("li", {}, element("a", link, words));
+  });
+  return element("ul", { class: "copies" }, ...items);
+}
+
+function holdsCell(offer, { holds, question }) {
+  const found = holds?.get(keyOf(offer));
+  if (found === undefined || offer.amount === null) return [""];
+  if (found.last === undefined) return [say("article.holdsOn", { until: dayInShort(question.until) })];
+  const amount = found.then === null ? say("article.noPrice") : money(found.then, question.currency);
+  return [say("article.holdsUntil", { last: dayInShort(found.last), amount })];
+}
+
+function rowOf(offer, answer, place) {
+  const { choice, question } = answer;
+  const isChosen = choice !== null && keyOf(choice) === keyOf(offer);
+  const isWorthIt = ["net", "other"].includes(kindOfAnswer(answer));
+  const className = isChosen && isWorthIt ? "chosen" : undefined;
+  return {
+    className,
+    cells: [
+      nameCell(offer, answer, place),
+      availabilityCell(offer),
+      priceCell(offer, question),
+      ...(choice === null ? [] : [differenceCell(offer, answer)]),
+      copiesCell(offer, answer, place),
+      holdsCell(offer, answer),
+    ],
+  };
+}
+
+/**
+ * The table of offers of an answer, named by the heading with that id. `place` has the settings, the reports
+ * on messages, and `addressWith`, which gives the address of the same question with something else in it.
+ */
+export function offersTable(heading, offers, answer, place) {
+  const { question, choice } = answer;
+  const price = say(`article.price.${kindOf(question.type)}`, { copies: copiesInWords(question.quantity) });
+  const amount = (name) => ({ name, className: "amount" });
+  return table(
+    heading,
+    [
+      say("article.wholesaler"),
+      say("article.availability"),
+      amount(price),
+      ...(choice === null ? [] : [amount(say("article.difference"))]),
+      say("article.byCopies"),
+      say("article.holds"),
+    ],
+    offers.map((offer) => rowOf(offer, answer, place)),
+  );
+}
+
+/** The references by which the wholesalers call what they offer, named by the heading with that id. */
+export function referencesTable(heading, offers, settings) {
+  const names = ["wholesaler", "reference"].map((name) => say(`article.${name}`));
+  const rows = offers.map((offer) => ({
+    cells: [[wholesalerOf(settings, offer.series)], [referenceOf(offer)]],
+  }));
+  return table(heading, names, rows);
+}
+
+/** Of which day the offers are. */
+export function offersInWords({ day }) {
+  return say("article.offers", { day: inWords(day) });
+}

@@ -1,0 +1,81 @@
+// What the desk answered about a book of an order list, what is ordered of it, and why a person should look.
+
+import { isNothing } from "./amounts.js";
+import { plusDays } from "./days.js";
+import { keyOf } from "./offers.js";
+import { holdsUntil } from "./spans.js";
+
+/** A hand that leaves a book out of the order. */
+export const LEFT_OUT = "left-out";
+
+/** How many days ahead of an order a change of the price is told. */
+export const DAYS_AHEAD = 30;
+
+/** The last day of those ahead. */
+export function lastAhead(day) {
+  return plusDays(day, DAYS_AHEAD);
+}
+
+/** The offers of a calendar on a day, each with the `change` of its price ahead: its last day, and what then. */
+export function offersOfCalendar(offers, day) {
+  return offers.map(({ spans, ...offer }) => {
+    const { amount, last, then } = holdsUntil({ spans }, day);
+    return { ...offer, amount, change: last === undefined ? undefined : { last, amount: then } };
+  });
+}
+
+/** Whether an answer to the choice and one about the offers are of one moment. */
+export function agree(choice, offers) {
+  if (choice === null) return true;
+  return offers.some((offer) => keyOf(offer) === keyOf(choice) && offer.amount === choice.amount);
+}
+
+const isPriced = ({ amount }) => amount !== null;
+
+/** The offer that a hand has chosen, where it has a price: the same one, or the only one of its wholesaler. */
+function offerByHand(offers, hand) {
+  const same = offers.find((offer) => keyOf(offer) === keyOf(hand));
+  if (same !== undefined) return isPriced(same) ? same : undefined;
+  const ofWholesaler = offers.filter((offer) => offer.series === hand.series && isPriced(offer));
+  return ofWholesaler.length === 1 ? ofWholesaler[0] : undefined;
+}
+
+/** What is ordered of an answer, for what a hand chose or did not: the offer, and whether that is by hand. */
+export function orderedOf({ choice, offers }, hand) {
+  if (hand === LEFT_OUT) return { isByHand: true };
+  const byHand = hand === undefined ? undefined : offerByHand(offers, hand);
+  if (byHand !== undefined) return { offer: byHand, isByHand: true };
+  const chosen = choice === null ? undefined : offers.find((offer) => keyOf(offer) === keyOf(choice));
+  return { offer: chosen, isByHand: false, isLost: hand !== undefined };
+}
+
+/** Why nothing is ordered where no rule and no hand chose. */
+function withoutOrder({ offers }) {
+  if (offers.length === 0) return "noOffers";
+  return offers.some(isPriced) ? "notChosen" : "unpriced";
+}
+
+/**
+ * What stands at a book of a list: `offer`, which is ordered, `isByHand`, and `need`, the reason why a
+ * person should look at it, or none.
+ */
+export function stateOf({ wrong, answer, isUnsure, change }, hand) {
+  if (wrong !== undefined) return { need: wrong };
+  if (answer === undefined) return {};
+  if (answer.refusal !== undefined) return { need: "refused" };
+  const { offer, isByHand, isLost } = orderedOf(answer, hand);
+  if (offer === undefined) return isByHand ? { isByHand } : { need: withoutOrder(answer), isByHand };
+  const needs = {
+    changed: change !== undefined,
+    lost: isLost,
+    free: isNothing(offer.amount),
+    unsure: isUnsure,
+  };
+  const need = Object.keys(needs).find((reason) => needs[reason]);
+  return { offer, isByHand, need };
+}
+
+/** The offers that have no price for the question, of another wholesaler than the one that is ordered. */
+export function unpricedBeside({ offers }, ordered) {
+  return offers.filter((offer) => !isPriced(offer) && offer.series !== ordered.series);
+}

@@ -1,0 +1,45 @@
+// An order as a file for spreadsheets and for what wholesalers and tills read, and as text to paste.
+
+import { formatter } from "./wording.js";
+
+const MARK = "\ufeff";
+const LINE_END = "\r\n";
+
+// What a spreadsheet takes for the beginning of a formula, full width too.
+const FORMULA = /^[\s'"]*[=+\-@\uff1d\uff0b\uff0d\uff20]/;
+
+/** The sign of the page's language between whole and decimals. */
+function decimalSign() {
+  const parts = formatter(Intl.NumberFormat).formatToParts(1.5);
+  return parts.find(({ type }) => type === "decimal").value;
+}
+
+/** What stands between cells: a comma, or a semicolon where the language has the comma in its amounts. */
+export function separatorOf() {
+  return decimalSign() === "," ? ";" : ",";
+}
+
+/** An amount of the desk as a cell: with the language's sign, two decimals or, where it has them, three. */
+export function amountCell(amount) {
+  return amount.replace(/0$/, "").replace(".", decimalSign());
+}
+
+/** A text as a cell: on one line, in quotes where it needs them, and never a formula. */
+function cellOf(text, separator) {
+  const line = text.replace(/[\p{Cc}\p{Zl}\p{Zp}]+/gu, " ").trim();
+  const safe = FORMULA.test(line) ? `'${line}` : line;
+  const isPlain = !safe.includes('"') && !safe.includes(separator);
+  return isPlain ? safe : `"${safe.replaceAll('"', '""')}"`;
+}
+
+/** A file of rows of texts, the first of which names the columns, with the mark by which spreadsheets know UTF-8. */
+export function csvOf(rows) {
+  const separator = separatorOf();
+  const lines = rows.map((row) => row.map((text) => cellOf(text, separator)).join(separator));
+  return MARK + lines.map((line) => line + LINE_END).join("");
+}
+
+/** An order as lines of ISBN and copies, with a tabulator between them. */
+export function linesToPaste(rows) {
+  return rows.map(({ isbn, copies }) => `${isbn}\t${copies}\n`).join("");
+}

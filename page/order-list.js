@@ -1,0 +1,76 @@
+// An order list that was looked up: its books with their answers, and what a buyer chose by hand.
+
+import { LEFT_OUT, stateOf } from "./order-answers.js";
+
+export class OrderList {
+  /** The text that was looked up, and the question (day, country, currency, type). */
+  text = "";
+  question;
+  books = [];
+  isAsking = false;
+  // By ISBN; a new look-up keeps it.
+  #hands = new Map();
+
+  /** Begins with the books of a text, none of which has an answer. */
+  begin(text, question, books) {
+    this.text = text;
+    this.question = question;
+    this.books = books.map((book, id) => ({ ...book, id }));
+  }
+
+  handOf({ isbn }) {
+    return this.#hands.get(isbn);
+  }
+
+  /** Keeps what a hand chose for a book: an offer, `LEFT_OUT`, or, with `undefined`, what the rules choose. */
+  choose({ isbn }, hand) {
+    if (hand === undefined) this.#hands.delete(isbn);
+    else this.#hands.set(isbn, hand);
+  }
+
+  stateOf(book) {
+    return stateOf(book, this.handOf(book));
+  }
+
+  /** The books with their states; those that need a person first, once all are answered. */
+  rows() {
+    const rows = this.books.map((book) => ({ book, state: this.stateOf(book) }));
+    const isFirst = ({ book, state }) =>
+      book.wrong !== undefined || (!this.isAsking && state.need !== undefined);
+    return [...rows.filter(isFirst), ...rows.filter((row) => !isFirst(row))];
+  }
+
+  /** What is ordered, in the order of the list: of a series, or, with `undefined`, of all. */
+  ordered(series) {
+    return this.books
+      .map((book) => ({ book, state: this.stateOf(book) }))
+      .filter(({ state: { offer } }) => offer !== undefined && [undefined, offer.series].includes(series));
+  }
+
+  /** The books that can be asked for, and those of them without an answer. */
+  askable() {
+    return this.books.filter(({ wrong }) => wrong === undefined);
+  }
+
+  open() {
+    return this.askable().filter(({ answer }) => answer === undefined);
+  }
+
+  /** Whether the answer of a book says less than its order needs, as where a hand chose it later. */
+  lacksCalendar(book) {
+    const hand = this.handOf(book);
+    return hand !== undefined && hand !== LEFT_OUT && !book.answer.isOrdered;
+  }
+
+  /** The series of all offers that were answered. */
+  series() {
+    const offers = this.books.flatMap(({ answer }) => answer?.offers ?? []);
+    return [...new Set(offers.map(({ series }) => series))];
+  }
+
+  /** When the first and the last answer came, in milliseconds, or nothing before there is one. */
+  times() {
+    const times = this.books.map(({ answer }) => answer?.at).filter((at) => at !== undefined);
+    return times.length === 0 ? undefined : [Math.min(...times), Math.max(...times)];
+  }
+}

@@ -1,0 +1,87 @@
+// What stands above the table of an order list: the books that need a person, and the sums.
+
+import { money } from "./amounts.js";
+import { element, table } from "./elements.js";
+import { marksOf } from "./offers-table.js";
+import { lackingTo } from "./order-sums.js";
+import { linesInWords } from "./order-table.js";
+import { wholesalerOf } from "./settings.js";
+import { formatter, say, sayCount, sayParts } from "./wording.js";
+
+/** The ways in which an order leaves the page. */
+const WAYS = ["csv", "copy", "print"];
+
+const AMOUNTS = ["rows", "copies", "sum"];
+
+const counted = (number) => formatter(Intl.NumberFormat).format(number);
+
+/** How many books need a person, for each reason with links to their rows; `goTo` hears of a book. */
+export function needsList(rows, goTo) {
+  const reasons = [...new Set(rows.map(({ state }) => state.need))];
+  const items = reasons.map((reason) => {
+    const books = rows.filter(({ state }) => state.need === reason).map(({ book }) => book);
+    const links = books.flatMap((book) => {
+      const link = element("button", { type: "button", class: "link" }, linesInWords(book));
+      link.setAttribute("aria-label", say("order.toLine", { lines: linesInWords(book) }));
+      link.addEventListener("click", () => goTo(book));
+      return [", ", link];
+    });
+    const lines = element("span", {}, ...links.slice(1));
+    return element("li", {}, ...sayParts(`order.reasons.${reason}`, { count: counted(books.length), lines }));
+  });
+  return [element("strong", {}, sayCount("order.needYou", rows.length)), " ", element("ul", {}, ...items)];
+}
+
+function buttonsFor(name, series, save) {
+  return WAYS.flatMap((way) => {
+    const button = element("button", { type: "button", class: "small", id: `${way}-${series ?? "all"}` });
+    button.append(say(`order.ways.${way}`));
+    button.setAttribute("aria-label", say(`order.waysFor.${way}`, { name }));
+    button.addEventListener("click", () => save(way, series));
+    return [" ", button];
+  }).slice(1);
+}
+
+/** How much is lacking to where a wholesaler's carriage is free, where desk.json says so for this question. */
+function carriageCell({ series, amount }, { settings, currency }) {
+  const { freeFrom } = settings.series.find(({ name }) => name === series) ?? {};
+  if (freeFrom === undefined) return [];
+  const lacking = lackingTo(amount, freeFrom);
+  if (lacking === undefined) return [say("order.carriageFree", { least: money(freeFrom, currency) })];
+  const words = { lacking: money(lacking, currency), least: money(freeFrom, currency) };
+  return [element("strong", { class: "need" }, say("order.carriage", words))];
+}
+
+function sumRow(name, { lines, copies, amount, series }, context) {
+  const { currency, reports, save } = context;
+  const marks = series === undefined ? [] : marksOf(series, reports);
+  const cells = [
+    [name, ...marks.flatMap((mark) => [" ", mark])],
+    [counted(lines)],
+    [counted(copies)],
+    [money(amount, currency)],
+    ...(context.hasCarriage ? [carriageCell({ series, amount }, context)] : []),
+    buttonsFor(name, series, save),
+  ];
+  return { cells, className: series === undefined ? "all" : undefined };
+}
+
+/**
+ * The table of sums, named by the heading with that id. The context has the `settings`, the `currency`,
+ * `hasCarriage` where desk.json says from what sum on carriage is free, the `reports` on messages, and
+ * `save`, which hears of a way and of a series, or of none for all.
+ */
+export function sumsTable(heading, { bySeries, all }, context) {
+  const { settings, hasCarriage } = context;
+  const names = ["wholesaler", "rows", "copies", "sum", ...(hasCarriage ? ["carriage"] : []), "save"];
+  const rows = bySeries.map((sum) => sumRow(wholesalerOf(settings, sum.series), sum, context));
+  const columns = names.map((column) => ({
+    name: say(`order.columns.${column}`),
+    className: AMOUNTS.includes(column) ? "amount" : column === "save" ? "ways" : undefined,
+  }));
+  const made = table(heading, columns, [...rows, sumRow(say("order.all"), all, context)]);
+  bySeries.forEach(({ series }, at) => {
+    made.tBodies[0].rows[at].dataset.series = series;
+  });
+  return made;
+}

@@ -1,0 +1,162 @@
+// What an order list shows of its answers: how far it is, the books that need a person, sums, and rows.
+
+import { needsList, sumsTable } from "./order-parts.js";
+import { sumsOf } from "./order-sums.js";
+import { orderTable, redraw } from "./order-table.js";
+import { kindOf } from "./price-types.js";
+import { formatter, say, sayCount } from "./wording.js";
+
+const PARTS = ["list-needs", "sums-part", "list-part"];
+
+const found = (id) => document.getElementById(id);
+const clock = (at) => formatter(Intl.DateTimeFormat, { timeStyle: "medium" }).format(at);
+const counted = (number) => formatter(Intl.NumberFormat).format(number);
+
+function progressInWords(list) {
+  const all = list.askable().length;
+  return say("order.progress", { done: counted(all - list.open().length), all: counted(all) });
+}
+
+/** How far a list is, and how many of its books need a person. */
+export function summaryOf(list) {
+  const needs = list.rows().filter(({ state }) => state.need !== undefined).length;
+  const words = needs === 0 ? say("order.noneNeedsYou") : sayCount("order.needYou", needs);
+  return `${progressInWords(list)}. ${words}`;
+}
+
+/** Shows how far a list is, and when its answers came. */
+export function showProgress(list) {
+  const [all, open] = [list.askable().length, list.open().length];
+  found("list-progress").max = Math.max(all, 1);
+  found("list-progress").value = all - open;
+  found("list-count").textContent = progressInWords(list);
+  found("list-running").hidden = !list.isAsking;
+  found("go-on").hidden = list.isAsking || open === 0;
+  found("go-on").textContent = sayCount("order.goOn", open);
+  const [from, until] = (list.times() ?? []).map(clock);
+  const path = from === until ? "order.asOf" : "order.asOfTimes";
+  found("list-as-of").textContent = from === undefined ? "" : say(path, { from, until });
+}
+
+/** Shows how many of the books of an order are asked for once more. */
+export function showChecking(done, all) {
+  found("list-progress").max = Math.max(all, 1);
+  found("list-progress").value = done;
+  found("list-count").textContent = say("order.checked", { done: counted(done), all: counted(all) });
+  found("list-running").hidden = done === all;
+}
+
+/** Dims what was looked up of other lines or for another question, which can no longer be ordered. */
+export function showAge(isOld) {
+  found("list-old").hidden = !isOld;
+  for (const id of PARTS) {
+    found(id).inert = isOld;
+    found(id).classList.toggle("old", isOld);
+  }
+}
+
+// How many milliseconds what has changed waits to be drawn together: a long table is laid out and painted anew
+// for each change, which takes longer than the desk's answer.
+const TOGETHER = 1000;
+
+export class OrderResults {
+  #settings;
+  #reports;
+  #acts;
+  #marks;
+  #waiting = new Set();
+  #timer;
+
+  /** `acts` has `choose`, which hears what a hand chose for a book, and `save`, of a way and a series. */
+  constructor(settings, reports, acts) {
+    this.#settings = settings;
+    this.#reports = reports;
+    this.#acts = acts;
+  }
+
+  #context(list) {
+    const { country, currency, type } = this.#settings;
+    const { question, isAsking } = list;
+    const isOwn = question.country === country && question.currency === currency && question.type === type;
+    return {
+      settings: this.#settings,
+      ...question,
+      handOf: (book) => list.handOf(book),
+      reports: this.#reports,
+      isAsking,
+      isRetail: kindOf(question.type) === "retail",
+      hasCarriage: isOwn && kindOf(type) === "net"
+        && this.#settings.series.some(({ freeFrom }) => freeFrom !== undefined),
+      ...this.#acts,
+    };
+  }
+
+  /** Draws all, where the field or button that has the focus keeps it. */
+  draw(list) {
+    this.#forget();
+    const held = document.activeElement.closest("tr[data-book]")?.dataset.book;
+    const rows = list.rows();
+    found("list").replaceChildren(orderTable("list-heading", rows, this.#context(list)));
+    found("list-part").hidden = rows.length === 0;
+    found("list-retail").hidden = kindOf(list.question.type) !== "retail";
+    if (held !== undefined) this.#rowOf({ id: held }).querySelector("select")?.focus();
+    this.#drawAbove(list);
+    this.#marks = this.#marksOf(list);
+  }
+
+  #marksOf(list) {
+    return JSON.stringify(list.series().map((name) => this.#reports.stateOf(name)));
+  }
+
+  /** Draws all where what the messages of the list's wholesalers lack is no longer what is shown. */
+  drawMarks(list) {
+    if (!list.isAsking && this.#marksOf(list) !== this.#marks) this.draw(list);
+  }
+
+  #drawAbove(list) {
+    const needs = list.rows().filter(({ state }) => state.need !== undefined);
+    found("list-needs").replaceChildren(...needsList(needs, (book) => this.#goTo(book)));
+    found("list-needs").hidden = needs.length === 0;
+    const ordered = list.ordered().map(({ book, state: { offer } }) => ({
+      series: offer.series, copies: book.copies, amount: offer.amount,
+    }));
+    found("sums-part").hidden = ordered.length === 0 || list.isAsking;
+    const { id } = document.activeElement;
+    const isHeld = found("sums").contains(document.activeElement);
+    found("sums").replaceChildren(sumsTable("sums-heading", sumsOf(ordered), this.#context(list)));
+    if (isHeld) found(id)?.focus();
+  }
+
+  /** Draws the row of a book anew, and, where the list is whole, the sums. */
+  drawBook(list, book) {
+    redraw(this.#rowOf(book), book, list.stateOf(book), this.#context(list));
+    if (!list.isAsking) this.#drawAbove(list);
+  }
+
+  /** Draws the row of a book soon, with those of others that are answered meanwhile. */
+  drawSoon(list, book) {
+    this.#waiting.add(book);
+    this.#timer ??= setTimeout(() => {
+      const context = this.#context(list);
+      for (const found of this.#waiting) redraw(this.#rowOf(found), found, list.stateOf(found), context);
+      showProgress(list);
+      this.#forget();
+    }, TOGETHER);
+  }
+
+  #forget() {
+    clearTimeout(this.#timer);
+    this.#timer = undefined;
+    this.#waiting.clear();
+  }
+
+  #rowOf({ id }) {
+    return found("list").querySelector(`tr[data-book="${id}"]`);
+  }
+
+  #goTo(book) {
+    const row = this.#rowOf(book);
+    row.scrollIntoView({ block: "center" });
+    (row.querySelector("select") ?? row).focus({ preventScroll: true });
+  }
+}

@@ -1,0 +1,181 @@
+// The table of an order list: a row for each book, with the wholesaler that it is ordered from.
+
+import { difference, money, signedMoney, times } from "./amounts.js";
+import { inWords } from "./days.js";
+import { element, table, tableRow } from "./elements.js";
+import { keyOf } from "./offers.js";
+import { marksOf } from "./offers-table.js";
+import { LEFT_OUT, unpricedBeside } from "./order-answers.js";
+import { wholesalerOf } from "./settings.js";
+import { formatter, say, wordsOfCode } from "./wording.js";
+
+const COLUMNS = ["lines", "isbn", "copies", "wholesaler", "availability", "price", "sum", "note"];
+
+// The value of the shop's own choice, which no key of an offer is.
+const RULES = "";
+
+const inPlainWords = (availability) => wordsOfCode("availabilities", availability) ?? availability;
+
+/** The numbers of a book's lines. */
+export function linesInWords({ lines }) {
+  return lines.join(", ");
+}
+
+const AMOUNTS = ["copies", "price", "sum"];
+
+function columnsOf({ isRetail }) {
+  return COLUMNS.map((column) => ({
+    name: say(`order.columns.${column === "price" && isRetail ? "retail" : column}`),
+    className: AMOUNTS.includes(column) ? "amount" : undefined,
+  }));
+}
+
+/** An offer as one can be chosen by hand: how much dearer or cheaper it is than the shop's choice. */
+function offerInWords(offer, chosen, { settings, currency }) {
+  const words = {
+    wholesaler: wholesalerOf(settings, offer.series),
+    price: money(offer.amount, currency),
+    availability: inPlainWords(offer.availability),
+  };
+  if (chosen === undefined) return say("order.offer", words);
+  if (keyOf(chosen) === keyOf(offer)) return say("order.chosenOffer", words);
+  const more = signedMoney(difference(offer.amount, chosen.amount), currency);
+  return say("order.otherOffer", { ...words, more });
+}
+
+/** The field by which a hand chooses another wholesaler, or leaves the book out. */
+function handField(book, state, hand, context) {
+  const { choice, offers } = book.answer;
+  const priced = offers.filter(({ amount }) => amount !== null);
+  const chosen = choice === null ? undefined : priced.find((offer) => keyOf(offer) === keyOf(choice));
+  const first = chosen === undefined ? [element("option", { value: RULES }, say("order.pleaseChoose"))] : [];
+  const options = priced.map((offer) => {
+    const value = offer === chosen ? RULES : keyOf(offer);
+    return element("option", { value }, offerInWords(offer, chosen, context));
+  });
+  const none = element("option", { value: LEFT_OUT }, say("order.leftOut"));
+  const label = say("order.wholesalerOf", { isbn: book.isbn });
+  const field = element("select", { "aria-label": label }, ...first, ...options, none);
+  const isChosen = state.offer === undefined || (chosen !== undefined && keyOf(state.offer) === keyOf(chosen));
+  field.value = hand === LEFT_OUT ? LEFT_OUT : isChosen ? RULES : keyOf(state.offer);
+  field.addEventListener("change", () => {
+    const { value } = field;
+    const byHand = value === LEFT_OUT ? LEFT_OUT : priced.find((offer) => keyOf(offer) === value);
+    context.choose(book, value === RULES ? undefined : byHand);
+  });
+  return field;
+}
+
+/** Why a book needs a person, in words. */
+export function needInWords(need, { answer, written, note, change }, { settings, currency, type }) {
+  if (need === "refused") {
+    const { kind, words, reason } = answer.refusal;
+    return kind === "refused" ? say("wrong.refused", { reason }) : words;
+  }
+  if (need !== "changed") return say(`order.needs.${need}`, { written, note, type });
+  const { series, amount } = change;
+  return say("order.needs.changed", {
+    wholesaler: wholesalerOf(settings, series),
+    price: money(amount, currency),
+  });
+}
+
+function changeAhead({ last, amount }, currency) {
+  const day = inWords(last);
+  if (amount === null) return say("order.untilThenNone", { day });
+  return say("order.untilThen", { day, price: money(amount, currency) });
+}
+
+function addedUp({ lines, parts }) {
+  if (lines.length < 2) return [];
+  return [say("order.addedUp", { lines: linesInWords({ lines }), copies: parts.join(" + ") })];
+}
+
+function noteCell(book, state, context) {
+  const { offer, isByHand, need } = state;
+  const words = [...addedUp(book)];
+  if (offer !== undefined) {
+    if (need !== undefined) {
+      words.unshift(element("strong", { class: "need" }, needInWords(need, book, context)));
+    }
+    if (isByHand) words.push(say("order.byHand"));
+    if (offer.change !== undefined) words.push(changeAhead(offer.change, context.currency));
+    const beside = unpricedBeside(book.answer, offer).map(({ series }) => wholesalerOf(context.settings, series));
+    if (beside.length > 0) words.push(say("order.unpricedBeside", { wholesalers: [...new Set(beside)].join(", ") }));
+  }
+  if (book.note !== "") words.push(element("bdi", {}, book.note));
+  return words.flatMap((part) => [" · ", part]).slice(1);
+}
+
+/** What stands in place of a wholesaler: why there is none, or that the desk has not answered yet. */
+function withoutOffer(book, state, context) {
+  if (state.need !== undefined) return [element("strong", { class: "need" }, needInWords(state.need, book, context))];
+  return [book.answer === undefined ? say(context.isAsking ? "order.waiting" : "order.notAsked") : say("order.leftOut")];
+}
+
+function wholesalerCell(book, state, context) {
+  const { answer } = book;
+  const isOpen = answer?.offers?.some(({ amount }) => amount !== null) ?? false;
+  const field = isOpen ? [handField(book, state, context.handOf(book), context)] : [];
+  if (state.offer === undefined) return [...withoutOffer(book, state, context), " ", ...field];
+  const name = element("span", { class: "on-paper" }, wholesalerOf(context.settings, state.offer.series));
+  return [...field, name, " ", ...marksOf(state.offer.series, context.reports)];
+}
+
+function rowOf(book, state, context) {
+  const { offer } = state;
+  const { currency } = context;
+  const amounts = offer === undefined
+    ? [[], [], []]
+    : [
+        [inPlainWords(offer.availability)],
+        [money(offer.amount, currency)],
+        [money(times(offer.amount, book.copies), currency)],
+      ];
+  return {
+    className: state.need === undefined ? undefined : "needs",
+    cells: [
+      [linesInWords(book)],
+      [element("bdi", { class: "isbn" }, book.wrong === undefined ? book.isbn : book.written)],
+      [book.copies === undefined ? "" : formatter(Intl.NumberFormat).format(book.copies)],
+      wholesalerCell(book, state, context),
+      ...amounts,
+      noteCell(book, state, context),
+    ],
+  };
+}
+
+// The wholesaler's cell, and those behind it that have nothing where there is no offer.
+const [WHOLESALER, NOTE] = ["wholesaler", "note"].map((name) => COLUMNS.indexOf(name));
+
+/** A row with its marks; where there is no offer, the reason for it has the room of what would be said of one. */
+function marked(row, book, { offer }) {
+  row.dataset.book = book.id;
+  row.tabIndex = -1;
+  if (offer !== undefined) row.dataset.series = offer.series;
+  else {
+    const cells = [...row.cells];
+    cells.slice(WHOLESALER + 1, NOTE).forEach((cell) => cell.remove());
+    cells[WHOLESALER].colSpan = NOTE - WHOLESALER;
+  }
+  return row;
+}
+
+/**
+ * The table of books with their states, named by the heading with that id. The context has the
+ * `settings`, the `currency` and `type` asked for, `handOf` a book, the `reports` on messages,
+ * `isAsking`, `isRetail`, and `choose`, which hears of a book what a hand chose.
+ */
+export function orderTable(heading, rows, context) {
+  const made = table(heading, columnsOf(context), rows.map(({ book, state }) => rowOf(book, state, context)));
+  [...made.tBodies[0].rows].forEach((row, at) => marked(row, rows[at].book, rows[at].state));
+  return made;
+}
+
+/** Draws the row of a book anew, where its field keeps the focus. */
+export function redraw(row, book, state, context) {
+  const hadFocus = row.contains(document.activeElement);
+  const made = marked(tableRow(columnsOf(context), rowOf(book, state, context)), book, state);
+  row.replaceWith(made);
+  if (hadFocus) made.querySelector("select")?.focus();
+}

@@ -1,0 +1,106 @@
+// Bar codes: a scanner types them as a keyboard does, wherever the focus is, with Enter, Tab or nothing behind.
+
+// No hand types thirteen digits with less than this between each two of them, in milliseconds.
+const GAP = 60;
+
+// How long a scanner may take for what stands behind the digits: an add-on, Enter or Tab.
+const BEHIND = 120;
+
+const FIELDS = "input, select, textarea";
+
+/** The digits that came one after the other as quickly as a scanner types them. */
+export class Burst {
+  #digits = "";
+  #last = -Infinity;
+
+  /** Whether a digit at a time begins a new burst. */
+  begins(time) {
+    return time - this.#last > GAP;
+  }
+
+  add(digit, time) {
+    this.#digits = this.begins(time) ? digit : this.#digits + digit;
+    this.#last = time;
+  }
+
+  /** The digits of a whole bar code of a book, or of more than that; `undefined` where there are fewer. */
+  get code() {
+    return this.#digits.length >= 13 ? this.#digits : undefined;
+  }
+
+  /** Whether what comes at a time stands behind the digits. */
+  isBehind(time) {
+    return time - this.#last <= BEHIND;
+  }
+
+  end() {
+    this.#digits = "";
+    this.#last = -Infinity;
+  }
+}
+
+/** What a field has, so that what a scanner types there can be taken out of it again. */
+function remembered(field) {
+  if (!field.matches(FIELDS)) return () => {};
+  const { value } = field;
+  return () => {
+    if (field.value === value) return;
+    field.value = value;
+    field.dispatchEvent(new Event(field.localName === "select" ? "change" : "input", { bubbles: true }));
+  };
+}
+
+// What is scanned into a text of several lines is a line of it.
+const isText = (field) => field.localName === "textarea";
+
+/** Listens to the keys of the page for bar codes, which are asked for wherever the focus is. */
+export class Scanner {
+  #place;
+  #burst = new Burst();
+  #restore = () => {};
+  #timer;
+
+  /**
+   * `place` has `field`, where ISBNs are typed, `begin`, which is called at a digit that no field waits for,
+   * the first one of an ISBN, and `scanned`, which gets the digits of a bar code.
+   */
+  constructor(place) {
+    this.#place = place;
+    document.addEventListener("keydown", (event) => this.#hear(event), true);
+  }
+
+  #hear(event) {
+    if (event.ctrlKey || event.altKey || event.metaKey || event.isComposing) return;
+    const isEnd = event.key === "Enter" || event.key === "Tab";
+    if (/^\d$/.test(event.key) && !event.repeat) this.#digit(event);
+    else if (isEnd && this.#isWhole(event)) {
+      event.preventDefault();
+      this.#finish();
+    } else if (isEnd || event.key.length === 1) this.#burst.end();
+  }
+
+  #isWhole({ timeStamp }) {
+    const { code } = this.#burst;
+    return code !== undefined && this.#burst.isBehind(timeStamp) && !isText(document.activeElement);
+  }
+
+  #digit({ key, timeStamp }) {
+    const field = document.activeElement ?? document.body;
+    if (this.#burst.begins(timeStamp)) {
+      this.#restore = field === this.#place.field ? () => {} : remembered(field);
+    }
+    if (!field.matches(FIELDS)) this.#place.begin();
+    this.#burst.add(key, timeStamp);
+    clearTimeout(this.#timer);
+    const isWhole = this.#burst.code !== undefined && !isText(field);
+    if (isWhole) this.#timer = setTimeout(() => this.#finish(), BEHIND);
+  }
+
+  #finish() {
+    clearTimeout(this.#timer);
+    const { code } = this.#burst;
+    this.#burst.end();
+    this.#restore();
+    this.#place.scanned(code);
+  }
+}

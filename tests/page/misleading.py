@@ -1,0 +1,313 @@
+"""What could lead a buyer to a wrong purchase: a lost scan, copies or a day that stay, an old answer, messages
+that are missing, prices that are left out of sight, and numbers and words that are not what they seem."""
+
+import contextlib
+import time
+from collections.abc import Iterator
+from datetime import date
+from typing import Any
+from urllib.parse import unquote
+
+from tests.page.articles import ROWS, answered, has_calendar, noted, said
+from tests.page.browser import Browser
+from tests.page.days import with_clock
+from tests.page.prices import NET, settings
+from tests.page.reports import days_ago, open_missing, request
+from tests.page.site import Site
+from tests.page.week import (
+    BREAKS_ISBN, DEARER_ISBN, FIVE_ISBN, ISBN, NET_ISBN, NET_SENDER, OTHER_ISBN, SHOP, ZERO_ISBN, article,
+)
+from tests.running import Outcome
+
+KEYS = {"\n": ("Enter", 13, "\r"), "\t": ("Tab", 9, "")}
+
+
+def scan(browser: Browser, text: str) -> None:
+    """Types a text as a scanner does, five milliseconds a key, whatever else the machine does meanwhile."""
+    begun = time.time()
+    for at, sign in enumerate(text):
+        key, code, typed = KEYS.get(sign, (sign, ord(sign), sign))
+        pressed = {"key": key, "windowsVirtualKeyCode": code, "timestamp": begun + at * 0.005}
+        browser.driver.execute_cdp_cmd("Input.dispatchKeyEvent", {"type": "keyDown", "text": typed, **pressed})
+        browser.driver.execute_cdp_cmd("Input.dispatchKeyEvent", {"type": "keyUp", **pressed})
+
+
+def fields(browser: Browser) -> list[Any]:
+    names = ["isbn", "quantity", "day", "type"]
+    values: list[Any] = browser.run("return arguments[0].map((name) => document.getElementById(name).value)", names)
+    return values
+
+
+# Where the focus may be, by what is run to bring it there.
+PLACES = {
+    "the page": "document.activeElement.blur()",
+    "the content": "document.getElementById('content').focus()",
+    "a link": "document.getElementById('to-missing').focus()",
+    "a button": "document.getElementById('change').focus()",
+    "the order of offers": "document.getElementById('order').focus()",
+    "the ISBN": "const field = document.getElementById('isbn'); field.focus(); field.setSelectionRange(5, 5)",
+    "the copies": "document.getElementById('quantity').focus()",
+    "the day": "document.getElementById('change').click(); document.getElementById('day').focus()",
+    "the price type": "document.getElementById('type').focus()",
+    "the calendar": "document.getElementById('calendar').open = true; document.getElementById('from').focus()",
+}
+
+
+def scans(site: Site, browser: Browser) -> Iterator[Outcome]:
+    """A scan asks for its book wherever the focus is, with Enter, Tab or nothing behind, and changes no other field."""
+    browser.open(article(day=date.today().isoformat()))
+    answered(browser)
+    before = fields(browser)[1:]
+    books = [OTHER_ISBN, ISBN]
+    for name, script in PLACES.items():
+        for behind in ("\n", "\t", ""):
+            browser.run(script)
+            scan(browser, books[0] + behind)
+            came = browser.wait_for_text("#article-status", books[0])
+            yield Outcome(f"scanned at {name}, {behind!r}", f"ISBN {books[0]}" in came, True)
+            yield Outcome(f"scanned at {name}, {behind!r}: the fields", fields(browser), [books[0], *before])
+            browser.wait(lambda: has_calendar(browser))
+            books.reverse()
+    open_missing(browser)
+    scan(browser, ISBN)
+    yield Outcome("scanned in another view", said(browser, ISBN), True)
+
+
+def typed_digits(site: Site, browser: Browser) -> Iterator[Outcome]:
+    """What a hand types beside the fields begins an ISBN, and an answer of another one is dimmed."""
+    browser.open(article())
+    answered(browser)
+    for name in ("the page", "a link", "a button"):
+        browser.run(PLACES[name])
+        scan(browser, OTHER_ISBN[0])
+        time.sleep(0.1)
+        scan(browser, OTHER_ISBN[1])
+        yield Outcome(f"typed at {name}", fields(browser)[0], OTHER_ISBN[:2])
+    dimmed = float(browser.run("return getComputedStyle(document.getElementById('verdict')).opacity"))
+    yield Outcome(f"the answer of another book is dimmed, {dimmed}", dimmed < 0.5, True)
+    words = f"This is the answer for ISBN {ISBN}, 1 copy, not for what the fields say now."
+    yield Outcome("and it is said", browser.text("#outdated"), words)
+    browser.one("#isbn").clear()
+    browser.one("#isbn").send_keys(ISBN)
+    shown = browser.wait(lambda: not browser.one("#outdated").is_displayed())
+    yield Outcome("the book of the answer is not dimmed", shown, True)
+    browser.one("#quantity").send_keys("0")
+    yield Outcome("the answer of other copies is dimmed", browser.one("#outdated").is_displayed(), True)
+
+
+def whole_sentence(site: Site, browser: Browser) -> Iterator[Outcome]:
+    """The sentence has the copies, the sum, and whatever is not as the shop asks mostly."""
+    with settings(site, price_type="05"):
+        browser.open(article(BREAKS_ISBN, type="05", quantity="50"))
+        answered(browser)
+        sentence = "On 10 April 2025: Buy 50 from net at £3.76 a copy"
+        yield Outcome("copies and day in the sentence", browser.text("#article-status .sentence"), sentence)
+        yield Outcome("the sum", browser.text("#article-status .sum"), "£188.00")
+        sizes = browser.run(
+            """const size = (found) => parseFloat(getComputedStyle(found).fontSize);
+            const others = [...document.querySelectorAll('body *')].filter((found) =>
+              found.closest('.decision') === null && found.getClientRects().length > 0);
+            return [size(document.querySelector('.sentence')), Math.max(...others.map(size))]"""
+        )
+        yield Outcome(f"the largest thing of the page, {sizes}", sizes[0] > sizes[1], True)
+        browser.open(article(NET_ISBN, type="05", currency="EUR", country="DE"))
+        answered(browser)
+        sentence = "On 10 April 2025, in DE, in EUR: Buy 1 from net at €24.00 a copy"
+        yield Outcome("country and currency in the sentence", browser.text("#article-status .sentence"), sentence)
+        marked = browser.texts("#question span.unusual")
+        yield Outcome("and they are marked", marked, ["Thu, 10 April 2025, not today", "DE", "EUR"])
+        browser.one("#as-usual").click()
+        browser.wait(lambda: "On 10" not in browser.text("#article-status"))
+        asked = browser.run("return location.hash")
+        yield Outcome("one button brings back the usual", asked, f"#article?isbn={NET_ISBN}")
+        yield Outcome("nothing is marked then", browser.texts("#question .unusual"), [])
+
+
+def back_to_usual(site: Site, browser: Browser) -> Iterator[Outcome]:
+    """After a while without a question, or with each one, the next book begins with one copy and today."""
+    today = date.today().isoformat()
+    stop = with_clock(browser)
+    for minutes, ahead, wanted in [(10, 9, ["50", "2025-04-10"]), (10, 11, ["1", today]), (0, 0, ["1", today])]:
+        with settings(site, minutes_to_usual=minutes):
+            browser.open(article(quantity="50"))
+            answered(browser)
+            browser.run("window.daysAhead = arguments[0] / 1440", ahead)
+            browser.run(PLACES["the page"])
+            scan(browser, OTHER_ISBN + "\n")
+            said(browser, OTHER_ISBN)
+            name = f"usual after {minutes} minutes, scanned after {ahead}"
+            yield Outcome(name, fields(browser)[1:3], wanted)
+    stop()
+
+
+def net_message(number: int, amount: str) -> str:
+    return f"""Message,2,{NET_SENDER},{SHOP},{number},1,20250308,05,GBP
+Product,B-2,03,15,{ZERO_ISBN}
+ProductSupply,GB,,
+SupplyDetail,04,06,8000000000008,Net,21,
+Price,,{amount},,,,,,
+EndMessage,5
+"""
+
+
+def asked_anew(site: Site, browser: Browser) -> Iterator[Outcome]:
+    """The answer says of when it is, is asked for anew each minute, and a change of it is said."""
+    stop = with_clock(browser)
+    browser.open(article(ZERO_ISBN, **NET))
+    yield Outcome("a price of nothing", said(browser, "net says £0.00: ask before you order"), True)
+    answered(browser)
+    yield Outcome("a price of nothing: no sum", browser.all("#article-status .sum"), [])
+    green = browser.all("#offers tr.chosen")
+    yield Outcome("a price of nothing: not marked as to be bought", green, [])
+    time_of = browser.text("#answer-time")
+    yield Outcome(f"the time of the answer, {time_of}", time_of.startswith("as of "), True)
+    before = len(site.requests())
+    browser.run("window.daysAhead = 61 / 86400")
+    later = browser.wait(lambda: browser.text("#answer-time") != time_of)
+    yield Outcome("asked anew after a minute", later, True)
+    asked = [line for line in site.requests()[before:] if "/price?" in line]
+    yield Outcome("asked anew: it is one question", len(asked), 1)
+    yield Outcome("nothing has changed", "Changed" in browser.text("#notes"), False)
+    site.tell_desk(net_message(3, "7.50"))
+    browser.run("window.daysAhead = 122 / 86400")
+    changed = browser.wait_for_text("#notes", "Changed at")
+    told = "Before: On 10 April 2025, by price type 05: net says £0.00: ask before you order."
+    yield Outcome(f"a change is said, {changed}", told in changed, True)
+    yield Outcome("the new price", said(browser, "Buy 1 from net at £7.50 a copy"), True)
+    stop()
+
+
+def marked_wholesalers(site: Site, browser: Browser) -> Iterator[Outcome]:
+    """Whose messages are missing, or who is silent, is marked where its prices are, and at the tab."""
+    open_missing(browser)
+    kept = browser.run("return JSON.parse(localStorage.getItem('onixdesk-seen'))")
+    kept["south"]["since"] = days_ago(8)
+    browser.run("localStorage.setItem('onixdesk-seen', JSON.stringify(arguments[0]))", kept)
+    browser.open(article())
+    answered(browser)
+    browser.wait_for_text("#missing-count", "silent")
+    yield Outcome("at the tab", browser.text("#missing-count .count"), "5")
+    yield Outcome("at the tab: who is silent", browser.text("#missing-count .tag"), "1 silent")
+    name = browser.one("#to-missing").accessible_name
+    yield Outcome(f"at the tab: in words, {name}", "5 messages missing" in name, True)
+    tags = browser.run(
+        """return [...document.querySelectorAll('#offers tbody tr')].map((row) =>
+          [...row.querySelectorAll('.tag.unusual')].map((tag) => tag.textContent))"""
+    )
+    yield Outcome("in the rows", tags, [["5 missing"], ["silent for 8 days"], []])
+    notes = browser.text("#notes")
+    words = "North Books: 3 to 4, 6 to 8 missing. 2 later messages wait for what is missing. Its prices may be older"
+    yield Outcome("below the answer", words in notes, True)
+    yield Outcome("below the answer: silence", "South Books: no new message for 8 days." in notes, True)
+    browser.run("localStorage.clear()")
+
+
+def breaks(site: Site, browser: Browser) -> Iterator[Outcome]:
+    """Where prices change with the copies, wherever that is, and what speaks against a number of copies."""
+    with settings(site, price_type="05", quantities=[1, 10, 25]):
+        browser.open(article(BREAKS_ISBN, quantity="12", type="05"))
+        answered(browser)
+        cell = "1: £4.3610: £4.1412: £4.1450: £3.76"
+        yield Outcome("the asked number among them, and one beyond", browser.run(ROWS)[0][4], cell)
+        yield Outcome("the asked number is marked", browser.text("#offers .copies strong"), "12: £4.14")
+        browser.open(article(FIVE_ISBN, type="05"))
+        answered(browser)
+        sentence = "No wholesaler has a price for 1 copy of type 05 – supplier's net price, without tax"
+        yield Outcome("from five on only: the sentence", said(browser, sentence), True)
+        yield Outcome("from five on only: who sells it", noted(browser, "net sells it from 5 copies on, at £5.00 each."), True)
+        yield Outcome("from five on only: the row", browser.run(ROWS)[0][3], "1: no price5: £5.00")
+        browser.open(article(DEARER_ISBN, quantity="10", type="05"))
+        answered(browser)
+        told = "Fewer copies cost less each: 9 copies at £8.66 each, £77.94 in all."
+        yield Outcome("ten cost more than nine", noted(browser, told), True)
+        browser.open(article(BREAKS_ISBN, quantity="48", type="05"))
+        answered(browser)
+        told = "More copies cost less in all: 50 copies at £3.76 each, £188.00 in all."
+        yield Outcome("fifty cost less than forty-eight", noted(browser, told), True)
+
+
+def until(site: Site, browser: Browser) -> Iterator[Outcome]:
+    """Until when the price holds stands below the answer and in its row."""
+    browser.open(article(BREAKS_ISBN, type="05"))
+    rows = answered(browser)
+    told = "Until 30 April 2025. From 1 May 2025 on net takes £4.58 a copy."
+    yield Outcome("until when the price holds", noted(browser, told), True)
+    yield Outcome("until when the price holds: the row", rows[0][5], "until 30 Apr 2025, then £4.58")
+
+
+def aliases(site: Site, browser: Browser) -> Iterator[Outcome]:
+    """A country's other code is asked for as what it stands for, and it is said."""
+    browser.open(article(country="UK"))
+    rows = answered(browser)
+    yield Outcome("UK: the prices of GB", [row[2] for row in rows], ["£11.50", "£11.80", "£8.00"])
+    asked = [line for line in site.requests() if "/price?" in line][-1]
+    yield Outcome("UK: the desk is asked for GB", "country=GB" in asked, True)
+    yield Outcome("UK: it is said", browser.text("#country-shown"), "GB (for UK)")
+    browser.one("#change").click()
+    words = "UK is United Kingdom, which the desk knows as GB: that is asked."
+    yield Outcome("UK: in words", browser.text("#country-words"), words)
+
+
+def own_numbers(site: Site, browser: Browser) -> Iterator[Outcome]:
+    """A request is in the wholesaler's numbers, between GLNs, and opens as a mail."""
+    north = {
+        "name": "north", "words": "North Books", "parts": 5, "number_offset": 0,
+        "sender": "4012345000009", "addressee": "5012345678900", "mail": "edi@north.example",
+    }
+    with settings(site, series=[north]):
+        open_missing(browser)
+        link = browser.one("#report-north a[href^='mailto:']").get_attribute("href") or ""
+    address, _, body = unquote(link).partition("&body=")
+    yield Outcome("a mail to the wholesaler", address.startswith("mailto:edi@north.example?subject=ONIX"), True)
+    # The desk's 3 to 4 are parts of the wholesaler's message 1, and 6 to 8 of 2; nothing of 1 is whole.
+    wanted = request(
+        "To North Books (GLN 4012345000009)",
+        "From High Street Books (GLN 5012345678900)",
+        "DAY",
+        "",
+        "These of your ONIX messages to us have not reached us: 1, 2 (2 messages in all). Please send them "
+        "again, each with its own message number and unchanged contents.",
+        "",
+        "We have applied none of your messages yet.",
+        "Later ones have come, and wait for the missing ones.",
+    )
+    yield Outcome("the request in the wholesaler's numbers", body.replace("\r\n", "\n"), wanted)
+
+
+FIRST = '# West before all\n[[rule]]\nseries = "west"\ncodes = ["99"]\n\n'
+
+
+@contextlib.contextmanager
+def rules(site: Site, text: str, is_started: bool) -> Iterator[None]:
+    """Puts another precedence table into the place of the shop's, with the desk started anew or not."""
+    before = site.rules.read_text(encoding="utf-8")
+    try:
+        for put in (text, None):
+            site.rules.write_text(put or before, encoding="utf-8")
+            if is_started:
+                site.stop_desk()
+                site.start_desk()
+            if put is not None:
+                yield
+    finally:
+        site.rules.write_text(before, encoding="utf-8")
+
+
+def words_of_rules(site: Site, browser: Browser) -> Iterator[Outcome]:
+    """The words of a rule are those of the desk's own table, and a table that is not the desk's is told."""
+    table = site.rules.read_text(encoding="utf-8")
+    with rules(site, FIRST + table, True):
+        browser.open(article())
+        told = "rule 3: “Else whoever has the book”"
+        yield Outcome("a rule put in front", said(browser, told), True)
+    with rules(site, FIRST, False):
+        browser.open(article())
+        answered(browser)
+        told = "The desk chose by rule 2, but rules.toml has 1 rule: it was changed after the desk was started."
+        yield Outcome("a table that is not the desk's", noted(browser, told), True)
+
+
+CASES = [
+    scans, typed_digits, whole_sentence, back_to_usual, marked_wholesalers, breaks, until, aliases, own_numbers,
+    words_of_rules, asked_anew,
+]

@@ -1,0 +1,141 @@
+// What is ordered of an answer, why a person should look, and sums. The answers are as docs/HTTP.md has them.
+
+import assert from "node:assert/strict";
+import { test } from "node:test";
+
+import { agree, LEFT_OUT, offersOfCalendar, stateOf, unpricedBeside } from "../page/order-answers.js";
+import { OrderList } from "../page/order-list.js";
+import { lackingTo, sumsOf } from "../page/order-sums.js";
+
+const offer = (series, amount, more = {}) => ({ series, reference: "R", place: 1, availability: "21", amount, ...more });
+const NORTH = offer("north", "9.000");
+const SOUTH = offer("south", "8.660");
+const chosen = (found) => ({ ...found, rule: 1 });
+const BOOK = { isbn: "9780306406157", copies: 2, lines: [1] };
+
+test("the shop's choice is ordered, with what the calendar says of it", () => {
+  const change = { last: "2026-11-30", amount: "12.320" };
+  const answer = { choice: chosen(SOUTH), offers: [NORTH, { ...SOUTH, change }] };
+  const state = stateOf({ ...BOOK, answer }, undefined);
+  assert.deepEqual(state, { offer: { ...SOUTH, change }, isByHand: false, need: undefined });
+});
+
+test("a hand orders from another wholesaler, which is kept by its offer, or as its only one", () => {
+  const answer = { choice: chosen(SOUTH), offers: [NORTH, SOUTH] };
+  const byHand = stateOf({ ...BOOK, answer }, offer("north", "7.000"));
+  assert.deepEqual([byHand.offer, byHand.isByHand, byHand.need], [NORTH, true, undefined]);
+  const renamed = stateOf({ ...BOOK, answer }, offer("north", "9.000", { reference: "old" }));
+  assert.deepEqual([renamed.offer, renamed.isByHand], [NORTH, true]);
+  const two = { ...answer, offers: [NORTH, offer("north", "9.500", { place: 2 }), SOUTH] };
+  const lost = stateOf({ ...BOOK, answer: two }, offer("north", "9.000", { reference: "old" }));
+  assert.deepEqual([lost.offer, lost.isByHand, lost.need], [SOUTH, false, "lost"]);
+});
+
+test("a hand whose wholesaler has no price any longer is told", () => {
+  const answer = { choice: chosen(SOUTH), offers: [offer("north", null), SOUTH] };
+  const state = stateOf({ ...BOOK, answer }, NORTH);
+  assert.deepEqual([state.offer, state.need], [SOUTH, "lost"]);
+});
+
+test("a hand leaves a book out, and chooses where no rule does", () => {
+  const answer = { choice: chosen(SOUTH), offers: [NORTH, SOUTH] };
+  assert.deepEqual(stateOf({ ...BOOK, answer }, LEFT_OUT), { isByHand: true });
+  const none = { choice: null, offers: [NORTH] };
+  assert.equal(stateOf({ ...BOOK, answer: none }, undefined).need, "notChosen");
+  assert.deepEqual(stateOf({ ...BOOK, answer: none }, NORTH).offer, NORTH);
+});
+
+test("why a book needs a person", () => {
+  const need = (book, hand) => stateOf({ ...BOOK, ...book }, hand).need;
+  const answer = { choice: chosen(SOUTH), offers: [SOUTH] };
+  assert.equal(need({ wrong: "isbn" }), "isbn");
+  assert.equal(need({}), undefined);
+  assert.equal(need({ answer: { refusal: { kind: "refused", reason: "bad-query" } } }), "refused");
+  assert.equal(need({ answer: { choice: null, offers: [] } }), "noOffers");
+  assert.equal(need({ answer: { choice: null, offers: [offer("north", null)] } }), "unpriced");
+  assert.equal(need({ answer, change: { series: "north", amount: "8.000" } }), "changed");
+  assert.equal(need({ answer, isUnsure: true }), "unsure");
+  const free = offer("south", "0.000");
+  assert.equal(need({ answer: { choice: chosen(free), offers: [free] } }), "free");
+  assert.equal(need({ answer, isUnsure: false }), undefined);
+});
+
+test("a calendar says what holds on its first day, until when, and what then", () => {
+  const spans = [
+    { amount: "9.990", first: "20261127", last: "20261130" }, { amount: "12.990", first: "20261201", last: "20261227" },
+  ];
+  const [found] = offersOfCalendar([{ series: "south", reference: "R", place: 1, availability: "21", spans }], "2026-11-27");
+  assert.deepEqual(found, offer("south", "9.990", { change: { last: "2026-11-30", amount: "12.990" } }));
+  const whole = [{ amount: "9.990", first: "20261127", last: "20261227" }];
+  const [same] = offersOfCalendar([{ series: "south", reference: "R", place: 1, availability: "21", spans: whole }], "2026-11-27");
+  assert.equal(same.change, undefined);
+  const ends = [{ ...spans[0] }, { amount: null, first: "20261201", last: "20261227" }];
+  const [none] = offersOfCalendar([{ series: "south", reference: "R", place: 1, availability: "21", spans: ends }], "2026-11-27");
+  assert.deepEqual(none.change, { last: "2026-11-30", amount: null });
+});
+
+test("the choice and the offers are of one moment where the chosen one has the same price", () => {
+  assert.equal(agree(null, []), true);
+  assert.equal(agree(chosen(SOUTH), [NORTH, SOUTH]), true);
+  assert.equal(agree(chosen(SOUTH), [NORTH, offer("south", "8.670")]), false);
+  assert.equal(agree(chosen(SOUTH), [NORTH]), false);
+});
+
+test("offers of others without a price of the type are told", () => {
+  const offers = [SOUTH, offer("south", null, { place: 2 }), offer("west", null), NORTH];
+  assert.deepEqual(unpricedBeside({ offers }, SOUTH).map(({ series }) => series), ["west"]);
+});
+
+test("sums are exact, by wholesaler and in all", () => {
+  const rows = [
+    { series: "south", copies: 3, amount: "0.105" }, { series: "north", copies: 1, amount: "9.000" },
+    { series: "south", copies: 999999, amount: "999999999.999" },
+  ];
+  const { bySeries, all } = sumsOf(rows);
+  assert.deepEqual(bySeries, [
+    { series: "south", lines: 2, copies: 1000002, amount: "999998999999000.316" },
+    { series: "north", lines: 1, copies: 1, amount: "9.000" },
+  ]);
+  assert.deepEqual(all, { lines: 3, copies: 1000003, amount: "999998999999009.316" });
+  assert.equal(sumsOf([]).all.amount, "0.000");
+});
+
+test("what is lacking to free carriage", () => {
+  assert.equal(lackingTo("37.705", "50.00"), "12.295");
+  assert.equal(lackingTo("50.000", "50.00"), undefined);
+  assert.equal(lackingTo("100.000", "50.00"), undefined);
+});
+
+test("books that need a person come first, once all are answered", () => {
+  const list = new OrderList();
+  const answer = { choice: chosen(SOUTH), offers: [NORTH, SOUTH], at: 5, isOrdered: true };
+  list.begin("", {}, [{ ...BOOK, isbn: "1" }, { ...BOOK, isbn: "2" }, { ...BOOK, wrong: "isbn" }, { ...BOOK, isbn: "4" }]);
+  list.isAsking = true;
+  const order = () => list.rows().map(({ book }) => book.id);
+  assert.deepEqual(order(), [2, 0, 1, 3]);
+  list.books[0].answer = answer;
+  list.books[1].answer = { choice: null, offers: [], at: 3 };
+  assert.deepEqual(order(), [2, 0, 1, 3]);
+  assert.deepEqual(list.open().map(({ id }) => id), [3]);
+  list.books[3].answer = { ...answer, at: 9 };
+  list.isAsking = false;
+  assert.deepEqual(order(), [1, 2, 0, 3]);
+  assert.deepEqual(list.times(), [3, 9]);
+  assert.deepEqual(list.series(), ["north", "south"]);
+});
+
+test("what a hand chose stays through a new look-up, and is ordered from that wholesaler", () => {
+  const list = new OrderList();
+  const answer = { choice: chosen(SOUTH), offers: [NORTH, SOUTH], isOrdered: true };
+  list.begin("", {}, [BOOK]);
+  list.books[0].answer = answer;
+  list.choose(BOOK, NORTH);
+  assert.deepEqual([list.ordered("north").length, list.ordered("south").length, list.ordered().length], [1, 0, 1]);
+  list.begin("", {}, [{ ...BOOK, copies: 5 }]);
+  list.books[0].answer = answer;
+  assert.deepEqual(list.ordered()[0].state.offer, NORTH);
+  list.choose(BOOK, undefined);
+  assert.deepEqual(list.ordered()[0].state.offer, SOUTH);
+  list.choose(BOOK, LEFT_OUT);
+  assert.deepEqual(list.ordered(), []);
+});

@@ -1,0 +1,128 @@
+// What an order list asks a desk. The replies are as docs/HTTP.md has them.
+
+import assert from "node:assert/strict";
+import { afterEach, beforeEach, test } from "node:test";
+
+import { eachOf, OrderAsking, sharedWatch } from "../page/order-asking.js";
+import { LEFT_OUT } from "../page/order-answers.js";
+
+const QUESTION = { day: "2026-11-27", country: "GB", currency: "GBP", type: "05" };
+const BOOK = { isbn: "9780306406157", copies: 2 };
+const HEAD = { series: "north", reference: "R", place: 1, availability: "21" };
+const QUIET = { down() {}, up() {} };
+
+const { fetch: realFetch } = globalThis;
+let asked;
+let replies;
+
+beforeEach(() => {
+  asked = [];
+  globalThis.document = { baseURI: "https://desk.example.org/" };
+  globalThis.fetch = async (url) => {
+    const what = url.pathname.split("/").at(-1);
+    asked.push(`${what}${url.search}`);
+    const found = replies[what];
+    return new Response(JSON.stringify(typeof found === "function" ? found() : found));
+  };
+});
+afterEach(() => {
+  globalThis.fetch = realFetch;
+  delete globalThis.document;
+});
+
+const asking = () => new OrderAsking(QUESTION, new AbortController().signal, QUIET);
+const choiceOf = (amount) => ({ answer: "choice", choice: amount === null ? null : { ...HEAD, amount, rule: 1 } });
+const spans = (amount) => [{ amount, first: "20261127", last: "20261227" }];
+const calendarOf = (amount) => ({ answer: "calendar", offers: [{ ...HEAD, spans: spans(amount) }] });
+const priceOf = (amount) => ({ answer: "price", offers: [{ ...HEAD, amount }] });
+const names = () => asked.map((text) => text.split("?")[0]);
+
+test("what is ordered is asked for its choice and its calendar of 30 days, with its copies", async () => {
+  replies = { choice: choiceOf("9.000"), calendar: calendarOf("9.000") };
+  const { choice, offers, isOrdered } = await asking().answerOf(BOOK, undefined);
+  assert.deepEqual([choice.amount, offers[0].amount, isOrdered], ["9.000", "9.000", true]);
+  assert.deepEqual(asked, [
+    "choice?day=20261127&country=GB&currency=GBP&type=05&quantity=2",
+    "calendar?from=20261127&to=20261227&country=GB&currency=GBP&type=05&quantity=2",
+  ]);
+});
+
+test("what is not ordered is asked for no calendar", async () => {
+  replies = { choice: choiceOf(null), price: priceOf("9.000"), calendar: calendarOf("9.000") };
+  await asking().answerOf(BOOK, undefined);
+  assert.deepEqual(names(), ["choice", "price"]);
+  asked.length = 0;
+  await asking().answerOf(BOOK, LEFT_OUT);
+  assert.deepEqual(names(), ["choice", "price"]);
+  asked.length = 0;
+  await asking().answerOf(BOOK, HEAD);
+  assert.deepEqual(names(), ["choice", "calendar"]);
+});
+
+test("a choice and offers of two moments are asked for again, three times at most", async () => {
+  const amounts = ["9.500", "9.000"];
+  replies = { choice: choiceOf("9.000"), calendar: () => calendarOf(amounts.shift() ?? "9.000") };
+  assert.equal((await asking().answerOf(BOOK, undefined)).offers[0].amount, "9.000");
+  assert.deepEqual(names(), ["choice", "calendar", "choice", "calendar"]);
+  asked.length = 0;
+  replies = { choice: choiceOf("9.000"), calendar: calendarOf("9.500") };
+  await asking().answerOf(BOOK, undefined);
+  assert.equal(asked.length, 6);
+});
+
+test("a refusal is an answer to nothing", async () => {
+  replies = { choice: { answer: "refused", reason: "bad-query" } };
+  const { refusal } = await asking().answerOf(BOOK, undefined);
+  assert.deepEqual(refusal, { kind: "refused", reason: "bad-query" });
+});
+
+test("whether a book is as before: its offer, its price and its availability", async () => {
+  const state = { offer: { ...HEAD, amount: "9.000" }, isByHand: false };
+  const isSame = async (choice) => {
+    replies = { choice: { answer: "choice", choice } };
+    return asking().isAsBefore(BOOK, state);
+  };
+  assert.equal(await isSame({ ...HEAD, amount: "9.000", rule: 2 }), true);
+  assert.equal(await isSame({ ...HEAD, amount: "9.010", rule: 1 }), false);
+  assert.equal(await isSame({ ...HEAD, amount: "9.000", availability: "31", rule: 1 }), false);
+  assert.equal(await isSame({ ...HEAD, amount: "9.000", series: "south", rule: 1 }), false);
+  assert.equal(await isSame(null), false);
+});
+
+test("what a hand chose is as before by its own offer", async () => {
+  const state = { offer: { ...HEAD, amount: "9.000" }, isByHand: true };
+  replies = { price: priceOf("9.000") };
+  assert.equal(await asking().isAsBefore(BOOK, state), true);
+  replies = { price: priceOf(null) };
+  assert.equal(await asking().isAsBefore(BOOK, state), false);
+  replies = { price: { answer: "price", offers: [] } };
+  assert.equal(await asking().isAsBefore(BOOK, state), false);
+  assert.deepEqual(names(), ["price", "price", "price"]);
+});
+
+test("each is asked for once, four at a time", async () => {
+  let running = 0;
+  let most = 0;
+  const found = [];
+  await eachOf([...Array(30).keys()], async (item) => {
+    running += 1;
+    most = Math.max(most, running);
+    await new Promise((resolve) => { setTimeout(resolve, item % 3); });
+    running -= 1;
+    found.push(item);
+  });
+  assert.equal(most, 4);
+  assert.deepEqual(found.sort((one, other) => one - other), [...Array(30).keys()]);
+});
+
+test("the desk is up once it is for all questions", () => {
+  const told = [];
+  const watchOfOne = sharedWatch({ down: (words) => told.push(words), up: () => told.push("up") });
+  const [one, other] = [watchOfOne(), watchOfOne()];
+  one.down("away");
+  other.down("away");
+  one.up();
+  assert.deepEqual(told, ["away", "away"]);
+  other.up();
+  assert.deepEqual(told, ["away", "away", "up"]);
+});

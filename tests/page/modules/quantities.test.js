@@ -1,0 +1,103 @@
+// Where prices change with the number of copies, found by few questions, and until when they hold.
+
+import assert from "node:assert/strict";
+import { test } from "node:test";
+
+import {
+  betterQuantities, changesOf, firstQuantities, MOST_COPIES, nextQuantity, withAnswer,
+} from "../page/quantities.js";
+import { holdsUntil } from "../page/spans.js";
+
+const offer = (reference, amount) => ({ series: "north", reference, place: 1, amount });
+const answer = (quantity, amount) => ({ quantity, offers: [offer("other", "1.000"), offer("R", amount)] });
+const R = offer("R");
+
+test("one copy, those of desk.json, those asked for and the most are asked first", () => {
+  assert.deepEqual(firstQuantities(1, [1, 10, 25]), [1, 10, 25, MOST_COPIES]);
+  assert.deepEqual(firstQuantities(12, [10]), [1, 10, 12, MOST_COPIES]);
+  assert.deepEqual(firstQuantities(MOST_COPIES, []), [1, MOST_COPIES]);
+});
+
+/** The answers to all questions that a wholesaler with these changes is asked, and how many these are. */
+function asked(first, amountOf) {
+  let answers = first.map((quantity) => answer(quantity, amountOf(quantity)));
+  let count = 0;
+  for (let next = nextQuantity(answers); next !== undefined; next = nextQuantity(answers)) {
+    answers = withAnswer(answers, answer(next, amountOf(next)));
+    count += 1;
+  }
+  return { answers, count };
+}
+
+/** The amount at a number of copies, by a list of changes. */
+const byChanges = (changes) => (quantity) => changes.findLast(([from]) => from <= quantity)[1];
+
+test("each change of a price is found exactly, in at most thirty-two questions", () => {
+  for (const changes of [
+    [[1, "5.000"]],
+    [[1, "5.000"], [5, "4.600"], [50, "4.000"]],
+    [[1, null], [5, "5.000"]],
+    [[1, "4.360"], [10, "4.140"], [50, "3.760"]],
+    [[1, "8.660"], [10, "10.590"]],
+    [[1, "9.000"], [7, "8.000"], [33, "7.000"], [777, "6.000"]],
+    [[1, "9.000"], [999999, "1.000"]],
+  ]) {
+    const { answers, count } = asked([1, 10, 25, MOST_COPIES], byChanges(changes));
+    const found = changesOf(R, answers).map(({ quantity, amount }) => [quantity, amount]);
+    assert.deepEqual(found, changes);
+    assert.ok(changesOf(R, answers).every(({ isExact }) => isExact));
+    assert.ok(count <= 32, `${count} questions for ${JSON.stringify(changes)}`);
+  }
+});
+
+test("nothing more is asked where no price changes", () => {
+  assert.equal(nextQuantity([answer(1, "8.000"), answer(10, "8.000"), answer(MOST_COPIES, "8.000")]), undefined);
+});
+
+test("a change that is not asked for exactly is told so", () => {
+  const [, change] = changesOf(R, [answer(1, "5.000"), answer(10, "4.000")]);
+  assert.deepEqual(change, { quantity: 10, amount: "4.000", isExact: false });
+});
+
+test("an offer that one answer does not have is not compared there", () => {
+  const gone = [answer(1, "8.000"), { quantity: 10, offers: [] }];
+  assert.deepEqual(changesOf(R, gone), [{ quantity: 1, amount: "8.000", isExact: true }]);
+  assert.equal(nextQuantity(gone), undefined);
+});
+
+test("ten copies that cost more each than nine are told", () => {
+  const changes = changesOf(R, [answer(1, "8.660"), answer(9, "8.660"), answer(10, "10.590")]);
+  const { fewer, more } = betterQuantities(changes, 10);
+  assert.deepEqual(fewer, { quantity: 9, amount: "8.660" });
+  assert.equal(more, undefined);
+  assert.deepEqual(betterQuantities(changes, 9), { fewer: undefined, more: undefined });
+});
+
+test("ten copies that cost less in all than nine are told", () => {
+  const changes = changesOf(R, [answer(1, "5.000"), answer(9, "5.000"), answer(10, "4.000")]);
+  assert.equal(betterQuantities(changes, 9).more.quantity, 10);
+  // Eight cost £40.00 too.
+  assert.equal(betterQuantities(changes, 8).more, undefined);
+  assert.equal(betterQuantities(changes, 10).fewer, undefined);
+});
+
+test("of no price nothing is better", () => {
+  const changes = changesOf(R, [answer(1, null), answer(4, null), answer(5, "5.000")]);
+  assert.deepEqual(betterQuantities(changes, 1), {});
+  assert.deepEqual(betterQuantities(changes, 5), { fewer: undefined, more: undefined });
+});
+
+const SPANS = [
+  { first: "20261027", last: "20261130", amount: "4.360" },
+  { first: "20261201", last: "20270131", amount: "4.580" },
+  { first: "20270201", last: "20271026", amount: null },
+];
+
+test("until when a price holds, and what comes then", () => {
+  assert.deepEqual(holdsUntil({ spans: SPANS }, "2026-11-27"), {
+    amount: "4.360", last: "2026-11-30", from: "2026-12-01", then: "4.580",
+  });
+  assert.equal(holdsUntil({ spans: SPANS }, "2026-12-01").then, null);
+  assert.deepEqual(holdsUntil({ spans: SPANS }, "2027-10-26"), { amount: null });
+  assert.equal(holdsUntil({ spans: SPANS }, "2027-10-27"), undefined);
+});

@@ -1,0 +1,122 @@
+"""The desk on which order lists are tried: three wholesalers with net prices of five hundred books, and some books
+that need a person. What is expected of them is reckoned here, in decimals."""
+
+import json
+from datetime import date, timedelta
+from decimal import Decimal
+from typing import NamedTuple
+
+from tests.page.site import DATABASE, Site
+from tests.page.week import SHOP
+from tools.root import ROOT
+
+WHOLESALERS = {"alpha": "Alpha Books", "beta": "Beta & Sons", "gamma": "Gamma"}
+SENDERS = {"alpha": "06,4100000000001", "beta": "06,4200000000002", "gamma": "06,4300000000003"}
+FREE_FROM = Decimal("50.00")
+
+BOOKS = 500
+
+
+def isbn_of(number: int) -> str:
+    """An ISBN of thirteen digits, by the sums of the standard."""
+    twelve = f"97805{number:07d}"
+    total = sum(int(digit) * (1, 3)[at % 2] for at, digit in enumerate(twelve))
+    return twelve + str(-total % 10)
+
+
+class Offer(NamedTuple):
+    series: str
+    amount: Decimal
+
+
+def offers_of(number: int) -> list[Offer]:
+    """What the wholesalers ask for a book: the least is never asked by two of them."""
+    amount = Decimal(500 + number) / 100
+    found = [Offer("alpha", amount)]
+    if number % 3 == 1:
+        found.append(Offer("beta", amount - Decimal("0.305")))
+    if number % 3 == 2:
+        found.append(Offer("gamma", amount - Decimal("0.25")))
+    return found
+
+
+def chosen_of(number: int) -> Offer:
+    return min(offers_of(number), key=lambda offer: offer.amount)
+
+
+# Books that need a person.
+NOBODYS = isbn_of(9001)
+NOT_ADMITTED = isbn_of(9002)
+RETAIL_ALONE = isbn_of(9003)
+FREE = isbn_of(9004)
+# A price that changes after three days, and one from ten copies on.
+RISING = isbn_of(9005)
+BROKEN = isbn_of(9006)
+# Another wholesaler has it, without a price of the type.
+BESIDE = isbn_of(9007)
+HOSTILE = "=cmd|' /C calc'!A0"
+
+
+def compact(day: date) -> str:
+    return f"{day:%Y%m%d}"
+
+
+def product(reference: str, isbn: str, gln: str, availability: str, *prices: str) -> list[str]:
+    details = ["ProductSupply,GB,,", f"SupplyDetail,04,06,{gln},Supplier,{availability},"]
+    return [f'Product,"{reference}",03,15,{isbn}', *details, *prices]
+
+
+def special_rows(gln: str) -> list[str]:
+    today = date.today()
+    until = compact(today + timedelta(days=3))
+    then = compact(today + timedelta(days=4))
+    return [
+        *product("s-2", NOT_ADMITTED, gln, "40", "Price,,7.00,,,,,,"),
+        *product("s-3", RETAIL_ALONE, gln, "21", "Price,02,7.00,,,,,,"),
+        *product("s-4", FREE, gln, "21", "Price,,0.00,,,,,,"),
+        *product("s-5", RISING, gln, "21", f"Price,,9.99,,,,,,{until}", f"Price,,12.99,,,,,{then},"),
+        *product("s-6", BROKEN, gln, "21", "Price,,5.00,,,,,,", "Price,,4.00,,,,,,,10"),
+        *product(HOSTILE, BESIDE, gln, "21", "Price,,6.00,,,,,,"),
+    ]
+
+
+def message(series: str, number: int, rows: list[str]) -> str:
+    head = f"Message,2,{SENDERS[series]},{SHOP},{number},1,20250306,05,GBP"
+    return "\n".join([head, *rows, f"EndMessage,{len(rows) + 1}"]) + "\n"
+
+
+def batch() -> str:
+    """Agreements, a message of each wholesaler, and a later one of gamma, before which two are missing."""
+    text = "".join(f"Agree,{name},{sender},{SHOP},1\n" for name, sender in SENDERS.items())
+    for series in WHOLESALERS:
+        gln = SENDERS[series].partition(",")[2]
+        rows = [
+            row
+            for number in range(BOOKS)
+            for offer in offers_of(number)
+            if offer.series == series
+            for row in product(f"{series}-{number}", isbn_of(number), gln, "21", f"Price,,{offer.amount},,,,,,")
+        ]
+        if series == "alpha":
+            rows += special_rows(gln)
+        if series == "gamma":
+            rows += product("g-7", BESIDE, gln, "21", "Price,02,9.00,,,,,,")
+        text += message(series, 1, rows)
+    return text + message("gamma", 4, [])
+
+
+def settings(language: str = "en-GB", **others: object) -> str:
+    series: list[dict[str, str]] = [{"name": name, "words": words} for name, words in WHOLESALERS.items()]
+    series[0]["free_from"] = str(FREE_FROM)
+    shop = {"country": "GB", "currency": "GBP", "price_type": "05"}
+    return json.dumps({"language": language, "series": series, **shop, **others})
+
+
+def deliver(site: Site) -> None:
+    """Gives the desk of a site the wholesalers and their books."""
+    site.stop_desk()
+    rules = ROOT / "examples/shop/rules.toml"
+    given = site.room.run("--db", DATABASE, "--rules", rules, "batch", given=batch().encode())
+    site.start_desk()
+    if given.status != 0:
+        raise RuntimeError(f"the wholesalers of order lists: {given.output!r} {given.errors!r}")

@@ -1,0 +1,519 @@
+"""The order list: from pasted lines to the files of each wholesaler."""
+
+import csv
+import io
+import time
+from collections.abc import Iterator
+from decimal import Decimal
+from pathlib import Path
+
+from selenium.webdriver.common.action_chains import ActionChains
+from selenium.webdriver.common.keys import Keys
+from selenium.webdriver.support.select import Select
+
+from tests.page import order_desk
+from tests.page.browser import Browser
+from tests.page.order_desk import WHOLESALERS, chosen_of, isbn_of, offers_of
+from tests.page.reports import allow_clipboard
+from tests.page.site import RATE, NO_LIMIT, Site
+from tests.running import Outcome
+
+MARK = "\ufeff"
+HEAD = ["ISBN", "Copies", "Wholesaler", "Price", "Sum", "Currency", "Availability", "Reference", "Note"]
+
+PUT = """
+const lines = document.getElementById('lines');
+lines.value = arguments[0];
+lines.dispatchEvent(new Event('input'));
+"""
+
+
+def money(amount: Decimal) -> str:
+    """An amount of pounds in English, with a third decimal where it has one."""
+    text = f"{amount:,.3f}"
+    return "£" + (text[:-1] if text.endswith("0") else text)
+
+
+def cell(amount: Decimal) -> str:
+    return money(amount).replace("£", "").replace(",", "")
+
+
+def lines_of(numbers: range) -> str:
+    return "\n".join(f"{isbn_of(number)}\t{number % 4 + 1}\tcustomer {number}" for number in numbers)
+
+
+def ordered(numbers: range) -> dict[str, list[tuple[int, int, Decimal]]]:
+    """For each wholesaler the books that are ordered from it: their numbers, copies and amounts a copy."""
+    found: dict[str, list[tuple[int, int, Decimal]]] = {name: [] for name in WHOLESALERS}
+    for number in numbers:
+        offer = chosen_of(number)
+        found[offer.series].append((number, number % 4 + 1, offer.amount))
+    return found
+
+
+def sum_of(books: list[tuple[int, int, Decimal]]) -> Decimal:
+    return sum((copies * amount for _, copies, amount in books), Decimal(0))
+
+
+def status(browser: Browser, words: str) -> str:
+    return browser.wait_for_text("#list-status", words)
+
+
+def open_list(browser: Browser) -> None:
+    browser.open("#order")
+    browser.wait(lambda: browser.text("#look-up"))
+
+
+def look_up(browser: Browser, text: str) -> None:
+    """Looks lines up, and waits until all are answered."""
+    browser.run(PUT, text)
+    browser.one("#look-up").click()
+    browser.wait(lambda: not browser.one("#list-running").is_displayed() and browser.text("#list-status"))
+    status(browser, "looked up")
+
+
+def sums(browser: Browser) -> list[list[str]]:
+    """The rows of the sums, without their buttons."""
+    return [[*row[:4]] for row in browser.rows("#sums")]
+
+
+def row_of(browser: Browser, isbn: str) -> list[str]:
+    return next(row for row in browser.rows("#list") if row[1] == isbn)
+
+
+def said_of(browser: Browser, isbn: str) -> str:
+    """What a row says, without its options."""
+    script = """return [...document.querySelectorAll('#list tbody tr')]
+      .find((row) => row.querySelector('.isbn').textContent === arguments[0]).innerText"""
+    return str(browser.run(script, isbn))
+
+
+def save_to(browser: Browser, folder: Path) -> None:
+    """Files that the browser is handed go to a folder, without a question."""
+    folder.mkdir(exist_ok=True)
+    where = {"behavior": "allow", "downloadPath": str(folder)}
+    browser.driver.execute_cdp_cmd("Browser.setDownloadBehavior", where)
+
+
+def saved(browser: Browser, path: Path) -> str:
+    """The text of a file, once it is whole."""
+    browser.wait(path.exists)
+    return path.read_bytes().decode()
+
+
+def file_rows(text: str, separator: str = ",") -> list[list[str]]:
+    return list(csv.reader(io.StringIO(text.removeprefix(MARK), newline=""), delimiter=separator))
+
+
+def rows_of(series: str, books: list[tuple[int, int, Decimal]]) -> list[list[str]]:
+    return [
+        [
+            isbn_of(number), str(copies), WHOLESALERS[series], cell(amount), cell(copies * amount), "GBP", "in stock",
+            f"{series}-{number}", f"customer {number}",
+        ]
+        for number, copies, amount in books
+    ]
+
+
+def begins(site: Site, browser: Browser) -> Iterator[Outcome]:
+    """The wholesalers of the other cases, and a view that has nothing yet."""
+    order_desk.deliver(site)
+    site.write_settings(order_desk.settings())
+    open_list(browser)
+    focus = browser.run("return document.activeElement.id")
+    yield Outcome("the focus begins at the lines", focus, "lines")
+    browser.one("#look-up").click()
+    wrong = browser.wait_for_text("#lines-wrong", "paste")
+    yield Outcome("no lines", wrong, "Please paste a list, or open a file.")
+    browser.run(PUT, lines_of(range(3)))
+    yield Outcome("the lines are counted", browser.text("#look-up"), "Look up 3 lines")
+
+
+class Keyboard:
+    """Keys one after the other, which are counted: each that goes down."""
+
+    def __init__(self, browser: Browser) -> None:
+        self.browser = browser
+        self.count = 0
+
+    def press(self, *keys: str) -> None:
+        for key in keys:
+            self.count += 1
+            ActionChains(self.browser.driver).send_keys(key).perform()
+
+    def paste(self) -> None:
+        self.count += 2
+        chain = ActionChains(self.browser.driver)
+        chain.key_down(Keys.CONTROL).send_keys("v").key_up(Keys.CONTROL).perform()
+
+    def tab_to(self, id: str) -> None:
+        for _ in range(60):
+            if self.browser.run("return document.activeElement.id") == id:
+                return
+            self.press(Keys.TAB)
+        raise AssertionError(f"the tabulator does not come to {id}")
+
+
+MOST_KEYS = 90
+
+
+def thirty_books(site: Site, browser: Browser) -> Iterator[Outcome]:
+    """By the keyboard alone from thirty lines, pasted where the page begins, to a file for each wholesaler."""
+    numbers = range(30)
+    folder = site.room.path("thirty")
+    save_to(browser, folder)
+    allow_clipboard(site, browser, "granted")
+    browser.open("")
+    browser.wait(lambda: browser.run("return document.activeElement.id") == "isbn")
+    browser.driver.execute_async_script(
+        "navigator.clipboard.writeText(arguments[0]).then(arguments[1])", lines_of(numbers)
+    )
+    keys = Keyboard(browser)
+    keys.paste()
+    told = status(browser, "30 of 30 looked up")
+    yield Outcome("thirty lines are looked up", told, "30 of 30 looked up. No book needs you.")
+    yield Outcome("they lead to the order list", browser.run("return location.hash"), "#order")
+    wanted = ordered(numbers)
+    rows = [
+        [WHOLESALERS[name], str(len(books)), str(sum(copies for _, copies, _ in books)), money(sum_of(books))]
+        for name, books in sorted(wanted.items())
+    ]
+    everything = [book for books in wanted.values() for book in books]
+    rows.append(["All", "30", str(sum(copies for _, copies, _ in everything)), money(sum_of(everything))])
+    came = sorted([row[0].split(" 2 ")[0], *row[1:]] for row in sums(browser))
+    yield Outcome("the sums", came, sorted(rows))
+    for name in WHOLESALERS:
+        keys.tab_to(f"csv-{name}")
+        keys.press(Keys.ENTER)
+        status(browser, f"-{name}.csv")
+        path = folder / f"order-{browser.run('return new Date().toLocaleDateString(`sv`)')}-{name}.csv"
+        text = saved(browser, path)
+        yield Outcome(f"the mark of the file for {name}", text.startswith(MARK), True)
+        yield Outcome(f"the file for {name}", file_rows(text), [HEAD, *rows_of(name, wanted[name])])
+    yield Outcome(f"{keys.count} keys are {MOST_KEYS} at most", keys.count <= MOST_KEYS, True)
+
+
+NEEDS = f"""{isbn_of(0)} 2 Anna
+9780306406158 1 mistyped
+9,78031E+12;3
+nothing here
+{order_desk.NOBODYS}
+{order_desk.NOT_ADMITTED} 2 window
+{order_desk.RETAIL_ALONE}
+{order_desk.FREE}
+{isbn_of(0)};1;Bert
+{isbn_of(3)};0
+{isbn_of(6)};Dune;2
+{order_desk.RISING}
+{order_desk.BESIDE}
+"""
+
+
+def needs(site: Site, browser: Browser) -> Iterator[Outcome]:
+    """What a person has to look at comes first, and what is wrong is not asked for."""
+    open_list(browser)
+    asked = len(site.requests())
+    look_up(browser, NEEDS)
+    reasons = [item.split(" (")[0] for item in browser.texts("#list-needs li")]
+    wanted = [
+        "Not a valid ISBN", "Shortened by a spreadsheet", "No ISBN", "Nobody offers it", "No rule chooses",
+        "Offered without a price of this type", "Costs nothing", "Wrong copies", "Unsure how many copies",
+    ]
+    yield Outcome("why books need a person", sorted(reasons), sorted(wanted))
+    lines = [row[0] for row in browser.rows("#list")]
+    yield Outcome("they come first", lines, ["2", "3", "4", "5", "6", "7", "8", "10", "11", "1, 9", "12", "13"])
+    desk = [line for line in site.requests()[asked:] if "/desk/articles/" in line]
+    unasked = [line for line in desk if "9780306406158" in line or isbn_of(3) in line]
+    yield Outcome("what is wrong is not asked for", unasked, [])
+    calendars = [line for line in desk if "/calendar?" in line]
+    yield Outcome("calendars of what is ordered alone", len(calendars), 5)
+    yield Outcome("no note goes to the server", [line for line in desk if "Anna" in line or "window" in line], [])
+    row = row_of(browser, isbn_of(0))
+    yield Outcome("copies of one ISBN are added up", [row[0], row[2]], ["1, 9", "3"])
+    yield Outcome("and that is said", row[-1], "lines 1, 9: 2 + 1 copies · Anna / Bert")
+    rising = row_of(browser, order_desk.RISING)[-1]
+    yield Outcome("a price that rises", rising.startswith("until ") and rising.endswith(", then £12.99"), True)
+    beside = row_of(browser, order_desk.BESIDE)[-1]
+    yield Outcome("an offer without a price", beside, "Gamma: no price of this type")
+    line = browser.one("#list-needs button")
+    line.click()
+    chosen = browser.run("return document.activeElement.querySelector('.isbn').textContent")
+    yield Outcome("a link leads to its row", chosen, "9780306406158")
+
+
+def by_hand(site: Site, browser: Browser) -> Iterator[Outcome]:
+    """Another wholesaler by hand, which a new look-up keeps; and a book that is left out."""
+    open_list(browser)
+    # Beta has the first for less; the second is no rule's.
+    look_up(browser, f"{isbn_of(1)} 2\n{order_desk.NOT_ADMITTED} 3\n{isbn_of(2)}")
+    dear = offers_of(1)[0].amount
+    field = Select(browser.one(f"select[aria-label='Wholesaler of {isbn_of(1)}']"))
+    option = f"Alpha Books, {money(dear)} (+£0.305), in stock"
+    yield Outcome("the wholesalers of a book", [found.text for found in field.options][::2], [option, "not ordered"])
+    field.select_by_visible_text(option)
+    row = row_of(browser, isbn_of(1))
+    yield Outcome("a wholesaler by hand", [*row[5:7], row[-1]], [money(dear), money(2 * dear), "chosen by hand"])
+    focus = browser.run("return document.activeElement.getAttribute('aria-label')")
+    yield Outcome("the field keeps the focus", focus, f"Wholesaler of {isbn_of(1)}")
+    Select(browser.one(f"select[aria-label='Wholesaler of {order_desk.NOT_ADMITTED}']")).select_by_index(1)
+    both = money(2 * dear + 3 * Decimal("7.00"))
+    yield Outcome("sums with what a hand chose", sums(browser)[0][1:], ["2", "5", both])
+    carriage = browser.rows("#sums")[0][4]
+    short = money(order_desk.FREE_FROM - 2 * dear - 21)
+    yield Outcome("what is short of free carriage", carriage, f"{short} short of free carriage (£50.00)")
+    browser.wait(lambda: not browser.one("#list-running").is_displayed())
+    look_up(browser, f"{isbn_of(1)} 5\n{order_desk.NOT_ADMITTED} 3\n{isbn_of(2)}")
+    row = row_of(browser, isbn_of(1))
+    yield Outcome("a new look-up keeps it", [row[2], row[5], row[-1]], ["5", money(dear), "chosen by hand"])
+    Select(browser.one(f"select[aria-label='Wholesaler of {isbn_of(1)}']")).select_by_visible_text("not ordered")
+    wanted = money(3 * Decimal("7.00") + chosen_of(2).amount)
+    yield Outcome("a book that is left out", sums(browser)[-1], ["All", "2", "4", wanted])
+
+
+CHANGED = """Product,alpha-9,03,15,{isbn}
+ProductSupply,GB,,
+SupplyDetail,04,06,4100000000001,Supplier,21,
+Price,,{amount},,,,,,
+"""
+
+
+def changed(site: Site, browser: Browser) -> Iterator[Outcome]:
+    """What has changed since the look-up is asked for again before it is saved."""
+    folder = site.room.path("changed")
+    save_to(browser, folder)
+    open_list(browser)
+    look_up(browser, f"{isbn_of(9)} 2\n{isbn_of(12)}")
+    before = chosen_of(9).amount
+    text = CHANGED.format(isbn=isbn_of(9), amount="5.55")
+    site.tell_desk(order_desk.message("alpha", 2, text.splitlines()))
+    browser.one("#csv-all").click()
+    told = status(browser, "changed")
+    words = "1 book has changed since it was looked up. Nothing is saved: look at it, and save again."
+    yield Outcome("a change is told", told, words)
+    yield Outcome("and nothing is saved", list(folder.iterdir()), [])
+    row = row_of(browser, isbn_of(9))
+    wanted = ["£5.55", "£11.10", f"Changed: it was Alpha Books at {money(before)}."]
+    yield Outcome("the row has what holds now", [*row[5:7], row[-1]], wanted)
+    focus = browser.run("return document.activeElement.id")
+    yield Outcome("the button keeps the focus", focus, "csv-all")
+    browser.one("#csv-all").click()
+    status(browser, "Saved")
+    [path] = folder.iterdir()
+    prices = [row[3] for row in file_rows(saved(browser, path))]
+    yield Outcome("then it is saved", prices, ["Price", "5.55", cell(chosen_of(12).amount)])
+
+
+def older(site: Site, browser: Browser) -> Iterator[Outcome]:
+    """What was looked up of other lines can no longer be ordered."""
+    open_list(browser)
+    look_up(browser, isbn_of(15))
+    yield Outcome("what is of these lines can be ordered", browser.run("return document.getElementById('sums-part').inert"), False)
+    browser.one("#lines").send_keys("0")
+    told = browser.text("#list-old")
+    yield Outcome("other lines are told", told, "The lines or the question have changed since: look them up again.")
+    yield Outcome("and cannot be ordered", browser.run("return document.getElementById('sums-part').inert"), True)
+    browser.one("#lines").send_keys(Keys.BACKSPACE)
+    yield Outcome("the same lines can", browser.run("return document.getElementById('sums-part').inert"), False)
+
+
+def in_german(site: Site, browser: Browser) -> Iterator[Outcome]:
+    """A file with semicolons and decimal commas, in which a spreadsheet runs nothing."""
+    folder = site.room.path("german")
+    save_to(browser, folder)
+    site.write_settings(order_desk.settings("de"))
+    open_list(browser)
+    yield Outcome("the view in German", browser.text("#to-order"), "Bestellliste")
+    browser.run(PUT, f"{order_desk.BESIDE};2;=1+1\n{isbn_of(1)};1;für Jürgen; groß")
+    browser.one("#look-up").click()
+    status(browser, "2 von 2 nachgesehen")
+    browser.one("#csv-all").click()
+    status(browser, "bestellung-")
+    [path] = folder.iterdir()
+    text = saved(browser, path)
+    least = f"{chosen_of(1).amount:.3f}".replace(".", ",")
+    rows = [row[:5] + row[7:] for row in file_rows(text, ";")[1:]]
+    wanted = [
+        [order_desk.BESIDE, "2", "Alpha Books", "6,00", "12,00", "'" + order_desk.HOSTILE, "'=1+1"],
+        [isbn_of(1), "1", "Beta & Sons", least, least, "beta-1", "für Jürgen, groß"],
+    ]
+    yield Outcome("a file in German", rows, wanted)
+    yield Outcome("each line ends in CR and LF", text.count("\r\n"), 3)
+    site.write_settings(order_desk.settings())
+
+
+def copied(site: Site, browser: Browser) -> Iterator[Outcome]:
+    allow_clipboard(site, browser, "granted")
+    open_list(browser)
+    look_up(browser, f"{isbn_of(0)} 2 Anna\n{isbn_of(1)} 3")
+    browser.one("#copy-all").click()
+    yield Outcome("an order is copied", status(browser, "Copied"), "Copied for All, ISBN and copies: 2 books.")
+    text = browser.driver.execute_async_script("navigator.clipboard.readText().then(arguments[0])")
+    yield Outcome("what is copied", text, f"{isbn_of(0)}\t2\n{isbn_of(1)}\t3\n")
+    allow_clipboard(site, browser, "denied")
+    open_list(browser)
+    look_up(browser, f"{isbn_of(0)} 2 Anna")
+    browser.one("#copy-alpha").click()
+    browser.wait(lambda: browser.all("#order-by-hand"))
+    text = browser.run("return document.activeElement.value")
+    yield Outcome("where copying is not allowed, it is shown", text, f"{isbn_of(0)}\t2\n")
+
+
+def printed(site: Site, browser: Browser) -> Iterator[Outcome]:
+    """On paper there is the order of a wholesaler, with its name and time, and nothing else."""
+    open_list(browser)
+    look_up(browser, lines_of(range(6)))
+    browser.run("window.print = () => { window.isPrinted = true; }")
+    browser.one("#print-beta").click()
+    browser.wait(lambda: browser.run("return window.isPrinted"))
+    browser.driver.execute_cdp_cmd("Emulation.setEmulatedMedia", {"media": "print"})
+    shown = """return [...document.querySelectorAll('#list tbody tr')]
+      .filter((row) => row.getClientRects().length > 0).map((row) => row.querySelector('.isbn').textContent)"""
+    wanted = [isbn_of(number) for number, _, _ in ordered(range(6))["beta"]]
+    yield Outcome("the rows on paper", browser.run(shown), wanted)
+    summed = """return [...document.querySelectorAll('#sums tbody tr')]
+      .filter((row) => row.getClientRects().length > 0).map((row) => row.cells[0].textContent)"""
+    yield Outcome("its sum alone", browser.run(summed), ["Beta & Sons"])
+    yield Outcome("whose order it is", browser.text("#paper-heading"), "Order: Beta & Sons")
+    yield Outcome("its time", browser.text("#list-as-of").startswith("As of "), True)
+    fields = """return [...document.querySelectorAll('button, input, select, textarea, nav, summary')]
+      .filter((found) => found.getClientRects().length > 0).map((found) => found.id || found.localName)"""
+    yield Outcome("no fields on paper", browser.run(fields), [])
+    browser.driver.execute_cdp_cmd("Emulation.setEmulatedMedia", {"media": ""})
+    browser.run("window.dispatchEvent(new Event('afterprint'))")
+    yield Outcome("all rows are back", len(browser.run(shown)), 6)
+
+
+def from_a_file(site: Site, browser: Browser) -> Iterator[Outcome]:
+    """Files as spreadsheets write them are lines; what is no text is told."""
+    open_list(browser)
+    files = {
+        "utf8.csv": f"{MARK}ISBN;Copies;Customer\r\n{isbn_of(4)};2;\"Jürgen; 5 €\"\r\n".encode(),
+        "windows.csv": f"ISBN;Copies;Customer\r\n{isbn_of(4)};2;\"Jürgen; 5 €\"\r\n".encode("cp1252"),
+        "utf16.txt": f"{isbn_of(4)}\t2\tJürgen; 5 €\r\n".encode("utf-16"),
+    }
+    for name, data in files.items():
+        path = site.room.path(name)
+        path.write_bytes(data)
+        browser.one("#lines-file").send_keys(str(path))
+        browser.wait(lambda: browser.run("return document.activeElement.id") == "look-up")
+        look_up(browser, browser.run("return document.getElementById('lines').value"))
+        row = row_of(browser, isbn_of(4))
+        yield Outcome(f"the lines of {name}", [row[2], row[-1]], ["2", "Jürgen; 5 €"])
+        browser.one("#lines").click()
+    path = site.room.path("book.xlsx")
+    path.write_bytes(b"PK\x03\x04\x00\x00")
+    browser.one("#lines-file").send_keys(str(path))
+    told = browser.wait_for_text("#lines-wrong", "book.xlsx")
+    words = "book.xlsx is not a text: save the spreadsheet as CSV, and open that."
+    yield Outcome("what is no text", told, words)
+
+
+WHOLE = range(order_desk.BOOKS)
+
+
+def whole_list(site: Site, browser: Browser) -> Iterator[Outcome]:
+    """Five hundred lines behind nginx as it is shipped, while a colleague at the same address asks too."""
+    site.stop_nginx()
+    site.configure(RATE)
+    site.start_nginx()
+    open_list(browser)
+    browser.run(PUT, lines_of(WHOLE) + f"\n{isbn_of(0)}")
+    browser.one("#look-up").click()
+    words = "These are 501 lines; a list has 500 at most. Please divide it."
+    yield Outcome("one line too many", browser.wait_for_text("#lines-wrong", "501"), words)
+    browser.run(PUT, lines_of(WHOLE))
+    asked = len(site.requests())
+    begun = time.monotonic()
+    browser.one("#look-up").click()
+    colleague = []
+    while not browser.text("#list-status").startswith("500 of 500") and time.monotonic() < begun + 120:
+        colleague.append(site.fetch("/desk/series/alpha/gaps")[0])
+        time.sleep(0.2)
+    yield Outcome("five hundred lines", browser.text("#list-status"), "500 of 500 looked up. No book needs you.")
+    yield Outcome("a colleague is answered", set(colleague), {200})
+    came = {line.split(" ")[0] for line in site.requests()[asked:]}
+    yield Outcome("nobody has asked too often", came, {"200"})
+    wanted = ordered(WHOLE)
+    total = sum((sum_of(books) for books in wanted.values()), Decimal(0))
+    yield Outcome("their sum", sums(browser)[-1][3], money(total))
+    site.stop_nginx()
+    site.configure(NO_LIMIT)
+    site.start_nginx()
+
+
+def stopped(site: Site, browser: Browser) -> Iterator[Outcome]:
+    """A list is stopped and gone on with; a desk that is away is told, and asked again by itself."""
+    open_list(browser)
+    browser.run(PUT, lines_of(WHOLE))
+    browser.one("#look-up").click()
+    browser.wait(lambda: browser.run("return document.getElementById('list-progress').value") > 0)
+    browser.one("#stop").click()
+    told = status(browser, "of 500 looked up")
+    done = int(told.split(" ")[0])
+    yield Outcome(f"stopped after {done} books", 0 < done < 500, True)
+    go_on = browser.text("#go-on")
+    yield Outcome("the others are counted", go_on, f"Go on with the other {500 - done} books")
+    browser.run(PUT, lines_of(range(20)))
+    site.stop_desk()
+    browser.one("#look-up").click()
+    words = "The desk is not running, or is just being started. The page asks again by itself every 5 seconds."
+    yield Outcome("a desk that is away", browser.wait_for_text("#down", "not running"), words)
+    site.start_desk()
+    yield Outcome("it is asked again", status(browser, "20 of 20").startswith("20 of 20 looked up."), True)
+    yield Outcome("the note is gone", browser.one("#down").is_displayed(), False)
+
+
+REFUSING = """
+const real = window.fetch;
+window.refusals = [[429, ''], [503, '{"answer":"fault","reason":"disk"}']];
+window.fetch = async (url, ...rest) => {
+  if (!String(url).includes('/choice?') || window.refusals.length === 0) return real(url, ...rest);
+  const [status, body] = window.refusals.shift();
+  return new Response(body, { status });
+};
+"""
+
+
+def refused(site: Site, browser: Browser) -> Iterator[Outcome]:
+    """A server that was asked too often, and a desk with a fault, are told; the line is asked for again."""
+    open_list(browser)
+    browser.run(REFUSING)
+    browser.run(PUT, isbn_of(0))
+    browser.one("#look-up").click()
+    again = "The page asks again by itself every 5 seconds."
+    often = f"The web server has been asked too often at once. {again}"
+    yield Outcome("asked too often", browser.wait_for_text("#down", "too often"), often)
+    fault = f"The desk has a fault of its storage. Its disk has failed; somebody should look at it. {again}"
+    yield Outcome("a fault of the desk", browser.wait_for_text("#down", "fault"), fault)
+    yield Outcome("then it is answered", status(browser, "1 of 1").startswith("1 of 1 looked up."), True)
+
+
+def kept(site: Site, browser: Browser) -> Iterator[Outcome]:
+    """Another view and back leaves the list; nothing of it is kept beside the tab."""
+    open_list(browser)
+    look_up(browser, f"{isbn_of(0)} 2 Anna")
+    rows = browser.rows("#list")
+    browser.run("location.hash = '#missing'")
+    browser.wait(lambda: browser.one("#missing-view").is_displayed())
+    browser.run("location.hash = '#order'")
+    browser.wait(lambda: browser.one("#order-view").is_displayed())
+    yield Outcome("the list is still there", browser.rows("#list"), rows)
+    stores = browser.run("return JSON.stringify([{ ...localStorage }, { ...sessionStorage }, document.cookie])")
+    yield Outcome("nothing is kept", [text for text in (isbn_of(0), "Anna") if text in stores], [])
+    open_list(browser)
+    yield Outcome("a page that is opened anew has no list", browser.rows("#list"), [])
+
+
+def missing_marks(site: Site, browser: Browser) -> Iterator[Outcome]:
+    """A wholesaler whose messages are missing is marked at its books and its sum."""
+    open_list(browser)
+    look_up(browser, f"{isbn_of(2)}\n{isbn_of(3)}")
+    marked = [row.text for row in browser.all("#list tr[data-series] .tag")]
+    yield Outcome("the book of a wholesaler with missing messages", marked, ["2 missing"])
+    yield Outcome("its sum", browser.texts("#sums .tag"), ["2 missing"])
+
+
+CASES = [
+    begins, thirty_books, needs, by_hand, changed, older, in_german, copied, printed, from_a_file, missing_marks, kept,
+    refused, stopped, whole_list,
+]

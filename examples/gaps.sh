@@ -4,8 +4,12 @@
 # DESK is the address of a desk that is served, as http://127.0.0.1:8080, or its socket for batches, or the
 # database file of one that is not served now. A file that is missing is not made. ONIXDESK names the program
 # where it is not onixdesk.
-# Status 0; 1 where numbers lack; 2 where a series has no report.
+# Status 0; 1 where numbers lack; 2 where a series has no report, or none is named.
 set -u
+if [ $# -lt 2 ]; then
+    echo "gaps.sh: gaps.sh DESK SERIES.." >&2
+    exit 2
+fi
 desk=$1
 shift
 

@@ -4,10 +4,11 @@ _onix_to_csv() {
     _init_completion || return
     case $prev in
         --parts | --number | --number-offset | --sender | --addressee | --id-type) return ;;
+        --wrong) COMPREPLY=($(compgen -W "none few all" -- "$cur")); return ;;
         -o) _filedir -d; return ;;
     esac
     case $cur in
-        -*) COMPREPLY=($(compgen -W "--parts --number --number-offset --sender --addressee --id-type --leave-out-wrong -o --help" -- "$cur")) ;;
+        -*) COMPREPLY=($(compgen -W "--parts --number --number-offset --sender --addressee --id-type --wrong -o --help" -- "$cur")) ;;
         *) _filedir ;;
     esac
 } && complete -F _onix_to_csv onix-to-csv

@@ -31,7 +31,10 @@ def settle(file: Path) -> None:
 @contextlib.contextmanager
 def unfinished(parent: Path) -> Iterator[Path]:
     """A new folder in that one, for its owner alone. It is removed at the end, but where it got another name."""
-    folder = Path(tempfile.mkdtemp(prefix=UNFINISHED, dir=parent))
+    try:
+        folder = Path(tempfile.mkdtemp(prefix=UNFINISHED, dir=parent))
+    except FileNotFoundError:
+        raise Fault(f"{parent}: there is no such folder") from None
     try:
         yield folder
     finally:
@@ -67,6 +70,11 @@ def alone(folder: Path) -> Iterator[None]:
 
 def named(folder: Path, moment: int) -> Path:
     return folder / time.strftime(NAME, time.gmtime(moment // 1_000_000_000))
+
+
+def since_of(copy: Path) -> str:
+    """The second of a copy that is named by it, else `all`: the times of its files may be those of a later copy."""
+    return copy.name if is_name(copy.name) else "all"
 
 
 def keep_latest(folder: Path, count: int) -> None:

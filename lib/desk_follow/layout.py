@@ -17,7 +17,9 @@ TABLES, KEYS, FUNCTIONS = (
 OURS = "Kept by desk-follow of onixdesk, layout "
 MARK = OURS + hashlib.sha256((TABLES + KEYS + FUNCTIONS).encode()).hexdigest()[:16]
 
-COMMENT = "SELECT obj_description(oid, 'pg_namespace') FROM pg_namespace WHERE nspname = 'desk'"
+# Anybody who may make a schema can comment it so.
+COMMENT = """SELECT obj_description(oid, 'pg_namespace'), pg_get_userbyid(nspowner) = current_user
+    FROM pg_namespace WHERE nspname = 'desk'"""
 
 # What can be in a schema, as the statements that drop it. Nothing that is not in it is dropped with it.
 DROPS = [
@@ -44,8 +46,8 @@ def found(cursor: Cursor) -> Found:
     rows = cursor.fetchall()
     if not rows:
         return Found.NOTHING
-    comment = rows[0][0] or ""
-    if not comment.startswith(OURS):
+    comment, is_owner = rows[0][0] or "", rows[0][1]
+    if not comment.startswith(OURS) or not is_owner:
         raise Fault("the database has a schema desk that is not desk-follow's, and it stays as it is")
     return Found.THIS_LAYOUT if comment == MARK else Found.OTHER_LAYOUT
 

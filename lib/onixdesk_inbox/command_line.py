@@ -1,9 +1,11 @@
 """The command line of onixdesk-inbox."""
 
 import argparse
+import calendar
 import os
 import re
 import sys
+import time
 from functools import partial
 from pathlib import Path
 
@@ -37,6 +39,14 @@ def series(word: str) -> str:
     return word
 
 
+def moment(word: str) -> float:
+    """The time that a copy of a desk is named by, in seconds since 1970; 0 for `all`."""
+    try:
+        return 0 if word == "all" else calendar.timegm(time.strptime(word, "%Y-%m-%dT%H-%M-%SZ"))
+    except ValueError:
+        raise argparse.ArgumentTypeError(f"{ascii(word)} is no time as 2026-11-27T02-30-00Z, and not all") from None
+
+
 def command_line() -> argparse.ArgumentParser:
     parser = parser_of(PROGRAM, DESCRIPTION, STATUSES)
     add = parser.add_argument
@@ -45,6 +55,9 @@ def command_line() -> argparse.ArgumentParser:
     add("--state", metavar="FOLDER", type=Path,
         help=f"{STATE.format('SERIES')} without it; nobody else may write there")
     add("--converter", metavar="PROGRAM", type=Path, help="onix-to-csv beside this program without it")
+    add("--again", metavar="SINCE", type=moment,
+        help="take again what was done since then, as 2026-11-27T02-30-00Z of UTC, or `all` of it, and nothing new:"
+        " for a desk that was restored")
     add("series", metavar="SERIES", type=series, help="the name of the series that the desk has agreed")
     return parser
 
@@ -62,9 +75,13 @@ def run(options: argparse.Namespace, folder: Path, programs: Path, voice: Voice)
     converter = (options.converter or programs / "onix-to-csv").resolve()
     settings = read_settings(options.settings or Path(SETTINGS.format(name)))
     apart(incoming, folder)
-    state = State(folder)
+    if not options.state and not folder.exists():
+        # Made here it would be this user's, who need not be the unit's.
+        raise Fault(f"{folder}: its unit makes it: systemctl start onixdesk-inbox@{name}")
+    state = State(folder, settings.state_bytes)
     taker = Taker(name, settings, converter, state)
-    is_failed = Run(Incoming(incoming, settings.unchanged_seconds), state, taker, voice).take_all()
+    work = Run(Incoming(incoming, settings.unchanged_seconds), state, taker, voice)
+    is_failed = work.take_all() if options.again is None else work.take_again(options.again)
     return FAILED if is_failed else DONE
 
 

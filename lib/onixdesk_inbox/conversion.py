@@ -26,6 +26,7 @@ TOLD = 20
 
 PROGRAM = "onixdesk: "
 REFUSED_WORD = re.compile(r"\brefused: ")
+WRONG_PRODUCTS = re.compile(r"\b([0-9]+) products? wrong$")
 
 
 @dataclass(frozen=True)
@@ -36,6 +37,15 @@ class Said:
     first: str
     last: str
     summary: tuple[str, ...]
+
+    @property
+    def wrong_products(self) -> int:
+        """How many products are wrong, by the last line of the summary."""
+        found = WRONG_PRODUCTS.search(self.summary[-1]) if self.summary else None
+        return int(found[1]) if found else 0
+
+
+NOTHING_SAID = Said("", "", ())
 
 
 def said(answer: Path, file: str, name: str) -> Said:
@@ -67,9 +77,9 @@ class Converter:
     # The lock of the state is also held by a converter whose inbox was killed.
     lock: int
 
-    def convert(self, name: str, source: Path, number: int | None, messages: Path, answer: Path) -> tuple[str, ...]:
+    def convert(self, name: str, source: Path, number: int | None, messages: Path, answer: Path) -> Said:
         """Puts the messages of the copy of a file of that name into a folder, what is said of them into the answer, and
-        gives the summary of what was left out."""
+        gives that."""
         given = () if number is None else ("--number", str(number))
         is_packed = source.suffix in PACKED
         file = STANDARD_INPUT if is_packed else source.name
@@ -81,8 +91,8 @@ class Converter:
             raise Refusal(str(damage)) from None
         lines = said(answer, file, name)
         if status == CONVERTED or status == REFUSED and any(messages.glob("*.csv")):
-            # With the second it has left out what was wrong.
-            return lines.summary
+            # With the second products were wrong, and the rest is converted.
+            return lines
         if status == REFUSED:
             raise Refusal(lines.last)
         if status == -signal.SIGKILL:

@@ -17,8 +17,11 @@ LONGEST_MESSAGE = 4_194_304
 # Far more than a reply about a message or the gaps of a series has.
 LONGEST_REPLY = 16 << 20
 
-# The desk serves one client at a time, so that a message waits for those before it.
-SECONDS = 300
+# The desk serves one client at a time, so that a message waits for those before it, and one that closes a gap is
+# answered once all that waited for it is applied: half a second for each 5,000 articles.
+SECONDS = 3600
+
+OTHER_CONTENTS = "other-contents"
 
 # What a refusal of the desk says to whoever reads the journal.
 REASONS = {
@@ -29,7 +32,7 @@ REASONS = {
     "unknown-series": "no series of its sender and addressee is agreed",
     "before-first": "number {number} is below the first number of the series, {first}",
     "waived": "number {number} was waived",
-    "other-contents": "another message of number {number} was taken before",
+    OTHER_CONTENTS: "another message of number {number} was taken before",
 }
 
 
@@ -102,5 +105,6 @@ def accepted(reply: Reply) -> Accepted:
             case (200, "applied") | (202, "held"):
                 return Accepted(members["series"], members["number"], members.get("waiting_for"))
             case (400 | 409 | 413 | 422, "refused"):
-                raise Refusal(REASONS[members["reason"]].format_map(members))
+                reason = members["reason"]
+                raise Refusal(REASONS[reason].format_map(members), reason)
     raise Fault(f"the desk answers {shown(str(reply))}")

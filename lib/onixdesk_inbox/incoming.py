@@ -1,21 +1,25 @@
 """The folder for what comes in. Whoever may upload can put anything there, and change it at any moment: so a
 file is opened once, without following a link, and what was opened is copied and alone looked at from then on."""
 
+import contextlib
 import errno
 import hashlib
+import io
 import os
+import secrets
 import stat
 import time
-from dataclasses import dataclass
+from collections.abc import Iterator
+from dataclasses import dataclass, replace
 from pathlib import Path
 
 from command_lines.ending import Fault
-from onixdesk_inbox.names import ending
+from onixdesk_inbox.desk import LONGEST_MESSAGE, REASONS
+from onixdesk_inbox.names import RECORDS, UNFINISHED, ending, numbered
 from onixdesk_inbox.verdicts import Gone, Left, Lies
 
 PIECE = 1 << 20
 
-# A sparse file of any size costs its uploader nothing, and its copy a disk.
 GREATEST_SIZE = 4 << 30
 
 KINDS = {
@@ -26,6 +30,11 @@ KINDS = {
     stat.S_IFCHR: "a device",
     stat.S_IFBLK: "a device",
 }
+
+# What a file is named by while it is removed, before random digits and its ending, and how many names are tried where
+# it has to have its own back.
+TAKEN = ".onixdesk-taken-"
+NAMES = 1000
 
 # A named pipe without a writer would else be waited for.
 READING = os.O_RDONLY | os.O_NOFOLLOW | os.O_NONBLOCK | os.O_NOCTTY | os.O_CLOEXEC
@@ -93,8 +102,8 @@ class Incoming:
         """Lies, where a file of that name and status is none to be taken now."""
         if not stat.S_ISREG(status.st_mode):
             raise Lies(Left(f"it is {KINDS.get(stat.S_IFMT(status.st_mode), 'no file')}"))
-        if name.startswith("."):
-            raise Lies(Left("its name begins with a point, as of a file that is still being written"))
+        if name.startswith(".") or name.lower().endswith(UNFINISHED):
+            raise Lies(Left("its name is of a file that is still being written", waits=True))
         if ending(name) is None:
             raise Lies(Left("its name has no known ending"))
         # The time of the last change is the system's, where that of writing is what the uploader says.
@@ -115,29 +124,82 @@ class Incoming:
                 raise Lies(Left(f"it is {KINDS[stat.S_IFLNK]}")) from None
             raise Lies(Left(f"it cannot be read: {error.strerror}")) from None
 
-    def copy(self, candidate: Candidate, target: Path) -> str:
-        """Copies a file as it is at one moment, synced, and gives the digest of its bytes."""
+    @contextlib.contextmanager
+    def opened(self, candidate: Candidate) -> Iterator[io.FileIO]:
+        """A file, opened once. Lies, where it is none to be taken now, and at the end where it has changed by then."""
         source = self.open(candidate.name)
-        with open(source, "rb", buffering=0) as stream, open(target, "xb") as copy:
+        with io.FileIO(source, "rb") as stream:
             before = os.fstat(source)
             self.judge(candidate.name, before)
-            digest = hashlib.sha256()
-            while piece := stream.read(PIECE):
-                digest.update(piece)
-                copy.write(piece)
-                if copy.tell() > before.st_size:
-                    break
+            yield stream
             if not state_of(before) == state_of(os.fstat(source)) == candidate.state:
                 raise Lies(Left("it changes", waits=True))
-            copy.flush()
-            os.fsync(copy.fileno())
-        return digest.hexdigest()
 
     def remove(self, candidate: Candidate) -> None:
-        """Removes a file that was taken, unless it changed meanwhile, or another got its name."""
+        """Removes a file that was taken, unless it changed meanwhile, or another got its name. It is looked at for the
+        last time under a name of its own: what gets its first name by then stays there."""
+        own = f"{TAKEN}{secrets.token_hex(8)}{ending(candidate.name)}"
         try:
-            now = os.stat(candidate.name, dir_fd=self.folder, follow_symlinks=False)
-            if state_of(now) == candidate.state:
-                os.unlink(candidate.name, dir_fd=self.folder)
+            if state_of(self.status(candidate.name)) != candidate.state:
+                return
+            os.rename(candidate.name, own, src_dir_fd=self.folder, dst_dir_fd=self.folder)
+            found = state_of(self.status(own))
         except FileNotFoundError:
-            pass
+            return
+        # Its new name is a change of it.
+        if replace(found, changed=candidate.state.changed) == candidate.state:
+            os.unlink(own, dir_fd=self.folder)
+        else:
+            self.put_back(own, candidate.name)
+
+    def status(self, name: str) -> os.stat_result:
+        return os.stat(name, dir_fd=self.folder, follow_symlinks=False)
+
+    def put_back(self, own: str, name: str) -> None:
+        """Gives a file a name back, with a number where another one has it. What is no file stays."""
+        for number in range(1, NAMES):
+            with contextlib.suppress(FileExistsError):
+                try:
+                    os.link(own, numbered(name, number), src_dir_fd=self.folder, dst_dir_fd=self.folder,
+                        follow_symlinks=False)
+                    os.unlink(own, dir_fd=self.folder)
+                except PermissionError:
+                    pass
+                return
+
+    def recover(self) -> None:
+        """Gives a name to each file that a run had under a name of its own when it was killed: it was taken, or is
+        one that came in its place."""
+        for name in os.listdir(self.folder):
+            if not name.startswith(TAKEN):
+                continue
+            status = self.status(name)
+            if stat.S_ISREG(status.st_mode) and status.st_nlink > 1:
+                # It has the other name back already.
+                os.unlink(name, dir_fd=self.folder)
+            else:
+                self.put_back(name, name.removeprefix("."))
+
+
+def why_not_copied(name: str, stream: io.FileIO) -> str:
+    """Why a file of that name is refused by its size alone, or because it is sparse: such a one of any size costs its
+    uploader nothing, and its copy a disk. An empty text where it is copied."""
+    size = os.fstat(stream.fileno()).st_size
+    if ending(name) == RECORDS and size > LONGEST_MESSAGE:
+        return REASONS["too-large"]
+    if size and stream.seek(0, os.SEEK_HOLE) < size:
+        return "it is a sparse file"
+    return ""
+
+
+def copy(stream: io.FileIO, size: int, target: Path) -> str:
+    """Copies so many bytes of a file, synced, and gives their digest."""
+    digest = hashlib.sha256()
+    stream.seek(0)
+    with open(target, "xb") as copied:
+        while piece := stream.read(min(PIECE, size - copied.tell())):
+            digest.update(piece)
+            copied.write(piece)
+        copied.flush()
+        os.fsync(copied.fileno())
+    return digest.hexdigest()

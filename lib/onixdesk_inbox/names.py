@@ -4,9 +4,13 @@ import os
 
 RECORDS = ".csv"
 
-# What is unpacked before it is converted, and all that is.
+# What is converted as it is, and what is unpacked before.
+PLAIN = (".xml", ".onix", ".onx")
 PACKED = (".gz", ".zip")
-FEEDS = (".xml", ".onix", ".onx", *PACKED)
+FEEDS = (*PLAIN, *PACKED)
+
+# What clients of FTP, SFTP and the like add to the name of a file that they are still writing.
+UNFINISHED = (".part", ".partial", ".filepart", ".tmp", ".uploading")
 
 # How much of a name or text a line shows.
 SHOWN = 300
@@ -22,6 +26,12 @@ def ending(name: str) -> str | None:
     return next((known for known in (RECORDS, *FEEDS) if lower.endswith(known)), None)
 
 
+def kind(name: str) -> str | None:
+    """That ending, or one for all that are read alike."""
+    known = ending(name)
+    return PLAIN[0] if known in PLAIN else known
+
+
 def printable(text: str) -> str:
     """The text with an escape in place of each character that moves or changes what a terminal shows, and of
     each byte that is no UTF-8."""
@@ -34,6 +44,15 @@ def shown(text: str) -> str:
     """As much of a text as a line has room for, printable."""
     line = printable(text[: SHOWN + 1])
     return line if len(line) <= SHOWN else f"{line[:SHOWN]}.."
+
+
+def numbered(name: str, number: int) -> str:
+    """The name of the file that comes at that place among those of one name: with the number before its ending, by
+    which it is known still."""
+    if number == 1:
+        return name
+    at = len(name) - len(ending(name) or "")
+    return f"{name[:at]}.{number}{name[at:]}"
 
 
 def kept_name(name: str) -> str:

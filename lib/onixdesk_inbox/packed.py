@@ -33,11 +33,11 @@ class Readable(Protocol):
 
 
 def open_entry(file: IO[bytes]) -> Readable:
-    """The one entry of a zip."""
+    """The one file of a zip, beside its folders and what a Mac adds."""
     archive = zipfile.ZipFile(file)
-    entries = archive.infolist()
+    entries = [entry for entry in archive.infolist() if not entry.is_dir() and not entry.filename.startswith(OF_A_MAC)]
     if len(entries) != 1:
-        raise Damage(f"a zip of {len(entries)} entries, not of one")
+        raise Damage(f"a zip of {len(entries)} files, not of one")
     if entries[0].flag_bits & 1:
         raise Damage("an encrypted zip")
     if entries[0].file_size > MOST:
@@ -52,6 +52,9 @@ def too_large() -> Damage:
 def open_gzip(file: IO[bytes]) -> Readable:
     return gzip.GzipFile(fileobj=file)
 
+
+# What a Mac adds to each zip.
+OF_A_MAC = "__MACOSX/"
 
 # By the ending of a file's name, in small letters.
 OPENERS: dict[str, Callable[[IO[bytes]], Readable]] = {".gz": open_gzip, ".zip": open_entry}

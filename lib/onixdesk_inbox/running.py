@@ -1,9 +1,11 @@
 """One run over the folder."""
 
+import shutil
+
 from command_lines.ending import Fault
-from onixdesk_inbox.incoming import Candidate, Incoming
+from onixdesk_inbox.incoming import Candidate, Incoming, copy, why_not_copied
 from onixdesk_inbox.numbers import digest_of
-from onixdesk_inbox.state import State
+from onixdesk_inbox.state import HEAD, State
 from onixdesk_inbox.taking import Copied, Taker
 from onixdesk_inbox.telling import Told, Voice
 from onixdesk_inbox.verdicts import Gone, Left, Lies, Taken
@@ -16,12 +18,13 @@ class Run:
         self.taker = taker
         self.voice = voice
         self.left: dict[str, Left] = {}
-        self.has_refused = False
+        self.has_failed = False
 
     def take_all(self) -> bool:
         """Takes what can be taken, until nothing is left of it, since some may come meanwhile. Whether a file
-        was refused, or has lain here for long."""
+        was refused, something is amiss with one, or one has lain here for long."""
         try:
+            self.incoming.recover()
             self.resume()
             while self.take_those_there():
                 pass
@@ -34,7 +37,21 @@ class Run:
         told = Told(self.state.told)
         has_long = told.tell(self.voice, self.left)
         told.keep()
-        return self.has_refused or has_long
+        return self.has_failed or has_long
+
+    def take_again(self, moment: float) -> bool:
+        """Takes again what was done at that time or later, in the same order, and nothing that is new. Whether a file
+        was refused now, or something is amiss with one. Fault where one could not be taken."""
+        self.resume()
+        work = self.state.work
+        for name in self.state.done.since(moment):
+            source = work.source(name)
+            work.begin(name)
+            shutil.copyfile(self.state.done.folder / name, source)
+            work.sync()
+            self.say(name, self.taker.take(Copied(name, source, digest_of(source))))
+        work.clear()
+        return self.has_failed
 
     def begun(self) -> Copied | None:
         """The file that was given a number and is not at its end. It goes before all others, none of which may
@@ -69,7 +86,11 @@ class Run:
         work = self.state.work
         source = work.source(candidate.name)
         work.begin(candidate.name)
-        copied = Copied(candidate.name, source, self.incoming.copy(candidate, source))
+        with self.incoming.opened(candidate) as stream:
+            why = why_not_copied(candidate.name, stream)
+            size = min(candidate.state.size, HEAD) if why else candidate.state.size
+            self.state.make_room(size)
+            copied = Copied(candidate.name, source, copy(stream, size, source), why)
         work.sync()
         self.say(candidate.name, self.taker.take(copied))
         self.incoming.remove(candidate)
@@ -83,4 +104,4 @@ class Run:
 
     def say(self, name: str, taken: Taken) -> None:
         self.voice.taken(name, taken)
-        self.has_refused |= taken.is_refused
+        self.has_failed |= taken.is_refused or taken.is_amiss

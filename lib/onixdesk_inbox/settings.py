@@ -15,8 +15,11 @@ from command_lines.ending import BAD_CALL, Fault
 NEXT = "next"
 OWN = "own"
 
+# Any sender whose series the desk has agreed.
+ANY = "any"
+
 # Words of the converter that the inbox gives itself.
-RESERVED = re.compile(r"-o.*|--number(=.*)?|-h|--help")
+RESERVED = re.compile(r"-o.*|--number(=.*)?|-h|--help|--?")
 OFFSET = re.compile(r"--number-offset(=.*)?")
 
 
@@ -38,6 +41,7 @@ class Settings:
     sender: tuple[str, str] | None = None
     unchanged_seconds: int = 60
     conversion_seconds: int = 1800
+    state_bytes: int = 10_000_000_000
 
     @property
     def parts(self) -> int:
@@ -67,9 +71,11 @@ def address(value: str) -> Address:
 
 def words(value: str) -> tuple[str, ...]:
     found = tuple(shlex.split(value))
+    is_value = False
     for word in found:
-        if RESERVED.fullmatch(word):
+        if not is_value and (RESERVED.fullmatch(word) or not word.startswith("-")):
             raise ValueError(f"{word} is no word of WORDS: the inbox gives it, or leaves it out")
+        is_value = not is_value and "=" not in word
     return found
 
 
@@ -80,15 +86,29 @@ def number(value: str) -> str:
 
 
 def identifier(value: str) -> tuple[str, str] | None:
+    if value == ANY:
+        return None
     found = re.fullmatch("([0-9]{2}),(.+)", value)
-    if value and not found:
-        raise ValueError("SENDER is TYPE,VALUE with a TYPE of two digits")
-    return (found[1], found[2]) if found else None
+    if not found:
+        raise ValueError(f"SENDER is TYPE,VALUE with a TYPE of two digits, or {ANY}")
+    return found[1], found[2]
 
 
 def seconds(value: str) -> int:
     if not re.fullmatch("[0-9]{1,6}", value):
         raise ValueError("seconds are one to six digits")
+    return int(value)
+
+
+def some_seconds(value: str) -> int:
+    if not seconds(value):
+        raise ValueError("in no second nothing is done")
+    return seconds(value)
+
+
+def count_of_bytes(value: str) -> int:
+    if not re.fullmatch("[1-9][0-9]{0,14}", value):
+        raise ValueError("bytes are one to fifteen digits, the first of them not 0")
     return int(value)
 
 
@@ -98,7 +118,8 @@ READERS: dict[str, tuple[str, Callable[[str], object]]] = {
     "NUMBER": ("number", number),
     "SENDER": ("sender", identifier),
     "UNCHANGED_SECONDS": ("unchanged_seconds", seconds),
-    "CONVERSION_SECONDS": ("conversion_seconds", seconds),
+    "CONVERSION_SECONDS": ("conversion_seconds", some_seconds),
+    "STATE_BYTES": ("state_bytes", count_of_bytes),
 }
 
 
@@ -115,6 +136,8 @@ def settings_of(text: str, name: str) -> Settings:
         except ValueError as error:
             raise BadSettings(f"{name}:{place}: {error}") from None
         found[attribute] = value
+    if "sender" not in found:
+        raise BadSettings(f"{name}: SENDER is missing: the sender that messages must have, or {ANY}")
     settings = Settings(**found)
     if settings.number == NEXT and any(OFFSET.fullmatch(word) for word in settings.words):
         raise BadSettings(f"{name}: NUMBER=next and --number-offset do not go together")
@@ -126,6 +149,8 @@ def setting(line: str) -> tuple[str, object]:
     name, equals, value = (part.strip() for part in line.partition("="))
     if not equals or name not in READERS:
         raise ValueError(f"no line of the form NAME=VALUE, NAME being one of {', '.join(READERS)}")
+    if re.search(r"(^|\s)#", value):
+        raise ValueError("a remark has a line of its own, which begins with #")
     attribute, read = READERS[name]
     return attribute, read(value)
 

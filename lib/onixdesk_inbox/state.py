@@ -2,16 +2,22 @@
 done and refused, the numbers that it gave, and what it has told."""
 
 import fcntl
-import filecmp
 import os
+import pwd
 import shutil
 import stat
 from dataclasses import dataclass
 from pathlib import Path
 
 from command_lines.ending import Fault
-from onixdesk_inbox.names import PACKED, ending, kept_name
-from onixdesk_inbox.numbers import Numbers, sync_folder
+from onixdesk_inbox.archive import Archive, room_of
+from onixdesk_inbox.names import PACKED, ending
+from onixdesk_inbox.numbers import Numbers, digest_of, sync_folder
+from onixdesk_inbox.telling import PROGRAM
+
+# Of a refused file that has more bytes its head is kept.
+LARGEST_REFUSED = 16_777_216
+HEAD = 65_536
 
 
 @dataclass(frozen=True)
@@ -53,6 +59,11 @@ class Work:
         self.messages.mkdir()
         self.answer.unlink(missing_ok=True)
 
+    def say(self, text: str) -> None:
+        """Puts a line into the answer."""
+        with self.answer.open("a", encoding="utf-8") as answer:
+            answer.write(f"{PROGRAM}: {text}\n")
+
     def sync(self) -> None:
         sync_folder(self.folder)
         sync_folder(self.folder.parent)
@@ -65,39 +76,56 @@ class Work:
             return None
 
 
+def name_of(user: int) -> str:
+    try:
+        return pwd.getpwuid(user).pw_name
+    except KeyError:
+        return f"user {user}"
+
+
 class State:
-    def __init__(self, path: Path) -> None:
+    """The folder, of which `done` and `refused` may have so many bytes."""
+
+    def __init__(self, path: Path, most: int) -> None:
         path.mkdir(mode=0o700, parents=True, exist_ok=True)
-        if path.stat().st_mode & (stat.S_IWGRP | stat.S_IWOTH):
+        status = path.stat()
+        if status.st_uid != os.geteuid():
+            raise Fault(f"{path}: it is {name_of(status.st_uid)}'s, who alone runs this inbox")
+        if status.st_mode & (stat.S_IWGRP | stat.S_IWOTH):
             raise Fault(f"{path}: others may write there")
         self.path = path
-        self.done = path / "done"
-        self.refused = path / "refused"
-        for folder in (self.done, self.refused):
-            folder.mkdir(exist_ok=True)
+        self.most = most
         self.work = Work(path / "work")
         self.told = path / "told"
         # Waits until no other run is at work. The lock ends with the program.
         self.lock = os.open(path / "lock", os.O_RDWR | os.O_CREAT | os.O_CLOEXEC, 0o600)
         fcntl.flock(self.lock, fcntl.LOCK_EX)
+        self.done = Archive(path / "done")
+        self.refused = Archive(path / "refused")
 
     def numbers(self) -> Numbers:
         return Numbers(self.path / "numbers")
 
-    def archive(self, folder: Path, name: str) -> None:
-        """Moves the file that is at its end into a folder, with its answer beside it. The answer goes first:
-        until the file is there, it is taken again."""
+    def make_room(self, size: int) -> None:
+        """Fault, where a file of that size would bring `done` and `refused` above what they may have."""
+        if self.done.room + self.refused.room + room_of(size) > self.most:
+            raise Fault(f"done and refused in {self.path} are as full as STATE_BYTES={self.most} allows")
+
+    def keep_done(self, name: str, digest: str) -> str:
+        """Moves the file of that name and digest that is at its end to those that are done, and gives the name that
+        it has there."""
+        return self.done.put(name, self.work.source(name), digest, self.work.answer)
+
+    def keep_refused(self, name: str, digest: str) -> str:
+        """Moves it to those that are refused: of a large one its head."""
         source = self.work.source(name)
-        target = place(folder, kept_name(name), source)
-        os.replace(self.work.answer, target.with_name(f"{target.name}.answer"))
-        os.replace(source, target)
-        sync_folder(folder)
+        if (size := source.stat().st_size) <= LARGEST_REFUSED:
+            return self.refused.put(name, source, digest, self.work.answer)
+        self.work.say(f"{size} bytes, SHA-256 {digest}; the first {HEAD} are kept")
+        os.truncate(source, HEAD)
+        return self.keep_head(name, digest_of(source))
 
-
-def place(folder: Path, name: str, source: Path) -> Path:
-    """Where a file goes in a folder: its name, or with a number where another file has it."""
-    target, number = folder / name, 1
-    while target.exists() and not filecmp.cmp(target, source, shallow=False):
-        number += 1
-        target = folder / f"{name}.{number}"
-    return target
+    def keep_head(self, name: str, digest: str) -> str:
+        """Moves the head of a refused file there, under a name without a known ending, by which it would be taken for
+        a whole file."""
+        return self.refused.put(f"{name}.head", self.work.source(name), digest, self.work.answer)

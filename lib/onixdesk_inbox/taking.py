@@ -1,26 +1,32 @@
 """How one file is taken: converted, posted, and moved to `done` or `refused`."""
 
 import csv
-from dataclasses import dataclass
+from dataclasses import dataclass, replace
 from pathlib import Path
 
 from command_lines.ending import Fault
-from onixdesk_inbox.conversion import Converter
-from onixdesk_inbox.desk import LONGEST_MESSAGE, REASONS, Accepted, Desk, accepted
-from onixdesk_inbox.names import RECORDS
+from onixdesk_inbox.conversion import NOTHING_SAID, Converter, Said
+from onixdesk_inbox.desk import LONGEST_MESSAGE, REASONS, Desk
+from onixdesk_inbox.names import RECORDS, kept_name, shown
 from onixdesk_inbox.numbers import Numbers
+from onixdesk_inbox.posting import Quicker, post
 from onixdesk_inbox.settings import NEXT, Settings
 from onixdesk_inbox.state import State
 from onixdesk_inbox.verdicts import Refusal, Taken
 
+# How often a number is asked for that somebody else is quicker with.
+TRIES = 20
+
 
 @dataclass(frozen=True)
 class Copied:
-    """A file that was copied into the work folder, by its name there and the digest of its bytes."""
+    """A file that was copied into the work folder, by its name there and the digest of its bytes; or its head, where
+    there is a reason why the whole file was not copied."""
 
     name: str
     source: Path
     digest: str
+    why_not_whole: str = ""
 
     @property
     def is_records(self) -> bool:
@@ -39,28 +45,52 @@ class Taker:
     def take(self, copied: Copied) -> Taken:
         """Takes a file to its end. Fault, where it has to be taken again."""
         try:
-            taken = Taken(self.deliver(copied))
+            taken = self.deliver(copied)
         except Refusal as refusal:
             taken = Taken(str(refusal), is_refused=True)
-        folder = self.state.refused if taken.is_refused else self.state.done
-        self.state.archive(folder, copied.name)
+        kept = self.archive(copied, taken.is_refused)
+        if kept != kept_name(copied.name):
+            taken = replace(taken, said=f"{taken.said}; kept as {kept}")
         return taken
 
-    def deliver(self, copied: Copied) -> str:
+    def archive(self, copied: Copied, is_refused: bool) -> str:
+        """Moves the file to those that are at their end, and gives the name that it has there."""
+        if not is_refused:
+            return self.state.keep_done(copied.name, copied.digest)
+        if copied.why_not_whole:
+            return self.state.keep_head(copied.name, copied.digest)
+        return self.state.keep_refused(copied.name, copied.digest)
+
+    def deliver(self, copied: Copied) -> Taken:
         """Posts what a file comes to, and gives what there is to say of it."""
+        if copied.why_not_whole:
+            self.state.work.say(f"{shown(copied.name)}: {copied.why_not_whole}; its first bytes are kept")
+            raise Refusal(copied.why_not_whole)
+        for _ in range(TRIES):
+            try:
+                return self.deliver_once(copied)
+            except Quicker:
+                self.numbers.give_back(copied.digest)
+                self.state.work.begin_again()
+        raise Fault(f"each of {TRIES} numbers that the desk gave went to another message first")
+
+    def deliver_once(self, copied: Copied) -> Taken:
+        """Posts it under one number. Quicker, where that was to be a new one, and is another's."""
         number = None if copied.is_records else self.number_of(copied)
-        messages, summary = self.messages_of(copied, number)
+        messages, lines = self.messages_of(copied, number)
         for message in messages:
             self.look_at(message)
         came_before = self.numbers.of(copied.digest) is not None
         if number is not None:
             self.numbers.give(copied.digest, number)
-        said = [told(self.post(messages, copied))]
-        if came_before:
-            said.append("these bytes had that number before")
-        if summary:
-            said.append(f"notes: {'; '.join(summary)}")
-        return "; ".join(said)
+        is_new = number is not None and not came_before
+        posted = post(self.desk, messages, self.state.work.answer, is_new)
+        if not posted.stand:
+            self.numbers.give_back(copied.digest)
+        taken = posted.taken(self.series)
+        more = ["these bytes had that number before"] if came_before else []
+        more += [f"notes: {'; '.join(lines.summary)}"] if lines.summary else []
+        return replace(taken, said="; ".join([taken.said, *more]), wrong_products=lines.wrong_products)
 
     def number_of(self, copied: Copied) -> int | None:
         """The desk's number of the first message of a file, where the file's own does not count: the one that
@@ -70,17 +100,17 @@ class Taker:
             return self.desk.next_number(self.series)
         return given
 
-    def messages_of(self, copied: Copied, number: int | None) -> tuple[list[Path], tuple[str, ...]]:
+    def messages_of(self, copied: Copied, number: int | None) -> tuple[list[Path], Said]:
         work = self.state.work
         if copied.is_records:
             work.answer.touch()
-            return [copied.source], ()
+            return [copied.source], NOTHING_SAID
         of_feed = None if number is None else self.number_of_feed(number)
-        summary = self.converter.convert(copied.name, copied.source, of_feed, work.messages, work.answer)
+        lines = self.converter.convert(copied.name, copied.source, of_feed, work.messages, work.answer)
         messages = sorted(work.messages.glob("*.csv"))
         if not messages:
             raise Fault("the converter wrote no message")
-        return messages, summary
+        return messages, lines
 
     def number_of_feed(self, number: int) -> int:
         """The number of the feed that begins with that number of the desk's."""
@@ -94,34 +124,13 @@ class Taker:
 
     def look_at(self, message: Path) -> None:
         """Refusal of what the desk would not take, or not for this wholesaler."""
-        if message.stat().st_size > LONGEST_MESSAGE:
+        size = message.stat().st_size
+        if not size:
+            raise Refusal("it is empty")
+        if size > LONGEST_MESSAGE:
             raise Refusal(REASONS["too-large"])
         if self.settings.sender and sender(message) != list(self.settings.sender):
             raise Refusal(f"its sender is not {','.join(self.settings.sender)}")
-
-    def post(self, messages: list[Path], copied: Copied) -> list[Accepted]:
-        """Posts the messages, all of them, and gives where they stand. Refusal, where one was refused."""
-        stand: list[Accepted] = []
-        refusals: list[str] = []
-        with self.state.work.answer.open("a", encoding="utf-8", errors="backslashreplace") as answer:
-            for message in messages:
-                reply = self.desk.post(message.read_bytes())
-                answer.write(f"{reply}\n")
-                try:
-                    stand.append(self.of_series(accepted(reply)))
-                except Refusal as refusal:
-                    refusals.append(str(refusal))
-        if refusals:
-            if not stand:
-                self.numbers.give_back(copied.digest)
-            raise Refusal("; ".join(dict.fromkeys(refusals)))
-        return stand
-
-    def of_series(self, accepted: Accepted) -> Accepted:
-        if accepted.series != self.series:
-            place = f"the series {accepted.series} of its sender and addressee"
-            raise Refusal(f"number {accepted.number} stands in {place}")
-        return accepted
 
 
 def sender(message: Path) -> list[str]:
@@ -132,15 +141,3 @@ def sender(message: Path) -> list[str]:
             return first[2:4]
         except csv.Error:
             return []
-
-
-def told(stand: list[Accepted]) -> str:
-    """Where the messages of a file stand, in a few words."""
-    numbers = [accepted.number for accepted in stand]
-    held = [accepted for accepted in stand if accepted.waiting_for is not None]
-    text = f"number {numbers[0]}" if len(numbers) == 1 else f"numbers {numbers[0]} to {numbers[-1]}"
-    if not held:
-        return f"{text} applied"
-    if len(held) == len(stand):
-        return f"{text} held, waiting for {held[0].waiting_for}"
-    return f"{text}: {len(stand) - len(held)} applied, {len(held)} held, waiting for {held[0].waiting_for}"

@@ -5,6 +5,7 @@ import contextlib
 import json
 import os
 import time
+from collections import Counter
 from dataclasses import asdict, dataclass
 from pathlib import Path
 from typing import TextIO
@@ -16,6 +17,9 @@ PROGRAM = "onixdesk-inbox"
 
 # Priorities of syslog.
 ERROR, WARNING, NOTICE = 3, 4, 5
+
+# How many lines a run writes on files that lie on.
+MOST_LINES = 100
 
 # When a file that lies on makes a run fail, once.
 LONG_SECONDS = 3600
@@ -38,8 +42,16 @@ class Voice:
     def taken(self, name: str, taken: Taken) -> None:
         if taken.is_refused:
             self.of_file(ERROR, name, f"refused: {taken.said}")
+        elif taken.is_amiss:
+            self.of_file(ERROR, name, taken.said)
+        elif taken.wrong_products:
+            self.of_file(WARNING, name, f"done, {counted(taken.wrong_products)} wrong: {taken.said}")
         else:
             self.of_file(NOTICE, name, f"done: {taken.said}")
+
+
+def counted(products: int) -> str:
+    return "1 product" if products == 1 else f"{products} products"
 
 
 def is_journal(stream: TextIO) -> bool:
@@ -48,6 +60,27 @@ def is_journal(stream: TextIO) -> bool:
         status = os.fstat(stream.fileno())
         return os.environ.get("JOURNAL_STREAM") == f"{status.st_dev}:{status.st_ino}"
     return False
+
+
+class Lines:
+    """Lines on files, up to a bound; the others are counted, by what is said of them. Whoever uploads decides how many
+    files lie there, and a journal leaves lines out where they are too many."""
+
+    def __init__(self, voice: Voice) -> None:
+        self.voice = voice
+        self.left = MOST_LINES
+        self.others: Counter[tuple[int, str]] = Counter()
+
+    def of_file(self, priority: int, name: str, text: str) -> None:
+        if self.left:
+            self.left -= 1
+            self.voice.of_file(priority, name, text)
+        else:
+            self.others[priority, text] += 1
+
+    def count_others(self) -> None:
+        for (priority, text), count in self.others.items():
+            self.voice.say(priority, f"and {count} more: {text}")
 
 
 @dataclass
@@ -73,15 +106,17 @@ class Told:
         """Says what is new of these files, and whether one of them lies long, which was not told before."""
         now = time.time()
         self.lying = {name: self.lying.get(name, Lying(now, "")) for name in sorted(left)}
+        lines = Lines(voice)
         has_long = False
         for name, lying in self.lying.items():
             said = str(left[name])
             if said != lying.said:
                 lying.said = said
-                voice.of_file(NOTICE if left[name].waits else WARNING, name, said)
+                lines.of_file(NOTICE if left[name].waits else WARNING, name, said)
             if not lying.is_long_told and now - lying.since >= LONG_SECONDS:
                 lying.is_long_told = has_long = True
-                voice.of_file(ERROR, name, f"{said}; {LONG}")
+                lines.of_file(ERROR, name, f"{said}; {LONG}")
+        lines.count_others()
         return has_long
 
     def keep(self) -> None:

@@ -5,10 +5,13 @@ from dataclasses import dataclass
 
 @dataclass(frozen=True)
 class Taken:
-    """A file that is at its end, in `done` or, refused, in `refused`; and what there is to say of it."""
+    """A file that is at its end, in `done` or, refused, in `refused`; what there is to say of it, and how many of its
+    products the converter found wrong. Of one that is done something may be amiss, as of one that is refused."""
 
     said: str
     is_refused: bool = False
+    is_amiss: bool = False
+    wrong_products: int = 0
 
 
 @dataclass(frozen=True)
@@ -36,4 +39,8 @@ class Gone(Exception):
 
 
 class Refusal(Exception):
-    """A file that nobody takes, and why."""
+    """A file that nobody takes, and why; with the desk's word for it, where the desk refuses it."""
+
+    def __init__(self, why: str, reason: str = "") -> None:
+        super().__init__(why)
+        self.reason = reason

@@ -1,0 +1,29 @@
+"""What the desk itself says of a copy."""
+
+import sqlite3
+import subprocess
+from contextlib import closing
+from pathlib import Path
+
+from command_lines.ending import Fault
+from desk_copy.trying import Unsound, opened
+from desk_restore.users import Owner, run_as
+
+
+def gaps_of(database: Path, owner: Owner, programs: Path) -> str:
+    """The desk's reports on the gaps of all series of a database, which it opens as that user. Unsound where it does
+    not."""
+    with closing(opened(database)) as connection:
+        try:
+            names = [name for (name,) in connection.execute("SELECT name FROM series ORDER BY name")]
+        except sqlite3.Error as error:
+            raise Unsound(f"{database.name}: {error}") from None
+    batch = "".join(f"AskGaps,{name}\n" for name in names)
+    words: list[str | Path] = [programs / "onixdesk", "--db", database, "--existing", "batch"]
+    try:
+        ran = run_as(owner, words, input=batch, stdout=subprocess.PIPE, stderr=subprocess.PIPE, cwd="/")
+    except OSError as error:
+        raise Fault(f"{programs / 'onixdesk'}: {error.strerror}") from None
+    if ran.returncode:
+        raise Unsound(f"the desk does not take the copy: {ran.stderr.strip() or ran.stdout.strip()}")
+    return ran.stdout

@@ -1,0 +1,98 @@
+"""The command line of desk-restore."""
+
+import argparse
+import os
+from functools import partial
+from pathlib import Path
+
+from command_lines.ending import DONE, FAILED, end_orderly, status_of, teller
+from command_lines.parsing import parser_of
+from desk_copy.places import since_of, unfinished
+from desk_copy.trying import try_copy
+from desk_restore.asking import gaps_of
+from desk_restore.inboxes import Inbox, inboxes_in
+from desk_restore.placing import exchange, is_open, lay_out
+from desk_restore.users import owner_of
+from desk_restore.units import Units
+
+PROGRAM = "desk-restore"
+
+DESK = Path("/var/lib/onixdesk/shop.db")
+INBOXES = Path("/var/lib/onixdesk-inbox")
+
+DESCRIPTION = """\
+Puts COPY, a folder that desk-copy made, into the place of the desk. The copy is tried before anything else is done, by
+SQLite and by the desk itself, whose reports on gaps are written. Then what runs of onixdesk is stopped, the files that
+stood there get another name, the copy's get theirs, with the folder's owner, and the desk is started again. Each inbox
+takes again what it has taken since, before it goes on."""
+
+STATUSES = """\
+Status 0; 1 where the copy is no sound database of a desk, or an inbox could not take all again and stays stopped; 2
+for a bad command line; 3 where a file cannot be read or written, or another program has the desk open. Where a line
+does not say that the copy is in place, the desk is as it was. docs/RELIABILITY.md says what comes after."""
+
+tell = teller(PROGRAM)
+
+
+def command_line() -> argparse.ArgumentParser:
+    parser = parser_of(PROGRAM, DESCRIPTION, STATUSES)
+    add = parser.add_argument
+    add("--db", metavar="FILE", type=Path, default=DESK, help=f"the database of the desk; {DESK} without it")
+    add("--inboxes", metavar="FOLDER", type=Path, default=INBOXES,
+        help=f"has a folder for each series, in which its inbox keeps what it took; {INBOXES} without it")
+    add("copy", metavar="COPY", type=Path, help="a folder with the two files of a desk, of the name of FILE")
+    return parser
+
+
+def put_back(options: argparse.Namespace, programs: Path, units: Units) -> None:
+    """Tries the copy, and puts it into the place of the desk, which nobody has open by then."""
+    database, owner = options.db, owner_of(options.db.parent)
+    with unfinished(database.parent) as new:
+        lay_out(options.copy, new, database.name, owner)
+        try_copy(new / database.name, options.copy / database.name)
+        reports = gaps_of(new / database.name, owner, programs)
+        units.stop()
+        is_open(database)
+        before = exchange(new, database)
+    tell(f"{options.copy} is in place as {database}; what stood there is {before}")
+    print(reports, end="", flush=True)
+    tell("agreements and waivers that were made since have to be made again")
+
+
+def take_again(inboxes: list[Inbox], since: str, programs: Path, units: Units) -> bool:
+    """Has each inbox take again what it took since, and starts those that could. Whether all could."""
+    all_could = True
+    for inbox in inboxes:
+        if inbox.take_again(since, programs):
+            units.start_inbox(inbox.series)
+        else:
+            all_could = False
+            tell(f"the inbox of {inbox.series} has not taken all again; then start it: {inbox.units}")
+    return all_could
+
+
+def restore(options: argparse.Namespace, programs: Path) -> int:
+    units = Units()
+    inboxes = inboxes_in(options.inboxes)
+    try:
+        put_back(options, programs, units)
+    except BaseException:
+        units.start_all()
+        raise
+    if not units.start_desk():
+        tell("start the desk; then each inbox with the word --again, before it takes anything else")
+        if units.left:
+            tell(f"and then what was stopped: systemctl start {' '.join(units.left)}")
+        return DONE
+    all_could = take_again(inboxes, since_of(options.copy), programs, units)
+    units.start_rest([inbox.series for inbox in inboxes])
+    return DONE if all_could else FAILED
+
+
+def main(programs: Path) -> int:
+    options = command_line().parse_args()
+    options.db, options.inboxes = options.db.absolute(), options.inboxes.absolute()
+    options.copy = options.copy.resolve()
+    os.umask(0o077)
+    end_orderly()
+    return status_of(partial(restore, options, programs), tell, options.copy)

@@ -1,0 +1,62 @@
+"""The two files of a desk, brought into their place."""
+
+import fcntl
+import os
+import shutil
+import time
+from pathlib import Path
+
+from command_lines.ending import Fault
+from desk_copy.copying import PIECE, log_of
+from desk_copy.places import NAME, settle
+from desk_restore.users import Owner
+
+# Where SQLite locks a database: an open desk has all of it.
+LOCKED, LENGTH = 1 << 30, 512
+
+
+def lay_out(copy: Path, folder: Path, name: str, owner: Owner) -> None:
+    """Copies the files of a copy into a folder, both of that owner alone. Fault where they are not the files of one
+    desk of that name."""
+    # SQLite leaves the third where somebody has looked at a copy.
+    found = {each.name for each in copy.iterdir()} - {f"{name}-shm"}
+    if name not in found or found - {name, f"{name}-wal"}:
+        raise Fault(f"{copy}: it has not {name} and its log alone")
+    for each in found:
+        with open(os.open(copy / each, os.O_RDONLY | os.O_NOFOLLOW), "rb") as old, open(folder / each, "xb") as new:
+            shutil.copyfileobj(old, new, PIECE)
+            os.fchown(new.fileno(), *owner)
+            new.flush()
+            os.fsync(new.fileno())
+    os.chown(folder, *owner)
+
+
+def is_open(database: Path) -> None:
+    """Fault where another program has the database open."""
+    try:
+        with open(os.open(database, os.O_RDWR | os.O_NOFOLLOW), "r+b", buffering=0) as file:
+            fcntl.lockf(file, fcntl.LOCK_EX | fcntl.LOCK_NB, LENGTH, LOCKED)
+    except FileNotFoundError:
+        pass
+    except BlockingIOError:
+        raise Fault(f"{database}: another program has it open; stop it before") from None
+
+
+def exchange(new: Path, database: Path) -> Path:
+    """Gives the files that stand there the name of the present second behind theirs, and the new ones their place. The
+    database comes last: until it is there, no desk starts. The name of what stood there is given."""
+    before = database.with_name(f"{database.name}.{time.strftime(NAME, time.gmtime())}")
+    moves = [(database, before), (log_of(database), log_of(before))]
+    moves += [(new / file.name, file) for file in (log_of(database), database)]
+    made: list[tuple[Path, Path]] = []
+    try:
+        for old, to in moves:
+            if old.exists():
+                os.rename(old, to)
+                made.append((old, to))
+    except OSError:
+        for old, to in reversed(made):
+            os.rename(to, old)
+        raise
+    settle(database.parent)
+    return before

@@ -1,0 +1,65 @@
+"""The messages of one file, posted, and what the desk says to them."""
+
+from dataclasses import dataclass, field
+from pathlib import Path
+
+from onixdesk_inbox.desk import OTHER_CONTENTS, Accepted, Desk, accepted
+from onixdesk_inbox.verdicts import Refusal, Taken
+
+
+class Quicker(Exception):
+    """The number of the first message has gone to somebody else's, and nothing of the file stands."""
+
+
+@dataclass
+class Posted:
+    """Where messages stand, and why others do not."""
+
+    stand: list[Accepted] = field(default_factory=list)
+    refusals: list[str] = field(default_factory=list)
+
+    def taken(self, series: str) -> Taken:
+        """What it is for an inbox of that series. Refusal, where nothing stands."""
+        if not self.stand:
+            raise Refusal(self.why())
+        if self.refusals:
+            return Taken(f"done in part: {told(self.stand)}; not applied: {self.why()}", is_amiss=True)
+        if self.stand[0].series != series:
+            verb = "applied" if self.stand[0].waiting_for is None else "held"
+            return Taken(f"{verb} in another series: {self.stand[0].series} {numbers(self.stand)}", is_amiss=True)
+        return Taken(told(self.stand))
+
+    def why(self) -> str:
+        return "; ".join(dict.fromkeys(self.refusals))
+
+
+def post(desk: Desk, messages: list[Path], answer: Path, is_number_new: bool) -> Posted:
+    """Posts all of them, and puts the replies into the answer. Quicker, where the first has a number that the desk
+    has just said to be free, and it is another's by now."""
+    posted = Posted()
+    with answer.open("a", encoding="utf-8", errors="backslashreplace") as lines:
+        for message in messages:
+            reply = desk.post(message.read_bytes())
+            lines.write(f"{reply}\n")
+            try:
+                posted.stand.append(accepted(reply))
+            except Refusal as refusal:
+                if is_number_new and message == messages[0] and refusal.reason == OTHER_CONTENTS:
+                    raise Quicker from None
+                posted.refusals.append(str(refusal))
+    return posted
+
+
+def numbers(stand: list[Accepted]) -> str:
+    first, last = stand[0].number, stand[-1].number
+    return f"number {first}" if len(stand) == 1 else f"numbers {first} to {last}"
+
+
+def told(stand: list[Accepted]) -> str:
+    """Where the messages of a file stand, in a few words."""
+    held = [accepted for accepted in stand if accepted.waiting_for is not None]
+    if not held:
+        return f"{numbers(stand)} applied"
+    if len(held) == len(stand):
+        return f"{numbers(stand)} held, waiting for {held[0].waiting_for}"
+    return f"{numbers(stand)}: {len(stand) - len(held)} applied, {len(held)} held, waiting for {held[0].waiting_for}"

@@ -1,5 +1,6 @@
 """Whose schema is replaced and whose is not, what stays untouched, who may read, and faults."""
 
+import re
 import time
 from collections.abc import Iterator
 from functools import partial
@@ -35,8 +36,14 @@ def of_others(cluster: Cluster, room: Room) -> Iterator[Outcome]:
             "commented",
             "CREATE SCHEMA desk; CREATE TABLE desk.own AS SELECT 'kept'; COMMENT ON SCHEMA desk IS 'the shop''s'",
         ),
+        # Whoever may make a schema can comment it as the follower does, and put a trigger there that it would run.
+        (
+            "commented as desk-follow's",
+            "CREATE ROLE stranger; CREATE SCHEMA desk AUTHORIZATION stranger;"
+            f" CREATE TABLE desk.own AS SELECT 'kept'; {OLD_LAYOUT}",
+        ),
     ]:
-        database = cluster.make_database(f"others_{name}")
+        database = cluster.make_database(f"others_{re.sub('[^a-z]', '_', name)}")
         execute(database, statements)
         yield Outcome(f"a schema of somebody else, {name}", follow(room, database), Ran(3, b"", OTHER))
         yield Outcome(f"it stays, {name}", ask(database, "SELECT * FROM desk.own"), [("kept",)])

@@ -1,4 +1,4 @@
-"""Feeds in XML, and what a converter is to write of them; the second opinion is tried here.
+"""Feeds in XML, and what `onixdesk convert` is to write of them.
 
 The cases stand in tests/conversions. Behind a heading each file has them: a line `== ` with the name, and
 parts that begin with a line `-- `:
@@ -9,26 +9,19 @@ parts that begin with a line `-- `:
     -- records    the records that come of the XML at that place, each with LF; those around it and the
                   count of EndMessage are added
     -- all-records, of a file, or where those around the place are others
-    -- notes      the notes, behind the name of the file
+    -- notes      the notes on what the desk has no field for, behind the name of the file
+    -- wrong      the notes on what the desk would not take; the status is then 1
     -- summary    the lines behind the notes, where they are not only added up
-    -- refused    the place in the file, and why
-    -- wrong      the same of a product, without what can be done about it
-    -- status N   1, where a wrong product is left out
+    -- refused    the place in the file, or `anywhere`, and perhaps a part of the line that says why
 
 A place is a line and a column, as `2:7`, or a line and the first start tag of an element there, as
-`2:<Price>`. Each case is converted in reference names without a namespace and, but for whole files, in
-short tags in their namespace, in which columns are others.
+`2:<Price>`. Notes stand in the order of their places. Each case is converted in reference names without a namespace
+and, but for whole files, in short tags in their namespace, in which columns are others.
 """
 
 import re
-from collections.abc import Iterator
-from functools import partial
 from pathlib import Path
 from typing import NamedTuple
-
-from tests.program.converter import second_opinion
-from tests.program.room import Group, Room
-from tests.running import Outcome
 
 FOLDER = Path(__file__).resolve().parent.parent / "conversions"
 
@@ -49,8 +42,9 @@ SHORT_TAGS = dict(
     UnpricedItemType=j192 Price=price PriceType=x462 PriceQualifier=j261 PricePer=j239
     PriceCondition=pricecondition PriceConditionType=x463 PriceConstraint=priceconstraint
     PriceConstraintType=x529 MinimumOrderQuantity=j263 PriceCoded=pricecoded PriceAmount=j151
-    CurrencyCode=j152 CurrencyZone=x475 PriceStatus=j266 EpubTechnicalProtection=x317
-    EpubLicense=epublicense SalesRestriction=salesrestriction PriceDate=pricedate PriceDateRole=x476 DateFormat=j260 Date=b306
+    CurrencyCode=j152 CurrencyZone=x475 EpubLicense=epublicense PriceTypeCode=j148 PriceEffectiveFrom=j161
+    PriceEffectiveUntil=j162 CountryCode=b251 OrderQuantityMinimum=x532 PriceDate=pricedate PriceDateRole=x476
+    DateFormat=j260 Date=b306
     """.split()
 )
 
@@ -117,21 +111,27 @@ FRAMES["price"] = within(
 )
 
 
-# What the line of a refusal says behind a wrong product.
-MENDED = "; the sender has to mend it, or --leave-out-wrong leaves the product out"
-
 PLACE = re.compile("([0-9]+):(?:([0-9]+)|(<[A-Za-z]+))>?(.*)", re.DOTALL)
 
-# A line of the summary, but for the last.
-COUNTED = re.compile("(.*): ([0-9]+)")
-NOT_LOOKED_AT = ", not looked at"
+# The place of a refusal that is not compared.
+ANYWHERE = "anywhere"
 
 
 class Converted(NamedTuple):
-    """What comes of a feed: its records, None where it is refused, and what is said of its lines."""
+    """What comes of a feed: its records, None where it is refused; the notes, the wrong ones apart; and the place of the
+    refusal with a part of why, empty where there is none."""
 
     records: bytes | None
-    said: list[str]
+    notes: list[str]
+    wrong: list[str]
+    refused: str
+
+    def wrong_products(self) -> int:
+        """How many products are let through that are wrong; each has a reference of its own."""
+        return len({line.split(": ")[1] for line in self.wrong}) if self.records is not None else 0
+
+    def status(self) -> int:
+        return 1 if self.wrong or self.refused else 0
 
 
 class Case(NamedTuple):
@@ -139,7 +139,6 @@ class Case(NamedTuple):
     place: str
     xml: str
     words: list[str]
-    status: int
     wanted: Converted
     summary: list[str] | None
 
@@ -154,13 +153,7 @@ class Case(NamedTuple):
     def feeds(self) -> list["Feed"]:
         texts = self.texts()
         return [
-            Feed(
-                self.name + names,
-                text.encode(),
-                self.status,
-                self.wanted._replace(said=[placed(line, texts[""], text) for line in self.wanted.said]),
-                self.summary,
-            )
+            Feed(self.name + names, text.encode(), placed_all(self.wanted, texts[""], text), self.summary)
             for names, text in texts.items()
         ]
 
@@ -170,7 +163,6 @@ class Feed(NamedTuple):
 
     name: str
     data: bytes
-    status: int
     wanted: Converted
     summary: list[str] | None
 
@@ -185,15 +177,16 @@ def in_short_tags(text: str) -> str:
         return f"{found[1]}{SHORT_TAGS.get(found[2], found[2])}"
 
     namespace = ' xmlns="http://ns.editeur.org/onix/3.0/short"'
-    text = re.sub("(</?)([A-Za-z]+)", short, text)
+    text = re.sub(r"(</?(?:[a-z]+:)?)([A-Za-z]+)", short, text)
     return text.replace("<ONIXmessage", "<ONIXmessage" + namespace, 1)
 
 
 def placed(said: str, text: str, written: str) -> str:
-    """What is said of a place in the text, with the line, column and byte (`@`) that it has in the text as
-    it is written in either kind of names."""
+    """What is said of a place in the text, with the line and the column that it has in the text as it is written in
+    either kind of names."""
     found = PLACE.fullmatch(said)
-    assert found
+    if not found:
+        return said
     line, column, element, rest = found.groups()
     begin = sum(len(each) + 1 for each in text.split("\n")[: int(line) - 1])
     if element:
@@ -203,8 +196,16 @@ def placed(said: str, text: str, written: str) -> str:
     else:
         at = begin + int(column) - 1
     before = text[:at] if written == text else in_short_tags(text[:at])
-    rest = rest.replace("at byte @", f"at byte {len(before.encode()) + 1}")
     return f"{line}:{len(before) - before.rfind(chr(10))}{rest}"
+
+
+def placed_all(wanted: Converted, text: str, written: str) -> Converted:
+    return Converted(
+        wanted.records,
+        [placed(line, text, written) for line in wanted.notes],
+        [placed(line, text, written) for line in wanted.wrong],
+        placed(wanted.refused, text, written),
+    )
 
 
 def records_of(place: str, text: str) -> str:
@@ -222,68 +223,15 @@ def read_case(text: str) -> Case:
         parts[key] = value or (body.rstrip("\n") + "\n" if body.strip() else "")
     place = next(key for key in parts if key in FRAMES or key == WHOLE_FILE)
     words = parts.get("words", "").split()
-    for key, behind in [("refused", ""), ("wrong", MENDED)]:
-        if key in parts:
-            at, why = parts[key].split(" ", 1)
-            wanted = Converted(None, [f"{at}: refused: {why}{behind}"])
-            return Case(name, place, parts[place], words, 1, wanted, None)
-    said = parts.get("notes", "").splitlines()
-    all_records = parts.get("all-records") or records_of(place, parts["records"])
-    wanted = Converted(all_records.encode(), said)
-    summary = parts["summary"].splitlines() if "summary" in parts else None
-    return Case(name, place, parts[place], words, int(parts.get("status", 0)), wanted, summary)
+    records = None
+    if "refused" not in parts:
+        records = (parts.get("all-records") or records_of(place, parts["records"])).encode()
+    lines = {key: text.rstrip("\n").split("\n") for key, text in parts.items()}
+    summary = lines.get("summary")
+    wanted = Converted(records, lines.get("notes", []), lines.get("wrong", []), parts.get("refused", ""))
+    return Case(name, place, parts[place], words, wanted, summary)
 
 
 def read_cases(path: Path) -> list[Case]:
     _heading, *texts = path.read_text(encoding="utf-8").split("\n== ")
     return [read_case(text) for text in texts]
-
-
-def check(words: list[str], feeds: list[Feed], room: Room) -> Iterator[Outcome]:
-    """Converts the feeds in one run, each into a file of its own."""
-    room.path("out").mkdir()
-    for number, feed in enumerate(feeds):
-        room.write(f"{number}.xml", feed.data)
-    came = second_opinion(room, *words, "-o", "out", *(f"{number}.xml" for number in range(len(feeds))))
-    said: dict[str, list[str]] = {}
-    for line in came.errors.decode().splitlines():
-        file, _, what = line.removeprefix("second-opinion: ").partition(".xml:")
-        said.setdefault(file, []).append(what)
-    for number, feed in enumerate(feeds):
-        path = room.path(f"out/{number}.csv")
-        records = path.read_bytes() if path.exists() else None
-        yield Outcome(feed.name, Converted(records, said.pop(str(number), [])), feed.wanted)
-    yield Outcome(f"{feeds[0].name}: the status", came.status, max(feed.status for feed in feeds))
-    yield summed(feeds, list(said))
-
-
-def summed(feeds: list[Feed], summary: list[str]) -> Outcome:
-    """The lines behind the notes: those that a case names, or else the count of all, which the counts of
-    the reasons come to."""
-    if feeds[0].summary is not None:
-        return Outcome(f"{feeds[0].name}: the summary", summary, feeds[0].summary)
-    notes = sum(len(feed.wanted.said) for feed in feeds if feed.wanted.records is not None)
-    last = [] if notes == 0 else ["1 note"] if notes == 1 else [f"{notes} notes"]
-    counted = [found.groups() for found in map(COUNTED.fullmatch, summary) if found]
-    total = sum(int(count) for what, count in counted if not what.endswith(NOT_LOOKED_AT))
-    found = total, summary[len(counted) :]
-    return Outcome(f"{feeds[0].name}, and others: the summary", found, (notes, last))
-
-
-def groups(cases: list[Case]) -> Iterator[Group]:
-    """Those with the same words are converted together, one run for each file of cases and word."""
-    together: dict[tuple[str, ...], list[Feed]] = {}
-    for case in cases:
-        for feed in case.feeds():
-            # --number is for one file alone.
-            if feed.summary is not None or "--number" in case.words:
-                yield Group(f"second opinion: {feed.name}", partial(check, case.words, [feed]))
-            else:
-                together.setdefault(tuple(case.words), []).append(feed)
-    for words, feeds in together.items():
-        yield Group(f"second opinion: {feeds[0].name}", partial(check, list(words), feeds))
-
-
-GROUPS = [
-    group for path in sorted(FOLDER.glob("*.txt")) for group in groups(read_cases(path))
-]

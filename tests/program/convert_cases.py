@@ -1,83 +1,37 @@
-"""The cases of tests/conversions over `onixdesk convert`: their records, statuses, places, notes and reasons.
-
-The wording of a refusal is its own, but for that of a wrong product, and some cases it decides otherwise: `OTHERWISE`
-names each kind of them.
-"""
+"""The cases of tests/conversions over `onixdesk convert`: their records, statuses, places, notes and reasons."""
 
 import re
 from collections.abc import Iterator
 from functools import partial
 from typing import NamedTuple
 
-from tests.program.conversions import FOLDER, MENDED, NOT_LOOKED_AT, PLACE, Case, Feed, read_cases
+from tests.program.conversions import ANYWHERE, FOLDER, PLACE, Case, Converted, Feed, read_cases
+from tests.program.feed_notes import count_line
 from tests.program.room import Group, Room
 from tests.running import Outcome
-
-# Lines that a feed is refused for by its form, of which each converter tells the place as it reads.
-OF_FORM = "no well-formed XML", "no XML, but ", "the file ends before "
-
-# What is refused at its own place; all else is refused at that of its Header or Product.
-AT_ITS_PLACE = "root ", "release ", "no release", "entity "
 
 LINE = re.compile(r"([0-9]+)\.xml:([0-9]+:[0-9]+): (refused: )?(.*)")
 COUNTED = re.compile("(.*): ([0-9]+)")
 
-
-def declares(case: Case) -> bool:
-    return re.search(r"<!DOCTYPE[^>]*\[", case.xml) is not None
-
-
-def has_unbound_prefix(case: Case) -> bool:
-    return any("unbound prefix" in line for line in case.wanted.said)
-
-
-# Why a case is not one of `convert`.
-OTHERWISE = {
-    "what a DOCTYPE declares does not count": declares,
-    "whether a prefix is declared nobody looks at, but where an element counts": has_unbound_prefix,
-}
-
-
-def is_ours(case: Case) -> bool:
-    return not any(decided(case) for decided in OTHERWISE.values())
+# What is counted in the summary, and is no note.
+NOT_READ = ", not read"
 
 
 class Noted(NamedTuple):
-    """A line about a place: a note, or the refusal of a wrong product; of another refusal not why."""
+    """A note, in the order of lines and columns."""
 
-    place: str
-    about: str
-
-
-REFUSED = "refused"
-
-# Of a Price that is left out neither the field of its Territory is named, nor the role of a date in another format.
-OWN_WORDS = {
-    r"(?<=: Price left out: )Countries(?:In|Ex)cluded .*": "CountriesIncluded or CountriesExcluded is no list of two"
-    " capital letters each, or has more than 1024 bytes",
-    r"(?<=: Price left out: PriceDate )of role [0-9]+ (?=in format )": "",
-}
-
-# A place that is not compared.
-ANYWHERE = ""
+    line: int
+    column: int
+    what: str
 
 
 class Came(NamedTuple):
-    """What comes of a feed: its records, None where it is refused, and the lines about it."""
+    """What comes of a feed: its records, None where it is refused, the notes, and the refusal as far as it is compared:
+    its place, and a part of why, which stands alone where the line has it."""
 
     records: bytes | None
-    noted: list[Noted]
-
-
-def in_own_words(note: str) -> str:
-    for words, own in OWN_WORDS.items():
-        note = re.sub(words, own, note)
-    return note
-
-
-def about(refused: str, text: str) -> str:
-    """What is compared of a line, behind its place and that it is refused."""
-    return REFUSED if refused and not text.endswith(MENDED) else refused + text
+    notes: list[Noted]
+    refused: tuple[str, str] | None
 
 
 PART = re.compile("<(?:[Hh]eader|[Pp]roduct)>")
@@ -96,41 +50,46 @@ def of_part(place: str, data: bytes) -> str:
     return f"{before.count(chr(10)) + 1}:{len(before) - before.rfind(chr(10))}"
 
 
+def noted(line: str) -> Noted:
+    found = PLACE.fullmatch(line)
+    assert found
+    return Noted(int(found[1]), int(found[2]), found[4].removeprefix(": "))
+
+
+def refusal(wanted: Converted) -> tuple[str, str] | None:
+    place, _, why = wanted.refused.partition(" ")
+    return (place, why) if place else None
+
+
 def wanted(feed: Feed) -> Came:
-    noted = []
-    for line in feed.wanted.said:
-        found = PLACE.fullmatch(line)
-        assert found
-        place, text = f"{found[1]}:{found[2]}", found[4].removeprefix(": ")
-        if not text.startswith("refused: ") or text.endswith(MENDED):
-            noted.append(Noted(place, in_own_words(text)))
-        elif text.startswith(OF_FORM, len("refused: ")):
-            noted.append(Noted(ANYWHERE, REFUSED))
-        else:
-            is_at = text.startswith(AT_ITS_PLACE, len("refused: "))
-            noted.append(Noted(place if is_at else of_part(place, feed.data), REFUSED))
-    return Came(feed.wanted.records, noted)
+    notes = sorted(map(noted, feed.wanted.notes + feed.wanted.wrong))
+    return Came(feed.wanted.records, notes, refusal(feed.wanted))
 
 
-def read_lines(errors: bytes) -> tuple[dict[int, list[Noted]], list[str]]:
-    """The lines about each feed, by its number, and the summary behind them."""
-    of_feeds: dict[int, list[Noted]] = {}
+def came_as(said: list[tuple[str, str, str]], records: bytes | None, feed: Feed) -> Came:
+    """What came, with as much of a refusal as is compared."""
+    notes = [noted(f"{place}: {what}") for place, is_refused, what in said if not is_refused]
+    refused = [(place, what) for place, is_refused, what in said if is_refused]
+    if len(refused) != 1:
+        return Came(records, sorted(notes), ("", str(refused)) if refused else None)
+    (place, what), (hoped, why) = refused[0], refusal(feed.wanted) or ("", "")
+    # What is wrong with a Header or a Product is told at it, or where it is in that.
+    is_there = hoped == ANYWHERE or hoped != "" and place in (hoped, of_part(hoped, feed.data))
+    return Came(records, sorted(notes), (hoped if is_there else place, why if why in what else what))
+
+
+def read_lines(errors: bytes) -> tuple[dict[int, list[tuple[str, str, str]]], list[str]]:
+    """The lines about each feed, by its number: the place, whether it is refused and what is said; and the summary behind
+    them."""
+    of_feeds: dict[int, list[tuple[str, str, str]]] = {}
     summary = []
     for text in errors.decode().splitlines():
         line = text.removeprefix("onixdesk: ")
         if found := LINE.fullmatch(line):
-            noted = Noted(found[2], about(found[3] or "", found[4]))
-            of_feeds.setdefault(int(found[1]), []).append(noted)
+            of_feeds.setdefault(int(found[1]), []).append((found[2], found[3] or "", found[4]))
         else:
             summary.append(line)
     return of_feeds, summary
-
-
-def came_as(came: Came, hoped: Came) -> Came:
-    """What came, without the places that are not compared."""
-    pairs = zip(came.noted, hoped.noted)
-    noted = [each._replace(place=ANYWHERE) if other.place == ANYWHERE else each for each, other in pairs]
-    return Came(came.records, noted + came.noted[len(hoped.noted) :])
 
 
 def check(words: list[str], feeds: list[Feed], room: Room) -> Iterator[Outcome]:
@@ -142,18 +101,24 @@ def check(words: list[str], feeds: list[Feed], room: Room) -> Iterator[Outcome]:
     of_feeds, summary = read_lines(ran.errors)
     for number, feed in enumerate(feeds):
         path = room.path(f"out/{number}.csv")
-        came = Came(path.read_bytes() if path.exists() else None, of_feeds.get(number, []))
-        hoped = wanted(feed)
-        yield Outcome(feed.name, came_as(came, hoped), hoped)
+        records = path.read_bytes() if path.exists() else None
+        yield Outcome(feed.name, came_as(of_feeds.get(number, []), records, feed), wanted(feed))
     name = f"{feeds[0].name} {' '.join(words)}"
-    yield Outcome(f"{name}: the status", ran.status, max(feed.status for feed in feeds))
-    notes = sum(len(feed.wanted.said) for feed in feeds if feed.wanted.records is not None)
-    counts = [int(found[2]) for found in map(COUNTED.fullmatch, summary[:-1]) if found]
-    last = [] if notes == 0 else ["1 note"] if notes == 1 else [f"{notes} notes"]
-    yield Outcome(f"{name}: the summary", (sum(counts), len(counts), summary[-1:]), (notes, len(summary[:-1]), last))
+    yield Outcome(f"{name}: the status", ran.status, max(feed.wanted.status() for feed in feeds))
+    yield from summed(name, feeds, summary)
+
+
+def summed(name: str, feeds: list[Feed], summary: list[str]) -> Iterator[Outcome]:
+    """The lines behind the notes come to the count of all; some cases say each of them."""
+    written = [feed.wanted for feed in feeds if feed.wanted.records is not None]
+    notes = sum(len(each.notes) + len(each.wrong) for each in written)
+    last = count_line(notes, sum(each.wrong_products() for each in written))
+    counts = [found for found in map(COUNTED.fullmatch, summary) if found and not found[1].endswith(NOT_READ)]
+    lines = [line for line in summary if NOT_READ not in line]
+    found = sum(int(each[2]) for each in counts), len(counts), lines[-1:]
+    yield Outcome(f"{name}: the summary", found, (notes, len(lines[:-1]), [last] if last else []))
     if feeds[0].summary is not None:
-        counted = [line for line in feeds[0].summary if NOT_LOOKED_AT not in line]
-        yield Outcome(f"{name}: the lines of the summary", summary, counted)
+        yield Outcome(f"{name}: the lines of the summary", summary, feeds[0].summary)
 
 
 # How many are converted together at most.
@@ -164,7 +129,7 @@ def groups(cases: list[Case]) -> Iterator[Group]:
     """Those with the same words are converted together, but for one with a summary of its own; --number is for one file
     alone."""
     together: dict[tuple[str, ...], list[list[Feed]]] = {}
-    for case in filter(is_ours, cases):
+    for case in cases:
         for feed in case.feeds():
             runs = together.setdefault(tuple(case.words), [[]])
             if feed.summary is not None:
@@ -180,12 +145,4 @@ def groups(cases: list[Case]) -> Iterator[Group]:
 
 CASES = [case for path in sorted(FOLDER.glob("*.txt")) for case in read_cases(path)]
 
-
-def left_aside(room: Room) -> Iterator[Outcome]:
-    """Few cases are left aside, and there is one for each reason."""
-    for why, decided in OTHERWISE.items():
-        found = sum(map(decided, CASES))
-        yield Outcome(f"convert: cases left aside since {why}", 0 < found < len(CASES) / 10, True)
-
-
-GROUPS = [Group("convert: cases that are left aside", left_aside), *groups(CASES)]
+GROUPS = [*groups(CASES)]

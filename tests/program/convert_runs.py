@@ -9,7 +9,7 @@ from functools import partial
 from tests.program import converter_runs, converter_words
 from tests.program.conversions import SUPPLIER, in_short_tags
 from tests.program.converter import FEED
-from tests.program.converter_runs import BAD, FRAME, ONE, PRODUCT, TWO, Case, encoded, message_of
+from tests.program.converter_runs import BAD, FRAME, ISBN, ONE, PRODUCT, TWO, WRONG, Case, encoded, message_of
 from tests.program.converter_words import HEADER, SENDER
 from tests.program.room import Group, Ran, Room
 from tests.running import Outcome
@@ -37,7 +37,7 @@ def large_part(number: int, *references: str) -> bytes:
     """The message of that part, with these of the two products."""
     begin = FRAME.records.replace(",1,", f",{number},")
     supply = "ProductSupply,,,\nSupplyDetail,04,,,North,21,\n" + "Price,,1,,,,,,\n" * PRICES
-    records = begin + "".join(f"Product,{each},03,15,9\n{supply}" for each in references)
+    records = begin + "".join(f"Product,{each},03,15,{ISBN}\n{supply}" for each in references)
     return f"{records}EndMessage,{records.count(chr(10))}\n".encode()
 
 
@@ -122,23 +122,30 @@ def good_words(room: Room) -> Iterator[Outcome]:
         yield Outcome(f"convert {words}", came, Ran(0, records.encode()))
 
 
-# Names of the five encodings, and their codecs.
+# Names of the encodings that are read, and their codecs. A mark outweighs what is declared.
 ENCODINGS = [
-    *(encoded(name, "utf-8") for name in ("utf-8", "UTF-8", "utf8")),
-    encoded("UTF-8", "utf-8", codecs.BOM_UTF8),
-    encoded("UTF-16", "utf-16-le", codecs.BOM_UTF16_LE),
-    encoded("UTF-16", "utf-16-be", codecs.BOM_UTF16_BE),
+    *(encoded(name, "utf-8") for name in ("utf-8", "UTF-8", "utf8", "Utf_8")),
+    *(encoded(name, "utf-8", codecs.BOM_UTF8) for name in ("UTF-8", "utf8", "ISO-8859-1", "UTF-16")),
+    *(encoded(name, "utf-16-le", codecs.BOM_UTF16_LE) for name in ("UTF-16", "utf16", "UTF-8")),
+    *(encoded(name, "utf-16-be", codecs.BOM_UTF16_BE) for name in ("UTF-16", "utf_16", "windows-1252")),
+    # As some libraries write it.
+    *(encoded(name, "utf-8") for name in ("UTF-16", "utf-16")),
 ]
 LATIN = [
-    encoded("ISO-8859-1", "latin-1", sender="é"),
-    encoded("windows-1252", "cp1252", sender="é"),
-    encoded("US-ASCII", "ascii", sender="&#233;"),
+    *(encoded(name, "latin-1", sender="é") for name in ("ISO-8859-1", "iso8859_1", "ISO88591", "latin1", "Latin-1")),
+    *(encoded(name, "cp1252", sender="é") for name in ("windows-1252", "Windows1252", "cp1252", "CP-1252")),
+    *(encoded(name, "ascii", sender="&#233;") for name in ("US-ASCII", "usascii", "ascii", "ASCII")),
 ]
-OTHERS = [encoded("windows-1250", "cp1250"), encoded("ISO-8859-15", "iso8859-15", sender="é"), encoded("x", "utf-8")]
+
+# The eight characters by which ISO-8859-15 is another than ISO-8859-1.
+EURO = "€ŠšŽžŒœŸ"
+EUROPEAN = [encoded(name, "iso8859-15", sender=EURO) for name in ("ISO-8859-15", "iso_8859_15", "iso885915")]
+
+OTHERS = [encoded("windows-1250", "cp1250"), encoded("ISO-8859-2", "iso8859-2"), encoded("x", "utf-8")]
 
 
 def encodings(room: Room) -> Iterator[Outcome]:
-    for sender, feeds in [(converter_runs.SENDER, ENCODINGS), ("é", LATIN)]:
+    for sender, feeds in [(converter_runs.SENDER, ENCODINGS), ("é", LATIN), (EURO, EUROPEAN)]:
         records = message_of("R1").replace(b",S,", f",{sender},".encode())
         for feed in feeds:
             yield Outcome(f"convert: encoding {feed[:50]!r}", room.run("convert", given=feed), Ran(0, records))
@@ -155,10 +162,19 @@ def streams(room: Room) -> Iterator[Outcome]:
     came = room.run("convert", given=None)
     yield Outcome("convert: an input that cannot be read", (came.status, came.output), (3, b""))
     room.write("b.xml", BAD)
-    for words, status in [([FEED], 0), (["b.xml", FEED], 1), (["absent.xml", "b.xml", FEED], 3)]:
-        room.path(str(len(words))).mkdir(exist_ok=True)
-        came = room.run("convert", "-o", str(len(words)), *words)
-        is_made = room.path(f"{len(words)}/feed.csv").exists()
+    room.write("w.xml", WRONG)
+    runs = [
+        ([FEED], 0),
+        (["b.xml", FEED], 1),
+        (["w.xml", FEED], 1),
+        (["absent.xml", "b.xml", FEED], 3),
+        (["w.xml", "absent.xml", FEED], 3),
+    ]
+    for number, (words, status) in enumerate(runs):
+        folder = str(number)
+        room.path(folder).mkdir()
+        came = room.run("convert", "-o", folder, *words)
+        is_made = room.path(f"{folder}/feed.csv").exists()
         yield Outcome(f"convert: {words}", (came.status, is_made), (status, True))
 
 

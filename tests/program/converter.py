@@ -1,4 +1,4 @@
-"""Runs of `onixdesk convert`, and of the second opinion beside it."""
+"""Runs of `onixdesk convert`."""
 
 import re
 from collections.abc import Iterator
@@ -6,21 +6,14 @@ from typing import NamedTuple
 
 from bench.figures.conversion import converted
 from tests.program.room import Ran, Room
-from tools.root import ROOT
 from tools.words import Word
 
 # The file that holds the feed of a case.
 FEED = "feed.xml"
 
-SECOND_OPINION = ROOT / "tests/second-opinion"
-
 
 def convert(room: Room, *words: Word | bytes, given: bytes = b"") -> Ran:
     return room.run("convert", *words, given=given)
-
-
-def second_opinion(room: Room, *words: Word | bytes, given: bytes = b"") -> Ran:
-    return room.call([SECOND_OPINION, *words], given)
 
 
 REFUSED = re.compile(r"onixdesk: ([^ ]+):([0-9]+):[0-9]+: refused: .")

@@ -10,7 +10,7 @@ from pathlib import Path
 
 from tests.program.conversions import said
 from tests.program.converter import convert
-from tests.program.converter_runs import BAD, FRAME, ONE, PRODUCT, feed_of, message_of
+from tests.program.converter_runs import BAD, FRAME, ONE, PRODUCT, WRONG, feed_of, message_of
 from tests.program.room import SECONDS, Group, Ran, Room
 from tests.running import Outcome
 from tools.words import Word
@@ -77,10 +77,11 @@ def closed_error(room: Room) -> Iterator[Outcome]:
     """The statuses are the same where standard error is closed, or takes nothing."""
     room.write("a.xml", ONE)
     room.write("b.xml", BAD)
+    room.write("w.xml", WRONG)
     for words, status in [
         (["a.xml"], 0),
         (["b.xml"], 1),
-        (["--leave-out-wrong", "b.xml"], 1),
+        (["--wrong", "all", "w.xml"], 1),
         (["--parts", "none"], 2),
         (["absent.xml"], 3),
         (["-o", "absent", "a.xml"], 3),

@@ -5,7 +5,7 @@ from collections.abc import Iterator
 
 from tests.program.conversions import FRAMES, said
 from tests.program.converter import FEED, convert
-from tests.program.converter_runs import PRODUCT, feed_of, message_of
+from tests.program.converter_runs import ISBN, PRODUCT, feed_of, message_of
 from tests.program.room import Group, Ran, Room
 from tests.running import Outcome
 
@@ -23,12 +23,11 @@ DETAIL = (
 PRICE = "<Price><PriceAmount>1</PriceAmount></Price>"
 
 
-# What is said to the person who has to act, of parts and of a product.
+# What is said of parts to the person who has to act.
 AGREED = (
     "the number of parts is a part of the agreement on the series, and with another one its numbers no"
     " longer follow each other (ONIX.md)"
 )
-MEND = "the sender has to mend it, or --leave-out-wrong leaves the product out"
 
 
 def references(count: int) -> list[str]:
@@ -110,7 +109,7 @@ def one_product(room: Room) -> Iterator[Outcome]:
     why = "a Product too large for a message of 20000 records and 4194304 bytes"
     prices = MOST - 3
     whole = (
-        f"{FRAME.records}Product,R1,03,15,9\nProductSupply,,,\nSupplyDetail,04,,,North,21,\n"
+        f"{FRAME.records}Product,R1,03,15,{ISBN}\nProductSupply,,,\nSupplyDetail,04,,,North,21,\n"
         + "Price,,1,,,,,,\n" * prices
         + "EndMessage,19999\n"
     )
@@ -119,20 +118,28 @@ def one_product(room: Room) -> Iterator[Outcome]:
     yield Outcome("a product of 19,998 records", came, Ran(0, whole.encode()))
 
     room.write(FEED, between_others(product_of(1, prices + 1)))
-    came = convert(room, "--parts", "5", FEED)
-    said_of = said([f"{FEED}:2:1: refused: R1: {why}; {MEND}"])
-    yield Outcome("a product of 19,999 records", came, Ran(1, b"", said_of))
-    came = convert(room, "--leave-out-wrong", FEED)
-    left_out = f"Product left out: {why}"
-    said_of = said([f"{FEED}:2:1: R1: {left_out}", f"{left_out}: 1", "1 note"])
-    yield Outcome("a product of 19,999 records, left out", came, Ran(1, message_of("R0", "R2"), said_of))
+    emptied = f"Product emptied: {why}"
+    said_of = said([f"{FEED}:2:1: R1: {emptied}", f"{emptied}: 1", "1 note, 1 product wrong"])
+    came = convert(room, FEED)
+    yield Outcome("a product of 19,999 records", came, Ran(1, message_of("R0", "R1", "R2"), said_of))
+
+
+def many_identifiers(room: Room) -> Iterator[Outcome]:
+    """A product that is too large even without its supplies has its reference for an identifier."""
+    pair = f"<ProductIdentifier><ProductIDType>01</ProductIDType><IDValue>{'&quot;' * 1_024}</IDValue></ProductIdentifier>"
+    product = PRODUCT.format("R1").replace("</Product>", f"{pair * 2_500}</Product>")
+    room.write(FEED, between_others(product))
+    came = convert(room, FEED)
+    wanted = message_of("R0", "R1", "R2").replace(f"Product,R1,03,15,{ISBN}".encode(), b"Product,R1,03,01,R1")
+    found = came.status, came.output, came.errors.count(b"\n")
+    yield Outcome("a product of 2,500 identifiers that are quoted", found, (1, wanted, 3))
 
 
 def large_product(room: Room) -> Iterator[Outcome]:
     """A product of elements of more than 4,194,304 bytes, each 64 beside its text, is refused before it is looked at."""
     room.write(FEED, between_others(product_of(MOST - 2, 0)))
     said_of = said([f"{FEED}:2:1: refused: a Header or a Product of more than 4,194,304 bytes"])
-    for option in (), ("--leave-out-wrong",):
+    for option in (), ("--wrong", "all"):
         came = convert(room, *option, FEED)
         yield Outcome(f"a product of 19,998 supply details {option}", came, Ran(1, b"", said_of))
 
@@ -147,7 +154,7 @@ def a_whole_product_in_the_next_part(room: Room) -> Iterator[Outcome]:
     came = convert(room, "--parts", "2", FEED)
     second = (
         FRAME.records.replace(",1,", ",2,")
-        + "Product,R1,03,15,9\nProductSupply,,,\nSupplyDetail,04,,,North,21,\nEndMessage,4\n"
+        + f"Product,R1,03,15,{ISBN}\nProductSupply,,,\nSupplyDetail,04,,,North,21,\nEndMessage,4\n"
     )
     wanted = Ran(0, message_of(*names, number=1) + second.encode())
     yield Outcome("a whole product in the next part", came, wanted)
@@ -157,6 +164,7 @@ GROUPS = [
     Group("the records of a message", records),
     Group("the bytes of a message", size),
     Group("the records of a product", one_product),
+    Group("the identifiers of a product", many_identifiers),
     Group("the bytes of a product", large_product),
     Group("a whole product in the next part", a_whole_product_in_the_next_part),
 ]

@@ -15,7 +15,8 @@ FIELD_BYTES = 1_024
 
 PRICE = "<Price><PriceQualifier>{}</PriceQualifier><PriceAmount>1</PriceAmount></Price>\n"
 
-COUNTRIES = ["".join(letters) for letters in product(ascii_uppercase, repeat=2)]
+# Two letters each, but those that are read as another country.
+COUNTRIES = [code for code in map("".join, product(ascii_uppercase, repeat=2)) if code not in ("EL", "UK")]
 
 
 def feed_of(place: str, xml: str) -> bytes:
@@ -55,6 +56,23 @@ def bounded(room: Room) -> Iterator[Outcome]:
     lines = notes_on("a.xml", LINES, "05") + notes_on("b.xml", LINES, "05") + notes_on("c.xml", LINES, "07")
     found = came.status, came.errors.decode().splitlines()
     yield Outcome("files of many notes", found, (0, said(lines + summary).decode().splitlines()))
+
+
+def products_besides(room: Room) -> Iterator[Outcome]:
+    """Lines on products that are left out or emptied have a bound of their own, behind a thousand others too."""
+    frame = FRAMES["prices"]
+    others = PRICE.format("05") * (LINES + 200)
+    wrong = "<Product><RecordReference>W{}</RecordReference></Product>\n"
+    products = "".join(wrong.format(number) for number in range(LINES + 2))
+    text = f"{frame.before}\n{others}{frame.behind}".replace("</ONIXMessage>", f"\n{products}</ONIXMessage>")
+    room.write(FEED, text.encode())
+    came = convert(room, "--wrong", "all", FEED)
+    lines = came.errors.decode().splitlines()
+    found = [sum(what in line for line in lines) for what in (": Price left out: ", ": Product emptied: ")]
+    # The summary has a line of each too.
+    yield Outcome("lines on products besides others", (came.status, found), (1, [LINES + 1] * 2))
+    count = f"onixdesk: {2 * LINES + 202} notes, {LINES + 2} products wrong"
+    yield Outcome("lines on products besides others, counted", lines[-1], count)
 
 
 def refused(room: Room) -> Iterator[Outcome]:
@@ -114,8 +132,9 @@ def unions(room: Room) -> Iterator[Outcome]:
 
     room.write(FEED, markets_of(COUNTRIES[:200], COUNTRIES[100 : most + 1]))
     came = convert(room, FEED)
-    found = came.status, came.output, refused_lines(came)
-    yield Outcome(f"Markets of {most + 1} countries", found, (1, b"", [(FEED, 1)]))
+    records = FRAMES["product"].records + "EndMessage,2\n"
+    found = came.status, came.output.decode(), came.errors.decode().splitlines()[-1]
+    yield Outcome(f"Markets of {most + 1} countries", found, (0, records, "onixdesk: 2 notes"))
 
 
 def long_prices(room: Room) -> Iterator[Outcome]:
@@ -127,11 +146,13 @@ def long_prices(room: Room) -> Iterator[Outcome]:
     at = FRAMES["price"].before.index("<Price>") + 1
     first, *_, last = came.errors.decode().splitlines()
     found = came.status, came.output, first.startswith(f"onixdesk: {FEED}:1:{at}: R1: Price left out: "), last
-    yield Outcome("a Price with a long field", found, (0, message_of("price"), True, "onixdesk: 1 note"))
+    last_line = "onixdesk: 1 note, 1 product wrong"
+    yield Outcome("a Price with a long field", found, (1, message_of("price"), True, last_line))
 
 
 GROUPS = [
     Group("many notes", bounded),
+    Group("notes on products besides others", products_besides),
     Group("notes on a refused file", refused),
     Group("long lists of regions", regions),
     Group("unions of many countries", unions),

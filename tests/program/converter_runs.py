@@ -1,21 +1,20 @@
-"""What the words, files and statuses of a converter are to be, and the encodings of the second opinion."""
+"""What the words, files and statuses of `onixdesk convert` are to be."""
 
-import codecs
 import io
 import zipfile
-from collections.abc import Iterator
 from typing import NamedTuple
 
 from tests.program.conversions import FRAMES, said
-from tests.program.converter import FEED, second_opinion
-from tests.program.room import Group, Ran, Room
-from tests.running import Outcome
+from tests.program.converter import FEED
+from tests.program.room import Ran
 
 FRAME = FRAMES["products"]
 
+ISBN = "9781234567897"
+
 PRODUCT = (
     "<Product><RecordReference>{}</RecordReference><NotificationType>03</NotificationType>"
-    "<ProductIdentifier><ProductIDType>15</ProductIDType><IDValue>9</IDValue></ProductIdentifier></Product>"
+    f"<ProductIdentifier><ProductIDType>15</ProductIDType><IDValue>{ISBN}</IDValue></ProductIdentifier></Product>"
 )
 
 
@@ -26,19 +25,19 @@ def feed_of(*references: str) -> bytes:
 
 def message_of(*references: str, number: int = 1) -> bytes:
     """The records that such a feed gives."""
-    products = "".join(f"Product,{reference},03,15,9\n" for reference in references)
+    products = "".join(f"Product,{reference},03,15,{ISBN}\n" for reference in references)
     opening = FRAME.records.replace(",1,", f",{number},")
     return f"{opening}{products}EndMessage,{len(references) + 1}\n".encode()
 
 
 ONE, TWO = feed_of("R1"), feed_of("R1", "R2")
 
-# A feed that is refused at its second line, and what is said of it.
-BAD = feed_of("")
-BAD_SAID = (
-    "2:1: refused: no RecordReference: no RecordReference; the sender has to mend it, or --leave-out-wrong"
-    " leaves the product out"
-)
+# A feed that is refused at its Header, and what is said of it.
+BAD = ONE.replace(b"<MessageNumber>1</MessageNumber>", b"")
+BAD_SAID = "1:28: refused: no MessageNumber; --number N gives one"
+
+# A feed of two products, of which the first is left out.
+WRONG = feed_of("", "R2")
 
 
 def zipped(entries: dict[str, bytes], method: int = zipfile.ZIP_DEFLATED) -> bytes:
@@ -134,8 +133,8 @@ CASES = [
     ),
     Case(
         "a wrong product left out",
-        {FEED: feed_of("", "R2")},
-        ["--leave-out-wrong", FEED],
+        {FEED: WRONG},
+        ["--wrong", "few", FEED],
         Ran(
             1,
             message_of("R2"),
@@ -143,7 +142,7 @@ CASES = [
                 [
                     f"{FEED}:2:1: no RecordReference: Product left out: no RecordReference",
                     "Product left out: no RecordReference: 1",
-                    "1 note",
+                    "1 note, 1 product wrong",
                 ]
             ),
         ),
@@ -197,33 +196,6 @@ def encoded(declared: str, codec: str, mark: bytes = b"", between: str = "", sen
     return mark + f'<?xml version="1.0" encoding="{declared}"?>{between}{text}'.encode(codec)
 
 
-ENCODINGS = [
-    *(encoded(name, "utf-8") for name in ("utf-8", "UTF-8", "utf8", "UTF8", "Utf8")),
-    encoded("utf8", "utf-8", codecs.BOM_UTF8),
-    encoded("UTF8", "utf-8", between='<!DOCTYPE ONIXMessage SYSTEM "onix.dtd">'),
-    encoded("utf8", "utf-8", codecs.BOM_UTF8, "<!DOCTYPE ONIXMessage [<!ENTITY e 'e'>]>"),
-    encoded('utf8" standalone="yes', "utf-8"),
-    encoded("UTF-16", "utf-16-le", codecs.BOM_UTF16_LE),
-    encoded("UTF-16", "utf-16-be", codecs.BOM_UTF16_BE),
-    encoded("windows-1250", "cp1250"),
-    encoded("ISO-8859-2", "iso8859-2"),
-]
-LATIN = [
-    encoded("ISO-8859-1", "latin-1", sender="é"),
-    encoded("windows-1252", "cp1252", sender="é"),
-    encoded("ISO-8859-15", "iso8859-15", sender="é"),
-    encoded("US-ASCII", "ascii", sender="&#233;"),
-    encoded("ascii", "ascii", sender="&eacute;"),
-]
-
-
-def encodings(room: Room) -> Iterator[Outcome]:
-    for sender, feeds in [(SENDER, ENCODINGS), ("é", LATIN)]:
-        wanted = Ran(0, message_of("R1").replace(b",S,", f",{sender},".encode()))
-        for feed in feeds:
-            yield Outcome(f"second opinion: encoding {feed[:50]!r}", second_opinion(room, given=feed), wanted)
-
-
 BAD_WORDS = [
     ["--unknown"],
     ["--part", "2"],
@@ -235,6 +207,11 @@ BAD_WORDS = [
     ["--number", "0"],
     ["--number", "0000000001"],
     ["--number", "٧"],
+    ["--wrong"],
+    ["--wrong", ""],
+    ["--wrong", "some"],
+    ["--wrong", "All"],
+    ["--leave-out-wrong"],
     ["--id-type", "6"],
     ["--id-type", "GL"],
     ["--addressee", "06"],
@@ -244,6 +221,3 @@ BAD_WORDS = [
     ["a.xml", "b.xml"],
     ["-o", ".", "--number", "1", "a.xml", "b.xml"],
 ]
-
-
-GROUPS = [Group("second opinion: encodings", encodings)]

@@ -190,11 +190,10 @@ def refused(room: Room) -> Iterator[Outcome]:
     for name, words, line in [
         ("a missing file", ["missing.db", "copy"], "missing.db: there is no such file"),
         ("a folder", [".", "copy"], ".: it is no regular file"),
-        ("no place", [DATABASE, "none/copy"], "none: No such file or directory"),
+        ("no place", [DATABASE, "none/copy"], "none: there is no such folder"),
     ]:
         came = copy(room, *words)
-        shown = re.sub(rb"none/\.desk-copy-\w+", b"none", came.errors)
-        yield Outcome(name, (came.status, came.output, shown), (3, b"", f"desk-copy: {line}\n".encode()))
+        yield Outcome(name, (came.status, came.output, came.errors), (3, b"", f"desk-copy: {line}\n".encode()))
     os.symlink(DATABASE, room.path("link.db"))
     came = copy(room, "link.db", "copy")
     yield Outcome("a link", came, Ran(3, b"", b"desk-copy: link.db: it is no regular file\n"))

@@ -149,6 +149,13 @@ def script_of_http(room: Room) -> Iterator[Outcome]:
     yield Outcome("http.sh: its replies", script(room, "http.sh", str(free_port())), Ran(0))
 
 
+def gaps_without_words(room: Room) -> Iterator[Outcome]:
+    wanted = Ran(2, b"", b"gaps.sh: gaps.sh DESK SERIES..\n")
+    some: list[list[str]] = [[], ["http://127.0.0.1:1"]]
+    for words in some:
+        yield Outcome(f"gaps.sh: {len(words)} words", gaps_script(room, *words), wanted)
+
+
 def gaps_by_night(room: Room) -> Iterator[Outcome]:
     """The script over a database file, and at the socket of a desk that is open: numbers that lack, then
     none, then series and files that are not there."""
@@ -177,4 +184,5 @@ GROUPS = [
     Group("the week of a shop", week),
     Group("a desk in a file", desk_in_a_file),
     Group("gaps by night", gaps_by_night),
+    Group("gaps without words", gaps_without_words),
 ]

@@ -12,6 +12,7 @@ from tests.program.feed_trees import (
     Price,
     PriceDate,
     Product,
+    Stranger,
     Supply,
     Territory,
 )
@@ -33,14 +34,21 @@ LONG = "é" * 513
 
 BAD_CODES = ["3", "003", "RRP", "0x", "٠٣"]
 BAD_COUNTRIES = ["gb", "GBR", "GB,IE", "GB UK1", "G B", "ÄÖ", " ".join(["GB"] * 400)]
-BAD_DAYS = ["20250230", "20251301", "00000101", "2025010", "2025-01-01", "202501011"]
+BAD_DAYS = ["20250230", "20251301", "00000101", "2025010", "2025-0101", "202501-01", "202501011", "20250101 T1"]
+BAD_MONTHS = ["202513", "202500", "000001", "2025", "2025-1", "2025-01-01", "20250101"]
+BAD_YEARS = ["0000", "25", "20255", "2025T"]
 BAD_NUMBERS = ["", "0", "000", "1234567890", "0000000001", "12a", "+1", "1.0", "999999999"]
+
+# What a price can be made odd by.
+ODD_PRICES = ["text", "condition", "constraint", "coded", "licence", "old", "default", "zero"]
 
 # What a price can be changed to so that it is left out, by element.
 BAD_TEXTS = {
-    "amount": ["12,99", ".99", "12.", "1234567890", "-1", "1 000", "12.9900", ".12345", "1e3", "9" + CONTROL],
+    "amount": [
+        *("12,99", ".99", "12.", "1234567890", "-1", "1 000", "12.9910", ".12345", "1e3", "9" + CONTROL),
+    ],
     "currency": ["gbp", "EURO", "€", "GB"],
-    "quantity": ["0", "000000", "1234567", "1.5", "-1", "7" * 1025],
+    "quantity": ["1234567", "1.5", "-1", "7" * 1025],
     "price_type": BAD_CODES,
     "qualifier": ["05", "6"],
     "per": ["01", "x"],
@@ -48,10 +56,44 @@ BAD_TEXTS = {
 }
 
 
-# Elements of a price that are only counted.
-PASSED_OVER = ["PriceStatus", "EpubTechnicalProtection", "EpubLicense"]
+# Elements of a price that are not looked at.
+PASSED_OVER = ["PriceStatus", "EpubTechnicalProtection"]
+
+# Elements of a price that ONIX 2.1 had.
+OLD = {"PriceTypeCode": "02", "PriceEffectiveFrom": "20250101", "PriceEffectiveUntil": "20251231", "CountryCode": "GB"}
 
 WRONG_DETAILS = ["supplier", "role", "name", "identifier", "availability", "unpriced", "price"]
+
+# What may stand between the digits of an ISBN.
+SEPARATORS = "- \u00ad\u2010\u2011\u2012\u2013\u2014\u2015\u2212\u00a0\u2009\u202f"
+
+# Strangers of a Header, and of what a product may have.
+OF_HEADER = [
+    Stranger("ONIXMessage", "Header"),
+    Stranger("ONIXMessage", "Product"),
+    Stranger("Header", "Sender"),
+    Stranger("Header", "DefaultCurrencyCode"),
+]
+OF_DELETION = [Stranger("Product", "ProductIdentifier")]
+OF_PRODUCT = [
+    *OF_DELETION,
+    Stranger("Product", "RecordReference"),
+    Stranger("Product", "NotificationType"),
+    Stranger("Product", "ProductSupply"),
+]
+OF_IDENTIFIER = [Stranger("ProductIdentifier", "IDValue"), Stranger("ProductIdentifier", "ProductIDType")]
+OF_SUPPLY = [Stranger("ProductSupply", "Market"), Stranger("ProductSupply", "SupplyDetail")]
+OF_DETAIL = [
+    Stranger("SupplyDetail", "Price"),
+    Stranger("SupplyDetail", "OrderQuantityMinimum"),
+    Stranger("SupplyDetail", "UnpricedItemType"),
+]
+OF_PRICE = [
+    Stranger("Price", "PriceAmount"),
+    Stranger("Price", "PriceDate"),
+    Stranger("Price", "EpubLicense"),
+    Stranger("Price", "CountryCode"),
+]
 
 
 Made = TypeVar("Made")
@@ -101,10 +143,25 @@ class Maker:
             return Identifier(self.bad_code(), right.value)
         return Identifier(right.id_type if kind == "value" else "", self.bad_text())
 
+    def product_identifier(self) -> Identifier:
+        return self.identifier() if self.is_one_of(3) else self.article()
+
+    def article(self) -> Identifier:
+        """One by thirteen digits, or a few more or less, with what may stand between them."""
+        count = self.random.choice([12, 14]) if self.is_one_of(6) else 13
+        digits = self.random.choices("0123456789", k=count)
+        if self.is_one_of(2):
+            for place in sorted(self.random.sample(range(1, count), self.random.randint(1, 5)), reverse=True):
+                digits.insert(place, self.random.choice(SEPARATORS))
+        return Identifier(self.random.choice(["03", "15", "15", "01"]), "".join(digits))
+
     # Territories.
 
     def countries(self, most: int = 3) -> str:
-        return " ".join(self.random.sample(COUNTRIES, self.random.randint(1, most)))
+        countries = self.random.sample(COUNTRIES, self.random.randint(1, most))
+        if self.is_one_of(20):
+            countries.insert(self.random.randint(0, 1), self.random.choice(["UK", "EL"]))
+        return " ".join(countries)
 
     def territory(self) -> Territory:
         """One that the desk can hold."""
@@ -134,7 +191,7 @@ class Maker:
         if kind == "no part":
             parts = self.random.choices(PARTS, k=self.random.randint(0, 2))
             territory.excluded_regions = " ".join([*parts[:1], self.random.choice(NO_PARTS), *parts[1:]])
-        if kind == "countries" and self.is_one_of(3):
+        if kind == "countries" and self.is_one_of(2):
             bad = self.random.choice(BAD_COUNTRIES)
             if self.is_one_of(2):
                 territory.included = bad
@@ -154,9 +211,23 @@ class Maker:
     # Prices.
 
     def price_date(self) -> PriceDate:
-        role = self.random.choice(["14", "15", "24", "24", "13", ""])
-        text = self.day() + (self.day() if role == "24" else "")
-        return self.formatted(PriceDate(role, text), "06" if role == "24" else "00")
+        role = self.random.choice(["14", "14", "15", "15", "24", "24", "13", ""])
+        if role == "24":
+            return self.formatted(PriceDate(role, self.day() + self.day()), "06")
+        text, date_format = self.day_month_or_year()
+        return self.formatted(PriceDate(role, text), date_format)
+
+    def day_month_or_year(self) -> tuple[str, str]:
+        """A text and its format."""
+        day = self.day()
+        date_format = self.random.choice(["00", "00", "00", "13", "14", "01", "05"])
+        hyphen = self.random.choice(["", "-"])
+        if date_format == "05":
+            return day[:4], date_format
+        if date_format == "01":
+            return hyphen.join([day[:4], day[4:6]]), date_format
+        time = self.random.choice(["", "T0900", "T09:00:30Z", "T"]) if self.is_one_of(2) else ""
+        return hyphen.join([day[:4], day[4:6], day[6:]]) + time, date_format
 
     def formatted(self, date: PriceDate, date_format: str) -> PriceDate:
         """The format as an attribute or an element, which an attribute goes before."""
@@ -171,29 +242,35 @@ class Maker:
 
     def bad_date(self) -> PriceDate:
         role = self.random.choice(["14", "15", "24"])
-        good = self.day() + (self.day() if role == "24" else "")
-        kind = self.random.choice(["format", "day", "none", "length"])
+        kind = self.random.choice(["format", "day", "day", "none"])
         if kind == "format":
-            return self.formatted(PriceDate(role, "202503"), self.random.choice(["01", "05", "13", "6"]))
+            other = ["02", "03", "6", "20", "1", "13"] if role == "24" else ["02", "03", "6", "20", "06"]
+            return self.formatted(PriceDate(role, self.day()), self.random.choice(other))
         if kind == "none":
             return PriceDate(role, "")
-        if kind == "length" and role == "24":
-            return self.formatted(PriceDate(role, self.random.choice([good[:8], good + "1"])), "06")
-        bad = self.random.choice(BAD_DAYS)
-        if role != "24":
-            return self.formatted(PriceDate(role, bad), "00")
-        days = [bad[:8].ljust(8, "0"), good[:8]]
+        if role == "24":
+            return self.formatted(PriceDate(role, self.bad_days()), "06")
+        bad = [("00", BAD_DAYS), ("13", BAD_DAYS), ("01", BAD_MONTHS), ("05", BAD_YEARS)]
+        date_format, texts = self.random.choice(bad)
+        return self.formatted(PriceDate(role, self.random.choice(texts)), date_format)
+
+    def bad_days(self) -> str:
+        """What is not two days."""
+        good = self.day() + self.day()
+        if self.is_one_of(2):
+            return self.random.choice([good[:8], good + "1"])
+        days = [self.random.choice(BAD_DAYS)[:8].ljust(8, "0"), good[:8]]
         self.random.shuffle(days)
-        return self.formatted(PriceDate(role, "".join(days)), "06")
+        return "".join(days)
 
     def price(self, message: Message) -> Price:
         has_amount = not self.is_one_of(6)
-        amount = f"{self.random.randrange(1000)}" + self.random.choice(["", ".5", ".99", ".125"])
+        amount = f"{self.random.randrange(1, 1000)}" + self.random.choice(["", ".5", ".99", ".125", ".5000", ".12500000"])
         price = Price(
             self.code() if not message.price_type else self.maybe("02"),
             amount if has_amount else "",
             "EUR" if not message.currency else self.maybe("GBP"),
-            self.maybe(str(self.random.randint(1, 999_999))),
+            self.quantity(),
             self.any_territory() if self.is_one_of(3) else None,
             self.some(self.price_date, 2),
             "" if has_amount else self.maybe(self.code()),
@@ -208,24 +285,35 @@ class Maker:
             self.make_odd(price)
         return price
 
+    def quantity(self) -> str:
+        return self.random.choice(["", "", "", str(self.random.randint(1, 999_999)), "0", "0000000", "010"])
+
     def usual(self) -> str:
         return "00" if self.is_one_of(5) else ""
 
     def make_odd(self, price: Price) -> None:
         """Makes it one that is left out, for one reason or, now and then, several."""
         for _ in range(2 if self.is_one_of(6) else 1):
-            kind = self.random.choice(["text", "text", "date", "condition", "constraint", "coded", "default"])
+            kind = self.random.choice([*ODD_PRICES, "text", "date"])
             if kind == "text" and price.amount:
                 name = self.random.choice(list(BAD_TEXTS))
                 setattr(price, name, self.random.choice(BAD_TEXTS[name]))
             if kind == "date":
-                price.dates.insert(self.random.randint(0, len(price.dates)), self.bad_date())
+                # Before others, so that its days are those that count.
+                price.dates.insert(0, self.bad_date())
             if kind == "condition":
                 price.conditions.append(self.random.choice(["10", ""]))
             if kind == "constraint":
                 price.constraints.append(self.random.choice(["06", ""]))
             if kind == "coded":
                 price.is_coded = True
+            if kind == "zero":
+                price.amount = self.random.choice(["0", "0.00", "000.0000"])
+            if kind == "licence":
+                price.is_licensed = True
+            if kind == "old":
+                name = self.random.choice(list(OLD))
+                price.old[name] = OLD[name]
             if kind == "default":
                 price.price_type = price.currency = ""
 
@@ -240,8 +328,9 @@ class Maker:
             self.code(),
             self.maybe(self.code()),
             self.some(lambda: self.price(message), 4),
+            self.random.choice(["", "", "", "5", "0012", "0", "1234567", "two"]),
         )
-        if self.is_one_of(40):
+        if self.is_one_of(20):
             self.make_wrong(detail)
         return detail
 
@@ -290,7 +379,7 @@ class Maker:
 
     def supply(self, message: Message) -> Supply:
         markets = [] if self.is_one_of(4) else self.markets()
-        if self.is_one_of(200):
+        if self.is_one_of(60):
             markets = [Market(Territory(countries)) for countries in self.many_countries()]
         details = [] if self.is_one_of(20) else self.some(lambda: self.detail(message), 2, least=1)
         return Supply(markets, details)
@@ -308,12 +397,24 @@ class Maker:
         product = Product(
             self.random.choice([f"R{self.random.randrange(20)}", "R,1", 'R"é"', "R Ж"]),
             self.random.choice(["01", "02", "03", "03", "04", "04", "05", "05", "88"]),
-            self.some(self.identifier, 3, least=1),
+            self.some(self.product_identifier, 3, least=1),
             self.some(lambda: self.supply(message), 2),
         )
-        if self.is_one_of(30) or product.notification == "05" and self.is_one_of(2):
+        if self.is_one_of(15) or product.notification == "05" and self.is_one_of(2):
             self.make_odd_product(product)
+        if self.is_one_of(30):
+            product.stranger = self.random.choice(self.strangers_of(product))
         return product
+
+    def strangers_of(self, product: Product) -> list[Stranger]:
+        """Those that may stand in what the product has."""
+        found = [*(OF_DELETION if product.notification == "05" else OF_PRODUCT)]
+        details = [detail for supply in product.supplies for detail in supply.details]
+        found += OF_IDENTIFIER * any(each.id_type or each.value for each in product.identifiers)
+        found += OF_SUPPLY * any(product.supplies)
+        found += OF_DETAIL * any(details)
+        found += OF_PRICE * any(detail.prices for detail in details)
+        return found
 
     def make_odd_product(self, product: Product) -> None:
         kind = self.random.choice(["reference", "type", "none", "identifier", "identifier"])
@@ -342,6 +443,10 @@ class Maker:
         message.products = self.some(lambda: self.product(message), 4)
         if self.is_one_of(25):
             self.make_bad(message)
+        if self.is_one_of(60):
+            message.stranger = self.random.choice(OF_HEADER)
+        if self.is_one_of(80):
+            message.has_two_headers = True
         return message
 
     def make_bad(self, message: Message) -> None:

@@ -7,7 +7,7 @@ from typing import NamedTuple
 from tests.program.feed_oracle import Note
 from tests.program.feed_writing import Place
 
-# So many lines of notes a file has at most.
+# So many lines of notes a file has at most, and besides so many of products that are left out or emptied.
 MOST_LINES = 1000
 
 
@@ -60,8 +60,14 @@ class Compared(NamedTuple):
     surplus: list[Said]
 
 
+def lines_of(notes: list[Note]) -> int:
+    """How many lines there are to be on them."""
+    of_products = sum(note.is_of_product for note in notes)
+    return min(of_products, MOST_LINES) + min(len(notes) - of_products, MOST_LINES)
+
+
 def compared(wanted: list[Note], starts: dict[object, Place], said: Iterable[Said]) -> Compared:
-    """Each line is one note, whatever their order."""
+    """Each line is one note, whatever their order. Of more notes than there are lines some may be missing."""
     missing = [(starts[note.about], note) for note in wanted]
     surplus = []
     for line in said:
@@ -71,11 +77,14 @@ def compared(wanted: list[Note], starts: dict[object, Place], said: Iterable[Sai
                 break
         else:
             surplus.append(line)
+    if len(wanted) - len(missing) == lines_of(wanted) < len(wanted):
+        missing = [(place, note) for place, note in missing if note.is_of_product]
     return Compared(missing, surplus)
 
 
 class Summary(NamedTuple):
-    """How often each reason was given, and the last line, which counts all notes, where there are some."""
+    """How often each reason was given, and the last line, which counts all notes and wrong products, where there are
+    some."""
 
     reasons: dict[str, int]
     last: str
@@ -83,16 +92,21 @@ class Summary(NamedTuple):
 
 def read_summary(lines: list[str]) -> Summary:
     reasons: dict[str, int] = {}
-    has_count = lines and re.fullmatch("[0-9]+ notes?", lines[-1])
+    has_count = lines and re.fullmatch("[0-9]+ notes?(, [0-9]+ products? wrong)?", lines[-1])
     for line in lines[:-1] if has_count else lines:
         reason, _, count = line.rpartition(": ")
         reasons[reason] = int(count)
     return Summary(reasons, lines[-1] if has_count else "")
 
 
-def count_line(notes: int) -> str:
-    """The line that counts all notes."""
-    return f"{notes} notes" if notes > 1 else "1 note" if notes else ""
+def counted(count: int, thing: str) -> str:
+    return f"{count} {thing}" if count == 1 else f"{count} {thing}s"
+
+
+def count_line(notes: int, wrong_products: int = 0) -> str:
+    """The line that counts all notes, and products that are wrong."""
+    wrong = f", {counted(wrong_products, 'product')} wrong" if wrong_products else ""
+    return counted(notes, "note") + wrong if notes else ""
 
 
 def miscounted(notes: list[Note], reasons: dict[str, int]) -> list[str]:

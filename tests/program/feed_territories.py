@@ -12,6 +12,9 @@ LETTERS = "ABCDEFGHIJKLMNOPQRSTUVWXYZ"
 EVERY_COUNTRY = {first + second for first in LETTERS for second in LETTERS}
 ELSEWHERE = "elsewhere"
 
+# Countries that are read as others.
+READ_AS = {"UK": "GB", "EL": "GR"}
+
 
 def regions_of(text: str) -> list[str]:
     return text.split(" ") if text else []
@@ -36,12 +39,22 @@ def regions_left_out(territory: Territory) -> list[str]:
     return included + regions_of(territory.excluded_regions)
 
 
+def read_as_others(territory: Territory) -> list[str]:
+    """The countries of a territory that are read as others, as often as they stand."""
+    countries = f"{territory.included} {territory.excluded}".split(" ")
+    return [country for country in countries if country in READ_AS]
+
+
+def countries_of(text: str) -> str:
+    return " ".join(READ_AS.get(country, country) for country in text.split(" "))
+
+
 def territory_fields(territory: Territory | None) -> list[str]:
-    """A territory as it stands."""
+    """A territory as it stands, but for countries that are read as others."""
     if territory is None:
         return ["", "", ""]
     world = WORLD if WORLD in regions_of(territory.regions) else ""
-    return [territory.included, world, territory.excluded]
+    return [countries_of(territory.included), world, countries_of(territory.excluded)]
 
 
 def are_taken(fields: list[str]) -> bool:

@@ -4,6 +4,7 @@ Composites are equal only to themselves, so that a note can name the one that it
 """
 
 from dataclasses import dataclass, field
+from typing import NamedTuple
 
 
 @dataclass(eq=False)
@@ -22,7 +23,8 @@ class Territory:
 
 @dataclass(eq=False)
 class Market:
-    """`territory` is None where there is none; `is_restricted` where there is a SalesRestriction."""
+    """`territory` is None where there is none; `is_restricted` where there is a SalesRestriction, which is not looked
+    at."""
 
     territory: Territory | None
     is_restricted: bool = False
@@ -41,7 +43,8 @@ class PriceDate:
 @dataclass(eq=False)
 class Price:
     """A price. `conditions` and `constraints` have the type of each PriceCondition and PriceConstraint,
-    which may be empty; `passed_over` names elements that are not looked at."""
+    which may be empty; `old` has the texts of elements of ONIX 2.1 by their names; `passed_over` names elements that
+    are not looked at."""
 
     price_type: str
     amount: str
@@ -55,13 +58,15 @@ class Price:
     conditions: list[str] = field(default_factory=list)
     constraints: list[str] = field(default_factory=list)
     is_coded: bool = False
+    is_licensed: bool = False
     zone: str = ""
+    old: dict[str, str] = field(default_factory=dict)
     passed_over: list[str] = field(default_factory=list)
 
 
 @dataclass(eq=False)
 class Detail:
-    """A SupplyDetail. `identifiers` is None where it has no Supplier."""
+    """A SupplyDetail. `identifiers` is None where it has no Supplier; `minimum` is its OrderQuantityMinimum."""
 
     role: str
     identifiers: list[Identifier] | None
@@ -69,6 +74,15 @@ class Detail:
     availability: str
     unpriced: str
     prices: list[Price]
+    minimum: str = ""
+
+
+class Stranger(NamedTuple):
+    """An element of another namespace than the root's, in the first composite of that name, which has the name of one
+    that counts there."""
+
+    within: str
+    name: str
 
 
 @dataclass(eq=False)
@@ -83,12 +97,13 @@ class Product:
     notification: str
     identifiers: list[Identifier]
     supplies: list[Supply] = field(default_factory=list)
+    stranger: Stranger | None = None
 
 
 @dataclass(eq=False)
 class Message:
     """A message. `sender` is None where it has no Sender; `is_header_first` is false where its Header
-    stands behind its products."""
+    stands behind its products, and `has_two_headers` true where there is one there too."""
 
     sender: list[Identifier] | None
     addressees: list[list[Identifier]]
@@ -99,6 +114,8 @@ class Message:
     currency: str
     products: list[Product] = field(default_factory=list)
     is_header_first: bool = True
+    has_two_headers: bool = False
+    stranger: Stranger | None = None
 
 
 @dataclass(frozen=True)
@@ -111,7 +128,7 @@ class Words:
     sender: tuple[str, str] | None = None
     addressee: tuple[str, str] | None = None
     id_type: str = ""
-    leaves_out_wrong: bool = False
+    wrong: str = ""
 
     def line(self) -> list[str]:
         valued = {
@@ -121,6 +138,6 @@ class Words:
             "--sender": ",".join(self.sender or ()),
             "--addressee": ",".join(self.addressee or ()),
             "--id-type": self.id_type,
+            "--wrong": self.wrong,
         }
-        words = [word for name, value in valued.items() if value for word in (name, value)]
-        return words + ["--leave-out-wrong"] * self.leaves_out_wrong
+        return [word for name, value in valued.items() if value for word in (name, value)]

@@ -1,5 +1,6 @@
 """Trees of messages written as XML, in as many ways as XML has for the same."""
 
+import codecs
 from bisect import bisect_right
 from collections.abc import Callable, Iterable
 from html.entities import codepoint2name
@@ -9,6 +10,7 @@ from typing import NamedTuple, TypeVar
 from xml.sax.saxutils import escape, quoteattr
 
 from tests.program.conversions import SHORT_TAGS
+from tests.program.feed_names import Names
 from tests.program.feed_trees import (
     Detail,
     Identifier,
@@ -17,10 +19,12 @@ from tests.program.feed_trees import (
     Price,
     PriceDate,
     Product,
+    Stranger,
     Supply,
     Territory,
 )
 
+# What stands for a namespace of ONIX: reference names and short tags have one each.
 NAMESPACES = {False: "http://ns.editeur.org/onix/3.0/reference", True: "http://ns.editeur.org/onix/3.0/short"}
 
 # Elements that say something of a product and are passed over, with their short tags.
@@ -30,15 +34,33 @@ PASSED_OVER_TAGS = {
     "SalesRestrictionType": "b381",
     "PriceStatus": "j266",
     "EpubTechnicalProtection": "x317",
-    "EpubLicense": "epublicense",
     "EpubLicenseName": "x511",
 }
 
 TAGS = SHORT_TAGS | PASSED_OVER_TAGS
 
+
+class Encoding(NamedTuple):
+    """What a feed declares, nothing where that is empty, its codec, and the mark before it."""
+
+    declared: str
+    codec: str
+    mark: bytes = b""
+
+
 ENCODINGS = [
-    *("UTF-8", "utf-8", "UTF8", "utf8", "UTF-16"),
-    *("ISO-8859-1", "windows-1252", "US-ASCII", ""),
+    *(Encoding(name, "utf-8") for name in ("", "UTF-8", "utf-8", "UTF8", "utf8", "utf_8")),
+    Encoding("UTF-8", "utf-8", codecs.BOM_UTF8),
+    *(Encoding("UTF-16", codec, mark) for codec, mark in
+      [("utf-16-le", codecs.BOM_UTF16_LE), ("utf-16-be", codecs.BOM_UTF16_BE)]),
+    # A mark outweighs the declaration, and a declared UTF-16 without one is UTF-8.
+    Encoding("ISO-8859-1", "utf-8", codecs.BOM_UTF8),
+    Encoding("UTF-8", "utf-16-le", codecs.BOM_UTF16_LE),
+    Encoding("UTF-16", "utf-8"),
+    *(Encoding(name, "latin-1") for name in ("ISO-8859-1", "iso8859_1", "latin1")),
+    *(Encoding(name, "iso8859-15") for name in ("ISO-8859-15", "iso_8859_15")),
+    *(Encoding(name, "cp1252") for name in ("windows-1252", "Windows1252", "cp1252")),
+    *(Encoding(name, "ascii") for name in ("US-ASCII", "us_ascii", "ascii")),
 ]
 
 SPACES = [" ", "\n", "\t", "  \n ", "\r\n", "\r"]
@@ -50,6 +72,33 @@ DECLARATIONS = [
     '%names; <!ENTITY eacute "not this">',
 ]
 
+
+# The elements that count below each composite.
+COUNTED = {
+    "ONIXMessage": "Header Product",
+    "Header": "Sender Addressee MessageNumber MessageRepeat SentDateTime DefaultPriceType DefaultCurrencyCode",
+    "Sender": "SenderIdentifier",
+    "SenderIdentifier": "SenderIDType IDValue",
+    "Addressee": "AddresseeIdentifier",
+    "AddresseeIdentifier": "AddresseeIDType IDValue",
+    "Product": "RecordReference NotificationType ProductIdentifier ProductSupply",
+    "ProductIdentifier": "ProductIDType IDValue",
+    "ProductSupply": "Market SupplyDetail",
+    "Market": "Territory",
+    "Territory": "CountriesIncluded RegionsIncluded CountriesExcluded RegionsExcluded",
+    "SupplyDetail": "OrderQuantityMinimum Supplier ProductAvailability UnpricedItemType Price",
+    "Supplier": "SupplierRole SupplierIdentifier SupplierName",
+    "SupplierIdentifier": "SupplierIDType IDValue",
+    "Price": "PriceType PriceQualifier PricePer PriceCondition PriceConstraint MinimumOrderQuantity PriceCoded"
+    " PriceAmount UnpricedItemType CurrencyCode CurrencyZone EpubLicense PriceTypeCode PriceEffectiveFrom"
+    " PriceEffectiveUntil CountryCode Territory PriceDate",
+    "PriceCondition": "PriceConditionType",
+    "PriceConstraint": "PriceConstraintType",
+    "PriceDate": "PriceDateRole DateFormat Date",
+}
+
+# Elements that count somewhere.
+COUNTING = ["Price", "Market", "IDValue", "RecordReference", "PriceAmount", "Territory", "EpubLicense", "Date"]
 
 # What writes a part of a feed.
 Write = Callable[[], object]
@@ -79,8 +128,10 @@ class Writer:
         self.random = random
         self.encoding = random.choice(ENCODINGS)
         self.is_short = random.random() < 0.5
-        self.prefix = random.choice(["", "", "o:"])
-        self.namespace = NAMESPACES[self.is_short] if self.prefix or random.random() < 0.5 else ""
+        self.names = Names(random, random.choice(["", "", NAMESPACES[self.is_short], NAMESPACES[self.is_short], "urn:own"]))
+        # The composites around what is written, the innermost last, and the stranger that one of them is to have.
+        self.around: list[str] = []
+        self.stranger: Stranger | None = None
         self.parts: list[str] = []
         self.length = 0
         self.starts: dict[object, int] = {}
@@ -95,12 +146,16 @@ class Writer:
 
     # Marks and texts.
 
+    def local(self, reference_name: str) -> str:
+        return TAGS[reference_name] if self.is_short else reference_name
+
     def name(self, reference_name: str) -> str:
-        return self.prefix + (TAGS[reference_name] if self.is_short else reference_name)
+        """In the namespace of the root, by a prefix that stands for it here."""
+        return self.names.prefixed(self.local(reference_name))
 
     def can_write(self, text: str) -> bool:
         try:
-            text.encode(self.encoding or "utf-8")
+            text.encode(self.encoding.codec)
         except UnicodeEncodeError:
             return False
         return True
@@ -133,19 +188,35 @@ class Writer:
 
     def passed_over(self) -> str:
         """An element that does not count: of no name that does, of the other kind of names, or of another
-        namespace; with one in it that would count elsewhere."""
-        counting = self.random.choice(["Price", "Market", "IDValue", "RecordReference", "PriceAmount"])
-        inner = f"<{self.name(counting)}>7</{self.name(counting)}>"
+        namespace and a name that counts elsewhere alone; with one in it that would count elsewhere."""
+        counted = COUNTED.get(self.around[-1], "").split()
+        counting = self.random.choice([name for name in COUNTING if name not in counted])
+        tag = self.name(counting)
+        inner = self.random.choice([f"<{tag}>7</{tag}>", self.in_another_namespace(counting)])
         outer = self.name(self.random.choice(["SenderName", "ONIXMessage"]))
-        other_kind = self.prefix + (counting if self.is_short else SHORT_TAGS[counting])
+        other_kind = self.names.prefixed(counting if self.is_short else SHORT_TAGS[counting])
         return self.random.choice(
             [
                 f"<{outer}>{inner}</{outer}>",
                 f"<Note a='&lt;'>{inner}</Note>",
                 f"<{other_kind}>7</{other_kind}>",
-                f"<z:{counting} xmlns:z='urn:z'>7</z:{counting}>",
+                self.in_another_namespace(counting),
             ]
         )
+
+    def in_another_namespace(self, reference_name: str) -> str:
+        """An element of that name in another namespace than the root."""
+        tag = self.local(reference_name)
+        ways = [f"<z:{tag} xmlns:z='urn:z'>7</z:{tag}>", f"<{tag} xmlns='urn:z'>7</{tag}>"]
+        if self.names.of_root:
+            ways += [f"<{tag} xmlns=''>7</{tag}>", f"<nobody:{tag}>7</nobody:{tag}>"]
+        return self.random.choice(ways)
+
+    def put_stranger(self) -> None:
+        """The stranger, where it is one of the composite that is written."""
+        if self.stranger and self.stranger.within == self.around[-1]:
+            self.append(self.in_another_namespace(self.stranger.name))
+            self.stranger = None
 
     def put(self, *pieces: str) -> None:
         for piece in pieces:
@@ -162,7 +233,9 @@ class Writer:
         if text and self.is_one_of(30):
             self.put(f"<{tag}/>")
         if text:
-            self.put(f"<{tag}{attributes}>{self.text(text)}</{tag}>")
+            with self.names.declared(self.local(name), 40) as (own, declarations):
+                written = f"<{own}{declarations}{attributes}>{self.text(text)}</{own}>"
+            self.put(written)
             if self.is_one_of(20):
                 self.put(f"<{tag}>7</{tag}>")
         elif self.is_one_of(8):
@@ -170,14 +243,25 @@ class Writer:
 
     def composite(self, name: str, *writes: Write, of: object = None) -> None:
         """A composite with what is written within it, `of` the one of the tree that it is."""
-        tag = self.name(name)
-        self.starts[of] = self.length
-        self.put(f"<{tag} datestamp='20250301'>" if self.is_one_of(9) else f"<{tag}>")
+        with self.names.declared(self.local(name), 15) as (tag, declarations):
+            self.around.append(name)
+            self.starts[of] = self.length
+            stamp = " datestamp='20250301'" if self.is_one_of(9) else ""
+            self.put(f"<{tag}{declarations}{stamp}>")
+            self.in_order_with_stranger(*writes)
+            self.append(f"</{tag}>")
+            self.around.pop()
+            self.ends[of] = self.length
+        self.put("")
+
+    def in_order_with_stranger(self, *writes: Write) -> None:
+        is_last = self.is_one_of(2)
+        if not is_last:
+            self.put_stranger()
         for write in writes:
             write()
-        self.append(f"</{tag}>")
-        self.ends[of] = self.length
-        self.put("")
+        if is_last:
+            self.put_stranger()
 
     def in_any_order(self, *writes: Write) -> None:
         order = [*writes]
@@ -223,10 +307,16 @@ class Writer:
 
         def passed_over() -> None:
             for name in price.passed_over:
-                if name == "EpubLicense":
-                    self.composite(name, lambda: self.element("EpubLicenseName", "x"))
-                else:
-                    self.put(f"<{self.name(name)}>02</{self.name(name)}>")
+                tag = self.name(name)
+                self.put(f"<{tag}>02</{tag}>")
+
+        def licence() -> None:
+            if price.is_licensed:
+                self.composite("EpubLicense", lambda: self.element("EpubLicenseName", "x"))
+
+        def old() -> None:
+            for name, text in price.old.items():
+                self.element(name, text)
 
         def below() -> None:
             self.in_any_order(
@@ -244,6 +334,8 @@ class Writer:
                 lambda: self.each(self.territory, [price.territory] if price.territory else []),
                 lambda: self.each(self.price_date, price.dates),
                 passed_over,
+                licence,
+                old,
             )
 
         self.composite("Price", below, of=price)
@@ -282,8 +374,10 @@ class Writer:
                 supplier,
                 lambda: self.element("ProductAvailability", detail.availability),
                 lambda: self.element("UnpricedItemType", detail.unpriced),
+                lambda: self.element("OrderQuantityMinimum", detail.minimum),
                 lambda: self.each(self.price, detail.prices),
             ),
+            of=detail,
         )
 
     def market(self, market: Market) -> None:
@@ -307,6 +401,7 @@ class Writer:
         )
 
     def product(self, product: Product) -> None:
+        waiting, self.stranger = self.stranger, product.stranger
         self.composite(
             "Product",
             lambda: self.in_any_order(
@@ -317,6 +412,8 @@ class Writer:
             ),
             of=product,
         )
+        assert self.stranger is None
+        self.stranger = waiting
 
     # The message.
 
@@ -345,7 +442,7 @@ class Writer:
         )
 
     def declarations(self, root: str) -> None:
-        encoding = f' encoding="{self.encoding}"' if self.encoding else ""
+        encoding = f' encoding="{self.encoding.declared}"' if self.encoding.declared else ""
         standalone = self.random.choice(["", "", ' standalone="yes"', " standalone='no'"])
         self.append(f'<?xml version="1.0"{encoding}{standalone}?>\n')
         if self.random.random() < 0.5:
@@ -353,20 +450,23 @@ class Writer:
             self.append(f"<!DOCTYPE {root}{address} [{self.random.choice(DECLARATIONS)}]>\n")
 
     def write(self, message: Message) -> Written:
-        root = self.name("ONIXMessage")
-        self.declarations(root)
-        declared = ":o" if self.prefix else ""
-        namespace = f' xmlns{declared}="{self.namespace}"' if self.namespace else ""
-        release = self.random.choice(["3.0", "3.1"])
-        self.append(f'<{root}{namespace} release="{release}">')
+        self.stranger = message.stranger
+        with self.names.of_a_root(self.local("ONIXMessage")) as (root, declarations):
+            self.declarations(root)
+            release = self.random.choice(["3.0", "3.1"])
+            self.append(f'<{root}{declarations} release="{release}">')
+            self.around.append("ONIXMessage")
+            self.in_order_with_stranger(lambda: self.below_root(message))
+            self.append(f"</{root}>\n")
+        return self.written()
+
+    def below_root(self, message: Message) -> None:
         if message.is_header_first:
             self.header(message)
         for product in message.products:
             self.product(product)
-        if not message.is_header_first:
+        if message.has_two_headers or not message.is_header_first:
             self.header(message)
-        self.append(f"</{root}>\n")
-        return self.written()
 
     def written(self) -> Written:
         text = "".join(self.parts)
@@ -378,4 +478,4 @@ class Writer:
 
         starts = {of: place(offset) for of, offset in self.starts.items()}
         ends = {of: place(offset) for of, offset in self.ends.items()}
-        return Written(text.encode(self.encoding or "utf-8"), starts, ends)
+        return Written(self.encoding.mark + text.encode(self.encoding.codec), starts, ends)

@@ -82,7 +82,7 @@ BOMBS = [
     Case(
         "nested entities of wrong products",
         lambda: typed(nested("<Product/><Product/>"), "&e11;"),
-        ["--leave-out-wrong"],
+        ["--wrong", "all"],
     ),
     Case(
         "nested entities of declarations",

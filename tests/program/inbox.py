@@ -8,8 +8,9 @@ import threading
 import time
 from collections.abc import Iterator
 from functools import partial
+from pathlib import Path
 
-from tests.program.converter_runs import feed_of, message_of
+from tests.program.converter_runs import BAD, feed_of, message_of
 from tests.program.databases import batch, execute
 from tests.program.inboxes import (
     AGREEMENT,
@@ -57,7 +58,7 @@ def each_kind_of_file(room: Room) -> Iterator[Outcome]:
             "e.csv: refused: no series of its sender and addressee is agreed",
             "f.Csv: refused: row 1 of its records is malformed",
             "j.csv: refused: its records are no UTF-8",
-            "k.onix: done: number 1 applied",
+            "k.onix: done: number 1 applied; kept as z.XML",
         ]
         yield Outcome("inbox: each kind of file", came, said(*lines, status=1))
         wanted = {
@@ -68,7 +69,6 @@ def each_kind_of_file(room: Room) -> Iterator[Outcome]:
             **taken("refused", "e.csv", stranger, '422 {"answer":"refused","reason":"unknown-series"}'),
             **taken("refused", "f.Csv", MALFORMED, ROW_1),
             **taken("refused", "j.csv", b"\xff", '400 {"answer":"refused","reason":"not-utf8"}'),
-            **taken("done", "k.onix", one, of_series(1, replaced=1)),
         }
         yield Outcome("inbox: what is kept", (inbox.kept(), inbox.lying()), (wanted, {}))
         lines = desk.wanted(["200", "202", "202", "200", "422", "422", "400", "200"])
@@ -83,13 +83,14 @@ def what_the_converter_takes(room: Room) -> Iterator[Outcome]:
     program = script(room, "converter", 'for word; do :; done; echo "$word $(cat "$word")" >>"$0.given"'
                      '; echo "onixdesk: $word:3:7: refused: $# words" >&2; exit 1')
     inbox = Inbox(room, 1, WORDS="--id-type 01 '--addressee' \"06,a b\"")
-    inbox.put({name: packed(name, b"x") for name in feeds})
+    inbox.put({name: packed(name, b"x%d" % place) for place, name in enumerate(feeds)})
     came = inbox.run("--converter", program)
     shown = [name.replace("\x07", "\\x07") for name in feeds]
     wanted = said(*(f"{name}: refused: 3:7: 7 words" for name in shown), status=1)
     yield Outcome("inbox: what the converter is given", came, wanted)
     given = room.path("converter.given").read_text().splitlines()
-    yield Outcome("inbox: the names that the converter is given", given, [f"{file} x" for file in feeds.values()])
+    yield Outcome("inbox: the names that the converter is given", given, 
+                  [f"{file} x{place}" for place, file in enumerate(feeds.values())])
     lines = {f"refused/{name}.answer": f"onixdesk: {name}:3:7: refused: 7 words\n".encode() for name in shown}
     kept = {name: data for name, data in inbox.kept().items() if name.endswith(".answer")}
     yield Outcome("inbox: the names that are kept", kept, lines)
@@ -97,15 +98,15 @@ def what_the_converter_takes(room: Room) -> Iterator[Outcome]:
 
 def a_feed_that_is_refused(room: Room) -> Iterator[Outcome]:
     inbox = Inbox(room, 1)
-    inbox.put({"d.onix": UNREAD_XML, "e.xml": feed_of("")})
+    inbox.put({"d.onix": UNREAD_XML, "e.xml": BAD})
     came = inbox.run()
     lines = came.errors.decode().splitlines()
     found = came.status, [line.split(": ")[1:4] for line in lines]
-    wanted = 1, [["d.onix", "refused", "1:1"], ["e.xml", "refused", "2:1"]]
+    wanted = 1, [["d.onix", "refused", "1:1"], ["e.xml", "refused", "1:28"]]
     yield Outcome("inbox: feeds that the converter refuses", found, wanted)
     kept = inbox.kept()
     found = [kept[f"refused/{name}.answer"].partition(b": refused: ")[0] for name in ("d.onix", "e.xml")]
-    yield Outcome("inbox: what is kept of them", found, [b"onixdesk: d.onix:1:1", b"onixdesk: e.xml:2:1"])
+    yield Outcome("inbox: what is kept of them", found, [b"onixdesk: d.onix:1:1", b"onixdesk: e.xml:1:28"])
 
 
 def names_that_come_again(room: Room) -> Iterator[Outcome]:
@@ -115,13 +116,18 @@ def names_that_come_again(room: Room) -> Iterator[Outcome]:
     refusal = "a.xml: refused: another message of number 1 was taken before"
     with serving(room, WORDS, 4) as desk:
         inbox = Inbox(room, desk.port)
-        for data, number in [(one, 1), (one, 1), (two, 2), (other, None)]:
+        for data, line in [
+            (one, "a.xml: done: number 1 applied"),
+            (one, "a.xml: done: number 1 applied"),
+            (two, "a.xml: done: number 2 applied; kept as a.2.xml"),
+            (other, refusal),
+        ]:
             inbox.put({"a.xml": data})
-            wanted = said(f"a.xml: done: number {number} applied") if number else said(refusal, status=1)
+            wanted = said(line, status=1 if line == refusal else 0)
             yield Outcome("inbox: a name that comes again", inbox.run(), wanted)
     kept = {
         **taken("done", "a.xml", one, of_series(1, replaced=1)),
-        **taken("done", "a.xml.2", two, of_series(2, replaced=1)),
+        **taken("done", "a.2.xml", two, of_series(2, replaced=1)),
         **taken("refused", "a.xml", other, OTHER.format(1)),
     }
     yield Outcome("inbox: names that come again", inbox.kept(), kept)
@@ -132,24 +138,56 @@ def words_of_the_converter(room: Room) -> Iterator[Outcome]:
     batch(room, AGREEMENT + message_of("R9", number=2))
     one, two = feed_of("R1", ""), numbered(["R2", ""], 2)
     with serving(room, WORDS, 4) as desk:
-        inbox = Inbox(room, desk.port, WORDS="--parts 2 --leave-out-wrong")
+        inbox = Inbox(room, desk.port, WORDS="--parts 2 --wrong all")
         inbox.put({"a.xml": one, "b.xml": two})
         came = inbox.run()
         lines = came.errors.decode().splitlines()
-        yield Outcome("inbox: a part that is refused", (came.status, lines[0]),
-                      (1, "onixdesk-inbox: a.xml: refused: another message of number 2 was taken before"))
-        before = "onixdesk-inbox: b.xml: done: numbers 3 to 4 applied; notes: "
-        found = lines[1].startswith(before), lines[1].endswith("1 note")
+        begun = "onixdesk-inbox: a.xml: done in part: number 1 applied; not applied: another message of number 2 was taken"
+        yield Outcome("inbox: a part that is refused", (came.status, lines[0][:len(begun)]), (1, begun))
+        before = "onixdesk-inbox: b.xml: done, 1 product wrong: numbers 3 to 4 applied; notes: "
+        found = lines[1].startswith(before), lines[1].endswith("1 note, 1 product wrong")
         yield Outcome("inbox: what is left out", found, (True, True))
         kept = inbox.kept()
         found = {name: data.decode().splitlines()[-2:] for name, data in kept.items() if name.endswith(".answer")}
         wanted = {
-            "refused/a.xml.answer": [of_series(1, replaced=1), OTHER.format(2)],
+            "done/a.xml.answer": [of_series(1, replaced=1), OTHER.format(2)],
             "done/b.xml.answer": [of_series(3, replaced=1), of_series(4)],
         }
         yield Outcome("inbox: all parts are posted", found, wanted)
         notes = kept["done/b.xml.answer"].decode()
         yield Outcome("inbox: the notes", notes.startswith("onixdesk: b.xml:3:1: "), True)
+
+
+# The last lines of a converter, and what the line of its file says behind `done`.
+WRONG = {
+    "1 note": "",
+    "4 notes, 1 product wrong": ", 1 product wrong",
+    "7 notes, 30 products wrong": ", 30 products wrong",
+}
+
+
+def wrong_products(room: Room) -> Iterator[Outcome]:
+    """A message that is written beside wrong products is done; with status 1 and no message its file is refused."""
+    batch(room, AGREEMENT)
+    messages = {name: message_of("R1", number=number) for number, name in enumerate("abc", 1)}
+    for name, data in messages.items():
+        room.write(f"{name}.csv", data)
+    program = script(room, "converter", f'for file; do :; done; name=$(cat "$file"); last=$(cat {room.folder}/$name.last)'
+                     f'; [ $name = none ] || cp {room.folder}/$name.csv "$2"; echo "onixdesk: $last" >&2; exit 1')
+    for name, line in zip([*messages, "none"], [*WRONG, "feed.xml:2:1: refused: 2 of 3 products wrong"], strict=True):
+        room.write(f"{name}.last", line.encode())
+    with serving(room, WORDS, len(messages)) as desk:
+        inbox = Inbox(room, desk.port)
+        inbox.put({f"{name}.xml": name.encode() for name in [*messages, "none"]})
+        lines = [
+            f"{name}.xml: done{told}: number {number} applied; notes: {last}"
+            for number, (name, (last, told)) in enumerate(zip(messages, WRONG.items(), strict=True), 1)
+        ]
+        wanted = said(*lines, "none.xml: refused: 2:1: 2 of 3 products wrong", status=1)
+        yield Outcome("inbox: products that are wrong", inbox.run("--converter", program), wanted)
+        found = sorted(name for name in inbox.kept() if name.endswith(".xml"))
+        wanted_files = [*(f"done/{name}.xml" for name in messages), "refused/none.xml"]
+        yield Outcome("inbox: where files with wrong products are", found, wanted_files)
 
 
 def what_waits(room: Room) -> Iterator[Outcome]:
@@ -198,9 +236,9 @@ def what_is_still_written(room: Room) -> Iterator[Outcome]:
         inbox.put(files)
         os.utime(inbox.incoming / "a.xml", (1, 1))
         lines = [
-            ".b.xml: not taken: its name begins with a point, as of a file that is still being written",
+            ".b.xml: waiting: its name is of a file that is still being written",
             "a.xml: waiting: it changed less than 600 s ago",
-            "c.xml.part: not taken: its name has no known ending",
+            "c.xml.part: waiting: its name is of a file that is still being written",
         ]
         yield Outcome("inbox: what is still written", (inbox.run(), inbox.lying()), (said(*lines), files))
         # Long enough that a busy machine looks at the renamed file in time.
@@ -249,11 +287,11 @@ def what_changes_meanwhile(change: str, room: Room) -> Iterator[Outcome]:
         other = inbox.incoming / "next"
         once = f"[ ! -e {other} ] || {{ {step}; rm -f {other}; }}"
         program = script(room, "converter", f'{once}\nexec "{inbox.converter}" "$@"')
-        wanted = said("a.xml: done: number 1 applied", "a.xml: done: number 2 applied")
+        wanted = said("a.xml: done: number 1 applied", "a.xml: done: number 2 applied; kept as a.2.xml")
         yield Outcome(f"inbox: {change} meanwhile", inbox.run("--converter", program), wanted)
         wanted = {
             **taken("done", "a.xml", one, of_series(1, replaced=1)),
-            **taken("done", "a.xml.2", two, of_series(2, replaced=1)),
+            **taken("done", "a.2.xml", two, of_series(2, replaced=1)),
         }
         yield Outcome(f"inbox: {change}, what is kept", (inbox.kept(), inbox.lying()), (wanted, {}))
         yield Outcome(f"inbox: {change}, the desk", desk.ended(), desk.wanted(["200", "200"]))
@@ -326,10 +364,11 @@ def other_servers(room: Room) -> Iterator[Outcome]:
 
 
 def senders(room: Room) -> Iterator[Outcome]:
-    """With SENDER only its messages are posted; without it one that is of another series is told."""
+    """With a SENDER only its messages are posted; with any, one that is of another series is told, and is not called
+    refused."""
     batch(room, AGREEMENT + b"Agree,south,06,T,,,1\n")
     foreign = message_of("R1").replace(b",06,S,", b",06,T,")
-    with serving(room, WORDS, 2) as desk:
+    with serving(room, WORDS, 3) as desk:
         inbox = Inbox(room, desk.port, SENDER="06,S")
         feed = feed_of("R1").replace(b">S<", b">T<")
         inbox.put({"a.csv": foreign, "b.xml": feed, "c.csv": message_of("R1"), "d.csv": b'"'})
@@ -340,17 +379,24 @@ def senders(room: Room) -> Iterator[Outcome]:
             "d.csv: refused: its sender is not 06,S",
         ]
         yield Outcome("inbox: the sender", inbox.run(), said(*lines, status=1))
-        inbox.set()
-        inbox.put({"a.csv": foreign})
-        line = "a.csv: refused: number 1 stands in the series south of its sender and addressee"
-        yield Outcome("inbox: another series", inbox.run(), said(line, status=1))
+        inbox.set(SENDER="any")
+        later = message_of("R1", number=3).replace(b",06,S,", b",06,T,")
+        inbox.put({"a.csv": foreign, "e.csv": later, "f.csv": b""})
+        lines = [
+            "a.csv: applied in another series: south number 1",
+            "e.csv: held in another series: south number 3",
+            "f.csv: refused: it is empty",
+        ]
+        yield Outcome("inbox: another series", inbox.run(), said(*lines, status=1))
+        kept = inbox.kept()
+        yield Outcome("inbox: another series, what is done", [f"done/{name}.csv" in kept for name in "ae"], [True] * 2)
 
 
 def too_large(room: Room) -> Iterator[Outcome]:
     """Records that the desk would not take are not sent."""
     inbox = Inbox(room, 1)
     inbox.put({"a.csv": b" " * 4_194_305})
-    line = "a.csv: refused: it has more than 4194304 bytes of records"
+    line = "a.csv: refused: it has more than 4194304 bytes of records; kept as a.csv.head"
     yield Outcome("inbox: too large a message", inbox.run(), said(line, status=1))
 
 
@@ -371,9 +417,9 @@ def two_at_once(room: Room) -> Iterator[Outcome]:
 
 BAD_SETTINGS = {
     "NUMBR=next": "1: no line of the form NAME=VALUE, NAME being one of DESK, WORDS, NUMBER, SENDER,"
-    " UNCHANGED_SECONDS, CONVERSION_SECONDS",
+    " UNCHANGED_SECONDS, CONVERSION_SECONDS, STATE_BYTES",
     "# words\n\nnext": "3: no line of the form NAME=VALUE, NAME being one of DESK, WORDS, NUMBER, SENDER,"
-    " UNCHANGED_SECONDS, CONVERSION_SECONDS",
+    " UNCHANGED_SECONDS, CONVERSION_SECONDS, STATE_BYTES",
     "NUMBER=Next": "1: NUMBER is own or next",
     "NUMBER=own\nNUMBER=own": "2: NUMBER is there twice",
     "DESK=https://127.0.0.1:8080": "1: DESK is http://HOST:PORT",
@@ -382,9 +428,20 @@ BAD_SETTINGS = {
     "WORDS=-o out": "1: -o is no word of WORDS: the inbox gives it, or leaves it out",
     "WORDS=--number=5": "1: --number=5 is no word of WORDS: the inbox gives it, or leaves it out",
     "WORDS='--parts": "1: No closing quotation",
-    "SENDER=4012345000009": "1: SENDER is TYPE,VALUE with a TYPE of two digits",
+    "WORDS=/etc/passwd": "1: /etc/passwd is no word of WORDS: the inbox gives it, or leaves it out",
+    "WORDS=--parts 4 feed.xml": "1: feed.xml is no word of WORDS: the inbox gives it, or leaves it out",
+    "WORDS=--parts=4 -": "1: - is no word of WORDS: the inbox gives it, or leaves it out",
+    "WORDS=-- x": "1: -- is no word of WORDS: the inbox gives it, or leaves it out",
+    "WORDS=--parts 4 # four": "1: a remark has a line of its own, which begins with #",
+    "SENDER=4012345000009": "1: SENDER is TYPE,VALUE with a TYPE of two digits, or any",
+    "SENDER=06,4012345000009 # North": "1: a remark has a line of its own, which begins with #",
+    "SENDER=": "1: SENDER is TYPE,VALUE with a TYPE of two digits, or any",
+    "DESK=http://127.0.0.1:8080": " SENDER is missing: the sender that messages must have, or any",
     "UNCHANGED_SECONDS=1.5": "1: seconds are one to six digits",
-    "WORDS=--number-offset 3\nNUMBER=next": " NUMBER=next and --number-offset do not go together",
+    "CONVERSION_SECONDS=0": "1: in no second nothing is done",
+    "STATE_BYTES=10G": "1: bytes are one to fifteen digits, the first of them not 0",
+    "STATE_BYTES=0": "1: bytes are one to fifteen digits, the first of them not 0",
+    "SENDER=any\nWORDS=--number-offset 3\nNUMBER=next": " NUMBER=next and --number-offset do not go together",
 }
 
 
@@ -418,6 +475,15 @@ def bad_folders(room: Room) -> Iterator[Outcome]:
     yield Outcome("inbox: no folder", inbox.run(), wanted)
 
 
+def no_state(room: Room) -> Iterator[Outcome]:
+    """The folder that the unit makes for its user is made by nobody else."""
+    inbox = Inbox(room, 1, "of-no-shop")
+    words = [word for word in inbox.words() if word not in ("--state", inbox.state)]
+    line = "/var/lib/onixdesk-inbox/of-no-shop: its unit makes it: systemctl start onixdesk-inbox@of-no-shop"
+    yield Outcome("inbox: no state", room.call(words), said(line, status=3))
+    yield Outcome("inbox: no state is made", Path("/var/lib/onixdesk-inbox/of-no-shop").exists(), False)
+
+
 def bad_calls(room: Room) -> Iterator[Outcome]:
     inbox = Inbox(room, 1)
     for series in ["", "North", "a/b", "x" * 33, "\x1b[2J"]:
@@ -433,6 +499,7 @@ GROUPS = [
     Group("inbox: a feed that is refused", a_feed_that_is_refused),
     Group("inbox: names that come again", names_that_come_again),
     Group("inbox: words of the converter", words_of_the_converter),
+    Group("inbox: wrong products", wrong_products),
     Group("inbox: what waits", what_waits),
     Group("inbox: what is still written", what_is_still_written),
     Group("inbox: what lies long", what_lies_long),
@@ -447,5 +514,6 @@ GROUPS = [
     Group("inbox: two at once", two_at_once),
     Group("inbox: bad settings", bad_settings),
     Group("inbox: bad folders", bad_folders),
+    Group("inbox: no state", no_state),
     Group("inbox: bad calls", bad_calls),
 ]

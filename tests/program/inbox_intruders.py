@@ -11,7 +11,7 @@ from pathlib import Path
 
 from tests.program.converter_runs import feed_of, message_of
 from tests.program.databases import batch
-from tests.program.inboxes import AGREEMENT, WORDS, Inbox, ended, of_series, said, taken, within
+from tests.program.inboxes import AGREEMENT, CONNECTIONS, WORDS, Inbox, ended, of_series, said, taken, within
 from tests.program.room import Group, Room
 from tests.program.serving import serving
 from tests.running import Outcome
@@ -41,7 +41,7 @@ def files_that_programs_read(room: Room) -> Iterator[Outcome]:
             http_proxy="http://127.0.0.1:1", BASH_ENV=f"{folder}/.curlrc", ENV=f"{folder}/.curlrc",
         )
         lines = [
-            ".curlrc: not taken: its name begins with a point, as of a file that is still being written",
+            ".curlrc: waiting: its name is of a file that is still being written",
             ".local: not taken: it is a folder",
             "argparse.py: not taken: its name has no known ending",
         ]
@@ -174,6 +174,42 @@ def swapped(what: str, room: Room) -> Iterator[Outcome]:
     yield Outcome(f"inbox: nothing is kept of {what}", inbox.kept(), {})
 
 
+# Runs the inbox, and once, before a file of that name is removed or gets another one, puts another in its place.
+REPLACING = """
+import os, runpy, sys
+path, other = sys.argv[1:3]
+sys.argv = sys.argv[3:]
+left = [other]
+def before(event, arguments):
+    if left and event in ("os.remove", "os.rename") and arguments[0] == os.path.basename(path):
+        os.rename(left.pop(), path)
+sys.addaudithook(before)
+runpy.run_path(sys.argv[0], run_name="__main__")
+"""
+
+# The same, and it is killed when the file of its own name is to be removed.
+KILLED = REPLACING.replace("def before(event, arguments):", """def before(event, arguments):
+    if event == "os.remove" and arguments[0].startswith(".onixdesk-taken-"):
+        os.kill(os.getpid(), 9)""")
+
+
+def replaced_at_the_last_moment(room: Room) -> Iterator[Outcome]:
+    """What gets the name of a file between the last look and its removal is taken too, also where the run is killed
+    then."""
+    batch(room, AGREEMENT)
+    files = {number: message_of(f"R{number}", number=number) for number in (1, 2, 3, 4)}
+    with serving(room, WORDS, CONNECTIONS) as desk:
+        inbox = Inbox(room, desk.port)
+        for text, first, second in [(REPLACING, 1, 2), (KILLED, 3, 4)]:
+            inbox.put({"a.csv": files[first]})
+            room.write("next.csv", files[second])
+            ended(inbox.start(before=within(text, inbox.incoming / "a.csv", room.path("next.csv"))))
+            inbox.run()
+            kept = [data for name, data in inbox.kept().items() if name.endswith(".csv")]
+            found = sorted(kept)[-2:], inbox.lying()
+            yield Outcome(f"inbox: replaced before it is removed: {first}", found, ([files[first], files[second]], {}))
+
+
 def no_room(room: Room) -> Iterator[Outcome]:
     """Where a copy has no room, the file waits, and what was begun of it is taken away."""
     inbox = Inbox(room, 1)
@@ -212,6 +248,8 @@ def as_another_user(room: Room) -> Iterator[Outcome]:
         os.chown(path, 65534, 65534)
     inbox.incoming.joinpath("a.csv").chmod(0o600)
     before = ["setpriv", "--reuid=65534", "--regid=65534", "--clear-groups", "/usr/bin/python3", "-EsSB"]
+    theirs = said(f"{inbox.state}: it is nobody's, who alone runs this inbox", status=3)
+    yield Outcome("inbox: a run by root", (inbox.run(), inbox.kept(), [*inbox.state.iterdir()]), (theirs, {}, []))
     wanted = said("a.csv: not taken: it cannot be read: Permission denied")
     yield Outcome("inbox: a file that cannot be read", ended(inbox.start(before=before)), wanted)
     inbox.incoming.chmod(0o1777)
@@ -235,6 +273,7 @@ GROUPS = [
     Group("inbox: strange names", strange_names),
     Group("inbox: long names", long_names),
     *(Group(f"inbox: a file that becomes {what}", partial(swapped, what)) for what in SWAPS),
+    Group("inbox: replaced at the last moment", replaced_at_the_last_moment),
     Group("inbox: a copy without room", no_room),
     Group("inbox: rights", rights),
     Group("inbox: as another user", as_another_user),

@@ -18,11 +18,13 @@ from tests.program.inboxes import (
     CONNECTIONS,
     HELD,
     MALFORMED,
+    OTHER,
     ROW_1,
     WORDS,
     Inbox,
     ended,
     gaps_of,
+    of_series,
     said,
     script,
     taken,
@@ -33,6 +35,9 @@ from tests.program.room import Group, Ran, Room
 from tests.program.serving import serving
 from tests.running import Outcome
 from tools.words import sought
+
+# Of each of two inboxes.
+FEEDS = 12
 
 BEFORE = "; these bytes had that number before"
 
@@ -58,7 +63,7 @@ def next_numbers(room: Room) -> Iterator[Outcome]:
         kept = [f"{digest(files[name])} {number}" for name, number in [("c.xml", 1), ("a.xml", 2), ("d.xml", 4)]]
         yield Outcome("inbox: next numbers, what is kept", numbers_kept(inbox), kept)
         inbox.put({"e.xml": unnumbered("R4"), "f.xml": files["a.xml"]})
-        wanted = said("e.xml: done: number 5 applied", f"f.xml: done: number 2 applied{BEFORE}")
+        wanted = said("e.xml: done: number 5 applied", f"f.xml: done: number 2 applied{BEFORE}; kept as a.xml")
         yield Outcome("inbox: bytes that come again", inbox.run(), wanted)
         inbox.put({"g.xml": b"<", "h.xml": unnumbered("R5")})
         came = inbox.run()
@@ -109,7 +114,11 @@ class Failing(http.server.BaseHTTPRequestHandler):
 
 
 def run_at_a_failing_desk(inbox: Inbox, status: int, body: bytes) -> Ran:
-    handler = type("Handler", (Failing,), {"status": status, "body": body})
+    return run_at(inbox, type("Handler", (Failing,), {"status": status, "body": body}))
+
+
+def run_at(inbox: Inbox, handler: type[http.server.BaseHTTPRequestHandler]) -> Ran:
+    """A run at a desk that answers so."""
     with http.server.HTTPServer(("127.0.0.1", 0), handler) as server:
         threading.Thread(target=server.serve_forever, daemon=True).start()
         inbox.set(NUMBER="next", DESK=f"http://127.0.0.1:{server.server_port}")
@@ -150,6 +159,25 @@ def numbers_after_faults(room: Room) -> Iterator[Outcome]:
             "a.xml: done: number 3 applied",
         ]
         yield Outcome("inbox: numbers after faults", inbox.run(), said(*lines))
+
+
+class Contested(Failing):
+    """A desk at which the first numbers that it gives go to others first, so many of them."""
+
+    taken = 0
+    lost = 2
+
+    def do_GET(self) -> None:
+        self.reply(200, b'{"answer":"gaps","next":%d}' % (type(self).taken + 1))
+
+    def do_POST(self) -> None:
+        message = self.rfile.read(int(self.headers["Content-Length"])).decode()
+        number = int(message.partition("\n")[0].split(",")[6])
+        if type(self).taken < self.lost:
+            type(self).taken += 1
+            self.reply(409, OTHER.format(number)[4:].encode())
+        else:
+            self.reply(200, of_series(number)[4:].encode())
 
 
 def numbers_that_were_cut(room: Room) -> Iterator[Outcome]:
@@ -210,6 +238,45 @@ MOST, LEAST = 120, 25
 def unwritten(sender: str, reference: str) -> bytes:
     """What the converter above makes a message of."""
     return f"Message,1,06,{sender},,,NUMBER,,,,\nProduct,{reference},03,15,9\nEndMessage,2\n".encode()
+
+
+def numbers_that_others_took(room: Room) -> Iterator[Outcome]:
+    """A number that somebody else was quicker with is given back, and the next one asked for; after so many the file
+    waits. A number that the bytes had before is theirs."""
+    one, two = unwritten("S", "R1"), unwritten("S", "R2")
+    inbox = Inbox(room, 1)
+    inbox.converter = script(room, "converter", CONVERTER)
+    inbox.put({"a.xml": one})
+    wanted = said("a.xml: done: number 3 applied")
+    yield Outcome("inbox: numbers that others took", run_at(inbox, type("Desk", (Contested,), {})), wanted)
+    given = [f"{digest(one)} {number}" for number in (1, 0, 2, 0, 3)]
+    yield Outcome("inbox: numbers that others took, what is kept", numbers_kept(inbox), given)
+    inbox.put({"b.xml": two})
+    wanted = said("b.xml: waiting: each of 20 numbers that the desk gave went to another message first")
+    yield Outcome("inbox: numbers that others take always", run_at(inbox, type("Desk", (Contested,), {"lost": 99})), wanted)
+    (inbox.incoming / "b.xml").unlink()
+    inbox.put({"c.xml": one})
+    refusal = "c.xml: refused: another message of number 3 was taken before"
+    wanted = said(refusal, status=1)
+    yield Outcome("inbox: a number of before that is another's", run_at(inbox, type("Desk", (Contested,), {"lost": 99})), wanted)
+
+
+def two_states(room: Room) -> Iterator[Outcome]:
+    """Two inboxes of one series, which ask for numbers at the same time: each feed is applied once."""
+    batch(room, AGREEMENT)
+    with serving(room, WORDS, CONNECTIONS) as desk:
+        inboxes = []
+        for place in "ab":
+            inbox = Inbox(room, desk.port, NUMBER="next")
+            inbox.converter = script(room, "converter", CONVERTER)
+            inbox.incoming, inbox.state = room.path(f"in-{place}"), room.path(f"state-{place}")
+            inbox.incoming.mkdir()
+            inbox.put({f"{number}.xml": unwritten("S", f"{place}{number}") for number in range(FEEDS)})
+            inboxes.append(inbox)
+        came = [ended(process) for process in [inbox.start() for inbox in inboxes]]
+        lines = sorted(line.partition(": done: ")[2] for ran in came for line in ran.errors.decode().splitlines())
+        wanted = sorted(f"number {number} applied" for number in range(1, 2 * FEEDS + 1))
+        yield Outcome("inbox: two states of one series", ([ran.status for ran in came], lines), ([0, 0], wanted))
 
 
 def killed_run(inbox: Inbox, step: int, converter: Path) -> int:
@@ -293,4 +360,6 @@ GROUPS = [
     Group("inbox: numbers of parts", numbers_of_parts),
     Group("inbox: numbers after faults", numbers_after_faults),
     Group("inbox: numbers that were cut", numbers_that_were_cut),
+    Group("inbox: numbers that others took", numbers_that_others_took),
+    Group("inbox: two states", two_states),
 ]

@@ -1,10 +1,10 @@
-"""The units of the inboxes, their example of settings and their mails, and the places that these name."""
+"""The units of the inboxes, their example of settings, and the places that these name."""
 
 import re
 import subprocess
 from collections.abc import Iterator
 
-from tests.program.inboxes import PROGRAM, script, within
+from tests.program.inboxes import PROGRAM, within
 from tests.program.room import SECONDS, Group, Room
 from tests.running import Outcome
 from tools.root import ROOT
@@ -48,7 +48,7 @@ UMask=0077
 # How each reaches others: the desk has a socket of the file system beside its port.
 FAMILIES = {"the desk": "AF_INET AF_UNIX", "an inbox": "AF_INET"}
 
-LIMITS = {"the desk": ["MemoryMax"], "an inbox": ["MemoryMax", "OOMPolicy", "TimeoutStartSec"]}
+LIMITS = {"the desk": ["LimitDATA", "MemoryMax"], "an inbox": ["MemoryMax", "OOMPolicy", "TimeoutStartSec"]}
 
 
 def lines_of(name: str) -> list[str]:
@@ -62,6 +62,22 @@ def what_is_forbidden(_room: Room) -> Iterator[Outcome]:
         yield Outcome(f"units: what is forbidden to {name}", [line for line in wanted if line not in lines], [])
         limits = [word for word in LIMITS[name] if not any(line.startswith(f"{word}=") for line in lines)]
         yield Outcome(f"units: the limits of {name}", limits, [])
+
+
+SCALES = {"M": 1 << 20, "G": 1 << 30}
+
+
+def bound(lines: list[str], name: str) -> int:
+    """How many bytes a line of a unit names."""
+    found = sought(rf"^{name}=([0-9]+[MG])$", "\n".join(lines))
+    return int(found[:-1]) * SCALES[found[-1]]
+
+
+def memory_of_the_desk(_room: Room) -> Iterator[Outcome]:
+    """The program is refused memory before the system ends it."""
+    lines = UNITS["the desk"].read_text(encoding="utf-8").splitlines()
+    found = bound(lines, "LimitDATA") <= bound(lines, "MemoryMax") - (100 << 20)
+    yield Outcome("units: the memory of the desk", found, True)
 
 
 def places(_room: Room) -> Iterator[Outcome]:
@@ -81,7 +97,7 @@ def places(_room: Room) -> Iterator[Outcome]:
     watched = [line for line in lines_of("onixdesk-inbox@.path") if line.startswith("Path")]
     yield Outcome("units: the place of the path unit", watched, [f"PathChanged={incoming}%i"])
     cleared = [line for line in lines_of("tmpfiles.conf") if line.startswith("e ")]
-    yield Outcome("units: what is cleared", cleared, [f"e {state}*/done - - - 90d"])
+    yield Outcome("units: what is cleared", cleared, [f"e {state}*/done - - - cm:90d"])
     timer = lines_of("onixdesk-inbox@.timer")
     yield Outcome("units: the timer", "OnUnitInactiveSec=1min" in timer, True)
 
@@ -91,14 +107,16 @@ def without_line(text: str, name: str) -> str:
 
 
 def example_of_settings(room: Room) -> Iterator[Outcome]:
-    """It is read, and has what holds where a line is left out."""
+    """Once the sender is set it is read, and has what holds where another line is left out."""
     text = FOLDER.joinpath("example.conf").read_text(encoding="utf-8")
     names = re.findall("^([A-Z_]+)=", text, flags=re.MULTILINE)
+    yield Outcome("units: the example of settings, the sender", re.findall("^SENDER=.*", text, flags=re.MULTILINE), ["SENDER="])
+    text = text.replace("\nSENDER=\n", "\nSENDER=any\n")
     reading = (
         "from pathlib import Path; from onixdesk_inbox.settings import *;"
         " print(read_settings(Path('example.conf')) == Settings())"
     )
-    for name in [None, *names]:
+    for name in [None, *(name for name in names if name != "SENDER")]:
         room.write("example.conf", (without_line(text, name) if name else text).encode())
         done = subprocess.run(
             within(reading),
@@ -107,21 +125,6 @@ def example_of_settings(room: Room) -> Iterator[Outcome]:
         yield Outcome(f"units: the example of settings without {name}", (done.stdout, done.stderr), ("True\n", ""))
     page = ROOT.joinpath("docs/INBOX.md").read_text(encoding="utf-8")
     yield Outcome("docs/INBOX.md: the settings", re.findall(r"^\| `([A-Z_]+)` \|", page, flags=re.MULTILINE), names)
-
-
-def mails(room: Room) -> Iterator[Outcome]:
-    """The mail has the journal's lines, and goes to the address."""
-    script(room, "sendmail", 'echo "words: $*"; cat')
-    script(room, "journalctl", 'echo "journal of: $*"')
-    done = subprocess.run(
-        [FOLDER / "mail.sh", "north", "buying@example.org"],
-        env={"PATH": f"{room.folder}:/usr/bin:/bin"}, capture_output=True, text=True, timeout=SECONDS,
-    )
-    head, _, body = done.stdout.partition("\n\n")
-    wanted = ["words: -i -t", "To: buying@example.org", "Subject: onixdesk: the inbox of north"]
-    yield Outcome("mail.sh: its head", (done.returncode, done.stderr, head.splitlines()[:3]), (0, "", wanted))
-    wanted = "journal of: --quiet --no-pager --unit=onixdesk-inbox@north.service --since=-1h --output=short\n"
-    yield Outcome("mail.sh: its body", body, wanted)
 
 
 VERSION = r'^const VERSION: &str = "([0-9]+\.[0-9]+\.[0-9]+)";$'
@@ -135,7 +138,7 @@ def version(room: Room) -> Iterator[Outcome]:
     package = [*ROOT.joinpath("packaging").glob("*.1"), *ROOT.glob("packaging/debian/*"), *ROOT.glob("bin/*")]
     named = [path.name for path in package if path.is_file() and f"{number} " in path.read_text(encoding="utf-8")]
     yield Outcome("the version of the package", named, [])
-    for name in ("onixdesk.1", "onix-to-csv.1", "desk-copy.1", "desk-follow.1"):
+    for name in ("onixdesk.1", "onix-to-csv.1", "desk-copy.1", "desk-restore.1", "desk-follow.1"):
         page = ROOT.joinpath("packaging", name).read_text(encoding="utf-8")
         # The line that packaging/build gives the version.
         yield Outcome(f"the version of {name}", page.splitlines().count(".Os"), 1)
@@ -143,8 +146,8 @@ def version(room: Room) -> Iterator[Outcome]:
 
 GROUPS = [
     Group("units: what is forbidden", what_is_forbidden),
+    Group("units: the memory of the desk", memory_of_the_desk),
     Group("units: places", places),
     Group("units: the example of settings", example_of_settings),
-    Group("units: mails", mails),
     Group("units: the version", version),
 ]

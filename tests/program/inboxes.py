@@ -80,7 +80,7 @@ class Inbox:
 
     def set(self, **settings: object) -> None:
         """Writes the settings anew."""
-        lines = {"DESK": f"http://127.0.0.1:{self.port}", "UNCHANGED_SECONDS": 0} | settings
+        lines = {"DESK": f"http://127.0.0.1:{self.port}", "UNCHANGED_SECONDS": 0, "SENDER": "any"} | settings
         self.room.write("settings.conf", "".join(f"{name}={value}\n" for name, value in lines.items()).encode())
 
     def put(self, files: dict[str, bytes]) -> None:

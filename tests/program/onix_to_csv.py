@@ -6,7 +6,7 @@ import shutil
 from collections.abc import Iterator
 
 from tests.program.converter import convert, refused_lines
-from tests.program.converter_runs import BAD, ONE, TWO, feed_of, message_of, zipped
+from tests.program.converter_runs import BAD, ONE, TWO, WRONG, feed_of, message_of, zipped
 from tests.program.databases import batch
 from tests.program.inboxes import AGREEMENT, WORDS, Inbox, numbered
 from tests.program.inboxes import said as said_by_inbox
@@ -23,15 +23,16 @@ RUNS: list[tuple[list[str], int]] = [
     (["-"], 0),
     (["a.xml"], 0),
     (["--parts", "3", "--number", "5", "b.xml"], 0),
-    (["--leave-out-wrong", "wrong.xml"], 1),
     (["wrong.xml"], 1),
+    (["--wrong", "none", "wrong.xml"], 1),
+    (["bad.xml"], 1),
     (["a.xml.gz"], 1),
     (["a.zip"], 1),
     (["absent.xml"], 3),
     (["--part", "2", "a.xml"], 2),
     (["--help"], 0),
 ]
-FILES = {"a.xml": ONE, "b.xml": TWO, "wrong.xml": BAD, "a.xml.gz": gzip.compress(ONE), "a.zip": zipped({"a": ONE})}
+FILES = {"a.xml": ONE, "b.xml": TWO, "wrong.xml": WRONG, "bad.xml": BAD, "a.xml.gz": gzip.compress(ONE), "a.zip": zipped({"a": ONE})}
 
 
 def make_shop(room: Room) -> None:

@@ -14,13 +14,16 @@ from tools.root import ROOT
 MAY_IMPORT: dict[str, set[str]] = {
     "lib/command_lines": set(),
     "lib/desk_copy": {"command_lines"},
+    "lib/desk_restore": {"command_lines", "desk_copy"},
     "lib/desk_follow": {"command_lines", "desk_copy", "psycopg2"},
     "lib/onixdesk_inbox": {"command_lines"},
-    "tests/second_opinion": {"command_lines", "tests"},
     "tools": set(),
     "bench": {"desk_copy", "desk_follow", "psycopg2", "tools"},
     # The tests of the page drive a browser.
-    "tests": {"bench", "command_lines", "desk_copy", "desk_follow", "onixdesk_inbox", "psycopg2", "selenium", "tools"},
+    "tests": {
+        "bench", "command_lines", "desk_copy", "desk_follow", "desk_restore", "onixdesk_inbox", "psycopg2", "selenium",
+        "tools",
+    },
 }
 
 

@@ -13,7 +13,7 @@ from typing import NamedTuple
 
 from onixdesk_inbox.packed import Damage, bounded
 from tests.program.conversions import FRAMES
-from tests.program.converter_runs import FRAME, ONE, PRODUCT, feed_of, zipped
+from tests.program.converter_runs import BAD, FRAME, ONE, PRODUCT, zipped
 from tests.program.databases import batch
 from tests.program.inboxes import AGREEMENT, WORDS, Inbox, ended, files_in, numbered, of_series, said, script, taken
 from tests.program.room import SECONDS, Group, Room
@@ -93,10 +93,12 @@ CASES = [
     Case("a zip that is not compressed", "a.zip", STORED),
     Case("a zip by bzip2", "a.zip", zipped({"feed": ONE}, zipfile.ZIP_BZIP2)),
     Case("a zip by lzma", "a.zip", zipped({"feed": ONE}, zipfile.ZIP_LZMA)),
+    Case("a zip with a folder", "a.zip", zipped({"a/": b"", "a/b": ONE})),
+    Case("a zip of a Mac", "a.zip", zipped({"b": ONE, "__MACOSX/": b"", "__MACOSX/._b": b"x"})),
     Case("a zip whose entry is named as elsewhere", "a.zip", zipped({"../../etc/x.gz": ONE})),
-    Case("a zip without entries", "a.zip", zipped({}), "a zip of 0 entries, not of one"),
-    Case("a zip of two entries", "a.zip", zipped({"a": ONE, "b": ONE}), "a zip of 2 entries, not of one"),
-    Case("a zip with a folder", "a.zip", zipped({"a/": b"", "a/b": ONE}), "a zip of 2 entries, not of one"),
+    Case("a zip without entries", "a.zip", zipped({}), "a zip of 0 files, not of one"),
+    Case("a zip of two entries", "a.zip", zipped({"a": ONE, "b": ONE}), "a zip of 2 files, not of one"),
+    Case("a zip of folders", "a.zip", zipped({"a/": b"", "a/b/": b""}), "a zip of 0 files, not of one"),
     Case("a zip that is none", "a.zip", ONE, "no whole .zip file: File is not a zip file"),
     Case("a zip of nothing", "a.zip", b"", "no whole .zip file: File is not a zip file"),
     Case("a zip that is cut", "a.zip", ZIP[:-9], "no whole .zip file: File is not a zip file"),
@@ -126,14 +128,14 @@ def refused_inside(room: Room) -> Iterator[Outcome]:
     """What is whole but holds no message is refused by the converter, at a place in what was unpacked. It is unpacked
     once, and by its ending alone."""
     inbox = Inbox(room, 1)
-    feeds = {"a.gz": b"", "b.zip": ZIP, "c.gz": feed_of(""), "d.zip": ONE[:-9], "e.xml": ZIP, "f.onx": GZIP}
+    feeds = {"a.gz": b"", "b.zip": ZIP, "c.gz": BAD, "d.zip": ONE[:-9], "e.xml": ZIP, "f.onx": GZIP}
     inbox.put({name: packed(name, data) for name, data in feeds.items()})
     came = inbox.run()
     lines = [line.split(": ")[1:3] for line in came.errors.decode().splitlines()]
     yield Outcome("packed: no message within", (came.status, lines), (1, [[name, "refused"] for name in feeds]))
     kept = inbox.kept()
     starts = [kept[f"refused/{name}.answer"].startswith(f"onixdesk: {name}:".encode()) for name in feeds]
-    has_place = b"c.gz:2:1: refused" in kept["refused/c.gz.answer"]
+    has_place = b"c.gz:1:28: refused" in kept["refused/c.gz.answer"]
     yield Outcome("packed: what is kept of them", (starts, has_place), ([True] * len(feeds), True))
 
 
@@ -142,11 +144,13 @@ def notes(room: Room) -> Iterator[Outcome]:
     batch(room, AGREEMENT)
     feeds = {name: packed(name, numbered(["R1", ""], number)) for number, name in enumerate(["a.xml.gz", "b.zip"], 1)}
     with serving(room, WORDS, 2) as desk:
-        inbox = Inbox(room, desk.port, WORDS="--leave-out-wrong")
+        inbox = Inbox(room, desk.port)
         inbox.put(feeds)
         lines = inbox.run().errors.decode().splitlines()
-        found = [line.partition("; notes: ")[0] for line in lines], [line.endswith("; 1 note") for line in lines]
-        wanted = [f"onixdesk-inbox: {name}: done: number {number} applied" for number, name in enumerate(feeds, 1)]
+        ends = [line.endswith("; 1 note, 1 product wrong") for line in lines]
+        found = [line.partition("; notes: ")[0] for line in lines], ends
+        before = "done, 1 product wrong: number"
+        wanted = [f"onixdesk-inbox: {name}: {before} {number} applied" for number, name in enumerate(feeds, 1)]
         yield Outcome("packed: what is left out", found, (wanted, [True, True]))
         kept = inbox.kept()
         starts = [kept[f"done/{name}.answer"].startswith(f"onixdesk: {name}:3:1: ".encode()) for name in feeds]
@@ -217,7 +221,7 @@ def converters_that_stop(room: Room) -> Iterator[Outcome]:
     ]:
         inbox.set(CONVERSION_SECONDS=seconds)
         program = script(room, "converter", BEGINNING.format(room.path("began"), step))
-        inbox.put({"a.gz": gzip.compress(feed, 1)})
+        inbox.put({"a.gz": gzip.compress(feed, 1, mtime=0)})
         yield Outcome(f"packed: {why}", inbox.run("--converter", program), said(f"a.gz: refused: {why}", status=1))
 
 

@@ -4,7 +4,7 @@ import re
 from collections.abc import Iterator
 from pathlib import Path
 
-from tests.program.converter import convert, second_opinion
+from tests.program.converter import convert
 from tests.program.feed_writing import Place
 from tests.program.room import Group, Ran, Room
 from tests.running import Outcome
@@ -23,14 +23,12 @@ NOTED = [
     ("fr.librairie.0001", "Price", "CurrencyZone"),
     ("fr.librairie.0001", "Price", "RegionsIncluded"),
     ("fr.librairie.0001", "Territory", "CA-QC"),
-    ("fr.librairie.0001", "Price", "PriceDate"),
     ("fr.librairie.0001", "Price", "decimals"),
     ("fr.librairie.0001", "Price", "PriceAmount"),
     ("fr.librairie.0002", "Territory", "GB-NIR"),
     ("fr.librairie.0002", "Market", "ECZ"),
     ("fr.librairie.0003", "Price", "PriceQualifier"),
     ("fr.librairie.0004", "ProductSupply", "SupplyDetail"),
-    ("fr.librairie.0004", "Product", "left"),
     ("fr.librairie.0005", "ProductIdentifier", "ProductIDType"),
 ]
 
@@ -39,14 +37,6 @@ def element_at(feed: list[str], place: Place) -> str:
     """The element whose start tag is at a place of the feed."""
     found = re.match("<([A-Za-z]+)", feed[place.line - 1][place.column - 1 :])
     return found[1] if found else ""
-
-
-def second(room: Room) -> Iterator[Outcome]:
-    """The second opinion makes the same records of them."""
-    for path in sorted(FOLDER.glob("*.xml")):
-        came = second_opinion(room, path)
-        wanted = 0, path.with_suffix(".csv").read_bytes()
-        yield Outcome(f"second opinion: {path.name}", (came.status, came.output), wanted)
 
 
 def delivered(room: Room) -> Iterator[Outcome]:
@@ -76,6 +66,5 @@ def delivered(room: Room) -> Iterator[Outcome]:
 
 
 GROUPS = [
-    Group("second opinion: the samples", second),
     Group("the samples, delivered", delivered),
 ]

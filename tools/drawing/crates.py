@@ -15,6 +15,7 @@ LAYERS = {
     "Feeds": (
         "from XML to messages",
         [
+            "named_files",
             "xml_text",
             "onix_outline",
             "onix_mapping",

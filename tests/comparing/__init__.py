@@ -1,1 +1,0 @@
-"""Compares `onixdesk convert` with a second converter, feed by feed."""

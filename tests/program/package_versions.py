@@ -1,0 +1,74 @@
+"""The version of a package, of commits before, at and behind a release, as dpkg orders them."""
+
+import itertools
+import re
+import subprocess
+from collections.abc import Iterator
+
+from tests.program.room import Group, Room
+from tests.running import Outcome
+from tools.root import ROOT
+from tools.words import Word
+
+PROGRAM = ROOT / "packaging/version"
+
+CHANGES = "# Changes\n\n## Unreleased\n\n- One.\n"
+
+
+def git(room: Room, *words: Word) -> None:
+    name = ["-c", "user.name=A", "-c", "user.email=a@example.org"]
+    room.call(["git", *name, *words])
+
+
+def commit(room: Room, text: str) -> str:
+    """Commits a CHANGELOG.md, and gives the version of that commit."""
+    room.write("CHANGELOG.md", text.encode())
+    git(room, "add", "CHANGELOG.md")
+    git(room, "commit", "--allow-empty", "--message", "x")
+    return version(room)
+
+
+def version(room: Room, number: str = "0.2.0") -> str:
+    return room.call([PROGRAM, number]).output.decode().strip()
+
+
+def is_older(one: str, other: str) -> bool:
+    return subprocess.run(["dpkg", "--compare-versions", one, "lt", other]).returncode == 0
+
+
+def forms(versions: list[str]) -> list[str]:
+    return [re.sub(r"\.[0-9a-f]{10}$", ".C", each) for each in versions]
+
+
+def by_the_changes(room: Room) -> Iterator[Outcome]:
+    """Where no commit has a tag."""
+    git(room, "init", "--quiet")
+    released = CHANGES.replace("## Unreleased", "## Unreleased\n\n## 0.2.0, 2026-11-26")
+    found = [commit(room, text) for text in (CHANGES, CHANGES, released, released, released + "- Two.\n")]
+    wanted = ["0.2.0~git1.C", "0.2.0~git2.C", "0.2.0", "0.2.0+git1.C", "0.2.0+git2.C"]
+    yield Outcome("versions: by the changes", forms(found), wanted)
+    wrong = [pair for pair in itertools.pairwise([*found, "0.2.1"]) if not is_older(*pair)]
+    yield Outcome("versions: each is older than the next", wrong, [])
+    yield Outcome("versions: of the next number", forms([version(room, "0.3.0")]), ["0.3.0~git5.C"])
+
+
+def by_a_tag(room: Room) -> Iterator[Outcome]:
+    """It counts before the changes; that of another branch does not."""
+    git(room, "init", "--quiet")
+    released = CHANGES + "\n## 0.2.0, 2026-11-26\n"
+    commit(room, CHANGES)
+    commit(room, released)
+    commit(room, released)
+    git(room, "tag", "v0.2.0")
+    found = [version(room), *(commit(room, released) for _ in range(10))]
+    yield Outcome("versions: by a tag", forms([found[0], found[1], found[10]]), ["0.2.0", "0.2.0+git1.C", "0.2.0+git10.C"])
+    yield Outcome("versions: the tenth is newer than the ninth", is_older(found[9], found[10]), True)
+    git(room, "tag", "v0.3.0")
+    git(room, "checkout", "--quiet", "HEAD~1")
+    yield Outcome("versions: of another branch", forms([version(room, "0.3.0")]), ["0.3.0~git12.C"])
+
+
+GROUPS = [
+    Group("versions: by the changes", by_the_changes),
+    Group("versions: by a tag", by_a_tag),
+]

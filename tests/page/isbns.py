@@ -135,13 +135,13 @@ def check_digits(site: Site, browser: Browser) -> Iterator[Outcome]:
     ]:
         browser.open("")
         browser.wait(lambda: browser.run(FOCUS)[0] == "isbn")
-        before = site.mark()
+        before, asked_before = site.mark(), len(site.requests())
         browser.one("#isbn").send_keys(f"{typed}\n")
         told = browser.wait_for_text("#isbn-wrong", "digit")
         yield Outcome(f"{typed}: the remark", told, REMARK)
         yield Outcome(f"{typed}: not looked for", browser.text("#not-looked-for strong"), f"Not looked for: {typed}")
         yield Outcome(f"{typed}: no answer", browser.text("#article-status"), "")
-        asked = [line for line in site.requests() if f"/{isbn}/" in line]
+        asked = [line for line in site.requests()[asked_before:] if f"/{isbn}/" in line]
         yield Outcome(f"{typed}: the desk was not asked", asked, [])
         yield Outcome(f"{typed}: its digits stay", browser.one("#isbn").get_attribute("value"), typed)
         browser.one("#ask-anyway").click()

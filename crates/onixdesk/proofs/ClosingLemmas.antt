@@ -35,7 +35,7 @@ use Rattle.onixdesk.specs.FileViews.{HoldMeta, seen_files, seen_image, seen_stor
 use Rattle.onixdesk.specs.Leftovers.{HasNoFiles, SparesUnopened}
 use Rattle.onixdesk.specs.MigrationEnd.{MigrateEnds}
 use Rattle.onixdesk.specs.TaskEnds.{TaskEnds}
-use Rattle.onixdesk.specs.declared.command_line.Task.{Task}
+use Rattle.command_line.specs.declared.invocation.Task.{Task}
 use Rattle.onixdesk.specs.declared.files.FilesLeft.{FilesLeft}
 use Rattle.onixdesk.specs.declared.files.FilesLeft.TheVariants.{Closed, NotOpened, Unclosed, Unopened, Untouched}
 

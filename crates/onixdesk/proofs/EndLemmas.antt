@@ -12,8 +12,8 @@ use Rattle.series_rules.specs.Views.{DeskKind, LeavesOnly, View}
 use Rattle.series_rules.specs.declared.requests.Request.{Request}
 use Rattle.onixdesk.proofs.TalkEnds.{talks_as}
 use Rattle.onixdesk.specs.TaskEnds.{GapsEnds, TaskEnds}
-use Rattle.onixdesk.specs.declared.command_line.Task.{Task}
-use Rattle.onixdesk.specs.declared.command_line.Task.TheVariants as task
+use Rattle.command_line.specs.declared.invocation.Task.{Task}
+use Rattle.command_line.specs.declared.invocation.Task.TheVariants as task
 
 -- what is seen of what comes of a desk: it stands for no less, and a crash leaves nothing more, or only what the desk stood for
 pub record ComesOf {k : DeskKind} (last new : View k) : Type 0 where

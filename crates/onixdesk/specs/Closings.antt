@@ -14,7 +14,7 @@ use Rattle.desk_store.specs.Desks.{KeepsRequests}
 use Rattle.desk_store.specs.Openings.{HoldRowsOf}
 use Rattle.desk_store.specs.Seen.{in_tables, seen_in}
 use Rattle.onixdesk.specs.TaskEnds.{TaskEnds}
-use Rattle.onixdesk.specs.declared.command_line.Task.{Task}
+use Rattle.command_line.specs.declared.invocation.Task.{Task}
 use Rattle.onixdesk.specs.declared.files.FilesLeft.{FilesLeft}
 use Rattle.onixdesk.specs.declared.files.FilesLeft.TheVariants.{Closed, NotOpened, Unclosed, Unopened, Untouched}
 

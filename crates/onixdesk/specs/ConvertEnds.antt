@@ -2,7 +2,7 @@
 use Rattle.std.specs.Prelude.{ℕ, Bool, List, Option, map}
 use Rattle.named_files.specs.Holdings.{Holdings}
 use Rattle.onix_files.specs.Runs.{RunEnds, run_asking}
-use Rattle.onixdesk.specs.declared.convert_words.Conversion.{Conversion}
+use Rattle.command_line.specs.declared.convert_words.Conversion.{Conversion}
 
 -- how `convert` can end with this status: as a run over its FILEs, of which the input tells its
 -- bytes or not, and names what they hold. Before, after: what names hold

@@ -10,7 +10,7 @@ use Rattle.desk_store.specs.ClosedFiles.{HoldOneDatabase}
 use Rattle.desk_store.specs.Openings.{MakesNothing}
 use Rattle.desk_http.specs.Writing.{WritesFront}
 use Rattle.named_files.specs.Holdings.{Holdings}
-use Rattle.onixdesk.specs.Asked.{Reads}
+use Rattle.command_line.specs.Asked.{Reads}
 use Rattle.onixdesk.specs.ConvertEnds.{ConvertEnds}
 use Rattle.onixdesk.specs.FileViews.{seen_files, seen_image, seen_store}
 use Rattle.onixdesk.specs.Leftovers.{IsUntouched, SparesUnopened}
@@ -18,12 +18,12 @@ use Rattle.onixdesk.specs.MigrationEnd.{MigrateEnds}
 use Rattle.onixdesk.specs.RulesFile.{RulesFit, status_of}
 use Rattle.onixdesk.specs.Sending.{SendEnds}
 use Rattle.onixdesk.specs.TaskEnds.{TaskEnds}
-use Rattle.onixdesk.specs.declared.command_line.Action.{Action}
-use Rattle.onixdesk.specs.declared.command_line.Action.TheVariants.{Convert, InMemory, InFile, Migrate, Send}
-use Rattle.onixdesk.specs.declared.command_line.Invocation.{Invocation}
-use Rattle.onixdesk.specs.declared.command_line.Reading.{Reading}
-use Rattle.onixdesk.specs.declared.command_line.Reading.TheVariants as reading
-use Rattle.onixdesk.specs.declared.command_line.Task.{Task}
+use Rattle.command_line.specs.declared.invocation.Action.{Action}
+use Rattle.command_line.specs.declared.invocation.Action.TheVariants.{Convert, InMemory, InFile, Migrate, Send}
+use Rattle.command_line.specs.declared.invocation.Invocation.{Invocation}
+use Rattle.command_line.specs.declared.invocation.Reading.{Reading}
+use Rattle.command_line.specs.declared.invocation.Reading.TheVariants as reading
+use Rattle.command_line.specs.declared.invocation.Task.{Task}
 use Rattle.onixdesk.specs.declared.files.FilesLeft.{FilesLeft}
 use Rattle.onixdesk.specs.declared.files.FilesLeft.TheVariants.{Closed, NotOpened, Unclosed, Unopened, Untouched}
 use Rattle.onixdesk.specs.declared.rules.RulesFault.{RulesFault}

@@ -11,11 +11,6 @@ pub mod Streams
 pub mod Sending
 pub mod TaskEnds
 pub mod FileViews
-pub mod Words
-pub mod ConvertWords
 pub mod ConvertEnds
-pub mod CommandLine
-pub mod Asked
-pub mod CommandNames
 pub mod FileEnds
 pub mod Closings

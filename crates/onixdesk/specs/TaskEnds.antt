@@ -15,8 +15,8 @@ use Rattle.onixdesk.specs.Connections.{Connection, IsServed, WritesLines, Writes
 use Rattle.onixdesk.specs.Deliveries.{TellsInput, delivery_of}
 use Rattle.onixdesk.specs.Serving.{listening_line}
 use Rattle.onixdesk.specs.declared.clients.Protocol.{Protocol}
-use Rattle.onixdesk.specs.declared.command_line.Task.{Task}
-use Rattle.onixdesk.specs.declared.command_line.Task.TheVariants as task
+use Rattle.command_line.specs.declared.invocation.Task.{Task}
+use Rattle.command_line.specs.declared.invocation.Task.TheVariants as task
 
 -- In all of these. Asked: the desk was asked these steps. Written: these bytes were written. Told:
 -- what the input tells of its bytes

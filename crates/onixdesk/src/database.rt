@@ -4,8 +4,8 @@ ghost use Rattle.std.specs.Prelude.{◌≡◌, ◌↔◌, IfErr, IsErrAnd, IsTru
 ghost use Rattle.std.specs.IoError.{error_kind};
 ghost use Rattle.onixdesk.specs.declared.fault.Fault.{Fault};
 
-use crate::command_line::Database;
 use crate::fault::Fault;
+use command_line::invocation::Database;
 use std::fs::Metadata;
 use std::io::{Error, ErrorKind, IsTerminal, Write};
 use std::rt::HostRuntime;

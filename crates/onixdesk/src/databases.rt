@@ -4,10 +4,10 @@ ghost use Rattle.std.specs.Prelude.{IfErr, IfOk, IsTrue};
 ghost use Rattle.onixdesk.specs.Databases.{AreSettled};
 ghost use Rattle.onixdesk.specs.Leftovers.{HasNoFiles};
 
-use crate::command_line::Database;
 use crate::database::look_at;
 use crate::fault::Fault;
 use crate::files::FilesLeft;
+use command_line::invocation::Database;
 use onix_message::StoreFault;
 use sqlite::{Files, Options};
 use sqlite_disk::Disk;

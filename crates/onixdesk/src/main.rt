@@ -1,6 +1,6 @@
-//! The program `onixdesk`: the intake of a bookshop's buying desk on the command line. `command_line`
-//! reads its words by the `commands` of clap, and `convert_words` those of `convert`, from the `words`
-//! that clap found; `rules` reads the precedence table, and `fault` has the texts of what can go wrong.
+//! The program `onixdesk`: the intake of a bookshop's buying desk on the command line. The crate
+//! `command_line` reads its arguments; `rules` reads the precedence table, and `fault` has the texts of
+//! what can go wrong, `help` those of clap.
 //! `database` looks at the database file, and `databases` opens it, by its path (`paths`). The commands
 //! are `batch`, `deliver`, `gaps` and `serve`, each over any desk; `program` gives them one in a
 //! database file, or in memory. `serve` is reached at a `port`, or at its `doors`; `sending` is a batch
@@ -11,10 +11,7 @@
 
 mod batch;
 mod clients;
-mod command_line;
-mod commands;
 mod connection;
-mod convert_words;
 mod database;
 mod databases;
 mod deliver;
@@ -22,7 +19,7 @@ mod doors;
 mod fault;
 mod files;
 mod gaps;
-mod laws;
+mod help;
 mod migrate;
 mod open_desks;
 mod paths;
@@ -33,12 +30,11 @@ mod sending;
 mod serve;
 mod sockets;
 mod timed;
-mod words;
 
 ghost use Rattle.std.specs.Prelude.{◌≤◌, IfOk};
 
-use crate::command_line::print_wrong;
 use crate::fault::{Fault, report};
+use crate::help::print_wrong;
 use crate::paths::Paths;
 use crate::program::run;
 use crate::sockets::Sockets;

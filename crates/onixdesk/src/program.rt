@@ -10,13 +10,13 @@ ghost use Rattle.onixdesk.specs.FileEnds.{ActionEnds, AreRulesOf, FileEnds, Invo
 ghost use Rattle.onixdesk.specs.MigrationEnd.{MigrateEnds};
 ghost use Rattle.onixdesk.specs.TaskEnds.{TaskEnds};
 
-use crate::command_line::{self, Action, Database, Invocation, Reading, Task};
 use crate::databases::{Databases, open_database};
 use crate::fault::{Fault, report};
 use crate::files::FilesLeft;
 use crate::open_desks::OpenDesks;
 use crate::rules::{RulesFault, open_table, report_rules};
-use crate::{batch, deliver, gaps, migrate, sending, serve};
+use crate::{batch, deliver, gaps, help, migrate, sending, serve};
+use command_line::invocation::{self, Action, Database, Invocation, Reading, Task};
 use desk_memory::MemoryDesk;
 use desk_store::DeskStore;
 use named_files::NamedFiles;
@@ -300,7 +300,7 @@ pub fn run<O: Databases, K: OpenDesks, F: NamedFiles, R: Read, W: Write, E: Writ
         (R.remaining input.old) (map (λ word. word.now) words.now) result.0 result.1 }
 {
     let alloc = rt.alloc();
-    match command_line::read(alloc, words) {
+    match invocation::read(alloc, words) {
         Reading::Run(invocation) => {
             run_invocation(
                 rt,
@@ -314,19 +314,19 @@ pub fn run<O: Databases, K: OpenDesks, F: NamedFiles, R: Read, W: Write, E: Writ
             )
         }
         Reading::Help(text) => {
-            let status = command_line::print_help(text.as_str(), output, errors);
+            let status = help::print_help(text.as_str(), output, errors);
             (status, FilesLeft::Untouched(databases))
         }
         Reading::Wrong(text) => {
-            let status = command_line::print_wrong(text.as_str(), errors);
+            let status = help::print_wrong(text.as_str(), errors);
             (status, FilesLeft::Untouched(databases))
         }
         Reading::NoDatabase => {
-            let status = command_line::print_wrong("onixdesk: migrate needs --db\n", errors);
+            let status = help::print_wrong("onixdesk: migrate needs --db\n", errors);
             (status, FilesLeft::Untouched(databases))
         }
         Reading::NoBatch => {
-            let status = command_line::print_wrong("onixdesk: --batches goes with batch\n", errors);
+            let status = help::print_wrong("onixdesk: --batches goes with batch\n", errors);
             (status, FilesLeft::Untouched(databases))
         }
         Reading::Memory => (

@@ -3,9 +3,9 @@ use Rattle.std.proofs.KnownBytes.{Appends-nil}
 use Rattle.std.specs.Borrow.{Bor}
 use Rattle.std.specs.Io.KnownBytes.{Appends}
 use Rattle.std.specs.String.{string_bytes}
-use Rattle.onixdesk.specs.Asked.{Reads}
+use Rattle.command_line.specs.Asked.{Reads}
 use Rattle.onixdesk.specs.FileEnds.{HelpEnds}
-use Rattle.onixdesk.specs.declared.command_line.Reading.TheVariants as reading
+use Rattle.command_line.specs.declared.invocation.Reading.TheVariants as reading
 use Rattle.onixdesk.proofs.program.run.Goals as goal
 
 abbrev words_of : List (Bor (List ℕ)) → List (List ℕ)

@@ -1,0 +1,3 @@
+mod CommandLemmas
+mod AskedLemmas
+mod CommandNameLemmas

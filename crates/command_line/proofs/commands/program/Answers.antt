@@ -1,0 +1,12 @@
+use Rattle.std.proofs.lemmas.Result.{IfOk-weaker}
+use Rattle.command_line.proofs.CommandLemmas.{with_ok_sub, with_sub}
+use Rattle.onixdesk.proofs.commands.program.Goals as goal
+
+pub returns : goal.returns
+returns c =
+    let one = with_sub c.in_ok-with_options.field-0 c.in_ok-program.program c.batch.result _ _ c.in_ok-with_options.ensures c.batch.ensures c.in_ok-program.ensures in
+    let two = with_ok_sub c.in_ok-program.program c.in_ok-program-2.program c.convert.result _ _ one c.convert.ensures c.in_ok-program-2.ensures in
+    let three = with_ok_sub c.in_ok-program-2.program c.in_ok-program-3.program c.deliver.result _ _ two c.deliver.ensures c.in_ok-program-3.ensures in
+    let four = with_ok_sub c.in_ok-program-3.program c.in_ok-program-4.program c.gaps.result _ _ three c.gaps.ensures c.in_ok-program-4.ensures in
+    let five = with_sub c.in_ok-program-4.program c.in_ok-program-5.program c.migrate.result _ _ four c.migrate.ensures c.in_ok-program-5.ensures in
+    IfOk-weaker c.with_command-6.result _ _ (λ made adds. with_ok_sub c.in_ok-program-5.program made c.serve.result _ _ five c.serve.ensures adds) c.with_command-6.ensures

@@ -1,0 +1,5 @@
+pub mod Words
+pub mod ConvertWords
+pub mod CommandLine
+pub mod Asked
+pub mod CommandNames

@@ -3,9 +3,9 @@
     bench/weight [--file FILE] [COMMAND..]
 
 It runs COMMAND ('make test') and looks at the processes below it twice a second. At the end it prints the
-processor time of each part, in minutes and as a multiple of what the proofs of csv_records and onix_terms took
-in the same run: the proof of each crate, that of its tests with their build, its must-fail edits, what the two
-compilers make of the program, and all else. Machines differ, and so do runs beside other work: multiples of one run compare.
+processor time of each part, as a multiple of what the proofs of csv_records and onix_terms took in the same
+run: the proof of each crate, that of its tests with their build, its must-fail edits, what the two compilers
+make of the program, and all else. Machines differ, and so do runs beside other work: multiples of one run compare.
 With --file the table so far is written there every half minute. The status is that of COMMAND.
 """
 

@@ -102,21 +102,40 @@ def crates_below(lines: list[str], name: str) -> set[str]:
     return below
 
 
+# What a part can be of a crate, as its name begins, and what the line of all such parts is called.
+KINDS = {"proof of ": "proofs", "edits of ": "edits", "tests of ": "tests", "compiling of ": "compiling"}
+
+
+def kind_and_crate(part: str) -> tuple[str, str]:
+    """The line of the table that a part stands in, and what it is called there."""
+    for start, kind in KINDS.items():
+        if part.startswith(start):
+            return kind, part.removeprefix(start)
+    return "others", part
+
+
 def report(sums: dict[str, float], crates: set[str], seconds: float) -> str:
-    """The table of parts, dearest first, and the sums that are looked at: the proofs of these crates, and all."""
+    """The table: a line for each kind of part, dearest first, in multiples, and then the sums that are looked at:
+    the proofs of these crates, and all."""
     base = sum(sums[name] for name in BASE)
-    rows = [(minutes, name) for name, minutes in dearest(sums)]
-    rows += [
+    kinds: dict[str, list[str]] = {kind: [] for kind in (*KINDS.values(), "others")}
+    minutes: dict[str, float] = defaultdict(float)
+    for name, spent in dearest(sums):
+        kind, crate = kind_and_crate(name)
+        kinds[kind].append(f"{crate} {times(spent, base)}")
+        minutes[kind] += spent
+    lines = [f"{kind}: {times(minutes[kind], base)} = {', '.join(parts)}" for kind, parts in kinds.items() if parts]
+    rows = [
         (sum(sums[f"proof of {crate}"] for crate in crates), "proofs of the program and all below it"),
         (sum(sums.values()), "all"),
         (base, "proofs of csv_records and onix_terms"),
     ]
-    lines = [f"{minutes:7.1f} min {times(minutes, base)} times  {name}" for minutes, name in rows if minutes >= 0.05]
-    return "\n".join([*lines, f"{seconds / 60:7.1f} min on the clock"]) + "\n"
+    lines += [f"{times(spent, base)} times, {spent:.1f} min: {name}" for spent, name in rows]
+    return "\n".join([*lines, f"{seconds / 60:.1f} min on the clock"]) + "\n"
 
 
 def times(minutes: float, base: float) -> str:
-    return f"{minutes / base:6.2f}" if base else "     -"
+    return f"{minutes / base:.2f}" if base else "-"
 
 
 def weigh(command: list[str], kept: Path | None) -> tuple[int, str]:

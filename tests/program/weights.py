@@ -25,13 +25,13 @@ PARTS = [
     (["rattle"], "/a", "all else"),
 ]
 
-TABLE = """    6.0 min   2.00 times  proof of desk_store
-    2.0 min   0.67 times  proof of onix_terms
-    1.0 min   0.33 times  proof of csv_records
-    7.0 min   2.33 times  proofs of the program and all below it
-    9.0 min   3.00 times  all
-    3.0 min   1.00 times  proofs of csv_records and onix_terms
-    2.0 min on the clock
+TABLE = """proofs: 3.00 = desk_store 2.00, onix_terms 0.67, csv_records 0.33
+edits: 1.50 = desk_store 1.50
+others: 0.50 = all else 0.50
+2.33 times, 7.0 min: proofs of the program and all below it
+5.00 times, 15.0 min: all
+1.00 times, 3.0 min: proofs of csv_records and onix_terms
+2.0 min on the clock
 """
 
 
@@ -66,6 +66,7 @@ def a_table(room: Room) -> Iterator[Outcome]:
     yield Outcome("bench/weight: crates below one", below, {"csv_records", "desk_store"})
     sums: defaultdict[str, float] = defaultdict(float)
     sums |= {"proof of desk_store": 6.0, "proof of onix_terms": 2.0, "proof of csv_records": 1.0}
+    sums |= {"edits of desk_store": 4.5, "all else": 1.5}
     yield Outcome("bench/weight: the table", report(sums, below, 120), TABLE)
 
 
@@ -74,7 +75,7 @@ def a_run(room: Room) -> Iterator[Outcome]:
     said = room.call(words)
     kept = room.path("weight.txt").read_bytes()
     yield Outcome("bench/weight: the status of what was run", said, Ran(3, kept))
-    yield Outcome("bench/weight: how long it ran", kept.splitlines()[-1], b"    0.0 min on the clock")
+    yield Outcome("bench/weight: how long it ran", kept.splitlines()[-1], b"0.0 min on the clock")
 
 
 # Files that a check keeps, and how long after the one before each was written.

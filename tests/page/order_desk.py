@@ -54,6 +54,9 @@ RISING = isbn_of(9005)
 BROKEN = isbn_of(9006)
 # Another wholesaler has it, without a price of the type.
 BESIDE = isbn_of(9007)
+# A book whose price a case changes, so that the five hundred keep theirs.
+CHANGING = isbn_of(9008)
+CHANGING_FROM, CHANGING_TO = Decimal("5.09"), Decimal("5.55")
 HOSTILE = "=cmd|' /C calc'!A0"
 
 
@@ -64,6 +67,10 @@ def compact(day: date) -> str:
 def product(reference: str, isbn: str, gln: str, availability: str, *prices: str) -> list[str]:
     details = ["ProductSupply,GB,,", f"SupplyDetail,04,06,{gln},Supplier,{availability},"]
     return [f'Product,"{reference}",03,15,{isbn}', *details, *prices]
+
+
+def changing_rows(gln: str, amount: Decimal) -> list[str]:
+    return product("s-8", CHANGING, gln, "21", f"Price,,{amount},,,,,,")
 
 
 def special_rows(gln: str) -> list[str]:
@@ -77,7 +84,12 @@ def special_rows(gln: str) -> list[str]:
         *product("s-5", RISING, gln, "21", f"Price,,9.99,,,,,,{until}", f"Price,,12.99,,,,,{then},"),
         *product("s-6", BROKEN, gln, "21", "Price,,5.00,,,,,,", "Price,,4.00,,,,,,,10"),
         *product(HOSTILE, BESIDE, gln, "21", "Price,,6.00,,,,,,"),
+        *changing_rows(gln, CHANGING_FROM),
     ]
+
+
+def gln_of(series: str) -> str:
+    return SENDERS[series].partition(",")[2]
 
 
 def message(series: str, number: int, rows: list[str]) -> str:
@@ -89,7 +101,7 @@ def batch() -> str:
     """Agreements, a message of each wholesaler, and a later one of gamma, before which two are missing."""
     text = "".join(f"Agree,{name},{sender},{SHOP},1\n" for name, sender in SENDERS.items())
     for series in WHOLESALERS:
-        gln = SENDERS[series].partition(",")[2]
+        gln = gln_of(series)
         rows = [
             row
             for number in range(BOOKS)

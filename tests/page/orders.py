@@ -270,29 +270,22 @@ def by_hand(site: Site, browser: Browser) -> Iterator[Outcome]:
     yield Outcome("a book that is left out", sums(browser)[-1], ["All", "2", "4", wanted])
 
 
-CHANGED = """Product,alpha-9,03,15,{isbn}
-ProductSupply,GB,,
-SupplyDetail,04,06,4100000000001,Supplier,21,
-Price,,{amount},,,,,,
-"""
-
-
 def changed(site: Site, browser: Browser) -> Iterator[Outcome]:
     """What has changed since the look-up is asked for again before it is saved."""
     folder = site.room.path("changed")
     save_to(browser, folder)
     open_list(browser)
-    look_up(browser, f"{isbn_of(9)} 2\n{isbn_of(12)}")
-    before = chosen_of(9).amount
-    text = CHANGED.format(isbn=isbn_of(9), amount="5.55")
-    site.tell_desk(order_desk.message("alpha", 2, text.splitlines()))
+    look_up(browser, f"{order_desk.CHANGING} 2\n{isbn_of(12)}")
+    rows = order_desk.changing_rows(order_desk.gln_of("alpha"), order_desk.CHANGING_TO)
+    site.tell_desk(order_desk.message("alpha", 2, rows))
     browser.one("#csv-all").click()
     told = status(browser, "changed")
     words = "1 book has changed since it was looked up. Nothing is saved: look at it, and save again."
     yield Outcome("a change is told", told, words)
     yield Outcome("and nothing is saved", list(folder.iterdir()), [])
-    row = row_of(browser, isbn_of(9))
-    wanted = ["£5.55", "£11.10", f"Changed: it was Alpha Books at {money(before)}."]
+    row = row_of(browser, order_desk.CHANGING)
+    before, now = order_desk.CHANGING_FROM, order_desk.CHANGING_TO
+    wanted = [money(now), money(2 * now), f"Changed: it was Alpha Books at {money(before)}."]
     yield Outcome("the row has what holds now", [*row[5:7], row[-1]], wanted)
     focus = browser.run("return document.activeElement.id")
     yield Outcome("the button keeps the focus", focus, "csv-all")
@@ -300,7 +293,7 @@ def changed(site: Site, browser: Browser) -> Iterator[Outcome]:
     status(browser, "Saved")
     [path] = folder.iterdir()
     prices = [row[3] for row in file_rows(saved(browser, path))]
-    yield Outcome("then it is saved", prices, ["Price", "5.55", cell(chosen_of(12).amount)])
+    yield Outcome("then it is saved", prices, ["Price", cell(now), cell(chosen_of(12).amount)])
 
 
 def older(site: Site, browser: Browser) -> Iterator[Outcome]:

@@ -1,15 +1,15 @@
 // The answer of a day: the sentence that says what to do, what speaks against it, and the table of offers.
 
-import { money, times } from "./amounts.js";
+import { money } from "./amounts.js";
 import {
-  conditionsOf, copiesInWords, detailsOf, kindOfAnswer, sentenceOf, sumInWords, unknownRule,
+  betterInWords, conditionsOf, copiesInWords, detailsOf, kindOfAnswer, otherRules, sentenceOf, sumInWords,
 } from "./decision.js";
 import { inWords, timeInWords } from "./days.js";
 import { element } from "./elements.js";
 import { areUnpriced, keyOf, ORDERS } from "./offers.js";
 import { offersInWords, offersTable, referencesTable } from "./offers-table.js";
 import { kindOf } from "./price-types.js";
-import { betterQuantities, changesOf } from "./quantities.js";
+import { changesOf } from "./quantities.js";
 import { messagesNotes } from "./reports.js";
 import { wholesalerOf } from "./settings.js";
 import { keep, recall } from "./storage.js";
@@ -30,15 +30,9 @@ function keptOrder() {
 }
 
 /** What speaks against the number of copies, of the chosen offer. */
-function copiesNotes({ choice, copies, question }) {
+function copiesNotes({ choice, copies, question: { quantity, currency } }) {
   if (choice === null || copies === undefined) return [];
-  const { fewer, more } = betterQuantities(changesOf(choice, copies), Number(question.quantity));
-  return Object.entries({ fewer, more }).flatMap(([name, better]) => {
-    if (better === undefined) return [];
-    const { quantity, amount } = better;
-    const [each, sum] = [amount, times(amount, quantity)].map((all) => money(all, question.currency));
-    return [say(`article.${name}`, { copies: copiesInWords(quantity), amount: each, sum })];
-  });
+  return betterInWords(changesOf(choice, copies), Number(quantity), currency);
 }
 
 /** Who has a price for more copies, of a book that nobody has one of for so few. */
@@ -196,7 +190,7 @@ export class Answer {
       ...untilNotes(answer, settings),
       ...copiesNotes(answer),
       ...moreOnlyNotes(answer, settings),
-      unknownRule(answer.choice, settings),
+      otherRules(answer, settings),
     ].filter((words) => words !== undefined);
     const notes = [...all.map((words) => [words]), ...messagesNotes(series, reports)];
     const items = notes.map((parts) => element("li", { class: "note" }, ...parts));

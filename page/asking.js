@@ -3,7 +3,7 @@
 import { ask } from "./desk.js";
 import { dayKeys, rangeKeys } from "./fields.js";
 import { keyOf } from "./offers.js";
-import { nextQuantity, withAnswer } from "./quantities.js";
+import { askedOn, nextQuantity, withAnswer } from "./quantities.js";
 import { codesOf } from "./wording.js";
 
 // How often the price and the choice are asked for until both are of the same moment.
@@ -11,9 +11,6 @@ const TRIES = 3;
 
 // The types that most wholesalers send, which are asked for before all others.
 const COMMON_TYPES = ["05", "02", "04", "01", "07"];
-
-// How many questions look for where prices change: a wholesaler with more changes is told by some of them.
-const MOST_QUESTIONS = 32;
 
 function isOfOneMoment(offers, choice) {
   if (choice === null) return true;
@@ -51,25 +48,17 @@ async function askQuantity(question, quantity, signal, watch) {
 
 /**
  * The offers of an answer at each of the quantities, which `show` gets as soon as they are there, and at those
- * between which a price changes.
+ * between which a price changes: of the chosen offer before all others.
  */
-export async function askCopies({ question, offers }, quantities, show, signal, watch) {
+export async function askCopies({ question, offers, choice }, quantities, show, signal, watch) {
   const asked = Number(question.quantity);
-  const others = quantities.filter((quantity) => quantity !== asked);
-  const found = await Promise.all(
-    others.map((quantity) => askQuantity(question, quantity, signal, watch)),
-  );
+  const askFor = (quantity) => askQuantity(question, quantity, signal, watch);
+  const found = await Promise.all(quantities.filter((quantity) => quantity !== asked).map(askFor));
   let answers = [{ quantity: asked, offers }];
   for (const answer of found) if (answer !== undefined) answers = withAnswer(answers, answer);
   show(answers);
-  for (let count = 0; count < MOST_QUESTIONS; count += 1) {
-    const next = nextQuantity(answers);
-    if (next === undefined) break;
-    const answer = await askQuantity(question, next, signal, watch);
-    if (answer === undefined) break;
-    answers = withAnswer(answers, answer);
-  }
-  return answers;
+  const next = (all) => nextQuantity(all, asked, choice ?? undefined) ?? nextQuantity(all, asked);
+  return askedOn(answers, next, askFor);
 }
 
 /** The types to look for in place of one, the common ones first. */

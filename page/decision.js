@@ -4,12 +4,24 @@ import { compareAmounts, isNothing, money, times } from "./amounts.js";
 import { inWords, today } from "./days.js";
 import { areUnpriced } from "./offers.js";
 import { kindOf } from "./price-types.js";
+import { betterQuantities } from "./quantities.js";
+import { chooseSo } from "./rules.js";
 import { wholesalerOf } from "./settings.js";
 import { codeInWords, formatter, language, say, sayCount, wordsOfCode } from "./wording.js";
 
 /** How many copies, in words. */
 export function copiesInWords(quantity) {
   return sayCount("article.copies", Number(quantity));
+}
+
+/** Which other numbers of copies are better than one, by the changes of an offer's price: a sentence for each. */
+export function betterInWords(changes, quantity, currency) {
+  const better = betterQuantities(changes, quantity);
+  return ["fewer", "more"].filter((name) => better[name] !== undefined).map((name) => {
+    const { quantity: copies, amount } = better[name];
+    const [each, sum] = [amount, times(amount, copies)].map((found) => money(found, currency));
+    return say(`article.${name}`, { copies: copiesInWords(copies), amount: each, sum });
+  });
 }
 
 /** What of a question is not as the shop asks mostly, in words that the sentence begins with. */
@@ -27,14 +39,15 @@ export function conditionsOf({ day, country, currency, type }, settings) {
 
 /** A rule of the shop, with its words where rules.toml has some. */
 function ruleInWords(rule, settings) {
-  const words = settings.rules[rule - 1] ?? "";
+  const words = settings.rules?.[rule - 1]?.words ?? "";
   return words === "" ? say("article.chosenBy", { rule }) : say("article.chosenByWords", { rule, words });
 }
 
-/** What is wrong with the words of rules, where the desk chose by one that rules.toml does not have. */
-export function unknownRule(choice, { rules }) {
-  if (choice === null || rules.length === 0 || choice.rule <= rules.length) return undefined;
-  return sayCount("article.unknownRule", rules.length, { rule: choice.rule });
+/** What is wrong with the words of rules, where the desk does not choose as rules.toml has it. */
+export function otherRules({ offers, choice }, { rules }) {
+  if (rules === undefined) return undefined;
+  if (choice?.rule > rules.length) return sayCount("article.unknownRule", rules.length, { rule: choice.rule });
+  return chooseSo(rules, offers, choice) ? undefined : say("article.otherRules");
 }
 
 /** What kind of thing an answer says: `none`, `unpriced`, `notChosen`, `free`, `net`, `retail` or `other`. */

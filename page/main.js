@@ -84,7 +84,7 @@ function scanIn(article) {
 async function start() {
   const { settings, problems } = await loadSettings();
   const [words, rules] = await Promise.all([loadWords(settings.language), loadRules()]);
-  settings.rules = rules ?? [];
+  settings.rules = rules;
   speak(settings.language, words.texts);
   document.documentElement.lang = settings.language;
   labelAll(document);

@@ -7,7 +7,7 @@ import { dayInShort, inWords } from "./days.js";
 import { element, table } from "./elements.js";
 import { keyOf, nameOf, referenceOf } from "./offers.js";
 import { kindOf } from "./price-types.js";
-import { changesOf, firstQuantities } from "./quantities.js";
+import { changesOf, listedQuantities } from "./quantities.js";
 import { wholesalerOf } from "./settings.js";
 import { codeInWords, formatter, say, sayCount, wordsOfCode } from "./wording.js";
 
@@ -73,7 +73,7 @@ function copiesCell(offer, { question, copies, types }, { settings, addressWith 
   }
   const asked = Number(question.quantity);
   if (changes.length === 1) {
-    const counts = firstQuantities(asked, settings.quantities).filter((quantity) => quantity !== asked);
+    const counts = listedQuantities(settings.quantities).filter((quantity) => quantity !== asked);
     const list = formatter(Intl.ListFormat).format(counts.map(number));
     return [element("span", { class: "lacking" }, say("article.sameForCopies", { counts: list }))];
   }

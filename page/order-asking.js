@@ -3,7 +3,8 @@
 import { ask } from "./desk.js";
 import { dayKeys, rangeKeys } from "./fields.js";
 import { keyOf } from "./offers.js";
-import { agree, lastAhead, LEFT_OUT, offersOfCalendar } from "./order-answers.js";
+import { agree, lastAhead, LEFT_OUT, offersOfCalendar, orderedOf } from "./order-answers.js";
+import { askedOn, nextBetter, quantitiesBeside, withAnswer } from "./quantities.js";
 
 // A browser has six connections to a server, of which some stay for the page's other questions.
 const AT_ONCE = 4;
@@ -70,16 +71,45 @@ export class OrderAsking {
     return { offers: isOrdered ? offersOfCalendar(offers, this.#question.day) : offers };
   }
 
-  /** The choice and the offers of a book, of one moment if that can be had, or a `refusal`. */
+  /** The offers of a book at another number of copies, as an answer; `undefined` where the desk refuses. */
+  async #askQuantity(book, quantity) {
+    const outcome = await this.#askOf({ ...book, copies: quantity }, "price");
+    return outcome.kind === "answer" ? { quantity, offers: outcome.body.offers } : undefined;
+  }
+
+  /** The offers of a book at the numbers beside its copies, of a book that is ordered. */
+  #besideOf(book, isOrdered) {
+    if (!isOrdered) return [];
+    return Promise.all(quantitiesBeside(book.copies).map((quantity) => this.#askQuantity(book, quantity)));
+  }
+
+  /** The offers of a book at each number of copies that tells whether another one is better for an offer. */
+  #copiesOf(book, offers, beside, offer) {
+    let answers = [{ quantity: book.copies, offers }];
+    for (const answer of beside) if (answer !== undefined) answers = withAnswer(answers, answer);
+    const next = (all) => nextBetter(all, book.copies, offer);
+    return askedOn(answers, next, (quantity) => this.#askQuantity(book, quantity));
+  }
+
+  /**
+   * The choice and the offers of a book, of one moment if that can be had, or a `refusal`; where it is ordered,
+   * `ordered` is the offer, and `copies` has the offers at other numbers of copies.
+   */
   async answerOf(book, hand) {
     for (let tries = 1; ; tries += 1) {
       const outcome = await this.#askOf(book, "choice");
       if (outcome.kind !== "answer") return { refusal: outcome };
       const { choice } = outcome.body;
       const isOrdered = hand === undefined ? choice !== null : hand !== LEFT_OUT;
-      const { offers, refusal } = await this.#offersOf(book, isOrdered);
+      const [{ offers, refusal }, beside] = await Promise.all([
+        this.#offersOf(book, isOrdered), this.#besideOf(book, isOrdered),
+      ]);
       if (refusal !== undefined) return { refusal };
-      if (tries === TRIES || agree(choice, offers)) return { choice, offers, at: Date.now(), isOrdered };
+      if (tries < TRIES && !agree(choice, offers)) continue;
+      const answer = { choice, offers, at: Date.now() };
+      const { offer } = orderedOf(answer, hand);
+      if (offer === undefined) return answer;
+      return { ...answer, ordered: offer, copies: await this.#copiesOf(book, offers, beside, offer) };
     }
   }
 

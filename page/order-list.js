@@ -1,6 +1,7 @@
 // An order list that was looked up: its books with their answers, and what a buyer chose by hand.
 
-import { LEFT_OUT, stateOf } from "./order-answers.js";
+import { keyOf } from "./offers.js";
+import { stateOf } from "./order-answers.js";
 
 export class OrderList {
   /** The text that was looked up, and the question (day, country, currency, type). */
@@ -56,10 +57,17 @@ export class OrderList {
     return this.askable().filter(({ answer }) => answer === undefined);
   }
 
-  /** Whether the answer of a book says less than its order needs, as where a hand chose it later. */
-  lacksCalendar(book) {
-    const hand = this.handOf(book);
-    return hand !== undefined && hand !== LEFT_OUT && !book.answer.isOrdered;
+  /** Whether the answer of a book says less than its order needs, as where a hand chose another offer later. */
+  isShort(book) {
+    const { answer } = book;
+    if (answer === undefined || answer.refusal !== undefined) return false;
+    const { offer } = this.stateOf(book);
+    return offer !== undefined && (answer.ordered === undefined || keyOf(answer.ordered) !== keyOf(offer));
+  }
+
+  /** The books whose answers say less than their orders need. */
+  short() {
+    return this.askable().filter((book) => this.isShort(book));
   }
 
   /** The series of all offers that were answered. */

@@ -2,10 +2,12 @@
 
 import { difference, money, signedMoney, times } from "./amounts.js";
 import { inWords } from "./days.js";
+import { betterInWords } from "./decision.js";
 import { element, table, tableRow } from "./elements.js";
 import { keyOf } from "./offers.js";
 import { marksOf } from "./offers-table.js";
 import { LEFT_OUT, unpricedBeside } from "./order-answers.js";
+import { changesOf } from "./quantities.js";
 import { wholesalerOf } from "./settings.js";
 import { formatter, say, wordsOfCode } from "./wording.js";
 
@@ -91,6 +93,12 @@ function addedUp({ lines, parts }) {
   return [say("order.addedUp", { lines: linesInWords({ lines }), copies: parts.join(" + ") })];
 }
 
+/** Which other numbers of copies are better, where the desk has been asked for those of the offer. */
+function otherCopies({ answer, copies }, offer, { currency }) {
+  const isAsked = answer.ordered !== undefined && keyOf(answer.ordered) === keyOf(offer);
+  return isAsked ? betterInWords(changesOf(offer, answer.copies), copies, currency) : [];
+}
+
 function noteCell(book, state, context) {
   const { offer, isByHand, need } = state;
   const words = [...addedUp(book)];
@@ -100,6 +108,7 @@ function noteCell(book, state, context) {
     }
     if (isByHand) words.push(say("order.byHand"));
     if (offer.change !== undefined) words.push(changeAhead(offer.change, context.currency));
+    words.push(...otherCopies(book, offer, context));
     const beside = unpricedBeside(book.answer, offer).map(({ series }) => wholesalerOf(context.settings, series));
     if (beside.length > 0) words.push(say("order.unpricedBeside", { wholesalers: [...new Set(beside)].join(", ") }));
   }

@@ -177,10 +177,9 @@ export class Order {
       found("saved").replaceChildren();
       tell(say("article.asking"));
       this.#show();
-      await eachOf(list.open(), async (book) => {
-        book.answer = await asking.answerOf(book, list.handOf(book));
-        this.#results.drawSoon(list, book);
-      });
+      await this.#askEach(asking, list.open());
+      // What a hand chose meanwhile.
+      await this.#askEach(asking, list.short());
       list.isAsking = false;
       const isLost = document.activeElement === found("stop");
       this.#show();
@@ -213,13 +212,26 @@ export class Order {
     showProgress(this.#list);
   }
 
+  /** Asks for books, which are drawn as they are answered. */
+  #askEach(asking, books) {
+    return eachOf(books, async (book) => {
+      book.answer = await asking.answerOf(book, this.#list.handOf(book));
+      if (this.#list.isAsking) this.#results.drawSoon(this.#list, book);
+      else this.#results.drawBook(this.#list, book);
+    });
+  }
+
   #choose(book, hand) {
-    this.#list.choose(book, hand);
-    this.#results.drawBook(this.#list, book);
-    if (this.#list.isAsking || !this.#list.lacksCalendar(book)) return;
+    const list = this.#list;
+    list.choose(book, hand);
+    this.#results.drawBook(list, book);
+    if (list.isAsking || list.short().length === 0) return;
     this.#ask(async (asking) => {
-      book.answer = await asking.answerOf(book, hand);
-      this.#results.drawBook(this.#list, book);
+      // An order that was to be saved is another one now.
+      showProgress(list);
+      tell(summaryOf(list));
+      await this.#askEach(asking, list.short());
+      showProgress(list);
     });
   }
 

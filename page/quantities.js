@@ -1,7 +1,7 @@
 // Prices that depend on how many copies are bought: where they change, found by questions at some numbers of
 // copies. An answer has a `quantity` and its `offers`, and answers stand in the order of quantities.
 
-import { compareAmounts, times } from "./amounts.js";
+import { compareAmounts, mostBelow, times } from "./amounts.js";
 import { keyOf } from "./offers.js";
 
 /** The most copies that the desk is asked about. */
@@ -10,10 +10,24 @@ export const MOST_COPIES = 999_999;
 // Where wholesalers mostly change a price.
 const USUAL = [2, 3, 5, 10, 20, 25, 50, 100, 200, 250, 500, 1000, 2000, 5000, 10_000, 100_000];
 
-/** The numbers of copies that are asked about first: whether there is a change beyond them is told by the last. */
+// How many questions look for where prices change: a wholesaler with more changes is told by some of them.
+const MOST_QUESTIONS = 32;
+
+const ascending = (numbers) => [...new Set(numbers)].sort((one, other) => one - other);
+
+/** The numbers of copies at which a price is told: one, those of desk.json, and the most. */
+export function listedQuantities(listed) {
+  return ascending([1, ...listed, MOST_COPIES]);
+}
+
+/** The numbers that are asked about first: those, the one that is wanted, and one copy fewer. */
 export function firstQuantities(quantity, listed) {
-  const all = new Set([1, ...listed, quantity, MOST_COPIES]);
-  return [...all].sort((one, other) => one - other);
+  return ascending([...listedQuantities(listed), Math.max(quantity - 1, 1), quantity]);
+}
+
+/** The numbers beside the wanted one that tell whether another number of copies may be better. */
+export function quantitiesBeside(quantity) {
+  return firstQuantities(quantity, []).filter((number) => number !== quantity);
 }
 
 /** The amount of an offer in an answer; `undefined` where the offer came or went meanwhile. */
@@ -21,10 +35,12 @@ function amountIn({ offers }, offer) {
   return offers.find((other) => keyOf(other) === keyOf(offer))?.amount;
 }
 
-function differ(one, other) {
-  return one.offers.some((offer) => {
-    const amount = amountIn(other, offer);
-    return amount !== undefined && amount !== offer.amount;
+/** Whether an offer, or, with `undefined`, any of them, has another amount in one answer than in another. */
+function differ(one, other, wanted) {
+  const offers = wanted === undefined ? one.offers : [wanted];
+  return offers.some((offer) => {
+    const [before, after] = [one, other].map((answer) => amountIn(answer, offer));
+    return before !== undefined && after !== undefined && before !== after;
   });
 }
 
@@ -35,15 +51,52 @@ function between(from, to) {
   return USUAL.includes(to) ? to - 1 : Math.floor((from + to) / 2);
 }
 
-/** The number of copies to ask about next, or `undefined` where each change is found. */
-export function nextQuantity(answers) {
-  for (const [at, answer] of answers.slice(1).entries()) {
-    const before = answers[at];
-    if (answer.quantity - before.quantity > 1 && differ(before, answer)) {
-      return between(before.quantity, answer.quantity);
-    }
-  }
-  return undefined;
+/** The answers between which numbers of copies are not asked about, and an offer, or any, has two amounts. */
+function gapsOf(answers, offer) {
+  return answers
+    .slice(1)
+    .map((to, at) => ({ from: answers[at], to }))
+    .filter(({ from, to }) => to.quantity - from.quantity > 1 && differ(from, to, offer));
+}
+
+/** The gap that is next to a number of copies, which is an answer's. */
+function nearest(gaps, quantity) {
+  const distance = ({ from, to }) => Math.max(from.quantity - quantity, quantity - to.quantity);
+  return [...gaps].sort((one, other) => distance(one) - distance(other))[0];
+}
+
+/**
+ * The number of copies to ask about next, or `undefined` where each change is found: of an offer, or, with
+ * `undefined`, of all. The changes next to the number that is wanted are found first.
+ */
+export function nextQuantity(answers, quantity, offer) {
+  const gap = nearest(gapsOf(answers, offer), quantity);
+  return gap === undefined ? undefined : between(gap.from.quantity, gap.to.quantity);
+}
+
+/** A gap with the `last` number of copies in it that may be better than the wanted one, if one may. */
+function betterIn({ from, to }, offer, quantity, amount) {
+  const [least] = [from, to].map((answer) => amountIn(answer, offer)).sort(compareAmounts);
+  const isBelow = to.quantity <= quantity;
+  if (isBelow) return compareAmounts(least, amount) < 0 ? [{ from, to, last: to.quantity }] : [];
+  const last = Math.min(mostBelow(least, times(amount, quantity)), to.quantity);
+  return last > from.quantity ? [{ from, to, last }] : [];
+}
+
+/**
+ * The number of copies to ask about next where one may be better than the wanted one, for an offer: with a
+ * lesser amount below it, with a lesser sum above it. `undefined` where that is known, if no amount between two
+ * answers is less than both of theirs.
+ */
+export function nextBetter(answers, quantity, offer) {
+  const wanted = answers.find((answer) => answer.quantity === quantity);
+  const amount = wanted === undefined ? undefined : amountIn(wanted, offer);
+  if (amount === undefined || amount === null) return undefined;
+  const gaps = gapsOf(answers, offer).flatMap((gap) => betterIn(gap, offer, quantity, amount));
+  const gap = nearest(gaps, quantity);
+  if (gap === undefined) return undefined;
+  const { from, to, last } = gap;
+  return last < to.quantity ? last : between(from.quantity, to.quantity);
 }
 
 /** Answers with one more, at its place. */
@@ -51,9 +104,21 @@ export function withAnswer(answers, answer) {
   return [...answers, answer].sort((one, other) => one.quantity - other.quantity);
 }
 
+/** Answers with those at the numbers that `next` has for them, which `askFor` asks, `undefined` where it cannot. */
+export async function askedOn(answers, next, askFor) {
+  let all = answers;
+  for (let count = 0; count < MOST_QUESTIONS; count += 1) {
+    const quantity = next(all);
+    const answer = quantity === undefined ? undefined : await askFor(quantity);
+    if (answer === undefined) break;
+    all = withAnswer(all, answer);
+  }
+  return all;
+}
+
 /**
  * Where the price of an offer changes: the first number of copies, and each at which it has another amount
- * than at the one before. `isExact` says that one copy fewer was asked about too.
+ * than at the one before, up to the number `last`. `isExact` says that one copy fewer was asked about too.
  */
 export function changesOf(offer, answers) {
   const changes = [];
@@ -62,9 +127,9 @@ export function changesOf(offer, answers) {
     const amount = amountIn(answer, offer);
     if (amount === undefined) continue;
     const { quantity } = answer;
-    if (changes.at(-1)?.amount !== amount) {
-      changes.push({ quantity, amount, isExact: quantity === before + 1 });
-    }
+    const change = changes.at(-1);
+    if (change?.amount === amount) change.last = quantity;
+    else changes.push({ quantity, last: quantity, amount, isExact: quantity === before + 1 });
     before = quantity;
   }
   return changes;
@@ -85,10 +150,8 @@ export function betterQuantities(changes, quantity) {
   const cheaper = changes.filter(
     ({ amount, quantity: from }) => from < here.quantity && compareAmounts(amount, here.amount) < 0,
   );
-  const following = changes[changes.indexOf(cheaper.at(-1)) + 1];
-  const fewer = cheaper.length > 0 && following.isExact
-    ? { quantity: following.quantity - 1, amount: cheaper.at(-1).amount }
-    : undefined;
+  const last = cheaper.at(-1);
+  const fewer = last === undefined ? undefined : { quantity: last.last, amount: last.amount };
   const sum = times(here.amount, quantity);
   const more = changes.find(
     ({ amount, quantity: from }) =>

@@ -51,12 +51,20 @@ function remembered(field) {
 }
 
 // What is scanned into a text of several lines is a line of it.
-const isText = (field) => field.localName === "textarea";
+const isText = (field) => field.localName === "textarea" && !field.readOnly;
+
+/** Ends the line at which a text has its caret. */
+function endLine(field) {
+  field.setRangeText("\n", field.selectionStart, field.selectionEnd, "end");
+  field.dispatchEvent(new Event("input", { bubbles: true }));
+}
 
 /** Listens to the keys of the page for bar codes, which are asked for wherever the focus is. */
 export class Scanner {
   #place;
   #burst = new Burst();
+  // Where the burst began.
+  #field = document.body;
   #restore = () => {};
   #timer;
 
@@ -76,30 +84,36 @@ export class Scanner {
     else if (isEnd && this.#isWhole(event)) {
       event.preventDefault();
       this.#finish();
-    } else if (isEnd || event.key.length === 1) this.#burst.end();
+    } else if (isEnd || event.key.length === 1) {
+      clearTimeout(this.#timer);
+      this.#burst.end();
+    }
   }
 
   #isWhole({ timeStamp }) {
-    const { code } = this.#burst;
-    return code !== undefined && this.#burst.isBehind(timeStamp) && !isText(document.activeElement);
+    return this.#burst.code !== undefined && this.#burst.isBehind(timeStamp);
   }
 
   #digit({ key, timeStamp }) {
     const field = document.activeElement ?? document.body;
     if (this.#burst.begins(timeStamp)) {
-      this.#restore = field === this.#place.field ? () => {} : remembered(field);
+      this.#field = field;
+      this.#restore = field === this.#place.field || isText(field) ? () => {} : remembered(field);
     }
     if (!field.matches(FIELDS)) this.#place.begin();
     this.#burst.add(key, timeStamp);
     clearTimeout(this.#timer);
-    const isWhole = this.#burst.code !== undefined && !isText(field);
-    if (isWhole) this.#timer = setTimeout(() => this.#finish(), BEHIND);
+    if (this.#burst.code !== undefined) this.#timer = setTimeout(() => this.#finish(), BEHIND);
   }
 
   #finish() {
     clearTimeout(this.#timer);
     const { code } = this.#burst;
     this.#burst.end();
+    if (isText(this.#field)) {
+      endLine(this.#field);
+      return;
+    }
     this.#restore();
     this.#place.scanned(code);
   }

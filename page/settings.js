@@ -1,11 +1,11 @@
 // desk.json, words.json and rules.toml, which the operator writes: the names of series, what the fields begin
-// with, the page's language and words, and those of rules. What is wrong with them is a `path` of the words for
+// with, the page's language and words, and the rules. What is wrong with them is a `path` of the words for
 // it, and `values`.
 
 import { urlBeside } from "./address.js";
 import { isChecked } from "./isbn.js";
 import { withOwnWords } from "./own-words.js";
-import { ruleWords } from "./rules.js";
+import { rulesOf } from "./rules.js";
 import { say, shippedWords } from "./wording.js";
 
 const FILE = "desk.json";
@@ -150,7 +150,6 @@ function settingsOf(given, problems) {
     minutesToUsual: read(
       given, "minutes_to_usual", isMinutes, MINUTES_TO_USUAL, problems, "minutesToUsual",
     ),
-    rules: [],
   };
 }
 
@@ -186,10 +185,10 @@ export async function loadSettings() {
   return { settings: settingsOf({}, []), problems: [problem] };
 }
 
-/** The words of the shop's rules, as rules.toml has them now; `undefined` where it cannot be read. */
+/** The shop's rules, as rules.toml has them now; `undefined` where it cannot be read. */
 export async function loadRules() {
   const { text } = await load(RULES, true);
-  return text === undefined ? undefined : ruleWords(text);
+  return text === undefined ? undefined : rulesOf(text);
 }
 
 /** The words of a language with those of the page's words.json, and what is wrong with that. */

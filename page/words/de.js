@@ -67,6 +67,7 @@ export const texts = {
       one: "Gewählt wurde nach Regel {rule}, aber rules.toml hat 1 Regel: Sie wurde nach dem Start des Einkaufs geändert.",
       other: "Gewählt wurde nach Regel {rule}, aber rules.toml hat {count} Regeln: Sie wurde nach dem Start des Einkaufs geändert.",
     },
+    otherRules: "Gewählt wurde anders, als es in rules.toml steht: Die Datei wurde nach dem Start des Einkaufs geändert, oder er hat eine andere.",
     leastPrice: "der niedrigste Preis",
     changed: "Geändert um {time}. Zuvor: {sentence}.",
     until: "Bis {last}. Ab {from} nimmt {wholesaler} {amount} je Exemplar.",

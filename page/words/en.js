@@ -67,6 +67,7 @@ export const texts = {
       one: "The desk chose by rule {rule}, but rules.toml has 1 rule: it was changed after the desk was started.",
       other: "The desk chose by rule {rule}, but rules.toml has {count} rules: it was changed after the desk was started.",
     },
+    otherRules: "The desk chose otherwise than rules.toml says: it was changed after the desk was started, or the desk has another file.",
     leastPrice: "the least price",
     changed: "Changed at {time}. Before: {sentence}.",
     until: "Until {last}. From {from} on {wholesaler} takes {amount} a copy.",

@@ -73,6 +73,30 @@ def scans(site: Site, browser: Browser) -> Iterator[Outcome]:
     yield Outcome("scanned in another view", said(browser, ISBN), True)
 
 
+def scanned_lines(site: Site, browser: Browser) -> Iterator[Outcome]:
+    """In the lines of an order list each scan is a line, whatever the scanner sends behind; beside them it is asked
+    for, as where a text is shown to be copied."""
+    browser.open("#order")
+    browser.wait(lambda: browser.run("return document.activeElement.id") == "lines")
+    for count, behind in enumerate(("\n", "\t", ""), 1):
+        scan(browser, ISBN + behind)
+        lines = browser.wait(lambda: browser.run("return document.getElementById('lines').value").count("\n") == count)
+        yield Outcome(f"scanned into lines, {behind!r}", lines, True)
+    yield Outcome("scanned into lines", browser.run("return document.getElementById('lines').value"), f"{ISBN}\n" * 3)
+    yield Outcome("scanned into lines: they are counted", browser.text("#look-up"), "Look up 3 lines")
+    focus = browser.run("return [document.activeElement.id, location.hash]")
+    yield Outcome("scanned into lines: the focus", focus, ["lines", "#order"])
+    browser.run(
+        """const area = document.createElement('textarea');
+        area.readOnly = true;
+        document.getElementById('saved').before(area);
+        document.getElementById('sums-part').hidden = false;
+        area.focus()"""
+    )
+    scan(browser, OTHER_ISBN)
+    yield Outcome("scanned at a text that cannot be changed", said(browser, OTHER_ISBN), True)
+
+
 def typed_digits(site: Site, browser: Browser) -> Iterator[Outcome]:
     """What a hand types beside the fields begins an ISBN, and an answer of another one is dimmed."""
     browser.open(article())
@@ -277,6 +301,17 @@ def own_numbers(site: Site, browser: Browser) -> Iterator[Outcome]:
 FIRST = '# West before all\n[[rule]]\nseries = "west"\ncodes = ["99"]\n\n'
 
 
+OTHERWISE = "The desk chose otherwise than rules.toml says"
+
+# The desk chooses by its second rule; without a text there stands the first one more before the desk's own.
+OTHER_TABLES = [
+    ("fewer rules", FIRST, "The desk chose by rule 2, but rules.toml has 1 rule: it was changed"),
+    ("none", "# None yet\n", "The desk chose by rule 2, but rules.toml has 0 rules: it was changed"),
+    ("one more in front", None, OTHERWISE),
+    ("another first one", '[[rule]]\nseries = "south"\ncodes = ["21"]\n\n[[rule]]\nseries = "*"\ncodes = ["21"]\n', OTHERWISE),
+]
+
+
 @contextlib.contextmanager
 def rules(site: Site, text: str, is_started: bool) -> Iterator[None]:
     """Puts another precedence table into the place of the shop's, with the desk started anew or not."""
@@ -300,14 +335,17 @@ def words_of_rules(site: Site, browser: Browser) -> Iterator[Outcome]:
         browser.open(article())
         told = "rule 3: “Else whoever has the book”"
         yield Outcome("a rule put in front", said(browser, told), True)
-    with rules(site, FIRST, False):
-        browser.open(article())
-        answered(browser)
-        told = "The desk chose by rule 2, but rules.toml has 1 rule: it was changed after the desk was started."
-        yield Outcome("a table that is not the desk's", noted(browser, told), True)
+    for name, text, told in OTHER_TABLES:
+        with rules(site, text or FIRST + table, False):
+            browser.open(article())
+            answered(browser)
+            yield Outcome(f"a table that is not the desk's: {name}", noted(browser, told), True)
+    browser.open(article())
+    answered(browser)
+    yield Outcome("the desk's own table", "rules.toml" in browser.text("#notes"), False)
 
 
 CASES = [
-    scans, typed_digits, whole_sentence, back_to_usual, marked_wholesalers, breaks, until, aliases, own_numbers,
+    scans, scanned_lines, typed_digits, whole_sentence, back_to_usual, marked_wholesalers, breaks, until, aliases, own_numbers,
     words_of_rules, asked_anew,
 ]

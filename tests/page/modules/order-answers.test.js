@@ -108,7 +108,7 @@ test("what is lacking to free carriage", () => {
 
 test("books that need a person come first, once all are answered", () => {
   const list = new OrderList();
-  const answer = { choice: chosen(SOUTH), offers: [NORTH, SOUTH], at: 5, isOrdered: true };
+  const answer = { choice: chosen(SOUTH), offers: [NORTH, SOUTH], at: 5, ordered: SOUTH, copies: [] };
   list.begin("", {}, [{ ...BOOK, isbn: "1" }, { ...BOOK, isbn: "2" }, { ...BOOK, wrong: "isbn" }, { ...BOOK, isbn: "4" }]);
   list.isAsking = true;
   const order = () => list.rows().map(({ book }) => book.id);
@@ -124,9 +124,24 @@ test("books that need a person come first, once all are answered", () => {
   assert.deepEqual(list.series(), ["north", "south"]);
 });
 
+test("an answer is short where another offer is ordered than it was asked for", () => {
+  const list = new OrderList();
+  list.begin("", {}, [BOOK, { ...BOOK, isbn: "2" }, { ...BOOK, wrong: "isbn" }]);
+  assert.deepEqual(list.short(), []);
+  list.books[0].answer = { choice: chosen(SOUTH), offers: [NORTH, SOUTH], ordered: SOUTH, copies: [] };
+  list.books[1].answer = { choice: null, offers: [NORTH] };
+  assert.deepEqual(list.short(), []);
+  list.choose(BOOK, NORTH);
+  list.choose({ isbn: "2" }, NORTH);
+  assert.deepEqual(list.short().map(({ id }) => id), [0, 1]);
+  list.choose(BOOK, LEFT_OUT);
+  list.choose({ isbn: "2" }, undefined);
+  assert.deepEqual(list.short(), []);
+});
+
 test("what a hand chose stays through a new look-up, and is ordered from that wholesaler", () => {
   const list = new OrderList();
-  const answer = { choice: chosen(SOUTH), offers: [NORTH, SOUTH], isOrdered: true };
+  const answer = { choice: chosen(SOUTH), offers: [NORTH, SOUTH], ordered: SOUTH, copies: [] };
   list.begin("", {}, [BOOK]);
   list.books[0].answer = answer;
   list.choose(BOOK, NORTH);

@@ -22,7 +22,7 @@ beforeEach(() => {
     const what = url.pathname.split("/").at(-1);
     asked.push(`${what}${url.search}`);
     const found = replies[what];
-    return new Response(JSON.stringify(typeof found === "function" ? found() : found));
+    return new Response(JSON.stringify(typeof found === "function" ? found(url) : found));
   };
 });
 afterEach(() => {
@@ -37,14 +37,34 @@ const calendarOf = (amount) => ({ answer: "calendar", offers: [{ ...HEAD, spans:
 const priceOf = (amount) => ({ answer: "price", offers: [{ ...HEAD, amount }] });
 const names = () => asked.map((text) => text.split("?")[0]);
 
-test("what is ordered is asked for its choice and its calendar of 30 days, with its copies", async () => {
-  replies = { choice: choiceOf("9.000"), calendar: calendarOf("9.000") };
-  const { choice, offers, isOrdered } = await asking().answerOf(BOOK, undefined);
-  assert.deepEqual([choice.amount, offers[0].amount, isOrdered], ["9.000", "9.000", true]);
+test("what is ordered is asked for its choice, its calendar of 30 days, and its price at other copies", async () => {
+  replies = { choice: choiceOf("9.000"), calendar: calendarOf("9.000"), price: priceOf("9.000") };
+  const { choice, offers, ordered, copies } = await asking().answerOf(BOOK, undefined);
+  assert.deepEqual([choice.amount, offers[0].amount, ordered.amount], ["9.000", "9.000", "9.000"]);
+  assert.deepEqual(copies.map(({ quantity }) => quantity), [1, 2, 999999]);
   assert.deepEqual(asked, [
     "choice?day=20261127&country=GB&currency=GBP&type=05&quantity=2",
     "calendar?from=20261127&to=20261227&country=GB&currency=GBP&type=05&quantity=2",
+    "price?day=20261127&country=GB&currency=GBP&type=05&quantity=1",
+    "price?day=20261127&country=GB&currency=GBP&type=05&quantity=999999",
   ]);
+});
+
+test("numbers of copies that may be better are asked for until they are found", async () => {
+  const amountOf = (quantity) => (quantity < 3 ? "9.000" : "5.000");
+  replies = {
+    choice: choiceOf("9.000"),
+    calendar: calendarOf("9.000"),
+    price: (url) => priceOf(amountOf(Number(url.searchParams.get("quantity")))),
+  };
+  const { copies } = await asking().answerOf(BOOK, undefined);
+  assert.deepEqual(copies.map(({ quantity }) => quantity), [1, 2, 3, 999999]);
+});
+
+test("where prices of other copies are refused, the book is answered all the same", async () => {
+  replies = { choice: choiceOf("9.000"), calendar: calendarOf("9.000"), price: { answer: "refused", reason: "bad-query" } };
+  const { offers, copies } = await asking().answerOf(BOOK, undefined);
+  assert.deepEqual([offers[0].amount, copies.map(({ quantity }) => quantity)], ["9.000", [2]]);
 });
 
 test("what is not ordered is asked for no calendar", async () => {
@@ -55,19 +75,22 @@ test("what is not ordered is asked for no calendar", async () => {
   await asking().answerOf(BOOK, LEFT_OUT);
   assert.deepEqual(names(), ["choice", "price"]);
   asked.length = 0;
-  await asking().answerOf(BOOK, HEAD);
-  assert.deepEqual(names(), ["choice", "calendar"]);
+  const { ordered } = await asking().answerOf(BOOK, HEAD);
+  assert.deepEqual(names(), ["choice", "calendar", "price", "price"]);
+  assert.equal(ordered.amount, "9.000");
 });
 
 test("a choice and offers of two moments are asked for again, three times at most", async () => {
   const amounts = ["9.500", "9.000"];
-  replies = { choice: choiceOf("9.000"), calendar: () => calendarOf(amounts.shift() ?? "9.000") };
+  const price = priceOf("9.000");
+  replies = { choice: choiceOf("9.000"), calendar: () => calendarOf(amounts.shift() ?? "9.000"), price };
   assert.equal((await asking().answerOf(BOOK, undefined)).offers[0].amount, "9.000");
-  assert.deepEqual(names(), ["choice", "calendar", "choice", "calendar"]);
+  const count = (what) => names().filter((name) => name === what).length;
+  assert.deepEqual([count("choice"), count("calendar")], [2, 2]);
   asked.length = 0;
-  replies = { choice: choiceOf("9.000"), calendar: calendarOf("9.500") };
+  replies = { choice: choiceOf("9.000"), calendar: calendarOf("9.500"), price };
   await asking().answerOf(BOOK, undefined);
-  assert.equal(asked.length, 6);
+  assert.deepEqual([count("choice"), count("calendar")], [3, 3]);
 });
 
 test("a refusal is an answer to nothing", async () => {

@@ -30,7 +30,6 @@ test("what is not named is as the page has it", () => {
     type: "05",
     quantities: [],
     minutesToUsual: 10,
-    rules: [],
   });
 });
 

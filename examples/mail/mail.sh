@@ -11,18 +11,26 @@ most=100
 
 complain() { echo "mail.sh: $*, so nobody is mailed" >&2; exit 1; }
 
-# What the journal has of the units since the last time; how far it is read then is kept in the file of that name.
+# What the journal has of the units from the last line that was read, which is left out here: where it is not of the
+# lines that are asked for, --after-cursor of systemd 252 leaves out the next one in its place.
 journal() {
-    until=$folder/$1
-    shift
-    if [ -e "$folder/cursor" ]; then
-        cp "$folder/cursor" "$until"
+    if [ -e "$folder/read" ]; then
+        set -- --cursor="$(sed -n 1p "$folder/read")" "$@"
     else
-        rm -f "$until"
         set -- --since=-1h "$@"
     fi
-    journalctl --quiet --no-pager --output=short --cursor-file="$until" --unit=onixdesk.service \
-        --unit='onixdesk-inbox@*.service' --unit=onixdesk-copy.service --unit=onixdesk-follow.service "$@"
+    journalctl --quiet --no-pager --output=short --unit=onixdesk.service --unit='onixdesk-inbox@*.service' \
+        --unit=onixdesk-copy.service --unit=onixdesk-follow.service "$@" >"$folder/journal" || return
+    [ -e "$folder/read" ] && [ "$(sed -n 1p "$folder/journal")" = "$(sed -n 2p "$folder/read")" ] &&
+        sed -i 1d "$folder/journal"
+    cat "$folder/journal"
+}
+
+# Keeps how far the journal was read: a cursor and the line that it is of.
+keep() {
+    [ -s "$folder/lines" ] || return 0
+    printf '%s\n' "$cursor" "$(tail -n 1 "$folder/lines")" >"$folder/read.new"
+    mv "$folder/read.new" "$folder/read"
 }
 
 # The first lines of a file, each cut, and how many more there are.
@@ -43,13 +51,15 @@ mail() {
 [ -n "$address" ] || complain "no ADDRESS is set in /etc/onixdesk/mail.conf"
 command -v sendmail >/dev/null || complain "no sendmail is here (apt-get install default-mta)"
 # An error that is written between the two is mailed twice, and none is left out.
-journal read >"$folder/lines" || complain "the journal cannot be read"
-journal beside --priority=err >"$folder/told" || complain "the journal cannot be read"
+journal --show-cursor >"$folder/told" || complain "the journal cannot be read"
+cursor=$(sed -n 's/^-- cursor: //p' "$folder/told" | tail -n 1)
+sed '/^-- cursor: /d' "$folder/told" >"$folder/lines"
+journal --priority=err >"$folder/told" || complain "the journal cannot be read"
 grep -E ': (Failed with result|Failed to start|Start request repeated) ' "$folder/lines" >>"$folder/told"
 awk '!said[$0]++' "$folder/told" >"$folder/errors"
 if [ -s "$folder/errors" ]; then
     mail >"$folder/mail"
     sendmail -i -t <"$folder/mail" || complain "sendmail ends with status $?"
 fi
-[ ! -e "$folder/read" ] || mv "$folder/read" "$folder/cursor"
-rm -f "$folder/told" "$folder/errors" "$folder/lines" "$folder/mail" "$folder/beside"
+keep
+rm -f "$folder/told" "$folder/errors" "$folder/lines" "$folder/mail" "$folder/journal"

@@ -13,22 +13,40 @@ from tools.root import ROOT
 MAIL = ROOT / "examples/mail/mail.sh"
 SERVE = ROOT / "examples/serve.sh"
 
-# Writes the lines of the journal, or its errors, and a cursor: how often it was read.
+# A journal of lines `PRIORITY TEXT`, whose cursors are their numbers, asked as systemd 252 is.
 JOURNAL = """\
-for word; do case $word in --cursor-file=*) cursor=${word#*=} ;; --priority=err) file=errors ;; esac; done
+first=1 most=7 skips=0 shows=0
+for word; do
+    case $word in
+    --cursor=*) first=${word#*=} ;;
+    --after-cursor=*) first=${word#*=} skips=1 ;;
+    --priority=err) most=3 ;;
+    --show-cursor) shows=1 ;;
+    esac
+done
 echo "$*" >>"$ROOM/calls"
-[ -e "$cursor" ] && cat "$cursor" >>"$ROOM/cursors"
-echo "after $(wc -l <"$ROOM/calls")" >"$cursor"
-cat "$ROOM/journal-${file-lines}\""""
+awk -v first="$first" -v most="$most" -v skips="$skips" -v shows="$shows" '
+    NR < first || $1 > most { next }
+    !skips { print substr($0, 3) }
+    { skips = 0; last = NR }
+    END { if (shows && last) print "-- cursor: " last }' "$ROOM/journal\""""
 
 
-def make_room(room: Room, lines: str, errors: str) -> None:
+def make_room(room: Room) -> None:
     room.path("state").mkdir(exist_ok=True)
     room.path("bin").mkdir(exist_ok=True)
-    room.write("journal-lines", lines.encode())
-    room.write("journal-errors", errors.encode())
+    room.write("journal", b"")
     script(room, "bin/journalctl", JOURNAL)
+    make_server(room)
+
+
+def make_server(room: Room) -> None:
     script(room, "bin/sendmail", f'echo "words: $*" >"{room.path("mailed")}"; cat >>"{room.path("mailed")}"')
+
+
+def say(room: Room, priority: int, *lines: str) -> None:
+    with room.path("journal").open("a") as journal:
+        journal.writelines(f"{priority} {line}\n" for line in lines)
 
 
 def mail(room: Room, address: str = "buying@example.org") -> Ran:
@@ -42,37 +60,64 @@ def mailed(room: Room) -> list[str]:
     return path.read_text().splitlines() if path.exists() else []
 
 
+DONE = "onixdesk-inbox@north[1]: a.csv: done: number 1 applied"
+REFUSED = "onixdesk-inbox@north[1]: a.xml: refused: never"
+FAULT = "serve.sh[2]: 503"
+
+# As systemd writes it, the second as an error.
+FAILED = "systemd[1]: onixdesk-copy.service: Failed with result 'exit-code'."
+NOT_STARTED = "systemd[1]: Failed to start onixdesk-copy.service - Copies the desk while it goes on answering."
+
+
+def bodies(room: Room) -> tuple[list[str], list[str]]:
+    """The errors of a mail, and all that was said."""
+    lines = mailed(room)
+    body = lines[lines.index("") + 1 :] if lines else ["", "All that was said:", ""]
+    place = body.index("All that was said:")
+    return body[: place - 1], body[place + 2 :]
+
+
 def what_is_mailed(room: Room) -> Iterator[Outcome]:
     """Errors and units that failed, with all that was said, up to a bound each; and nothing where all went well."""
-    done = "onixdesk-inbox@north[1]: a.csv: done: number 1 applied\n"
-    make_room(room, done, "")
+    make_room(room)
+    say(room, 5, DONE)
     yield Outcome("mails: all went well", (mail(room), mailed(room)), (Ran(0), []))
-    refused = "".join(f"onixdesk-inbox@north[1]: {place}.xml: refused: {'x' * 600}\n" for place in range(150))
-    failed = "systemd[1]: onixdesk-copy.service: Failed with result 'exit-code'.\n"
-    # What systemd writes as an error is not said twice.
-    make_room(room, done + refused + failed, refused + failed)
+    refused = [f"onixdesk-inbox@north[1]: {place}.xml: refused: {'x' * 600}" for place in range(150)]
+    say(room, 3, *refused)
+    say(room, 5, FAILED)
+    say(room, 3, NOT_STARTED)
     came = mail(room)
-    lines = mailed(room)
-    head = ["words: -i -t", "To: buying@example.org", "Subject: onixdesk: 151 lines to look at"]
-    yield Outcome("mails: the head of one", (came, lines[:3]), (Ran(0), head))
-    body = lines[lines.index("") + 1 :]
-    cut = [line[:500] for line in refused.splitlines()[:100]]
-    yield Outcome("mails: the errors", body[:101], [*cut, "and 51 more"])
-    wanted = ["", "All that was said:", "", done.strip(), *cut[:99], "and 52 more"]
-    yield Outcome("mails: all that was said", body[101:], wanted)
-    make_room(room, failed, "")
-    mail(room)
-    yield Outcome("mails: a unit that failed", failed.strip() in mailed(room), True)
+    head = ["words: -i -t", "To: buying@example.org", "Subject: onixdesk: 152 lines to look at"]
+    yield Outcome("mails: the head of one", (came, mailed(room)[:3]), (Ran(0), head))
+    cut = [line[:500] for line in refused[:100]]
+    wanted = [*cut, "and 52 more"]
+    yield Outcome("mails: what is in it", bodies(room), (wanted, wanted))
     called = room.path("calls").read_text().splitlines()
     units = [f"--unit={name}.service" for name in ("onixdesk", "onixdesk-inbox@*", "onixdesk-copy", "onixdesk-follow")]
     yield Outcome("mails: of which units", [word for word in called[-1].split() if word.startswith("--unit")], units)
-    yield Outcome("mails: at first of an hour", ["--since=-1h" in call for call in called], [True] * 2 + [False] * 4)
+    yield Outcome("mails: at first of an hour", ["--since=-1h" in call for call in called], [True] * 2 + [False] * 2)
+
+
+def from_mail_to_mail(room: Room) -> Iterator[Outcome]:
+    """Each line once, whichever came last before."""
+    make_room(room)
+    for last, then in [(5, 3), (3, 3), (3, 5), (5, 5)]:
+        say(room, last, DONE)
+        mail(room)
+        say(room, then, REFUSED, FAULT)
+        mail(room)
+        wanted = ([REFUSED, FAULT], [REFUSED, FAULT]) if then == 3 else ([], [])
+        yield Outcome(f"mails: {then} behind {last}", bodies(room), wanted)
+        yield Outcome(f"mails: {then} behind {last}, and no second time", (mail(room), mailed(room)), (Ran(0), []))
+    say(room, 5, FAILED, FAILED)
+    mail(room)
+    yield Outcome("mails: a unit that failed", bodies(room), ([FAILED], [FAILED, FAILED]))
 
 
 def what_cannot_be_mailed(room: Room) -> Iterator[Outcome]:
     """It is told, and mailed the next time."""
-    line = "onixdesk-inbox@north[1]: a.xml: refused: never\n"
-    make_room(room, line, line)
+    make_room(room)
+    say(room, 3, REFUSED)
     script(room, "bin/sendmail", "exit 75")
     wanted = Ran(1, b"", b"mail.sh: sendmail ends with status 75, so nobody is mailed\n")
     yield Outcome("mails: a mail server that fails", mail(room), wanted)
@@ -81,15 +126,14 @@ def what_cannot_be_mailed(room: Room) -> Iterator[Outcome]:
     yield Outcome("mails: no mail server", mail(room), wanted)
     wanted = Ran(1, b"", b"mail.sh: no ADDRESS is set in /etc/onixdesk/mail.conf, so nobody is mailed\n")
     yield Outcome("mails: no address", mail(room, ""), wanted)
-    yield Outcome("mails: nothing counts as read", room.path("state/cursor").exists(), False)
-    make_room(room, line, line)
+    make_server(room)
+    say(room, 3, FAULT)
     mail(room)
-    yield Outcome("mails: then it is", line.strip() in mailed(room), True)
-    kept = room.path("state/cursor").read_text()
-    mail(room)
-    read = room.path("cursors").read_text().splitlines()
-    yield Outcome("mails: from there the next one reads", read[-2:], [kept.strip()] * 2)
-    yield Outcome("mails: nothing else is kept", [path.name for path in room.path("state").iterdir()], ["cursor"])
+    yield Outcome("mails: then both are", bodies(room), ([REFUSED, FAULT],) * 2)
+    yield Outcome("mails: nothing else is kept", [path.name for path in room.path("state").iterdir()], ["read"])
+    script(room, "bin/journalctl", "exit 1")
+    wanted = Ran(1, b"", b"mail.sh: the journal cannot be read, so nobody is mailed\n")
+    yield Outcome("mails: no journal", mail(room), wanted)
 
 
 def lines_of_a_desk(room: Room) -> Iterator[Outcome]:
@@ -111,6 +155,7 @@ def lines_of_a_desk(room: Room) -> Iterator[Outcome]:
 
 GROUPS = [
     Group("mails: what is mailed", what_is_mailed),
+    Group("mails: from mail to mail", from_mail_to_mail),
     Group("mails: what cannot be mailed", what_cannot_be_mailed),
     Group("units: the lines of a desk", lines_of_a_desk),
 ]

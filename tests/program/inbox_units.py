@@ -48,7 +48,7 @@ UMask=0077
 # How each reaches others: the desk has a socket of the file system beside its port.
 FAMILIES = {"the desk": "AF_INET AF_UNIX", "an inbox": "AF_INET"}
 
-LIMITS = {"the desk": ["LimitDATA", "MemoryMax"], "an inbox": ["MemoryMax", "OOMPolicy", "TimeoutStartSec"]}
+LIMITS = {"the desk": ["LimitDATA", "MemoryMax"], "an inbox": ["MemoryMax", "Nice", "CPUWeight", "OOMPolicy", "TimeoutStartSec"]}
 
 
 def lines_of(name: str) -> list[str]:

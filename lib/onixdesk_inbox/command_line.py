@@ -33,8 +33,11 @@ Status 0, also where files wait; 1 where a file was refused, or has lain there f
 line or bad settings; 3 where a folder cannot be used. docs/INBOX.md has the settings."""
 
 
+is_series = re.compile("[a-z0-9-]{1,32}").fullmatch
+
+
 def series(word: str) -> str:
-    if not re.fullmatch("[a-z0-9-]{1,32}", word):
+    if not is_series(word):
         raise argparse.ArgumentTypeError(f"{ascii(word)} is not the name of a series")
     return word
 

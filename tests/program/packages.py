@@ -17,12 +17,13 @@ MAY_IMPORT: dict[str, set[str]] = {
     "lib/desk_restore": {"command_lines", "desk_copy"},
     "lib/desk_follow": {"command_lines", "desk_copy", "psycopg2"},
     "lib/onixdesk_inbox": {"command_lines"},
+    "lib/desk_metrics": {"command_lines", "onixdesk_inbox"},
     "tools": set(),
     "bench": {"desk_copy", "desk_follow", "psycopg2", "tools"},
     # The tests of the page drive a browser.
     "tests": {
-        "bench", "command_lines", "desk_copy", "desk_follow", "desk_restore", "onixdesk_inbox", "psycopg2", "selenium",
-        "tools",
+        "bench", "command_lines", "desk_copy", "desk_follow", "desk_metrics", "desk_restore", "onixdesk_inbox", "psycopg2",
+        "selenium", "tools",
     },
 }
 

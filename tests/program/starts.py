@@ -102,6 +102,7 @@ def unit(_room: Room) -> Iterator[Outcome]:
         "inbox/onixdesk-inbox@.service",
         "copies/onixdesk-copy.service",
         "follow/onixdesk-follow.service",
+        "metrics/onixdesk-metrics.service",
     ]
     for name in names:
         text = (ROOT / "examples" / name).read_text(encoding="utf-8")

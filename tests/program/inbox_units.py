@@ -14,9 +14,10 @@ FOLDER = ROOT / "examples/inbox"
 UNITS = {
     "the desk": ROOT / "examples/onixdesk.service",
     "an inbox": FOLDER / "onixdesk-inbox@.service",
+    "the metrics": ROOT / "examples/metrics/onixdesk-metrics.service",
 }
 
-# What neither service needs, by the names that systemd.exec(5) and systemd.resource-control(5) have for it.
+# What none of them needs, by the names that systemd.exec(5) and systemd.resource-control(5) have for it.
 FORBIDDEN = """
 CapabilityBoundingSet=
 Environment=HOME=/nonexistent
@@ -46,9 +47,13 @@ UMask=0077
 """.split("\n")[1:-1]
 
 # How each reaches others: the desk has a socket of the file system beside its port.
-FAMILIES = {"the desk": "AF_INET AF_UNIX", "an inbox": "AF_INET"}
+FAMILIES = {"the desk": "AF_INET AF_UNIX", "an inbox": "AF_INET", "the metrics": "AF_INET"}
 
-LIMITS = {"the desk": ["LimitDATA", "MemoryMax"], "an inbox": ["MemoryMax", "Nice", "CPUWeight", "OOMPolicy", "TimeoutStartSec"]}
+LIMITS = {
+    "the desk": ["LimitDATA", "MemoryMax"],
+    "an inbox": ["MemoryMax", "Nice", "CPUWeight", "OOMPolicy", "TimeoutStartSec"],
+    "the metrics": ["MemoryMax", "TimeoutStartSec"],
+}
 
 
 def lines_of(name: str) -> list[str]:
@@ -138,7 +143,7 @@ def version(room: Room) -> Iterator[Outcome]:
     package = [*ROOT.joinpath("packaging").glob("*.1"), *ROOT.glob("packaging/debian/*"), *ROOT.glob("bin/*")]
     named = [path.name for path in package if path.is_file() and f"{number} " in path.read_text(encoding="utf-8")]
     yield Outcome("the version of the package", named, [])
-    for name in ("onixdesk.1", "onix-to-csv.1", "desk-copy.1", "desk-restore.1", "desk-follow.1"):
+    for name in ("onixdesk.1", "onix-to-csv.1", "desk-copy.1", "desk-restore.1", "desk-follow.1", "desk-metrics.1"):
         page = ROOT.joinpath("packaging", name).read_text(encoding="utf-8")
         # The line that packaging/build gives the version.
         yield Outcome(f"the version of {name}", page.splitlines().count(".Os"), 1)

@@ -5,7 +5,7 @@ use Rattle.clap.specs.declared.builder.command.Command.{Command}
 use Rattle.clap.specs.declared.builder.command.Command.TheOpen.{Command-F}
 use Rattle.command_line.specs.CommandLine.{IsCommand, command_of}
 use Rattle.command_line.proofs.CommandLemmas.{with_word}
-use Rattle.onixdesk.proofs.commands.convert.Goals as goal
+use Rattle.command_line.proofs.commands.convert.Goals as goal
 
 pub returns : goal.returns
 returns c =

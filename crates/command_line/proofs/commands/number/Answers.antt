@@ -2,7 +2,7 @@ use Rattle.std.proofs.Common.{codes}
 use Rattle.std.proofs.lemmas.Result.{IfOk-weaker}
 use Rattle.command_line.specs.CommandLine.{number_option}
 use Rattle.command_line.proofs.CommandLemmas.{excluding}
-use Rattle.onixdesk.proofs.commands.number.Goals as goal
+use Rattle.command_line.proofs.commands.number.Goals as goal
 
 pub returns : goal.returns
 returns c =

@@ -1,6 +1,6 @@
 use Rattle.std.proofs.lemmas.Result.{IfOk-weaker}
 use Rattle.command_line.proofs.CommandLemmas.{with_ok_sub, with_sub}
-use Rattle.onixdesk.proofs.commands.program.Goals as goal
+use Rattle.command_line.proofs.commands.program.Goals as goal
 
 pub returns : goal.returns
 returns c =

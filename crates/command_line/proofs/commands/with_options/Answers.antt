@@ -1,6 +1,6 @@
 use Rattle.std.proofs.lemmas.Result.{IfOk-weaker}
 use Rattle.command_line.proofs.CommandLemmas.{with_ok_word, with_word}
-use Rattle.onixdesk.proofs.commands.with_options.Goals as goal
+use Rattle.command_line.proofs.commands.with_options.Goals as goal
 
 pub returns : goal.returns
 returns c =

@@ -1,7 +1,7 @@
 use Rattle.std.proofs.Common.{subst, sym}
 use Rattle.command_line.specs.Asked.{ReadsAs}
 use Rattle.command_line.specs.Words.{words_in}
-use Rattle.onixdesk.proofs.command_line.command_reading.Goals as goal
+use Rattle.command_line.proofs.invocation.command_reading.Goals as goal
 
 pub returns-in-Some : goal.returns-in-Some
 returns-in-Some c = c.send_reading.ensures (words_in c.args.matches.now) (words_in c.args.words.now) (sym c.in-Some.ensures)

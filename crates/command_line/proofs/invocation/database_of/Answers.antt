@@ -1,7 +1,7 @@
 use Rattle.std.proofs.Common.{subst, sym}
 use Rattle.command_line.specs.Asked.{IsDatabase}
 use Rattle.command_line.specs.Words.{words_in}
-use Rattle.onixdesk.proofs.command_line.database_of.Goals as goal
+use Rattle.command_line.proofs.invocation.database_of.Goals as goal
 
 pub returns-in_err-name : goal.returns-in_err-name
 returns-in_err-name c = subst (IsDatabase (words_in c.args.matches.now)) (sym c.from_residual.ensures) (sym c.in_err-name.ensures)

@@ -1,6 +1,6 @@
 use Rattle.std.proofs.Common.{◌∙◌, List, Some, ap, map, refl, sym, ℕ}
 use Rattle.std.specs.Borrow.{Bor}
-use Rattle.onixdesk.proofs.command_line.deliver_task.Goals as goal
+use Rattle.command_line.proofs.invocation.deliver_task.Goals as goal
 
 pub returns : goal.returns
 returns c = (

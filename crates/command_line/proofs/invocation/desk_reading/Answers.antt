@@ -1,7 +1,7 @@
 use Rattle.std.proofs.Common.{IfSome, subst}
 use Rattle.command_line.specs.Asked.{IsTask}
 use Rattle.command_line.specs.Words.{words_in}
-use Rattle.onixdesk.proofs.command_line.desk_reading.Goals as goal
+use Rattle.command_line.proofs.invocation.desk_reading.Goals as goal
 
 pub returns-in-Some : goal.returns-in-Some
 returns-in-Some c = λ none. (

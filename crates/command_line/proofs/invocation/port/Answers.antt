@@ -1,7 +1,7 @@
 use Rattle.std.proofs.Common.{codes}
 use Rattle.std.specs.Str.Parse.{ExplainsUnsignedError, HasUnsignedDigitsIfOk, ParsesUnsigned}
 use Rattle.command_line.proofs.AskedLemmas.{number_got}
-use Rattle.onixdesk.proofs.command_line.port.Goals as goal
+use Rattle.command_line.proofs.invocation.port.Goals as goal
 
 pub returns : goal.returns
 returns c =

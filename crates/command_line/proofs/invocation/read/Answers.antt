@@ -3,7 +3,7 @@ use Rattle.clap.specs.Simple.{App, is_simple, matches_of, subcommand_of}
 use Rattle.clap.specs.Walk.{Text}
 use Rattle.command_line.specs.Asked.{ReadsWords}
 use Rattle.command_line.proofs.CommandLemmas.{onixdesk_is_simple}
-use Rattle.onixdesk.proofs.command_line.read.Goals as goal
+use Rattle.command_line.proofs.invocation.read.Goals as goal
 
 pub returns-in-Ok-try_get_matches_from : goal.returns-in-Ok-try_get_matches_from
 returns-in-Ok-try_get_matches_from c =

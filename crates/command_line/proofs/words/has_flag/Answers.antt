@@ -1,7 +1,7 @@
 use Rattle.std.proofs.Common.{◌∙◌, Bool, Option, ap, bytes_eq, codes, false}
 use Rattle.std.specs.Option.{option_map_or}
 use Rattle.clap.specs.Walk.{Text}
-use Rattle.onixdesk.proofs.words.has_flag.Goals as goal
+use Rattle.command_line.proofs.words.has_flag.Goals as goal
 
 abbrev is_true : Option Text → Bool
 is_true o = option_map_or (λ t. bytes_eq t (codes "true")) o false

@@ -13,7 +13,8 @@ use Rattle.catalogue_rules.specs.declared.entry.Entry.{Entry}
 -- what a NotificationType asks for
 abbrev pub change_of : List ℕ → Change
 change_of code =
-    if bytes_eq code (codes "01") || bytes_eq code (codes "02") || bytes_eq code (codes "03") then Replace
+    if bytes_eq code (codes "01") || bytes_eq code (codes "02") || bytes_eq code (codes "03")
+    then Replace
     else if bytes_eq code (codes "04") then Update
     else if bytes_eq code (codes "05") then Delete
     else Ignore
@@ -47,9 +48,13 @@ with_entry m reference (Some e) = map.insert m reference e
 
 -- the catalogue after one product
 abbrev pub after_product : ByReference → Product → ByReference
-after_product m p = with_entry m p.reference (entry_after (change_of p.notification) p (map.get m p.reference))
+after_product m p = with_entry m p.reference
+    (entry_after (change_of p.notification) p (map.get m p.reference))
 
--- the catalogue after the products of a message, in order: notifications 01, 02 and 03 bring the whole record, 04 replaces its supplies, where the product has some, and leaves its identifiers, 05 deletes it, any other changes nothing; a record that is not there is neither updated nor deleted
+-- the catalogue after the products of a message, in order: notifications 01, 02 and 03 bring the
+-- whole record, 04 replaces its supplies, where the product has some, and leaves its identifiers,
+-- 05 deletes it, any other changes nothing; a record that is not there is neither updated nor
+-- deleted
 abbrev pub after : ByReference → List Product → ByReference
 after m [] = m
 after m (p ∷ rest) = after (after_product m p) rest
@@ -61,8 +66,10 @@ no_effect = record { replaced = 0; updated = 0; deleted = 0; unknown = 0; ignore
 -- these counts and those of the products of a message, in order
 abbrev pub effect_from : Effect → ByReference → List Product → Effect
 effect_from n m [] = n
-effect_from n m (p ∷ rest) = effect_from (counted (change_of p.notification) (map.get m p.reference) n) (after_product m p) rest
+effect_from n m (p ∷ rest) = effect_from
+    (counted (change_of p.notification) (map.get m p.reference) n) (after_product m p) rest
 
--- the counts of a message: each product is counted once, as replaced, updated, deleted, unknown or ignored
+-- the counts of a message: each product is counted once, as replaced, updated, deleted, unknown or
+-- ignored
 abbrev pub effect_of : ByReference → List Product → Effect
 effect_of m products = effect_from no_effect m products

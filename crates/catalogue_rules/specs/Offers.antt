@@ -44,7 +44,8 @@ offer_of series reference p = record {
 
 -- the offers of SupplyDetails, the first of which has this place
 abbrev pub offers_from : List ℕ → List ℕ → ℕ → List (Territory × SupplyDetail) → List Offer
-offers_from series reference place details = map (offer_of series reference) (enumerate_from place details)
+offers_from series reference place details =
+    map (offer_of series reference) (enumerate_from place details)
 
 -- the offers of a record: each SupplyDetail at its place, from 1
 abbrev pub entry_offers : List ℕ → List ℕ → Entry → List Offer
@@ -54,6 +55,7 @@ entry_offers series reference e = offers_from series reference 1 (entry_details 
 abbrev pub record_offers : List ℕ → List ℕ → List ℕ × Entry → List Offer
 record_offers series isbn r = if has_article isbn r.1 then entry_offers series r.0 r.1 else []
 
--- the article's offers in a catalogue: of each record, in order of reference, that has an identifier of type 03 or 15 with this value, each SupplyDetail with its place
+-- the article's offers in a catalogue: of each record, in order of reference, that has an
+-- identifier of type 03 or 15 with this value, each SupplyDetail with its place
 abbrev pub offers_in : List ℕ → ByReference → List ℕ → List Offer
 offers_in series m isbn = flat_map (record_offers series isbn) (records_of m)

@@ -32,9 +32,11 @@ IsReady was None = Unit {0}
 IsReady was (Some now) = IsSome now → IsSome was
 
 -- the changes make m of the catalogue base, which lacks exactly the new ones of their references
-pub record IsPlan (base : ByReference) (draft : Changes) (new_references : List (List ℕ)) (m : ByReference) : Type 0 where
+pub record IsPlan (base : ByReference) (draft : Changes) (new_references : List (List ℕ))
+    (m : ByReference) : Type 0 where
   pub gives : (q : List ℕ) → entry_now (map.get base q) (map.get draft q) ≡ map.get m q
-  pub lacks : (q : List ℕ) → Contains new_references q ↔ (IsSome (map.get draft q) × (map.get base q ≡ None))
+  pub lacks : (q : List ℕ) → Contains new_references q ↔
+      (IsSome (map.get draft q) × (map.get base q ≡ None))
 
 -- how many products were counted
 abbrev pub total : Effect → ℕ

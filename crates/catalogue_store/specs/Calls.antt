@@ -32,64 +32,87 @@ ChangesRows change rows _ after = after ≡ change rows
 
 -- the prices of an offer, which are read without minimums only where its record has none
 abbrev pub HasPricesAs : Bool → typed.OfferRow → DeskRows → List Price → Type 0
-HasPricesAs with_minimums offer rows prices = (with_minimums ≡ false → has_minimums_of offer.series offer.reference rows ≡ false) → HasPricesOf rows offer prices
+HasPricesAs with_minimums offer rows prices =
+    (with_minimums ≡ false → has_minimums_of offer.series offer.reference rows ≡ false)
+    → HasPricesOf rows offer prices
 
 -- the prices of each of the offers, read so
 abbrev pub HavePricesAs : Bool → List typed.OfferRow → DeskRows → List (List Price) → Type 0
-HavePricesAs with_minimums offers rows prices = AreReadAs with_minimums offers rows → AllZip (HasPricesOf rows) offers prices
+HavePricesAs with_minimums offers rows prices = AreReadAs with_minimums offers rows
+    → AllZip (HasPricesOf rows) offers prices
 
 -- the entry of a record that is there
 abbrev pub IsEntryOf : RecordRow → DeskRows → Entry → Type 0
-IsEntryOf row rows entry = (e : Entry) → HoldsEntry row.series row.reference (Some e) rows → entry ≡ e
+IsEntryOf row rows entry = (e : Entry) → HoldsEntry row.series row.reference (Some e) rows
+    → entry ≡ e
 
 -- whether the supplies of the record have the rows of these, where its prices are read so
 abbrev pub HoldsSuppliesAs : Bool → RecordRow → List ProductSupply → DeskRows → Bool → Type 0
-HoldsSuppliesAs with_minimums row supplies rows b = IsReadAs with_minimums row rows → HoldsSupplies row supplies rows b
+HoldsSuppliesAs with_minimums row supplies rows b = IsReadAs with_minimums row rows
+    → HoldsSupplies row supplies rows b
 
 -- the catalogue of the series
 abbrev pub IsCatalogueOf : List ℕ → DeskRows → ByReference → Type 0
-IsCatalogueOf series rows catalogue = (m : ByReference) → HoldsCatalogue series m rows → catalogue ≡ m
+IsCatalogueOf series rows catalogue = (m : ByReference) → HoldsCatalogue series m rows
+    → catalogue ≡ m
 
 -- ---- written
 
 -- a record without rows gets those of these identifiers and supplies
-abbrev pub Writes : {A : Type 0} → RecordRow → List ProductIdentifier → List ProductSupply → DeskRows → A → DeskRows → Type 0
+abbrev pub Writes : {A : Type 0} → RecordRow → List ProductIdentifier → List ProductSupply
+    → DeskRows → A → DeskRows → Type 0
 Writes row ids supplies rows _ after =
-    HoldsEntry row.series row.reference None rows → ids ≢ [] → AreStorable supplies → Became row.series row.reference (Some (record { ids = ids; supplies = supplies })) rows after
+    HoldsEntry row.series row.reference None rows → ids ≢ [] → AreStorable supplies
+    → Became row.series row.reference (Some (record { ids = ids; supplies = supplies })) rows
+    after
 
 -- a record, whatever rows it has, gets those of these identifiers and supplies
-abbrev pub Rewrites : {A : Type 0} → RecordRow → List ProductIdentifier → List ProductSupply → DeskRows → A → DeskRows → Type 0
-Rewrites row ids supplies rows _ after = ids ≢ [] → AreStorable supplies → Became row.series row.reference (Some (record { ids = ids; supplies = supplies })) rows after
+abbrev pub Rewrites : {A : Type 0} → RecordRow → List ProductIdentifier → List ProductSupply
+    → DeskRows → A → DeskRows → Type 0
+Rewrites row ids supplies rows _ after = ids ≢ [] → AreStorable supplies
+    → Became row.series row.reference (Some (record { ids = ids; supplies = supplies })) rows after
 
 -- a record has no rows any more
 abbrev pub Removes : {A : Type 0} → RecordRow → DeskRows → A → DeskRows → Type 0
 Removes row rows _ after = Became row.series row.reference None rows after
 
 -- a record that is there has these supplies
-abbrev pub ReplacesSupplies : {A : Type 0} → RecordRow → List ProductSupply → DeskRows → A → DeskRows → Type 0
+abbrev pub ReplacesSupplies : {A : Type 0} → RecordRow → List ProductSupply → DeskRows → A
+    → DeskRows → Type 0
 ReplacesSupplies row supplies rows _ after =
-    (e : Entry) → HoldsEntry row.series row.reference (Some e) rows → AreStorable supplies → Became row.series row.reference (Some (record e { supplies = supplies })) rows after
+    (e : Entry) → HoldsEntry row.series row.reference (Some e) rows → AreStorable supplies
+    → Became row.series row.reference (Some (record e { supplies = supplies })) rows after
 
 -- the same, where its prices are read so
-abbrev pub ReplacesSuppliesAs : {A : Type 0} → Bool → RecordRow → List ProductSupply → DeskRows → A → DeskRows → Type 0
-ReplacesSuppliesAs with_minimums row supplies rows a after = IsReadAs with_minimums row rows → ReplacesSupplies row supplies rows a after
+abbrev pub ReplacesSuppliesAs : {A : Type 0} → Bool → RecordRow → List ProductSupply → DeskRows → A
+    → DeskRows → Type 0
+ReplacesSuppliesAs with_minimums row supplies rows a after = IsReadAs with_minimums row rows
+    → ReplacesSupplies row supplies rows a after
 
 -- a record that is there with these identifiers has these supplies, where its prices are read so
-abbrev pub ReplacesRecordAs : {A : Type 0} → Bool → RecordRow → List ProductIdentifier → List ProductSupply → DeskRows → A → DeskRows → Type 0
+abbrev pub ReplacesRecordAs : {A : Type 0} → Bool → RecordRow → List ProductIdentifier
+    → List ProductSupply → DeskRows → A → DeskRows → Type 0
 ReplacesRecordAs with_minimums row ids supplies rows _ after =
-    IsReadAs with_minimums row rows → (e : Entry) → HoldsEntry row.series row.reference (Some e) rows → IsFound row ids (Some e) SameIdentifiers → ids ≢ [] → AreStorable supplies
+    IsReadAs with_minimums row rows → (e : Entry)
+    → HoldsEntry row.series row.reference (Some e) rows
+    → IsFound row ids (Some e) SameIdentifiers → ids ≢ [] → AreStorable supplies
     → Became row.series row.reference (Some (record { ids = ids; supplies = supplies })) rows after
 
 -- ---- applied
 
--- the record, of which that was found, becomes what the product asks for, where its prices are read so
-abbrev pub CarriesOutAs : {A : Type 0} → Bool → Change → RecordRow → Product → FoundRecord → DeskRows → A → DeskRows → Type 0
-CarriesOutAs with_minimums change row p found rows _ after = IsReadAs with_minimums row rows → IsChanged change row p found rows after
+-- the record, of which that was found, becomes what the product asks for, where its prices are read
+-- so
+abbrev pub CarriesOutAs : {A : Type 0} → Bool → Change → RecordRow → Product → FoundRecord
+    → DeskRows → A → DeskRows → Type 0
+CarriesOutAs with_minimums change row p found rows _ after = IsReadAs with_minimums row rows
+    → IsChanged change row p found rows after
 
 -- the same, where no prices are read
-abbrev pub CarriesOut : {A : Type 0} → Change → RecordRow → Product → FoundRecord → DeskRows → A → DeskRows → Type 0
+abbrev pub CarriesOut : {A : Type 0} → Change → RecordRow → Product → FoundRecord → DeskRows → A
+    → DeskRows → Type 0
 CarriesOut change row p found rows _ after = IsChanged change row p found rows after
 
 -- the catalogue of the series gets the products, and the answer is their effect
 abbrev pub AppliesMessage : List ℕ → List Product → DeskRows → Effect → DeskRows → Type 0
-AppliesMessage series products rows effect after = (m : ByReference) → HoldsCatalogue series m rows → IsApplied series m products rows effect after
+AppliesMessage series products rows effect after = (m : ByReference) → HoldsCatalogue series m rows
+    → IsApplied series m products rows effect after

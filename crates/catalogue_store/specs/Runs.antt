@@ -51,15 +51,18 @@ IsNewIn series p rows b = IsTrue b → (m : ByReference) → HoldsCatalogue seri
 
 -- so many of the products do, where the first does
 abbrev pub AreNewIn : List ℕ → List Product → DeskRows → ℕ → Type 0
-AreNewIn series products rows n = (m : ByReference) → HoldsCatalogue series m rows → AreNew m (take 1 products) → AreNew m (take n products)
+AreNewIn series products rows n = (m : ByReference) → HoldsCatalogue series m rows
+    → AreNew m (take 1 products) → AreNew m (take n products)
 
 -- ---- written
 
 abbrev pub with_identifiers_of : List ℕ → List Product → DeskRows → DeskRows
-with_identifiers_of series products rows = with_articles (articles_of series products) (with_records (records_of series products) rows)
+with_identifiers_of series products rows =
+    with_articles (articles_of series products) (with_records (records_of series products) rows)
 
 abbrev pub with_supplies_of : List ℕ → List Product → DeskRows → DeskRows
-with_supplies_of series products rows = with_prices (prices_of series products) (with_offers (offers_of series products) rows)
+with_supplies_of series products rows = with_prices (prices_of series products)
+    (with_offers (offers_of series products) rows)
 
 -- ---- applied
 
@@ -69,8 +72,10 @@ pub record IsStep (was many : ℕ) (step : Step) : Type 0 where
   pub within : step.count ≤ many
   pub counted : total step.effect ≡ was + step.count
 
--- the rows of the series became those of the catalogue after the products, which are counted, and all others stayed
-pub record AreApplied (series : List ℕ) (m : ByReference) (products : List Product) (before : Effect) (rows : DeskRows) (effect : Effect) (after : DeskRows) : Type 0 where
+-- the rows of the series became those of the catalogue after the products, which are counted, and
+-- all others stayed
+pub record AreApplied (series : List ℕ) (m : ByReference) (products : List Product)
+    (before : Effect) (rows : DeskRows) (effect : Effect) (after : DeskRows) : Type 0 where
   pub catalogue : HoldsCatalogue series (after_all m products) after
   pub counts : effect ≡ effect_from before m products
   pub others : other_catalogues series after ≡ other_catalogues series rows
@@ -78,15 +83,22 @@ pub record AreApplied (series : List ℕ) (m : ByReference) (products : List Pro
 -- the run that begins with the first of the products, where that is a new record
 abbrev pub AppliesRun : List ℕ → List Product → Effect → DeskRows → Step → DeskRows → Type 0
 AppliesRun series products before rows step after =
-    (m : ByReference) → HoldsCatalogue series m rows → AreNew m (take 1 products) → All IsStorableProduct products → AreApplied series m (take step.count products) before rows step.effect after
+    (m : ByReference) → HoldsCatalogue series m rows → AreNew m (take 1 products)
+    → All IsStorableProduct products
+    → AreApplied series m (take step.count products) before rows step.effect after
 
 -- the product, of whose record that was found, where prices are read so
-abbrev pub AppliesFound : Bool → RecordRow → Product → FoundRecord → Effect → DeskRows → Effect → DeskRows → Type 0
+abbrev pub AppliesFound : Bool → RecordRow → Product → FoundRecord → Effect → DeskRows → Effect
+    → DeskRows → Type 0
 AppliesFound with_minimums row p found before rows counts after =
-    (series : List ℕ) (m : ByReference) → row ≡ record_row series p.reference → HoldsCatalogue series m rows → IsCatalogueReadAs with_minimums m → IsStorableProduct p → Finds row p.ids rows found
+    (series : List ℕ) (m : ByReference) → row ≡ record_row series p.reference
+    → HoldsCatalogue series m rows → IsCatalogueReadAs with_minimums m → IsStorableProduct p
+    → Finds row p.ids rows found
     → IsProductApplied series m p before rows counts after
 
 -- the first of the products, as many as the step has, where prices are read so
 abbrev pub AppliesSome : Bool → List ℕ → List Product → Effect → DeskRows → Step → DeskRows → Type 0
 AppliesSome with_minimums series products before rows step after =
-    (m : ByReference) → HoldsCatalogue series m rows → IsCatalogueReadAs with_minimums m → All IsStorableProduct products → AreApplied series m (take step.count products) before rows step.effect after
+    (m : ByReference) → HoldsCatalogue series m rows → IsCatalogueReadAs with_minimums m
+    → All IsStorableProduct products
+    → AreApplied series m (take step.count products) before rows step.effect after

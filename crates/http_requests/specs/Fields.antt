@@ -17,7 +17,8 @@ same_name a b = pointwise nat_eq (map to_ascii_lowercase a) (map to_ascii_lowerc
 -- the values of the fields of this name, in order
 abbrev pub values_of : List ℕ → List (List ℕ × List ℕ) → List (List ℕ)
 values_of name [] = []
-values_of name (f ∷ fields) = if same_name f.0 name then f.1 ∷ values_of name fields else values_of name fields
+values_of name (f ∷ fields) = if same_name f.0 name then f.1 ∷ values_of name fields
+    else values_of name fields
 
 -- the values of the fields of this name in a head, without white space at their ends
 unfoldable pub field_values : List ℕ → RequestHead → List (List ℕ)
@@ -27,14 +28,17 @@ field_values name h = values_of name (map name_and_value h.fields)
 abbrev pub is_numeral : List ℕ → Bool
 is_numeral text = nat_lt 0 (length text) && list_all is_ascii_digit text
 
--- how many bytes a body has whose length is written so. It has no more than a text of records may have
+-- how many bytes a body has whose length is written so. It has no more than a text of records may
+-- have
 abbrev pub size_written : List ℕ → Result ℕ Refusal
 size_written text =
     if is_numeral text
-    then (if nat_lt limit (digits_value 10 text) then Err refusal.TooLarge else Ok (digits_value 10 text))
+    then (if nat_lt limit (digits_value 10 text) then Err refusal.TooLarge
+    else Ok (digits_value 10 text))
     else Err refusal.BadLength
 
--- the value of the only field of a name, `None` where there is none, and an error where there are more
+-- the value of the only field of a name, `None` where there is none, and an error where there are
+-- more
 abbrev pub only_value : List (List ℕ) → Result (Option (List ℕ)) (Unit {0})
 only_value [] = Ok None
 only_value (value ∷ []) = Ok (Some value)

@@ -29,7 +29,8 @@ skip_line_ends (b ∷ bytes) = if (b == 13) || (b == 10) then skip_line_ends byt
 
 -- the bytes begin with an LF and then an LF or a CR LF
 abbrev pub begins_empty_line : List ℕ → Bool
-begins_empty_line bytes = starts_with nat_eq bytes (10 ∷ 10 ∷ []) || starts_with nat_eq bytes (10 ∷ 13 ∷ 10 ∷ [])
+begins_empty_line bytes = starts_with nat_eq bytes (10 ∷ 10 ∷ []) || starts_with nat_eq bytes
+    (10 ∷ 13 ∷ 10 ∷ [])
 
 -- somewhere an empty line ends a line
 abbrev pub has_empty_line : List ℕ → Bool
@@ -51,7 +52,9 @@ refusal_of input =
     then BadHead
     else refusal_of_full (skip_line_ends (take head_limit input))
 
--- the input has no head, and this is why: with fewer than 16,384 bytes, a bad one; else by the first 16,384, without an end of line a target too long, with no empty line a head too large, else a bad one
+-- the input has no head, and this is why: with fewer than 16,384 bytes, a bad one; else by the
+-- first 16,384, without an end of line a target too long, with no empty line a head too large, else
+-- a bad one
 pub record IsRefused (input : List ℕ) (why : Refusal) : Type 0 where
   pub none : HasNoHead input
   pub why_is : refusal_of input ≡ why

@@ -25,7 +25,8 @@ abbrev pub size_or_none : Result ℕ Refusal → ℕ
 size_or_none (Ok size) = size
 size_or_none (Err why) = 0
 
--- how many bytes behind the head are looked at: those of the body, and none where the head refuses it
+-- how many bytes behind the head are looked at: those of the body, and none where the head refuses
+-- it
 unfoldable pub most_posted : RequestHead → ℕ
 most_posted h = size_or_none (size_asked h)
 

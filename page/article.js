@@ -1,6 +1,6 @@
 // The view of an article: the question, its answer, which is asked for anew each minute, and the calendar.
 
-import { addressOf, ASKED, RANGE } from "./address.js";
+import { addressOf, ASKED, RANGE, readAddress } from "./address.js";
 import { Answer } from "./answer.js";
 import { askCalendar, askCopies, askDay, askTypes } from "./asking.js";
 import { CalendarPart } from "./calendar-part.js";
@@ -135,7 +135,7 @@ export class Article {
       return;
     }
     this.#answered = undefined;
-    this.show(given);
+    this.show(readAddress(address).given);
   }
 
   #submit(event) {

@@ -93,9 +93,15 @@ class Browser:
             time.sleep(0.05)
 
     def wait_for_text(self, selector: str, words: str, seconds: float = SECONDS) -> str:
-        """Waits until a text has these words; gives the text."""
-        self.wait(lambda: words in self.text(selector), seconds)
-        return self.text(selector)
+        """Waits until a text has these words; gives that text, or else the last one."""
+        texts = [""]
+
+        def holds() -> bool:
+            texts.append(self.text(selector))
+            return words in texts[-1]
+
+        self.wait(holds, seconds)
+        return texts[-1]
 
     def rows(self, selector: str) -> list[list[str]]:
         """The cells of a table's rows."""

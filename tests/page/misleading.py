@@ -73,6 +73,21 @@ def scans(site: Site, browser: Browser) -> Iterator[Outcome]:
     yield Outcome("scanned in another view", said(browser, ISBN), True)
 
 
+def scanned_twice(site: Site, browser: Browser) -> Iterator[Outcome]:
+    """The same book once more, and an Enter that comes late, ask the same question anew."""
+    browser.open("")
+    browser.wait(lambda: browser.run("return document.activeElement.id") == "isbn")
+    for name, typed in [("scanned", ISBN), ("scanned once more", ISBN), ("a late Enter", "\n"), ("a late Tab", "\t")]:
+        asked = len(site.requests())
+        scan(browser, typed)
+        if typed != "\t":
+            came = browser.wait(lambda: any("/price?" in line for line in site.requests()[asked:]), 20)
+            yield Outcome(f"{name}: it is asked", came, True)
+        yield Outcome(f"{name}: the answer", said(browser, ISBN), True)
+        yield Outcome(f"{name}: the fields", fields(browser), [ISBN, "1", date.today().isoformat(), "02"])
+        browser.wait(lambda: has_calendar(browser))
+
+
 def scanned_lines(site: Site, browser: Browser) -> Iterator[Outcome]:
     """In the lines of an order list each scan is a line, whatever the scanner sends behind; beside them it is asked
     for, as where a text is shown to be copied."""
@@ -127,6 +142,8 @@ def whole_sentence(site: Site, browser: Browser) -> Iterator[Outcome]:
         sentence = "On 10 April 2025: Buy 50 from net at £3.76 a copy"
         yield Outcome("copies and day in the sentence", browser.text("#article-status .sentence"), sentence)
         yield Outcome("the sum", browser.text("#article-status .sum"), "£188.00")
+        quantity = browser.one("#quantity").get_attribute("class")
+        yield Outcome("copies above one are marked", quantity, "unusual")
         sizes = browser.run(
             """const size = (found) => parseFloat(getComputedStyle(found).fontSize);
             const others = [...document.querySelectorAll('body *')].filter((found) =>
@@ -346,6 +363,6 @@ def words_of_rules(site: Site, browser: Browser) -> Iterator[Outcome]:
 
 
 CASES = [
-    scans, scanned_lines, typed_digits, whole_sentence, back_to_usual, marked_wholesalers, breaks, until, aliases, own_numbers,
+    scans, scanned_twice, scanned_lines, typed_digits, whole_sentence, back_to_usual, marked_wholesalers, breaks, until, aliases, own_numbers,
     words_of_rules, asked_anew,
 ]

@@ -49,9 +49,10 @@ NOBODYS = isbn_of(9001)
 NOT_ADMITTED = isbn_of(9002)
 RETAIL_ALONE = isbn_of(9003)
 FREE = isbn_of(9004)
-# A price that changes after three days, and one from ten copies on.
+# A price that changes after three days; one that falls from ten copies on, at two wholesalers; one that rises there.
 RISING = isbn_of(9005)
 BROKEN = isbn_of(9006)
+DEARER = isbn_of(9009)
 # Another wholesaler has it, without a price of the type.
 BESIDE = isbn_of(9007)
 # A book whose price a case changes, so that the five hundred keep theirs.
@@ -73,8 +74,7 @@ def changing_rows(gln: str, amount: Decimal) -> list[str]:
     return product("s-8", CHANGING, gln, "21", f"Price,,{amount},,,,,,")
 
 
-def special_rows(gln: str) -> list[str]:
-    today = date.today()
+def special_rows(gln: str, today: date) -> list[str]:
     until = compact(today + timedelta(days=3))
     then = compact(today + timedelta(days=4))
     return [
@@ -83,6 +83,7 @@ def special_rows(gln: str) -> list[str]:
         *product("s-4", FREE, gln, "21", "Price,,0.00,,,,,,"),
         *product("s-5", RISING, gln, "21", f"Price,,9.99,,,,,,{until}", f"Price,,12.99,,,,,{then},"),
         *product("s-6", BROKEN, gln, "21", "Price,,5.00,,,,,,", "Price,,4.00,,,,,,,10"),
+        *product("s-9", DEARER, gln, "21", "Price,,8.66,,,,,,", "Price,,10.59,,,,,,,10"),
         *product(HOSTILE, BESIDE, gln, "21", "Price,,6.00,,,,,,"),
         *changing_rows(gln, CHANGING_FROM),
     ]
@@ -97,7 +98,7 @@ def message(series: str, number: int, rows: list[str]) -> str:
     return "\n".join([head, *rows, f"EndMessage,{len(rows) + 1}"]) + "\n"
 
 
-def batch() -> str:
+def batch(today: date) -> str:
     """Agreements, a message of each wholesaler, and a later one of gamma, before which two are missing."""
     text = "".join(f"Agree,{name},{sender},{SHOP},1\n" for name, sender in SENDERS.items())
     for series in WHOLESALERS:
@@ -110,7 +111,9 @@ def batch() -> str:
             for row in product(f"{series}-{number}", isbn_of(number), gln, "21", f"Price,,{offer.amount},,,,,,")
         ]
         if series == "alpha":
-            rows += special_rows(gln)
+            rows += special_rows(gln, today)
+        if series == "beta":
+            rows += product("b-6", BROKEN, gln, "21", "Price,,5.50,,,,,,", "Price,,3.00,,,,,,,10")
         if series == "gamma":
             rows += product("g-7", BESIDE, gln, "21", "Price,02,9.00,,,,,,")
         text += message(series, 1, rows)
@@ -124,11 +127,11 @@ def settings(language: str = "en-GB", **others: object) -> str:
     return json.dumps({"language": language, "series": series, **shop, **others})
 
 
-def deliver(site: Site) -> None:
-    """Gives the desk of a site the wholesalers and their books."""
+def deliver(site: Site, today: date | None = None) -> None:
+    """Gives the desk of a site the wholesalers and their books, as of a day."""
     site.stop_desk()
     rules = ROOT / "examples/shop/rules.toml"
-    given = site.room.run("--db", DATABASE, "--rules", rules, "batch", given=batch().encode())
+    given = site.room.run("--db", DATABASE, "--rules", rules, "batch", given=batch(today or date.today()).encode())
     site.start_desk()
     if given.status != 0:
         raise RuntimeError(f"the wholesalers of order lists: {given.output!r} {given.errors!r}")

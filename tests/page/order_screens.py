@@ -5,7 +5,7 @@ from collections.abc import Iterator
 from tests.page import order_desk
 from tests.page.browser import Browser
 from tests.page.orders import NEEDS, PUT, look_up, open_list
-from tests.page.screens import BEYOND, CONTRAST, LEAST_CONTRAST, NAMED, nodes
+from tests.page.screens import BEYOND, BORDERS, LEAST_BORDER, NAMED, nodes, preferring, weak_texts
 from tests.page.site import Site
 from tests.running import Outcome
 
@@ -24,21 +24,16 @@ return [...document.querySelectorAll('h1, h2, h3')]
 BARE = "table:not([role]), :is(thead, tbody, tr, th, td):not([role])"
 
 
-def media(browser: Browser, scheme: str) -> None:
-    features = [{"name": "prefers-color-scheme", "value": scheme}]
-    browser.driver.execute_cdp_cmd("Emulation.setEmulatedMedia", {"features": features})
-
-
 def shown(site: Site, browser: Browser) -> Iterator[Outcome]:
     open_list(browser)
     look_up(browser, NEEDS)
     browser.one("#list-question summary").click()
     yield Outcome("order list: targets", browser.run(TARGETS), [])
     for scheme in ("light", "dark"):
-        media(browser, scheme)
-        weak = [text for text in browser.run(CONTRAST) if text[1] < LEAST_CONTRAST]
-        yield Outcome(f"order list: contrast, {scheme}", weak, [])
-    media(browser, "")
+        with preferring(browser, "prefers-color-scheme", scheme):
+            yield Outcome(f"order list: contrast, {scheme}", weak_texts(browser), [])
+            border = browser.run(BORDERS)
+            yield Outcome(f"order list: contrast of fields, {scheme}, {border}", border >= LEAST_BORDER, True)
     found = nodes(browser)
     nameless = [node for node in found if node[0] in NAMED and not node[1].strip()]
     yield Outcome("order list: all have names", nameless, [])

@@ -2,6 +2,7 @@
 
 import csv
 import io
+import re
 import time
 from collections.abc import Iterator
 from decimal import Decimal
@@ -13,6 +14,7 @@ from selenium.webdriver.support.select import Select
 
 from tests.page import order_desk
 from tests.page.browser import Browser
+from tests.page.days import with_clock
 from tests.page.order_desk import WHOLESALERS, chosen_of, isbn_of, offers_of
 from tests.page.reports import allow_clipboard
 from tests.page.site import RATE, NO_LIMIT, Site
@@ -270,6 +272,49 @@ def by_hand(site: Site, browser: Browser) -> Iterator[Outcome]:
     yield Outcome("a book that is left out", sums(browser)[-1], ["All", "2", "4", wanted])
 
 
+BROKEN, DEARER = order_desk.BROKEN, order_desk.DEARER
+
+
+def notes_of(browser: Browser, *isbns: str) -> list[str]:
+    return [row_of(browser, isbn)[-1] for isbn in isbns]
+
+
+def other_copies(site: Site, browser: Browser) -> Iterator[Outcome]:
+    """Other numbers of copies that cost less are told in the row, of the wholesaler that the book is ordered from."""
+    open_list(browser)
+    look_up(browser, f"{BROKEN} 9\n{DEARER} 12")
+    more = "More copies cost less in all: 10 copies at £4.00 each, £40.00 in all."
+    fewer = "Fewer copies cost less each: 9 copies at £8.66 each, £77.94 in all."
+    yield Outcome("ten cost less than nine, nine less each than twelve", notes_of(browser, BROKEN, DEARER), [more, fewer])
+    field = Select(browser.one(f"select[aria-label='Wholesaler of {BROKEN}']"))
+    field.select_by_visible_text("Beta & Sons, £5.50 (+£0.50), in stock")
+    told = "chosen by hand · More copies cost less in all: 10 copies at £3.00 each, £30.00 in all."
+    came = browser.wait(lambda: notes_of(browser, BROKEN) == [told], 20)
+    yield Outcome("of a wholesaler by hand too", came, True)
+    look_up(browser, f"{BROKEN} 5\n{DEARER} 9")
+    yield Outcome("where none is better, none is told", notes_of(browser, BROKEN, DEARER), ["chosen by hand", ""])
+    look_up(browser, f"{BROKEN} 10\n{DEARER} 10")
+    yield Outcome("ten cost more than nine", notes_of(browser, DEARER), [fewer])
+
+
+AS_OF = re.compile(r"As of (\d\d:\d\d:\d\d)(?: to (\d\d:\d\d:\d\d))?\.")
+
+
+def as_of(site: Site, browser: Browser) -> Iterator[Outcome]:
+    """The times of the first and the last answer."""
+    stop = with_clock(browser)
+    open_list(browser)
+    look_up(browser, f"{isbn_of(1)} 2\n{isbn_of(4)}")
+    first = AS_OF.fullmatch(browser.text("#list-as-of"))
+    yield Outcome("as of when", bool(first), True)
+    browser.run("window.daysAhead = 1 / 24")
+    Select(browser.one(f"select[aria-label='Wholesaler of {isbn_of(1)}']")).select_by_index(0)
+    came = AS_OF.fullmatch(browser.wait_for_text("#list-as-of", " to ", 20))
+    hours = [int(text[:2]) for text in came.groups()] if came and came[2] else []
+    yield Outcome(f"from the first answer to the last, {hours}", bool(hours) and hours[0] != hours[1], True)
+    stop()
+
+
 def changed(site: Site, browser: Browser) -> Iterator[Outcome]:
     """What has changed since the look-up is asked for again before it is saved."""
     folder = site.room.path("changed")
@@ -507,6 +552,6 @@ def missing_marks(site: Site, browser: Browser) -> Iterator[Outcome]:
 
 
 CASES = [
-    begins, thirty_books, needs, by_hand, changed, older, in_german, copied, printed, from_a_file, missing_marks, kept,
+    begins, thirty_books, needs, by_hand, other_copies, as_of, changed, older, in_german, copied, printed, from_a_file, missing_marks, kept,
     refused, stopped, whole_list,
 ]

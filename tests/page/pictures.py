@@ -1,12 +1,16 @@
 """The pictures of the documents, taken anew."""
 
 import base64
+import contextlib
 from collections.abc import Iterator
 from datetime import date
 
+from tests.page import order_desk
 from tests.page.articles import answered
 from tests.page.browser import Browser
 from tests.page.days import with_clock
+from tests.page.order_desk import DEARER, NOBODYS, RISING, isbn_of
+from tests.page.orders import look_up, open_list
 from tests.page.site import Site
 from tests.page.week import SHOP
 from tests.running import Outcome
@@ -39,11 +43,12 @@ MESSAGES = [
     message("9300000000007", 41, "W-9", "Western Wholesale,21,", "02,7.99,,,,,,"),
 ]
 
-# By name: the address, and the last part that is to be seen.
-PICTURES = {
-    "page-missing.png": ("#missing", "#report-west"),
-    "page-article.png": (f"#article?isbn={BOOK}&quantity=10", "#calendar"),
-}
+# The lines of an order list, and what customers they are for.
+LINES = [
+    f"{isbn_of(118)};2;Mrs Lindqvist", f"{isbn_of(12)};1;shelf", f"{RISING};3;school", f"{DEARER};12", f"{isbn_of(40)};4",
+    "9780500000154;1;window", f"{NOBODYS};1;Mr Okafor",
+]
+
 WIDTH = 900
 MARGIN = 24
 MOST_BYTES = 150_000
@@ -52,32 +57,55 @@ MOST_BYTES = 150_000
 FIXED = """
 document.getElementById('as-of').textContent = 'As of 09:30:00; asked again each minute.';
 document.getElementById('answer-time').textContent = 'as of 09:30:00';
+document.getElementById('list-as-of').textContent = 'As of 09:30:00 to 09:30:01.';
 """
 
 
-def taken(site: Site, browser: Browser) -> Iterator[Outcome]:
+def shot(browser: Browser, name: str, last: str) -> Outcome:
+    """Takes what is shown, down to a last part, as a picture of the documents."""
+    browser.run(FIXED)
+    bottom = browser.run("return Math.ceil(arguments[0].getBoundingClientRect().bottom + scrollY)", browser.one(last))
+    browser.size(WIDTH, bottom + MARGIN)
+    browser.run("scrollTo(0, 0)")
+    taken = browser.driver.execute_cdp_cmd("Page.captureScreenshot", {"format": "png"})
+    data = base64.b64decode(taken["data"])
+    (ROOT / "docs" / name).write_bytes(data)
+    return Outcome(f"{name} is no more than {MOST_BYTES} bytes", len(data) <= MOST_BYTES, True)
+
+
+@contextlib.contextmanager
+def on_the_day(browser: Browser) -> Iterator[None]:
     browser.driver.execute_cdp_cmd("Emulation.setScrollbarsHidden", {"hidden": True})
     stop = with_clock(browser, (DAY - date.today()).days)
-    site.write_settings(price_type="05")
-    for name, (address, last) in PICTURES.items():
-        browser.size(WIDTH, 700)
-        if last == "#calendar":
-            for told in MESSAGES:
-                site.tell_desk(told)
-        browser.open(address)
-        browser.wait(lambda: browser.all(last) and browser.one(last).text)
-        if last == "#calendar":
-            answered(browser)
-        browser.run(FIXED)
-        bottom = "return Math.ceil(arguments[0].getBoundingClientRect().bottom)"
-        height = browser.run(bottom, browser.one(last))
-        browser.size(WIDTH, height + MARGIN)
-        shot = browser.driver.execute_cdp_cmd("Page.captureScreenshot", {"format": "png"})
-        data = base64.b64decode(shot["data"])
-        (ROOT / "docs" / name).write_bytes(data)
-        yield Outcome(f"{name} is no more than {MOST_BYTES} bytes", len(data) <= MOST_BYTES, True)
-    site.write_settings()
+    browser.size(WIDTH, 700)
+    yield
     stop()
 
 
-CASES = [taken]
+def taken(site: Site, browser: Browser) -> Iterator[Outcome]:
+    site.write_settings(price_type="05")
+    with on_the_day(browser):
+        browser.open("#missing")
+        browser.wait(lambda: browser.all("#report-west") and browser.text("#report-west"))
+        yield shot(browser, "page-missing.png", "#report-west")
+    with on_the_day(browser):
+        for told in MESSAGES:
+            site.tell_desk(told)
+        browser.open(f"#article?isbn={BOOK}&quantity=10")
+        answered(browser)
+        yield shot(browser, "page-article.png", "#calendar")
+    site.write_settings()
+
+
+def order_list(site: Site, browser: Browser) -> Iterator[Outcome]:
+    order_desk.deliver(site, DAY)
+    site.write_settings(order_desk.settings(shop="High Street Books"))
+    with on_the_day(browser):
+        open_list(browser)
+        look_up(browser, "\n".join(LINES))
+        browser.run("document.activeElement.blur()")
+        yield shot(browser, "page-order.png", "#list-part")
+    site.write_settings()
+
+
+CASES = [taken, order_list]

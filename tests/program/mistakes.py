@@ -2,9 +2,14 @@
 
 from collections.abc import Iterator
 
-from tests.program.databases import DATABASE, gaps
+from tests.program.databases import DATABASE, batch, gaps
+from tests.program.desk_restore import restore, taken_copy
 from tests.program.examples import block, written
+from tests.program.inbox_numbers import CONVERTER, unwritten
+from tests.program.inboxes import AGREEMENT as INBOX_AGREEMENT
+from tests.program.inboxes import CONNECTIONS, WORDS, Inbox, script
 from tests.program.room import Group, Ran, Room
+from tests.program.serving import serving
 from tests.running import Outcome
 
 PAGE = "docs/MISTAKES.md"
@@ -74,12 +79,57 @@ def wrong_numbers(room: Room) -> Iterator[Outcome]:
     yield Outcome("a waiver before its message", came, (1, wanted))
 
 
+SERVICE = "runuser -u onixdesk -- onixdesk --batches /run/onixdesk/batches"
+
+
 def a_wholesaler_that_is_gone(room: Room) -> Iterator[Outcome]:
     question = b"AskPrice,9781234567897,20250501,GB,GBP,02\n"
-    came = ask(room, written([f"Agree,north,{NORTH},1"]) + message(1) + question)
-    yield Outcome("offers of a wholesaler", [line.split(",")[0] for line in came[1]], ["agreed", "applied", "price", "offer"])
-    came = ask(room, written(block(PAGE, "Message,1,")) + question)
-    yield Outcome("its records are deleted", came, (0, [applied("north", 2, DELETED), "price,9781234567897,0"]))
+    more = [f"Product,{name},03,01,{place},15,9781234567897" for place, name in enumerate(['"R,""2"""', '"A, B"', "R-3"])]
+    records = message(1).decode().splitlines()[:-1]
+    for product in more:
+        records += [product, *records[2:5]]
+    came = ask(room, written([f"Agree,north,{NORTH},1", *records, f"EndMessage,{len(records)}"]) + question)
+    offered = ["agreed", "applied", "price", *["offer"] * 4]
+    yield Outcome("offers of a wholesaler", (came[0], [line.split(",")[0] for line in came[1]]), (0, offered))
+    text = "\n".join(block(PAGE, "batch() {")).replace(SERVICE, f"{room.program} --db {DATABASE}")
+    yield Outcome("the message that deletes its records is written", room.call(["sh", "-e", "-c", text]), Ran(0))
+    came = ask(room, room.path("lines.csv").read_bytes() + question)
+    deleted = DELETED.replace("deleted=1", "deleted=4")
+    yield Outcome("its records are deleted", came, (0, [applied("north", 2, deleted), "price,9781234567897,0"]))
+
+
+def a_wrong_feed(room: Room) -> Iterator[Outcome]:
+    """It is taken out of what an inbox took, and the desk is restored from a copy of before."""
+    batch(room, INBOX_AGREEMENT)
+    inbox = Inbox(room, 1, NUMBER="next")
+    inbox.converter = script(room, "converter", CONVERTER)
+    feeds = {f"{name}.xml": unwritten("S", name) for name in ("early", "wrong", "late")}
+
+    def take(*more: str) -> list[str]:
+        with serving(room, WORDS, CONNECTIONS) as desk:
+            inbox.set(NUMBER="next", DESK=f"http://127.0.0.1:{desk.port}")
+            return inbox.run(*more).errors.decode().splitlines()
+
+    name = taken_copy(room)
+    for each, feed in feeds.items():
+        inbox.put({each: feed})
+        take()
+    lines = block(PAGE, "systemctl stop ")
+    # Those between them are desk-restore's, and those around them are for the machine's own systemd.
+    text = "\n".join(lines[1:3]).replace("/var/lib/onixdesk-inbox/north", str(inbox.state))
+    ran = room.call(["sh", "-e", "-c", text])
+    kept = sorted(path.name for path in (inbox.state / "done").iterdir())
+    wanted = ["early.xml", "early.xml.answer", "late.xml", "late.xml.answer"]
+    yield Outcome("a wrong feed is taken out", (ran, kept), (Ran(0), wanted))
+    came = restore(room, f"copies/{name}", units="")
+    yield Outcome("a copy of before a wrong feed", (came.status, lines[3].split()[0]), (0, "desk-restore"))
+    before = "these bytes had that number before"
+    said = [f"early.xml: done: number 1 applied; {before}", f"late.xml: done: number 3 held, waiting for 2; {before}"]
+    yield Outcome("what came beside a wrong feed", take("--again", "all"), [f"onixdesk-inbox: {line}" for line in said])
+    text = lines[4].replace(SERVICE, f"{room.program} --db {DATABASE}")
+    yield Outcome("the number of a wrong feed is waived", room.call(["sh", "-c", text]), Ran(0, b"waived,north,2\n"))
+    inbox.put({"new.xml": unwritten("S", "new")})
+    yield Outcome("a feed behind it", take(), ["onixdesk-inbox: new.xml: done: number 4 applied"])
 
 
 GROUPS = [
@@ -87,4 +137,5 @@ GROUPS = [
     Group("mistakes: a first number that is too low", first_number_too_low),
     Group("mistakes: wrong numbers", wrong_numbers),
     Group("mistakes: a wholesaler that is gone", a_wholesaler_that_is_gone),
+    Group("mistakes: a wrong feed", a_wrong_feed),
 ]

@@ -4,6 +4,7 @@ import re
 import subprocess
 from collections.abc import Iterator
 
+from onixdesk_inbox.desk import SECONDS as SECONDS_OF_A_POST
 from tests.program.inboxes import PROGRAM, within
 from tests.program.room import SECONDS, Group, Room
 from tests.running import Outcome
@@ -85,6 +86,16 @@ def memory_of_the_desk(_room: Room) -> Iterator[Outcome]:
     yield Outcome("units: the memory of the desk", found, True)
 
 
+def times(_room: Room) -> Iterator[Outcome]:
+    """An inbox waits for a reply as long as the document says, which is longer than the drain that it tells of, and
+    its unit lets it."""
+    page = ROOT.joinpath("docs/SCALE.md").read_text(encoding="utf-8")
+    drain = int(sought(r"that was ([0-9]+) s in one request", page))
+    yield Outcome("units: how long a post may take", ("an inbox a post after an hour" in page, SECONDS_OF_A_POST), (True, 3600))
+    unit = int(sought("^TimeoutStartSec=([0-9]+)h$", "\n".join(lines_of("onixdesk-inbox@.service")))) * 3600
+    yield Outcome("units: times of a drain", drain < SECONDS_OF_A_POST < unit, True)
+
+
 def places(_room: Room) -> Iterator[Outcome]:
     """The units name the folders that the program takes without options, and the unit's name has the series."""
     help = subprocess.run([PROGRAM, "--help"], capture_output=True, text=True, timeout=SECONDS).stdout
@@ -152,6 +163,7 @@ def version(room: Room) -> Iterator[Outcome]:
 GROUPS = [
     Group("units: what is forbidden", what_is_forbidden),
     Group("units: the memory of the desk", memory_of_the_desk),
+    Group("units: times", times),
     Group("units: places", places),
     Group("units: the example of settings", example_of_settings),
     Group("units: the version", version),

@@ -4,13 +4,23 @@
    "REQUEST STATUS FROM TO" on the descriptor TOLD tells of each copy: how it ended, as `waitpid` says it,
    and which bytes of the file of its standard error are its own. START, STEP and TOLD stand in the
    environment. */
-#define _GNU_SOURCE
-#include <dlfcn.h>
-#include <stdio.h>
-#include <stdlib.h>
-#include <sys/types.h>
-#include <sys/wait.h>
-#include <unistd.h>
+/* What is used of the C library on Linux of 64 bits, since the toolchain's compiler has no headers. */
+#define NULL ((void *)0)
+#define RTLD_NEXT ((void *)-1L)
+enum { SEEK_END = 2 };
+typedef __SIZE_TYPE__ size_t;
+typedef long off_t, ssize_t;
+typedef int pid_t;
+extern int snprintf(char *, size_t, const char *, ...);
+extern void perror(const char *);
+extern char *getenv(const char *);
+extern long atol(const char *);
+extern off_t lseek(int, off_t, int);
+extern ssize_t write(int, const void *, size_t);
+extern pid_t fork(void), waitpid(pid_t, int *, int);
+extern unsigned alarm(unsigned);
+extern void _exit(int) __attribute__((noreturn));
+extern void *dlsym(void *, const char *);
 
 /* A copy that runs for so many seconds is ended. */
 enum { SECONDS = 60 };
@@ -37,7 +47,7 @@ static void read_environment(void) {
 static void tell(int status, off_t from) {
     char line[96];
     off_t to = lseek(2, 0, SEEK_END);
-    int length = snprintf(line, sizeof line, "%ld %d %lld %lld\n", requests, status, (long long)from, (long long)to);
+    int length = snprintf(line, sizeof line, "%ld %d %ld %ld\n", requests, status, from, to);
     if (write(told, line, length) != length) give_up("telling of a copy");
 }
 

@@ -6,6 +6,7 @@ itself, or whose disk in memory could not grow. No fault has these words."""
 
 import os
 import resource
+import shutil
 import subprocess
 import tempfile
 from collections.abc import Collection
@@ -17,8 +18,9 @@ from tools.words import Word
 
 SOURCE = Path(__file__).resolve().parent / "refuse.c"
 
-# The compilers of C that are looked for.
-COMPILERS = ["cc", "clang"]
+# The compilers of C that are looked for, before the toolchain's own, which has no library of C.
+COMPILERS = [["cc", "-ldl"], ["clang", "-ldl"]]
+OF_TOOLCHAIN = "toolchain/bin/clang"
 
 # The words of a test that could not go on, since it was itself refused memory.
 ENDED = ["refused to the test itself", "a disk in memory that could not grow"]
@@ -140,12 +142,25 @@ class Tests:
         return Swept(sweep, sorted(runs))
 
 
+def compilers() -> list[list[str]]:
+    """The compilers of C that may be here, each with its words for the linker."""
+    rt = shutil.which("rt")
+    own = Path(rt).resolve().parent.parent / OF_TOOLCHAIN if rt else None
+    return [*COMPILERS, *([[str(own), "-nostdlib", f"--ld-path={own.with_name('ld.lld')}"]] if own else [])]
+
+
+def build_by(compiler: list[str], library: Path) -> None:
+    """Compiles the library that refuses memory by one of them."""
+    program, *linking = compiler
+    words: list[Word] = [program, "-O2", "-shared", "-fPIC", "-o", library, SOURCE, *linking]
+    subprocess.run(words, check=True)
+
+
 def build(library: Path) -> None:
-    """Compiles the library that refuses memory."""
-    for compiler in COMPILERS:
-        words: list[Word] = [compiler, "-O2", "-shared", "-fPIC", "-o", library, SOURCE, "-ldl"]
+    """Compiles it by the first that is there."""
+    for compiler in compilers():
         try:
-            subprocess.run(words, check=True)
+            build_by(compiler, library)
             return
         except FileNotFoundError:
             continue

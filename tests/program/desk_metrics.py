@@ -1,5 +1,6 @@
 """What bin/desk-metrics writes of a desk, its series and its inboxes, and the rules for alerts beside it."""
 
+import json
 import os
 import re
 import shutil
@@ -150,7 +151,9 @@ def since_when(room: Room) -> Iterator[Outcome]:
         words = "--desk", at(desk), "north", "south"
         write(room, *words)
         yield Outcome("since when: the same number", of_series(room)[name], 1000)
-        yield Outcome("since when: another number", of_series(room, "south")[name] > 1_764_000_000, True)
+        of_south = of_series(room, "south")[name]
+        yield Outcome("since when: another number", of_south > 1_764_000_000, True)
+        yield Outcome("since when: what is kept", json.loads(room.path(KEPT).read_text()), {"north": [2, 1000], "south": [7, of_south]})
         write(room, "--desk", at(free_port()), "north")
         yield Outcome("since when: no desk answers", name in of_series(room), False)
         desk.reply([posted(bare(9))])

@@ -68,7 +68,31 @@ def by_a_tag(room: Room) -> Iterator[Outcome]:
     yield Outcome("versions: of another branch", forms([version(room, "0.3.0")]), ["0.3.0~git12.C"])
 
 
+HEADING = re.compile(r"^## (\d+\.\d+\.\d+), \d{4}-\d\d-\d\d\n(?:\nCommit ([0-9a-f]{40}), )?", re.MULTILINE)
+
+
+def in_the_repository(*words: Word) -> str:
+    done = subprocess.run(["git", *words], cwd=ROOT, stdout=subprocess.PIPE, stderr=subprocess.DEVNULL, text=True)
+    return done.stdout.strip()
+
+
+def of_releases(_room: Room) -> Iterator[Outcome]:
+    """CHANGELOG.md names the commit of each release but one that has a tag, and it is the one that packages count from.
+    A clone that lacks commits cannot tell."""
+    found = HEADING.findall(ROOT.joinpath("CHANGELOG.md").read_text(encoding="utf-8"))
+    tags = in_the_repository("tag").splitlines()
+    unnamed = [number for number, named in found if not named and f"v{number}" not in tags]
+    yield Outcome("versions: releases without a commit", (unnamed, bool(found)), ([], True))
+    if in_the_repository("rev-parse", "--is-shallow-repository") != "false":
+        return
+    for number, named in found:
+        commits = in_the_repository("log", "--reverse", "--format=%H", f"-S## {number}, ", "--", "CHANGELOG.md")
+        if named:
+            yield Outcome(f"versions: the commit of {number}", named, commits.split("\n")[0])
+
+
 GROUPS = [
+    Group("versions: of the releases", of_releases),
     Group("versions: by the changes", by_the_changes),
     Group("versions: by a tag", by_a_tag),
 ]

@@ -2,7 +2,8 @@
 
 import { money } from "./amounts.js";
 import {
-  betterInWords, conditionsOf, copiesInWords, detailsOf, kindOfAnswer, otherRules, sentenceOf, sumInWords,
+  betterInWords, conditionsOf, copiesInWords, detailsOf, kindOfAnswer, onlyMoreInWords, otherRules, sentenceOf,
+  sumInWords,
 } from "./decision.js";
 import { inWords, timeInWords } from "./days.js";
 import { element } from "./elements.js";
@@ -37,14 +38,7 @@ function copiesNotes({ choice, copies, question: { quantity, currency } }) {
 
 /** Who has a price for more copies, of a book that nobody has one of for so few. */
 function moreOnlyNotes({ offers, copies, question }, settings) {
-  if (copies === undefined || !areUnpriced(offers)) return [];
-  return offers.flatMap((offer) => {
-    const first = changesOf(offer, copies).find(({ amount }) => amount !== null);
-    if (first === undefined) return [];
-    const wholesaler = wholesalerOf(settings, offer.series);
-    const amount = money(first.amount, question.currency);
-    return [say("article.onlyCopies", { wholesaler, copies: copiesInWords(first.quantity), amount })];
-  });
+  return copies === undefined ? [] : onlyMoreInWords(offers, copies, question.currency, settings);
 }
 
 /** Until when the price of the chosen offer holds, where it ends. */

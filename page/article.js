@@ -19,6 +19,9 @@ const MINUTE = 60_000;
 // How often the view looks whether another day has begun, and whether its answer is a minute old.
 const LOOK = 5_000;
 
+// After how long a wait for an answer is said to be one.
+const LATE = 3_000;
+
 const found = (id) => document.getElementById(id);
 
 const asText = (values) => JSON.stringify(ASKED.map((name) => values[name]));
@@ -270,7 +273,8 @@ export class Article {
   async #askForDay(question, asked, signal) {
     this.#answer.clear(say("article.asking"));
     this.#lastAsked = Date.now();
-    const day = await askDay(question, signal, this.#watch);
+    const late = setTimeout(() => this.#answer.clear(say("article.askingLong")), LATE);
+    const day = await askDay(question, signal, this.#watch).finally(() => clearTimeout(late));
     if (day.refusal !== undefined) {
       this.#answer.clear();
       refuse(day.refusal);

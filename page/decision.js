@@ -4,7 +4,7 @@ import { compareAmounts, isNothing, money, times } from "./amounts.js";
 import { inWords, today } from "./days.js";
 import { areUnpriced } from "./offers.js";
 import { kindOf } from "./price-types.js";
-import { betterQuantities } from "./quantities.js";
+import { betterQuantities, changesOf } from "./quantities.js";
 import { chooseSo } from "./rules.js";
 import { wholesalerOf } from "./settings.js";
 import { codeInWords, formatter, language, say, sayCount, wordsOfCode } from "./wording.js";
@@ -21,6 +21,18 @@ export function betterInWords(changes, quantity, currency) {
     const { quantity: copies, amount } = better[name];
     const [each, sum] = [amount, times(amount, copies)].map((found) => money(found, currency));
     return say(`article.${name}`, { copies: copiesInWords(copies), amount: each, sum });
+  });
+}
+
+/** Who has a price for more copies alone, of offers that none of has one for so few: a sentence for each. */
+export function onlyMoreInWords(offers, copies, currency, settings) {
+  if (!areUnpriced(offers)) return [];
+  return offers.flatMap((offer) => {
+    const first = changesOf(offer, copies).find(({ amount }) => amount !== null);
+    if (first === undefined) return [];
+    const wholesaler = wholesalerOf(settings, offer.series);
+    const amount = money(first.amount, currency);
+    return [say("article.onlyCopies", { wholesaler, copies: copiesInWords(first.quantity), amount })];
   });
 }
 

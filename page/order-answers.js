@@ -50,9 +50,10 @@ export function orderedOf({ choice, offers }, hand) {
 }
 
 /** Why nothing is ordered where no rule and no hand chose. */
-function withoutOrder({ offers }) {
+function withoutOrder({ offers, copies = [] }) {
   if (offers.length === 0) return "noOffers";
-  return offers.some(isPriced) ? "notChosen" : "unpriced";
+  if (offers.some(isPriced)) return "notChosen";
+  return copies.some((answer) => answer.offers.some(isPriced)) ? "onlyMore" : "unpriced";
 }
 
 /**

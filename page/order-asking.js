@@ -2,9 +2,11 @@
 
 import { ask } from "./desk.js";
 import { dayKeys, rangeKeys } from "./fields.js";
-import { keyOf } from "./offers.js";
+import { areUnpriced, keyOf } from "./offers.js";
 import { agree, lastAhead, LEFT_OUT, offersOfCalendar, orderedOf } from "./order-answers.js";
-import { askedOn, nextBetter, quantitiesBeside, withAnswer } from "./quantities.js";
+import {
+  askedOn, MOST_COPIES, nextBetter, nextQuantity, quantitiesBeside, withAnswer,
+} from "./quantities.js";
 
 // A browser has six connections to a server, of which some stay for the page's other questions.
 const AT_ONCE = 4;
@@ -83,17 +85,23 @@ export class OrderAsking {
     return Promise.all(quantitiesBeside(book.copies).map((quantity) => this.#askQuantity(book, quantity)));
   }
 
-  /** The offers of a book at each number of copies that tells whether another one is better for an offer. */
-  #copiesOf(book, offers, beside, offer) {
+  /** The offers of a book at other numbers of copies, those beside its own and those that `next` tells of. */
+  #copiesOf(book, offers, beside, next) {
     let answers = [{ quantity: book.copies, offers }];
     for (const answer of beside) if (answer !== undefined) answers = withAnswer(answers, answer);
-    const next = (all) => nextBetter(all, book.copies, offer);
     return askedOn(answers, next, (quantity) => this.#askQuantity(book, quantity));
   }
 
+  /** The offers of a book at the numbers of copies from which on they have a price, where none has one for so few. */
+  async #moreOf(book, offers) {
+    if (offers.length === 0 || !areUnpriced(offers)) return [];
+    const most = await this.#askQuantity(book, MOST_COPIES);
+    return this.#copiesOf(book, offers, [most], (all) => nextQuantity(all, book.copies));
+  }
+
   /**
-   * The choice and the offers of a book, of one moment if that can be had, or a `refusal`; where it is ordered,
-   * `ordered` is the offer, and `copies` has the offers at other numbers of copies.
+   * The choice and the offers of a book, of one moment if that can be had, or a `refusal`. `copies` has the offers
+   * at other numbers of copies, where these matter; where the book is ordered, `ordered` is the offer.
    */
   async answerOf(book, hand) {
     for (let tries = 1; ; tries += 1) {
@@ -108,8 +116,9 @@ export class OrderAsking {
       if (tries < TRIES && !agree(choice, offers)) continue;
       const answer = { choice, offers, at: Date.now() };
       const { offer } = orderedOf(answer, hand);
-      if (offer === undefined) return answer;
-      return { ...answer, ordered: offer, copies: await this.#copiesOf(book, offers, beside, offer) };
+      if (offer === undefined) return { ...answer, copies: await this.#moreOf(book, offers) };
+      const next = (all) => nextBetter(all, book.copies, offer);
+      return { ...answer, ordered: offer, copies: await this.#copiesOf(book, offers, beside, next) };
     }
   }
 

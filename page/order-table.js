@@ -2,7 +2,7 @@
 
 import { difference, money, signedMoney, times } from "./amounts.js";
 import { inWords } from "./days.js";
-import { betterInWords } from "./decision.js";
+import { betterInWords, onlyMoreInWords } from "./decision.js";
 import { element, table, tableRow } from "./elements.js";
 import { keyOf } from "./offers.js";
 import { marksOf } from "./offers-table.js";
@@ -70,6 +70,7 @@ function handField(book, state, hand, context) {
 
 /** Why a book needs a person, in words. */
 export function needInWords(need, { answer, written, note, change }, { settings, currency, type }) {
+  if (need === "onlyMore") return onlyMoreInWords(answer.offers, answer.copies, currency, settings).join(" ");
   if (need === "refused") {
     const { kind, words, reason } = answer.refusal;
     return kind === "refused" ? say("wrong.refused", { reason }) : words;

@@ -27,7 +27,7 @@ WIDE = (1100, 900)
 Found = TypeVar("Found")
 
 
-def options() -> Options:
+def options(is_recorded: bool) -> Options:
     chosen = Options()
     chosen.binary_location = CHROMIUM
     names = f"MAP {NAME} {HOST}, MAP {STRANGER} {HOST}, MAP * ~NOTFOUND, EXCLUDE {HOST}"
@@ -39,17 +39,24 @@ def options() -> Options:
         "--disable-gpu",
         "--ignore-certificate-errors",
         "--disable-background-networking",
+        # On a machine with much to do a page that is taken for one in the background gets no time for minutes.
+        "--disable-renderer-backgrounding",
+        "--disable-backgrounding-occluded-windows",
+        "--disable-background-timer-throttling",
         f"--host-resolver-rules={names}",
     ]:
         chosen.add_argument(word)
-    chosen.set_capability("goog:loggingPrefs", {"performance": "ALL", "browser": "ALL"})
+    record = {"performance": "ALL"} if is_recorded else {}
+    chosen.set_capability("goog:loggingPrefs", {"browser": "ALL", **record})
     return chosen
 
 
 class Browser:
-    def __init__(self, site: Site) -> None:
+    """`is_recorded` keeps what pages ask for, which costs the browser much."""
+
+    def __init__(self, site: Site, is_recorded: bool = False) -> None:
         self.site = site
-        self.driver = webdriver.Chrome(options=options(), service=Service(DRIVER))
+        self.driver = webdriver.Chrome(options=options(is_recorded), service=Service(DRIVER))
         self.size(*WIDE)
         # The browser asks for the name and the password once; from then on it knows them.
         self.driver.get(site.address(user=f"{USER}:{PASSWORD}@"))
@@ -111,7 +118,7 @@ class Browser:
         return rows
 
     def requested(self) -> list[str]:
-        """The addresses that pages asked for since the last look, in the browser's own record."""
+        """The addresses that pages asked for since the last look, in the record that the browser keeps."""
         found = []
         for entry in self.driver.get_log("performance"):
             message = json.loads(entry["message"])["message"]
@@ -128,8 +135,8 @@ class Browser:
 
 
 @contextlib.contextmanager
-def browsing(site: Site) -> Iterator[Browser]:
-    browser = Browser(site)
+def browsing(site: Site, is_recorded: bool = False) -> Iterator[Browser]:
+    browser = Browser(site, is_recorded)
     try:
         yield browser
     finally:

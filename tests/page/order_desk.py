@@ -53,6 +53,8 @@ FREE = isbn_of(9004)
 RISING = isbn_of(9005)
 BROKEN = isbn_of(9006)
 DEARER = isbn_of(9009)
+# One that is sold from five copies on.
+FIVE = isbn_of(9010)
 # Another wholesaler has it, without a price of the type.
 BESIDE = isbn_of(9007)
 # A book whose price a case changes, so that the five hundred keep theirs.
@@ -84,6 +86,7 @@ def special_rows(gln: str, today: date) -> list[str]:
         *product("s-5", RISING, gln, "21", f"Price,,9.99,,,,,,{until}", f"Price,,12.99,,,,,{then},"),
         *product("s-6", BROKEN, gln, "21", "Price,,5.00,,,,,,", "Price,,4.00,,,,,,,10"),
         *product("s-9", DEARER, gln, "21", "Price,,8.66,,,,,,", "Price,,10.59,,,,,,,10"),
+        *product("s-10", FIVE, gln, "21", "Price,,5.00,,,,,,,5"),
         *product(HOSTILE, BESIDE, gln, "21", "Price,,6.00,,,,,,"),
         *changing_rows(gln, CHANGING_FROM),
     ]

@@ -291,6 +291,10 @@ def other_copies(site: Site, browser: Browser) -> Iterator[Outcome]:
     told = "chosen by hand · More copies cost less in all: 10 copies at £3.00 each, £30.00 in all."
     came = browser.wait(lambda: notes_of(browser, BROKEN) == [told], 20)
     yield Outcome("of a wholesaler by hand too", came, True)
+    look_up(browser, order_desk.FIVE)
+    told = "Alpha Books sells it from 5 copies on, at £5.00 each."
+    yield Outcome("a book that is sold from five on", row_of(browser, order_desk.FIVE)[3].strip(), told)
+    yield Outcome("it needs a person", browser.texts("#list-needs li"), ["Only for more copies (1): line 1"])
     look_up(browser, f"{BROKEN} 5\n{DEARER} 9")
     yield Outcome("where none is better, none is told", notes_of(browser, BROKEN, DEARER), ["chosen by hand", ""])
     look_up(browser, f"{BROKEN} 10\n{DEARER} 10")

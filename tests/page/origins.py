@@ -12,7 +12,7 @@ from typing import Any
 from urllib.parse import urlsplit
 
 from tests.page.articles import answered
-from tests.page.browser import STRANGER, Browser
+from tests.page.browser import STRANGER, Browser, browsing
 from tests.page.site import NAME, Site
 from tests.page.week import ISBN, article, empty_message
 from tests.program.serving import HOST
@@ -251,6 +251,12 @@ def another_site(site: Site, browser: Browser) -> Iterator[Outcome]:
 
 def own_host_alone(site: Site, browser: Browser) -> Iterator[Outcome]:
     """The page asks no other host, by the browser's own record and by nginx's log."""
+    browser.driver.get("about:blank")
+    with browsing(site, is_recorded=True) as recorded:
+        yield from recorded_hosts(site, recorded)
+
+
+def recorded_hosts(site: Site, browser: Browser) -> Iterator[Outcome]:
     browser.open("")
     browser.requested()
     browser.complaints()

@@ -18,6 +18,8 @@ from tools.root import ROOT
 
 
 def without(site: Site, browser: Browser) -> Iterator[Outcome]:
+    # No page is open that asks each minute.
+    browser.driver.get("about:blank")
     before = site.mark()
     for password in ("", "another", PASSWORD + "x"):
         for path in ("/", "/main.js", "/desk.json", GAPS):
@@ -37,10 +39,10 @@ def plain(site: Site, browser: Browser) -> Iterator[Outcome]:
             yield Outcome(f"without TLS, {path} of {host}", came, (301, f"https://{NAME}{path}", None))
 
 
-# The example lets 2000 requests through at once, and a hundred a second. nginx takes no more than 1000 over one
+# The example lets 4000 requests through at once, and a hundred a second. nginx takes no more than 1000 over one
 # connection.
-AT_ONCE = 2000
-CONNECTIONS = 7
+AT_ONCE = 4000
+CONNECTIONS = 11
 EACH = 500
 AFTER = 50
 

@@ -45,11 +45,13 @@ MESSAGES = [
 
 # The lines of an order list, and what customers they are for.
 LINES = [
-    f"{isbn_of(118)};2;Mrs Lindqvist", f"{isbn_of(12)};1;shelf", f"{RISING};3;school", f"{DEARER};12", f"{isbn_of(40)};4",
+    f"{isbn_of(118)};2;Mrs Lindqvist", f"{isbn_of(11)};1;shelf", f"{RISING};3;school", f"{DEARER};12",
     "9780500000154;1;window", f"{NOBODYS};1;Mr Okafor",
 ]
 
 WIDTH = 900
+# A table of eight columns is drawn as on a screen that is wide enough for them.
+WIDE = 1040
 MARGIN = 24
 MOST_BYTES = 150_000
 
@@ -61,11 +63,12 @@ document.getElementById('list-as-of').textContent = 'As of 09:30:00 to 09:30:01.
 """
 
 
-def shot(browser: Browser, name: str, last: str) -> Outcome:
+def shot(browser: Browser, name: str, last: str, width: int = WIDTH) -> Outcome:
     """Takes what is shown, down to a last part, as a picture of the documents."""
+    browser.size(width, 700)
     browser.run(FIXED)
     bottom = browser.run("return Math.ceil(arguments[0].getBoundingClientRect().bottom + scrollY)", browser.one(last))
-    browser.size(WIDTH, bottom + MARGIN)
+    browser.size(width, bottom + MARGIN)
     browser.run("scrollTo(0, 0)")
     taken = browser.driver.execute_cdp_cmd("Page.captureScreenshot", {"format": "png"})
     data = base64.b64decode(taken["data"])
@@ -77,7 +80,6 @@ def shot(browser: Browser, name: str, last: str) -> Outcome:
 def on_the_day(browser: Browser) -> Iterator[None]:
     browser.driver.execute_cdp_cmd("Emulation.setScrollbarsHidden", {"hidden": True})
     stop = with_clock(browser, (DAY - date.today()).days)
-    browser.size(WIDTH, 700)
     yield
     stop()
 
@@ -104,7 +106,7 @@ def order_list(site: Site, browser: Browser) -> Iterator[Outcome]:
         open_list(browser)
         look_up(browser, "\n".join(LINES))
         browser.run("document.activeElement.blur()")
-        yield shot(browser, "page-order.png", "#list-part")
+        yield shot(browser, "page-order.png", "#list-part", WIDE)
     site.write_settings()
 
 

@@ -4,6 +4,7 @@ from collections.abc import Iterator
 from datetime import date, timedelta
 
 from tests.page.browser import Browser
+from tests.page.days import hurrying
 from tests.page.site import PAGE, Site
 from tests.page.week import MISSING, empty_message
 from tests.running import Outcome
@@ -241,9 +242,18 @@ def unknown_series(site: Site, browser: Browser) -> Iterator[Outcome]:
     site.write_settings()
 
 
+# How many times as fast a page's minutes go by.
+PACE = 6
+
+
 def each_minute(site: Site, browser: Browser) -> Iterator[Outcome]:
     """Messages that come while the view is open show within a minute, and what is the same stays."""
-    open_missing(browser)
+    with hurrying(browser, PACE):
+        open_missing(browser)
+    yield from minutes(site, browser)
+
+
+def minutes(site: Site, browser: Browser) -> Iterator[Outcome]:
     browser.run("document.querySelector(arguments[0]).firstChild.isKept = true", SOUTH)
     browser.run("document.querySelector(arguments[0]).focus()", f"{NORTH} button")
     asked = len([line for line in site.requests() if "/desk/series/north/gaps" in line])

@@ -1,15 +1,22 @@
 """The desk or the web server down: the page says so and asks again by itself."""
 
 import contextlib
+import functools
 import sqlite3
-from collections.abc import Iterator
+from collections.abc import Callable, Iterator
 
 from tests.page.articles import ONE_COPY, answered, has_calendar
 from tests.page.browser import Browser
 from tests.page.calendars import unfold
+from tests.page.days import hurrying
 from tests.page.site import DATABASE, Site
 from tests.page.week import ISBN, article
 from tests.running import Outcome
+
+Check = Callable[[Site, Browser], Iterator[Outcome]]
+
+# How many times as fast the page's time goes here: its 15 seconds for a reply are 5.
+PACE = 3
 
 AGAIN = " The page asks again by itself every 5 seconds."
 
@@ -45,7 +52,9 @@ def silent(site: Site, browser: Browser) -> Iterator[Outcome]:
     browser.wait(lambda: "Asking" in browser.text("#article-status"))
     stale = browser.all("#offers tr, #picture svg, #spans tr")
     yield Outcome("a new question leaves nothing of the one before", stale, [])
-    early = browser.wait(lambda: browser.one("#down").is_displayed(), 13)
+    words = "The desk takes longer than usual …"
+    yield Outcome("a silent desk is waited for", browser.wait_for_text("#article-status", words), words)
+    early = browser.wait(lambda: browser.one("#down").is_displayed(), 6 / PACE)
     yield Outcome("a silent desk has its time", bool(early), False)
     words = "The desk has not answered in 15 seconds." + AGAIN
     yield Outcome("a silent desk is told", down(browser, words), True)
@@ -103,7 +112,7 @@ def missing_view(site: Site, browser: Browser) -> Iterator[Outcome]:
     browser.run("location.hash = '#article'")
     browser.wait(lambda: not browser.one("#down").is_displayed())
     # A view that was left asks no more.
-    again = browser.wait(lambda: browser.one("#down").is_displayed(), 8)
+    again = browser.wait(lambda: browser.one("#down").is_displayed(), 8 / PACE)
     yield Outcome("the note goes with its view", bool(again), False)
     browser.run("location.hash = '#missing'")
     site.start_desk()
@@ -135,7 +144,7 @@ def lacking_memory(site: Site, browser: Browser) -> Iterator[Outcome]:
     told = browser.wait_for_text("#question-wrong", "memory")
     yield Outcome("a want of memory is told", told, words)
     asked = browser.run("return window.asked")
-    again = browser.wait(lambda: browser.run("return window.asked") > asked, 8)
+    again = browser.wait(lambda: browser.run("return window.asked") > asked, 8 / PACE)
     yield Outcome("after a want of memory it is not asked again", again, False)
     yield Outcome("a want of memory: no note that it is", browser.one("#down").is_displayed(), False)
     browser.one("#question button.main").click()
@@ -143,4 +152,15 @@ def lacking_memory(site: Site, browser: Browser) -> Iterator[Outcome]:
     yield Outcome("the buyer asks again", came, True)
 
 
-CASES = [stopped, silent, faulty, unreached, lacking_memory, missing_view]
+def hurried(check: Check) -> Check:
+    """A case in whose pages the time goes faster."""
+
+    @functools.wraps(check)
+    def outcomes(site: Site, browser: Browser) -> Iterator[Outcome]:
+        with hurrying(browser, PACE):
+            yield from check(site, browser)
+
+    return outcomes
+
+
+CASES = [*map(hurried, [stopped, silent, faulty, unreached, lacking_memory, missing_view])]

@@ -53,6 +53,8 @@ test("why a book needs a person", () => {
   assert.equal(need({ answer: { refusal: { kind: "refused", reason: "bad-query" } } }), "refused");
   assert.equal(need({ answer: { choice: null, offers: [] } }), "noOffers");
   assert.equal(need({ answer: { choice: null, offers: [offer("north", null)] } }), "unpriced");
+  const copies = [{ quantity: 999999, offers: [offer("north", "5.000")] }];
+  assert.equal(need({ answer: { choice: null, offers: [offer("north", null)], copies } }), "onlyMore");
   assert.equal(need({ answer, change: { series: "north", amount: "8.000" } }), "changed");
   assert.equal(need({ answer, isUnsure: true }), "unsure");
   const free = offer("south", "0.000");

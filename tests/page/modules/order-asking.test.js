@@ -67,6 +67,15 @@ test("where prices of other copies are refused, the book is answered all the sam
   assert.deepEqual([offers[0].amount, copies.map(({ quantity }) => quantity)], ["9.000", [2]]);
 });
 
+test("a book without a price for so few copies is asked for from how many on it has one", async () => {
+  const amountOf = (quantity) => (quantity < 5 ? null : "5.000");
+  replies = { choice: choiceOf(null), price: (url) => priceOf(amountOf(Number(url.searchParams.get("quantity")))) };
+  const { ordered, copies } = await asking().answerOf(BOOK, undefined);
+  assert.equal(ordered, undefined);
+  const [before, first] = copies.slice(copies.findIndex(({ offers }) => offers[0].amount !== null) - 1);
+  assert.deepEqual([before.quantity, first.quantity], [4, 5]);
+});
+
 test("what is not ordered is asked for no calendar", async () => {
   replies = { choice: choiceOf(null), price: priceOf("9.000"), calendar: calendarOf("9.000") };
   await asking().answerOf(BOOK, undefined);

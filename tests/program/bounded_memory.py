@@ -21,11 +21,11 @@ GAPS = "/series/north/gaps"
 
 MEMORY = '503 {"answer":"fault","reason":"memory"}'
 
-# Together offers of one article whose calendar has some 5.5 MB.
-MESSAGES, PRODUCTS = 8, 4_999
+# Together offers of one article whose calendar has some 2.7 MB.
+MESSAGES, PRODUCTS = 4, 4_999
 
 # What the desk may have more than it has at the start.
-MORE = 4_000_000
+MORE = 2_000_000
 
 
 def offers(number: int) -> bytes:

@@ -1,5 +1,6 @@
 """Database files of version 1, made by SQLite from statements that are not the desk's: they are refused
-until they are migrated, and then the desk in them goes on."""
+until they are migrated, and then the desk in them goes on. Files of version 2 made so, which have the tables
+alone and no index beside their keys, are answered as those that a desk makes."""
 
 from collections.abc import Iterator
 from functools import partial
@@ -233,6 +234,17 @@ def check(case: Case, room: Room) -> Iterator[Outcome]:
     yield Outcome(f"goes on: {case.name}", came, (Ran(case.status, case.answers), []))
 
 
+def without_index(case: Case, room: Room) -> Iterator[Outcome]:
+    """The tables of version 2 with the same rows."""
+    execute(room, f"{made(case)}; {MINIMUM} UPDATE meta SET amount = 2;")
+    indexes = rows(room, "SELECT name FROM sqlite_schema WHERE type = 'index' AND sql IS NOT NULL")
+    came = indexes, batch(room, case.asked), complaints(room)
+    wanted: list[Row] = []
+    yield Outcome(f"without an index: {case.name}", came, (wanted, Ran(case.status, case.answers), []))
+    came_again = room.run("--db", DATABASE, "migrate")
+    yield Outcome(f"without an index, migrated: {case.name}", came_again, Ran(0, b"schema 2\n"))
+
+
 def keys(room: Room, table: str, file: str) -> list[list[Row]]:
     """The columns of each primary or unique key of a table, with how they compare."""
     found: list[list[Row]] = []
@@ -269,5 +281,6 @@ def tables_of_version_2(room: Room) -> Iterator[Outcome]:
 
 GROUPS = [
     *(Group(case.name, partial(check, case)) for case in CASES),
+    *(Group(f"without an index: {case.name}", partial(without_index, case)) for case in CASES),
     Group("the tables of version 2", tables_of_version_2),
 ]

@@ -79,29 +79,32 @@ export class OrderAsking {
     return outcome.kind === "answer" ? { quantity, offers: outcome.body.offers } : undefined;
   }
 
-  /** The offers of a book at the numbers beside its copies, of a book that is ordered. */
-  #besideOf(book, isOrdered) {
-    if (!isOrdered) return [];
-    return Promise.all(quantitiesBeside(book.copies).map((quantity) => this.#askQuantity(book, quantity)));
-  }
-
-  /** The offers of a book at other numbers of copies, those beside its own and those that `next` tells of. */
-  #copiesOf(book, offers, beside, next) {
+  /** The offers of a book at other numbers of copies: some, and those that `next` tells of. */
+  async #askedAt(book, offers, quantities, next) {
+    const askFor = (quantity) => this.#askQuantity(book, quantity);
     let answers = [{ quantity: book.copies, offers }];
-    for (const answer of beside) if (answer !== undefined) answers = withAnswer(answers, answer);
-    return askedOn(answers, next, (quantity) => this.#askQuantity(book, quantity));
+    for (const answer of await Promise.all(quantities.map(askFor))) {
+      if (answer !== undefined) answers = withAnswer(answers, answer);
+    }
+    return askedOn(answers, next, askFor);
   }
 
   /** The offers of a book at the numbers of copies from which on they have a price, where none has one for so few. */
-  async #moreOf(book, offers) {
-    if (offers.length === 0 || !areUnpriced(offers)) return [];
-    const most = await this.#askQuantity(book, MOST_COPIES);
-    return this.#copiesOf(book, offers, [most], (all) => nextQuantity(all, book.copies));
+  #moreOf(book, offers) {
+    if (offers.length === 0 || !areUnpriced(offers)) return undefined;
+    return this.#askedAt(book, offers, [MOST_COPIES], (all) => nextQuantity(all, book.copies));
+  }
+
+  /** The offers of an answered book at the numbers of copies that tell whether one is better than its own. */
+  copiesOf(book) {
+    const { offers, ordered } = book.answer;
+    const next = (all) => nextBetter(all, book.copies, ordered);
+    return this.#askedAt(book, offers, quantitiesBeside(book.copies), next);
   }
 
   /**
-   * The choice and the offers of a book, of one moment if that can be had, or a `refusal`. `copies` has the offers
-   * at other numbers of copies, where these matter; where the book is ordered, `ordered` is the offer.
+   * The choice and the offers of a book, of one moment if that can be had, or a `refusal`. Where it is ordered,
+   * `ordered` is the offer; where nobody has a price for so few, `copies` has the offers at other numbers.
    */
   async answerOf(book, hand) {
     for (let tries = 1; ; tries += 1) {
@@ -109,16 +112,13 @@ export class OrderAsking {
       if (outcome.kind !== "answer") return { refusal: outcome };
       const { choice } = outcome.body;
       const isOrdered = hand === undefined ? choice !== null : hand !== LEFT_OUT;
-      const [{ offers, refusal }, beside] = await Promise.all([
-        this.#offersOf(book, isOrdered), this.#besideOf(book, isOrdered),
-      ]);
+      const { offers, refusal } = await this.#offersOf(book, isOrdered);
       if (refusal !== undefined) return { refusal };
       if (tries < TRIES && !agree(choice, offers)) continue;
       const answer = { choice, offers, at: Date.now() };
       const { offer } = orderedOf(answer, hand);
       if (offer === undefined) return { ...answer, copies: await this.#moreOf(book, offers) };
-      const next = (all) => nextBetter(all, book.copies, offer);
-      return { ...answer, ordered: offer, copies: await this.#copiesOf(book, offers, beside, next) };
+      return { ...answer, ordered: offer };
     }
   }
 

@@ -70,6 +70,11 @@ export class OrderList {
     return this.askable().filter((book) => this.isShort(book));
   }
 
+  /** The books whose answers do not yet say whether another number of copies is better. */
+  withoutCopies() {
+    return this.askable().filter(({ answer }) => answer?.ordered !== undefined && answer.copies === undefined);
+  }
+
   /** The series of all offers that were answered. */
   series() {
     const offers = this.books.flatMap(({ answer }) => answer?.offers ?? []);

@@ -2,7 +2,7 @@
 
 import { needsList, sumsTable } from "./order-parts.js";
 import { sumsOf } from "./order-sums.js";
-import { orderTable, redraw } from "./order-table.js";
+import { orderTable, otherCopies, redraw } from "./order-table.js";
 import { kindOf } from "./price-types.js";
 import { formatter, say, sayCount } from "./wording.js";
 
@@ -44,6 +44,12 @@ export function showChecking(done, all) {
   found("list-progress").value = done;
   found("list-count").textContent = say("order.checked", { done: counted(done), all: counted(all) });
   found("list-running").hidden = done === all;
+}
+
+/** Shows of how many books is known whether another number of copies is better, until it is of all. */
+export function showCopies(done, all) {
+  const words = say("order.copiesAsked", { done: counted(done), all: counted(all) });
+  found("list-copies").textContent = done === all ? "" : words;
 }
 
 /** Dims what was looked up of other lines or for another question, which can no longer be ordered. */
@@ -131,6 +137,14 @@ export class OrderResults {
   drawBook(list, book) {
     redraw(this.#rowOf(book), book, list.stateOf(book), this.#context(list));
     if (!list.isAsking) this.#drawAbove(list);
+  }
+
+  /** Draws the row of a book anew where another number of copies is better. */
+  drawCopies(list, book) {
+    const { offer } = list.stateOf(book);
+    const context = this.#context(list);
+    if (offer === undefined || otherCopies(book, offer, context).length === 0) return;
+    redraw(this.#rowOf(book), book, list.stateOf(book), context);
   }
 
   /** Draws the row of a book soon, with those of others that are answered meanwhile. */

@@ -95,9 +95,9 @@ function addedUp({ lines, parts }) {
 }
 
 /** Which other numbers of copies are better, where the desk has been asked for those of the offer. */
-function otherCopies({ answer, copies }, offer, { currency }) {
+export function otherCopies({ answer, copies }, offer, { currency }) {
   const isAsked = answer.ordered !== undefined && keyOf(answer.ordered) === keyOf(offer);
-  return isAsked ? betterInWords(changesOf(offer, answer.copies), copies, currency) : [];
+  return isAsked && answer.copies !== undefined ? betterInWords(changesOf(offer, answer.copies), copies, currency) : [];
 }
 
 function noteCell(book, state, context) {

@@ -6,7 +6,7 @@ import { eachOf, OrderAsking } from "./order-asking.js";
 import { MOST_LINES, readList, textOf } from "./order-lines.js";
 import { OrderList } from "./order-list.js";
 import { OrderQuestion } from "./order-question.js";
-import { OrderResults, showAge, showChecking, showProgress, summaryOf } from "./order-results.js";
+import { OrderResults, showAge, showChecking, showCopies, showProgress, summaryOf } from "./order-results.js";
 import { copyLines, download, printRows } from "./order-saving.js";
 import { wholesalerOf } from "./settings.js";
 import { say, sayCount } from "./wording.js";
@@ -73,7 +73,10 @@ export class Order {
     if (this.#isTaken) this.#lookUp();
     else if (this.#list.isAsking) this.#goOn();
     else {
-      if (this.#list.books.length > 0) this.#stop();
+      if (this.#list.books.length > 0) {
+        this.#stop();
+        this.#ask(async () => {});
+      }
       found("lines").focus({ preventScroll: true });
     }
   }
@@ -188,13 +191,30 @@ export class Order {
     });
   }
 
+  /** Asks whether other numbers of copies are better, once nothing else is asked: an order does not wait for it. */
+  async #askCopies(asking) {
+    const list = this.#list;
+    const books = list.withoutCopies();
+    let done = 0;
+    showCopies(done, books.length);
+    await eachOf(books, async (book) => {
+      book.answer.copies = await asking.copiesOf(book);
+      this.#results.drawCopies(list, book);
+      done += 1;
+      showCopies(done, books.length);
+    });
+  }
+
   /** Does what asks the desk, which ends where something else is asked for, or is stopped. */
   async #ask(act) {
     this.#asking.abort();
     this.#asking = new AbortController();
     this.#watch.up();
+    showCopies(0, 0);
     try {
-      await act(new OrderAsking(this.#list.question, this.#asking.signal, this.#watch));
+      const asking = new OrderAsking(this.#list.question, this.#asking.signal, this.#watch);
+      await act(asking);
+      await this.#askCopies(asking);
     } catch (fault) {
       if (!isAbandoned(fault)) throw fault;
     }

@@ -153,6 +153,7 @@ export const texts = {
     goOn: { one: "Mit dem anderen Buch weiter", other: "Mit den anderen {count} Büchern weiter" },
     asOf: "Stand {from}.",
     asOfTimes: "Stand {from} bis {until}.",
+    copiesAsked: "Ob andere Mengen weniger kosten, wird nachgesehen: {done} von {all}.",
     headingLine: "Die erste Zeile benennt Spalten: {heading}",
     old: "Die Zeilen oder die Frage sind seither andere: bitte noch einmal nachsehen.",
     sums: "Summen",

@@ -153,6 +153,7 @@ export const texts = {
     goOn: { one: "Go on with the other book", other: "Go on with the other {count} books" },
     asOf: "As of {from}.",
     asOfTimes: "As of {from} to {until}.",
+    copiesAsked: "Looking whether other numbers of copies cost less: {done} of {all}.",
     headingLine: "The first line names columns: {heading}",
     old: "The lines or the question have changed since: look them up again.",
     sums: "Sums",

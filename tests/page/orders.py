@@ -97,9 +97,10 @@ def save_to(browser: Browser, folder: Path) -> None:
     browser.driver.execute_cdp_cmd("Browser.setDownloadBehavior", where)
 
 
-def saved(browser: Browser, path: Path) -> str:
-    """The text of a file, once it is whole."""
-    browser.wait(path.exists)
+def saved(browser: Browser, folder: Path, name: str = "*.csv") -> str:
+    """The text of the one file of a folder, once it is there and whole."""
+    browser.wait(lambda: any(folder.glob(name)))
+    [path] = folder.glob(name)
     return path.read_bytes().decode()
 
 
@@ -188,8 +189,8 @@ def thirty_books(site: Site, browser: Browser) -> Iterator[Outcome]:
         keys.tab_to(f"csv-{name}")
         keys.press(Keys.ENTER)
         status(browser, f"-{name}.csv")
-        path = folder / f"order-{browser.run('return new Date().toLocaleDateString(`sv`)')}-{name}.csv"
-        text = saved(browser, path)
+        day = browser.run("return new Date().toLocaleDateString('sv')")
+        text = saved(browser, folder, f"order-{day}-{name}.csv")
         yield Outcome(f"the mark of the file for {name}", text.startswith(MARK), True)
         yield Outcome(f"the file for {name}", file_rows(text), [HEAD, *rows_of(name, wanted[name])])
     yield Outcome(f"{keys.count} keys are {MOST_KEYS} at most", keys.count <= MOST_KEYS, True)
@@ -276,6 +277,8 @@ BROKEN, DEARER = order_desk.BROKEN, order_desk.DEARER
 
 
 def notes_of(browser: Browser, *isbns: str) -> list[str]:
+    """The notes of books, once other numbers of copies are looked at too."""
+    browser.wait(lambda: browser.text("#list-copies") == "")
     return [row_of(browser, isbn)[-1] for isbn in isbns]
 
 
@@ -340,8 +343,7 @@ def changed(site: Site, browser: Browser) -> Iterator[Outcome]:
     yield Outcome("the button keeps the focus", focus, "csv-all")
     browser.one("#csv-all").click()
     status(browser, "Saved")
-    [path] = folder.iterdir()
-    prices = [row[3] for row in file_rows(saved(browser, path))]
+    prices = [row[3] for row in file_rows(saved(browser, folder))]
     yield Outcome("then it is saved", prices, ["Price", cell(now), cell(chosen_of(12).amount)])
 
 
@@ -370,8 +372,7 @@ def in_german(site: Site, browser: Browser) -> Iterator[Outcome]:
     status(browser, "2 von 2 nachgesehen")
     browser.one("#csv-all").click()
     status(browser, "bestellung-")
-    [path] = folder.iterdir()
-    text = saved(browser, path)
+    text = saved(browser, folder)
     least = f"{chosen_of(1).amount:.3f}".replace(".", ",")
     rows = [row[:5] + row[7:] for row in file_rows(text, ";")[1:]]
     wanted = [

@@ -141,6 +141,15 @@ test("an answer is short where another offer is ordered than it was asked for", 
   assert.deepEqual(list.short(), []);
 });
 
+test("an answer whose other numbers of copies are not known yet is asked for them", () => {
+  const list = new OrderList();
+  list.begin("", {}, [BOOK, { ...BOOK, isbn: "2" }, { ...BOOK, isbn: "3" }, { ...BOOK, isbn: "4" }]);
+  list.books[0].answer = { choice: chosen(SOUTH), offers: [SOUTH], ordered: SOUTH };
+  list.books[1].answer = { choice: chosen(SOUTH), offers: [SOUTH], ordered: SOUTH, copies: [] };
+  list.books[2].answer = { choice: null, offers: [NORTH] };
+  assert.deepEqual(list.withoutCopies().map(({ id }) => id), [0]);
+});
+
 test("what a hand chose stays through a new look-up, and is ordered from that wholesaler", () => {
   const list = new OrderList();
   const answer = { choice: chosen(SOUTH), offers: [NORTH, SOUTH], ordered: SOUTH, copies: [] };

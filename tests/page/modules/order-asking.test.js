@@ -37,14 +37,24 @@ const calendarOf = (amount) => ({ answer: "calendar", offers: [{ ...HEAD, spans:
 const priceOf = (amount) => ({ answer: "price", offers: [{ ...HEAD, amount }] });
 const names = () => asked.map((text) => text.split("?")[0]);
 
-test("what is ordered is asked for its choice, its calendar of 30 days, and its price at other copies", async () => {
-  replies = { choice: choiceOf("9.000"), calendar: calendarOf("9.000"), price: priceOf("9.000") };
-  const { choice, offers, ordered, copies } = await asking().answerOf(BOOK, undefined);
+test("what is ordered is asked for its choice and its calendar of 30 days, with its copies", async () => {
+  replies = { choice: choiceOf("9.000"), calendar: calendarOf("9.000") };
+  const { choice, offers, ordered } = await asking().answerOf(BOOK, undefined);
   assert.deepEqual([choice.amount, offers[0].amount, ordered.amount], ["9.000", "9.000", "9.000"]);
-  assert.deepEqual(copies.map(({ quantity }) => quantity), [1, 2, 999999]);
   assert.deepEqual(asked, [
     "choice?day=20261127&country=GB&currency=GBP&type=05&quantity=2",
     "calendar?from=20261127&to=20261227&country=GB&currency=GBP&type=05&quantity=2",
+  ]);
+});
+
+const PRICED = { ...HEAD, amount: "9.000" };
+const ANSWERED = { ...BOOK, answer: { offers: [PRICED], ordered: PRICED } };
+const quantitiesOf = (copies) => copies.map(({ quantity }) => quantity);
+
+test("what is ordered is asked for its price at one copy and at the most", async () => {
+  replies = { price: priceOf("9.000") };
+  assert.deepEqual(quantitiesOf(await asking().copiesOf(ANSWERED)), [1, 2, 999999]);
+  assert.deepEqual(asked, [
     "price?day=20261127&country=GB&currency=GBP&type=05&quantity=1",
     "price?day=20261127&country=GB&currency=GBP&type=05&quantity=999999",
   ]);
@@ -52,19 +62,13 @@ test("what is ordered is asked for its choice, its calendar of 30 days, and its 
 
 test("numbers of copies that may be better are asked for until they are found", async () => {
   const amountOf = (quantity) => (quantity < 3 ? "9.000" : "5.000");
-  replies = {
-    choice: choiceOf("9.000"),
-    calendar: calendarOf("9.000"),
-    price: (url) => priceOf(amountOf(Number(url.searchParams.get("quantity")))),
-  };
-  const { copies } = await asking().answerOf(BOOK, undefined);
-  assert.deepEqual(copies.map(({ quantity }) => quantity), [1, 2, 3, 999999]);
+  replies = { price: (url) => priceOf(amountOf(Number(url.searchParams.get("quantity")))) };
+  assert.deepEqual(quantitiesOf(await asking().copiesOf(ANSWERED)), [1, 2, 3, 999999]);
 });
 
-test("where prices of other copies are refused, the book is answered all the same", async () => {
-  replies = { choice: choiceOf("9.000"), calendar: calendarOf("9.000"), price: { answer: "refused", reason: "bad-query" } };
-  const { offers, copies } = await asking().answerOf(BOOK, undefined);
-  assert.deepEqual([offers[0].amount, copies.map(({ quantity }) => quantity)], ["9.000", [2]]);
+test("where prices of other copies are refused, there are those of the book's own", async () => {
+  replies = { price: { answer: "refused", reason: "bad-query" } };
+  assert.deepEqual(quantitiesOf(await asking().copiesOf(ANSWERED)), [2]);
 });
 
 test("a book without a price for so few copies is asked for from how many on it has one", async () => {
@@ -85,21 +89,19 @@ test("what is not ordered is asked for no calendar", async () => {
   assert.deepEqual(names(), ["choice", "price"]);
   asked.length = 0;
   const { ordered } = await asking().answerOf(BOOK, HEAD);
-  assert.deepEqual(names(), ["choice", "calendar", "price", "price"]);
+  assert.deepEqual(names(), ["choice", "calendar"]);
   assert.equal(ordered.amount, "9.000");
 });
 
 test("a choice and offers of two moments are asked for again, three times at most", async () => {
   const amounts = ["9.500", "9.000"];
-  const price = priceOf("9.000");
-  replies = { choice: choiceOf("9.000"), calendar: () => calendarOf(amounts.shift() ?? "9.000"), price };
+  replies = { choice: choiceOf("9.000"), calendar: () => calendarOf(amounts.shift() ?? "9.000") };
   assert.equal((await asking().answerOf(BOOK, undefined)).offers[0].amount, "9.000");
-  const count = (what) => names().filter((name) => name === what).length;
-  assert.deepEqual([count("choice"), count("calendar")], [2, 2]);
+  assert.deepEqual(names(), ["choice", "calendar", "choice", "calendar"]);
   asked.length = 0;
-  replies = { choice: choiceOf("9.000"), calendar: calendarOf("9.500"), price };
+  replies = { choice: choiceOf("9.000"), calendar: calendarOf("9.500") };
   await asking().answerOf(BOOK, undefined);
-  assert.deepEqual([count("choice"), count("calendar")], [3, 3]);
+  assert.equal(asked.length, 6);
 });
 
 test("a refusal is an answer to nothing", async () => {

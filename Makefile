@@ -1,5 +1,5 @@
 .DEFAULT_GOAL := help
-.PHONY: help build test check lint docs definitions mutants wrong-bodies page-test page-pictures postgres-test \
+.PHONY: help build quick test check lint docs definitions mutants wrong-bodies page-test page-pictures postgres-test \
     package package-test
 
 help: ## this list
@@ -8,6 +8,10 @@ help: ## this list
 # The proofs that it does are kept for 'make test', where the toolchain keeps any.
 build: ## proves and builds the program, crates/onixdesk/out/onixdesk
 	@tools/build
+
+# From nothing. The last line is 'quick: N cases, M failed'.
+quick: ## in minutes and without any proof: the lints, all batches and conversions, the tests of crates
+	@tests/quick
 
 # Every proof, the edits that the prover must refuse, the tests of the libraries, and the program as two compilers
 # build it: 'N passed, M failed'. Then memory is refused to the tests of the desks: 'memory: N requests refused,

@@ -71,7 +71,8 @@ def try_cases(crate: str, cases: list[Given]) -> list[Tried]:
     """Runs the program of a crate on each case. RuntimeError where it could not be built."""
     with tempfile.TemporaryDirectory(prefix="onixdesk-") as folder:
         words = lay_out(Path(folder), cases)
-        _, said = run_try(crate, "--cases", f"{folder}/cases", *words)
+        # The compiled program alone: an interpreter cannot run one that has arguments, but tries it in each case.
+        _, said = run_try(crate, "--steps", "1", "--cases", f"{folder}/cases", *words)
     if not ALL.search(said):
         raise RuntimeError(said.decode(errors="replace"))
     found, begin = {}, 0

@@ -420,6 +420,7 @@ def units(_room: Room) -> Iterator[Outcome]:
         "ExecStart=/opt/onixdesk/bin/desk-metrics /var/lib/onixdesk-metrics",
         "StateDirectory=onixdesk-metrics",
         "StateDirectoryMode=0755",
+        "SyslogLevel=warning",
         "User=onixdesk-inbox",
     ]
     yield Outcome("units: the places of the metrics", [line for line in wanted if line not in service], [])

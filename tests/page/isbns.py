@@ -92,9 +92,11 @@ HYPHENS = [
 
 
 def hyphens(site: Site, browser: Browser) -> Iterator[Outcome]:
+    browser.open("")
+    browser.wait(lambda: browser.run(FOCUS)[0] == "isbn")
     for typed in HYPHENS:
-        browser.open("")
-        browser.wait(lambda: browser.run(FOCUS)[0] == "isbn")
+        browser.run("location.hash = '#article'")
+        browser.wait(lambda: browser.text("#article-status") == "")
         browser.run("document.getElementById('isbn').value = arguments[0]", typed)
         browser.one("#question button.main").click()
         yield Outcome(f"hyphens: {typed!a}", asked(browser, ISBN), True)

@@ -103,14 +103,6 @@ def preferring(browser: Browser, feature: str, value: str) -> Iterator[None]:
     browser.driver.execute_cdp_cmd("Emulation.setEmulatedMedia", {"features": []})
 
 
-def narrow(site: Site, browser: Browser) -> Iterator[Outcome]:
-    browser.size(320, 800)
-    for name, address in VIEWS.items():
-        shown(browser, address)
-        yield Outcome(f"320 pixels: {name}", browser.run(BEYOND), [False, []])
-    browser.size(1100, 900)
-
-
 def paper(site: Site, browser: Browser) -> Iterator[Outcome]:
     """On paper there are the answers, and no fields and buttons."""
     browser.driver.execute_cdp_cmd("Emulation.setEmulatedMedia", {"media": "print"})
@@ -150,22 +142,29 @@ def weak_texts(browser: Browser) -> list[Any]:
     return [text for text in browser.run(CONTRAST) if text[1] < LEAST_CONTRAST]
 
 
-def contrast(site: Site, browser: Browser) -> Iterator[Outcome]:
-    """By day and by night."""
-    for scheme in ("light", "dark"):
+SCHEMES = ("light", "dark")
+
+
+def contrast(browser: Browser, name: str) -> Iterator[Outcome]:
+    for scheme in SCHEMES:
         with preferring(browser, "prefers-color-scheme", scheme):
-            for name, address in VIEWS.items():
-                shown(browser, address)
-                yield Outcome(f"contrast, {scheme}: {name} has texts", len(browser.run(CONTRAST)) > 10, True)
-                yield Outcome(f"contrast, {scheme}: {name}", weak_texts(browser), [])
+            yield Outcome(f"contrast, {scheme}: {name} has texts", len(browser.run(CONTRAST)) > 10, True)
+            yield Outcome(f"contrast, {scheme}: {name}", weak_texts(browser), [])
+
+
+def notes(site: Site, browser: Browser) -> Iterator[Outcome]:
+    """Fields and notes by day and by night."""
+    shown(browser, VIEWS["missing"])
+    browser.run(
+        """for (const id of ['down', 'settings-wrong', 'not-looked-for']) {
+          document.getElementById(id).hidden = false;
+          document.getElementById(id).append('words');
+        }"""
+    )
+    for scheme in SCHEMES:
+        with preferring(browser, "prefers-color-scheme", scheme):
             border = browser.run(BORDERS)
             yield Outcome(f"contrast, {scheme}: fields, {border}", border >= LEAST_BORDER, True)
-            browser.run(
-                """for (const id of ['down', 'settings-wrong', 'not-looked-for']) {
-                  document.getElementById(id).hidden = false;
-                  document.getElementById(id).append('words');
-                }"""
-            )
             yield Outcome(f"contrast, {scheme}: notes", weak_texts(browser), [])
 
 
@@ -177,15 +176,15 @@ return [...document.querySelectorAll('a, button, input, select, summary, textare
 """
 
 
-def targets(site: Site, browser: Browser) -> Iterator[Outcome]:
-    """What is pressed has room for a finger."""
-    for width in (1100, 360):
+def widths(browser: Browser, name: str) -> Iterator[Outcome]:
+    """Nothing runs out of a narrow window, and what is pressed has room for a finger."""
+    browser.size(320, 800)
+    browser.wait(lambda: browser.run(BEYOND) == [False, []], 5)
+    yield Outcome(f"320 pixels: {name}", browser.run(BEYOND), [False, []])
+    browser.run("document.getElementById('more').hidden = false")
+    for width in (360, 1100):
         browser.size(width, 800)
-        for name in ("article", "a wrong article", "missing"):
-            shown(browser, VIEWS[name])
-            browser.run("document.getElementById('more').hidden = false")
-            yield Outcome(f"targets of 24 pixels, {width}: {name}", browser.run(SMALL), [])
-    browser.size(1100, 900)
+        yield Outcome(f"targets of 24 pixels, {width}: {name}", browser.run(SMALL), [])
 
 
 def first_sight(site: Site, browser: Browser) -> Iterator[Outcome]:
@@ -262,21 +261,29 @@ def nodes(browser: Browser) -> list[tuple[str, str, str]]:
     return [(part(node, "role"), part(node, "name"), part(node, "description")) for node in told]
 
 
-def accessible(site: Site, browser: Browser) -> Iterator[Outcome]:
+def accessible(browser: Browser, name: str) -> Iterator[Outcome]:
+    found = nodes(browser)
+    nameless = [node for node in found if node[0] in NAMED and not node[1].strip()]
+    yield Outcome(f"accessible: {name}: all have names", nameless, [])
+    levels = browser.run(
+        """return [...document.querySelectorAll('h1, h2, h3')]
+          .filter((head) => head.getClientRects().length > 0).map((head) => Number(head.localName[1]))"""
+    )
+    steps = [after - before for before, after in zip(levels, levels[1:])]
+    whole = levels.count(1) == 1 and levels[0] == 1 and all(step <= 1 for step in steps)
+    yield Outcome(f"accessible: {name}: headings {levels}", whole, True)
+    ids = browser.run("return [...document.querySelectorAll('[id]')].map(({ id }) => id)")
+    yield Outcome(f"accessible: {name}: each id once", sorted(set(ids)), sorted(ids))
+
+
+def views(site: Site, browser: Browser) -> Iterator[Outcome]:
+    """Each view for a screen reader, by day and by night, on narrow screens and for fingers."""
     for name, address in VIEWS.items():
         shown(browser, address)
-        found = nodes(browser)
-        nameless = [node for node in found if node[0] in NAMED and not node[1].strip()]
-        yield Outcome(f"accessible: {name}: all have names", nameless, [])
-        levels = browser.run(
-            """return [...document.querySelectorAll('h1, h2, h3')]
-              .filter((head) => head.getClientRects().length > 0).map((head) => Number(head.localName[1]))"""
-        )
-        steps = [after - before for before, after in zip(levels, levels[1:])]
-        whole = levels.count(1) == 1 and levels[0] == 1 and all(step <= 1 for step in steps)
-        yield Outcome(f"accessible: {name}: headings {levels}", whole, True)
-        ids = browser.run("return [...document.querySelectorAll('[id]')].map(({ id }) => id)")
-        yield Outcome(f"accessible: {name}: each id once", sorted(set(ids)), sorted(ids))
+        yield from accessible(browser, name)
+        yield from contrast(browser, name)
+        yield from widths(browser, name)
+        browser.size(1100, 900)
 
 
 def fields(site: Site, browser: Browser) -> Iterator[Outcome]:
@@ -323,6 +330,4 @@ def live(site: Site, browser: Browser) -> Iterator[Outcome]:
     yield Outcome("accessible: the language", language, "en-GB")
 
 
-CASES = [
-    narrow, paper, contrast, targets, first_sight, forced_colours, hyphens, at_once, accessible, fields, live,
-]
+CASES = [views, notes, paper, first_sight, forced_colours, hyphens, at_once, fields, live]

@@ -50,27 +50,22 @@ def lints() -> Iterator[Outcome]:
 
 def of_batch(number: int, case: Case) -> Given:
     if case.rules is None:
-        return Given(["batch"], case.batch, case.answers)
+        return Given(["batch"], case.batch)
     name = f"rules-{number}.toml"
-    return Given(["--rules", name, "batch"], case.batch, case.answers, {name: case.rules})
-
-
-def of_feed(feed: Feed, words: list[str]) -> Given:
-    return Given(["convert", *words], feed.data, feed.wanted.records or b"")
+    return Given(["--rules", name, "batch"], case.batch, {name: case.rules})
 
 
 def batch_outcome(case: Case, came: Tried) -> Outcome:
-    return Outcome(f"in memory: {case.name}", came, Tried(case.status, True, b""))
+    return Outcome(f"in memory: {case.name}", came, Tried(case.status, case.answers, b""))
 
 
 def feed_outcomes(feed: Feed, came: Tried) -> Iterator[Outcome]:
-    if not came.is_as_wanted:
-        yield Outcome(feed.name, came.errors, b"")
-        return
     yield Outcome(f"{feed.name}: the status", came.status, feed.wanted.status())
     # The converter names its standard input by a hyphen, where a case of several files has its number.
     lines, summary = convert_cases.read_lines(came.errors.replace(b"onixdesk: -:", b"onixdesk: 0.xml:"))
-    found = convert_cases.came_as(lines.get(0, []), feed.wanted.records, feed)
+    # Of a feed that is refused nothing is written.
+    records = came.output if feed.wanted.records is not None else came.output or None
+    found = convert_cases.came_as(lines.get(0, []), records, feed)
     yield Outcome(feed.name, found, convert_cases.wanted(feed))
     yield from convert_cases.summed(feed.name, [feed], summary)
 
@@ -81,22 +76,21 @@ def program() -> Iterator[Outcome]:
     feeds = [(case.feeds()[0], case.words) for case in convert_cases.CASES]
     samples = sorted(sample_feeds.FOLDER.glob("*.xml"))
     given = [of_batch(number, case) for number, case in enumerate(batches.CASES)]
-    given += [of_feed(feed, words) for feed, words in feeds]
-    given += [Given(["convert"], path.read_bytes(), path.with_suffix(".csv").read_bytes()) for path in samples]
+    given += [Given(["convert", *words], feed.data) for feed, words in feeds]
+    given += [Given(["convert"], path.read_bytes()) for path in samples]
     came = iter(try_cases(PROGRAM, given))
     for case in batches.CASES:
         yield batch_outcome(case, next(came))
     for feed, _ in feeds:
         yield from feed_outcomes(feed, next(came))
     for path in samples:
-        yield Outcome(f"the sample {path.stem}", next(came).is_as_wanted, True)
+        yield Outcome(f"the sample {path.stem}", next(came).output, path.with_suffix(".csv").read_bytes())
 
 
 def tests_of_feeds() -> Iterator[Outcome]:
     folder = ROOT / "crates" / TESTS_OF_FEEDS
-    given = Given([], (folder / "stdin").read_bytes(), (folder / "stdout").read_bytes())
-    (came,) = try_cases(TESTS_OF_FEEDS, [given])
-    yield Outcome(TESTS_OF_FEEDS, came, Tried(0, True, b""))
+    (came,) = try_cases(TESTS_OF_FEEDS, [Given([], (folder / "stdin").read_bytes())])
+    yield Outcome(TESTS_OF_FEEDS, came, Tried(0, (folder / "stdout").read_bytes(), b""))
 
 
 def without_database() -> list[str]:
@@ -118,8 +112,8 @@ def with_tests(crate: str) -> bool:
 def tests_of_crates() -> Iterator[Outcome]:
     yield from tests_of_feeds()
     for crate in filter(with_tests, without_database()):
-        status, said = run_try(crate, "--test")
-        yield Outcome(f"the tests of {crate}", (status, said if status else b""), (0, b""))
+        done = run_try(crate, "--test")
+        yield Outcome(f"the tests of {crate}", (done.returncode, done.stderr if done.returncode else b""), (0, b""))
 
 
 def main() -> int:

@@ -453,6 +453,9 @@ def from_a_file(site: Site, browser: Browser) -> Iterator[Outcome]:
 
 WHOLE = range(order_desk.BOOKS)
 
+# The seconds after which a list is given up, on a machine that has much else to do.
+PATIENCE = 600
+
 
 def whole_list(site: Site, browser: Browser) -> Iterator[Outcome]:
     """Five hundred lines behind nginx as it is shipped, while a colleague at the same address asks too."""
@@ -469,7 +472,7 @@ def whole_list(site: Site, browser: Browser) -> Iterator[Outcome]:
     begun = time.monotonic()
     browser.one("#look-up").click()
     colleague = []
-    while not browser.text("#list-status").startswith("500 of 500") and time.monotonic() < begun + 120:
+    while not browser.text("#list-status").startswith("500 of 500") and time.monotonic() < begun + PATIENCE:
         colleague.append(site.fetch("/desk/series/alpha/gaps")[0])
         time.sleep(0.2)
     yield Outcome("five hundred lines", browser.text("#list-status"), "500 of 500 looked up. No book needs you.")

@@ -44,20 +44,30 @@ def stopped(site: Site, browser: Browser) -> Iterator[Outcome]:
     yield from back(browser, "a stopped desk")
 
 
+# Asks, and notes when, and when the page says that the desk is down.
+TIMED = """
+const note = document.getElementById('down');
+new MutationObserver(() => { if (!note.hidden) window.toldAt ??= performance.now(); })
+  .observe(note, { attributes: true });
+window.askedAt = performance.now();
+location.hash = arguments[0];
+"""
+
+
 def silent(site: Site, browser: Browser) -> Iterator[Outcome]:
     browser.open(article(quantity="10"))
     unfold(browser)
     site.freeze_desk()
-    browser.run("location.hash = arguments[0]", article())
+    browser.run(TIMED, article())
     browser.wait(lambda: "Asking" in browser.text("#article-status"))
     stale = browser.all("#offers tr, #picture svg, #spans tr")
     yield Outcome("a new question leaves nothing of the one before", stale, [])
     words = "The desk takes longer than usual …"
     yield Outcome("a silent desk is waited for", browser.wait_for_text("#article-status", words), words)
-    early = browser.wait(lambda: browser.one("#down").is_displayed(), 6 / PACE)
-    yield Outcome("a silent desk has its time", bool(early), False)
     words = "The desk has not answered in 15 seconds." + AGAIN
     yield Outcome("a silent desk is told", down(browser, words), True)
+    seconds = browser.run("return (window.toldAt - window.askedAt) / 1000") * PACE
+    yield Outcome(f"a silent desk has its time, {seconds} seconds", seconds >= 15, True)
     site.thaw_desk()
     yield from back(browser, "a silent desk")
 

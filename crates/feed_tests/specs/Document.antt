@@ -1,6 +1,8 @@
--- What is shown of a document: its text, and round brackets with a name for each element, behind which stand the name of its first attribute and the value of the attribute id.
+-- What is shown of a document: its text, and round brackets with a name for each element, behind
+-- which stand the name of its first attribute and the value of the attribute id.
 use Rattle.std.specs.Prelude.{ℕ, List, [], ◌∷◌, ◌++◌, codes, Option, Some, None}
-use Rattle.xml_text.specs.Grammar.{Attribute, Token, raw, reference, cdata, comment, instruction, declaration, doctype, start, empty, end}
+use Rattle.xml_text.specs.Grammar.{Attribute, Token, raw, reference, cdata, comment, instruction}
+use Rattle.xml_text.specs.Grammar.{declaration, doctype, start, empty, end}
 use Rattle.xml_text.specs.Distinct.{value_of}
 use Rattle.xml_text.specs.References.{reference_text}
 

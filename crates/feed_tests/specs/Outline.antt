@@ -1,5 +1,8 @@
--- What is shown of an outline: for each line its depth, its name, behind @ its format, behind = its text, behind # the last digit of its line and, behind a full stop, the last three of its column, and a semicolon; behind them all a bar.
-use Rattle.std.specs.Prelude.{ℕ, ◌+◌, ◌/◌, ◌%◌, nat_lt, List, [], ◌∷◌, ◌++◌, Option, Some, None, fold, if◌then◌else◌}
+-- What is shown of an outline: for each line its depth, its name, behind @ its format, behind = its
+-- text, behind # the last digit of its line and, behind a full stop, the last three of its column,
+-- and a semicolon; behind them all a bar.
+use Rattle.std.specs.Prelude.{ℕ, ◌+◌, ◌/◌, ◌%◌, nat_lt, List, [], ◌∷◌, ◌++◌, Option, Some, None}
+use Rattle.std.specs.Prelude.{fold, if◌then◌else◌}
 use Rattle.onix_outline.specs.Outline.{Line}
 use Rattle.xml_text.specs.declared.position.Position.{Position}
 
@@ -16,7 +19,8 @@ format_shown shown (Some format) = (shown ++ 64 ∷ []) ++ format
 abbrev pub digit : ℕ → ℕ
 digit n = 48 + n % 10
 
--- a place is printed as a number sign, the last digit of its line, a point and the last three of its column
+-- a place is printed as a number sign, the last digit of its line, a point and the last three of
+-- its column
 abbrev pub place_shown : List ℕ → Position → List ℕ
 place_shown shown p = (((((shown ++ 35 ∷ []) ++ digit p.line ∷ []) ++ 46 ∷ []) ++ digit (p.column / 100) ∷ []) ++ digit (p.column / 10) ∷ []) ++ digit p.column ∷ []
 

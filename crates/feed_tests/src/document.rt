@@ -13,11 +13,12 @@ fn verdict(outcome: &Result<(), Fault>) -> &'static str {
     match outcome {
         Ok(()) => "document",
         Err(Fault::Malformed) => "malformed",
+        Err(Fault::NotText) => "no text",
         Err(Fault::TooDeep) => "too deep",
         Err(Fault::TooLong) => "too long",
         Err(Fault::LargeTag) => "large tag",
         Err(Fault::Refused) => "refused",
-        Err(Fault::UnknownEncoding) => "unknown encoding",
+        Err(Fault::UnknownEncoding(_)) => "unknown encoding",
         Err(Fault::Read) => "read",
         Err(Fault::Memory) => "memory",
     }

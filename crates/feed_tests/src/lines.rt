@@ -4,7 +4,8 @@ ghost use Rattle.std.specs.Prelude.{◌<◌, ◌≤◌, length};
 
 use std::alloc::{AllocError, Global};
 
-/// The bytes before the first place of a mark, and those behind it; all of them and none where it has no place.
+/// The bytes before the first place of a mark, and those behind it; all of them and none where it
+/// has no place.
 pub fn split<'a>(bytes: &'a [u8], mark: &[u8]) -> (&'a [u8], &'a [u8])
     ensures no_longer { length result.1.now ≤ length bytes.now }
     ensures shorter { 0 < length mark.now → 0 < length bytes.now

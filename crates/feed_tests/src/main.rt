@@ -1,5 +1,5 @@
-//! A test of `xml_text`, `onix_outline` and `onix_mapping`: each part of the standard input, behind `== `, is
-//! a line with its name and then tests, and what was found of each test is written.
+//! A test of `xml_text`, `onix_outline` and `onix_mapping`: each part of the standard input, behind
+//! `== `, is a line with its name and then tests, and what was found of each test is written.
 #![tactic(auto)]
 
 mod document;
@@ -28,10 +28,10 @@ fn tell(rt: HostRuntime, name: &[u8], test: &[u8]) -> io::Result<()> {
 // Runs the tests of a part, which are paragraphs where messages are mapped, and else lines.
 fn tell_part(rt: HostRuntime, part: &[u8]) -> io::Result<()> {
     let (name, tests) = split(part, b"\n");
-    let is_mapping = name == b"mapping".as_slice();
+    let has_paragraphs = name == b"mapping".as_slice();
     let mut rest = tests;
     while !rest.is_empty() {
-        let (test, behind) = if is_mapping {
+        let (test, behind) = if has_paragraphs {
             split(rest, b"\n\n")
         } else {
             split(rest, b"\n")

@@ -1,4 +1,5 @@
-//! A test of `onix_mapping`: what is made of a paragraph that is read as a message, as records and notes.
+//! A test of `onix_mapping`: what is made of a paragraph that is read as a message, as records and
+//! notes.
 
 mod choosing;
 mod shown;

@@ -14,14 +14,16 @@ use xml_text::Position;
 fn verdict(fault: &Fault) -> &'static str {
     match fault {
         Fault::Document(_) => "no document",
-        Fault::Message(Wrong::Root) => "another root",
-        Fault::Message(Wrong::Release) => "another release",
+        Fault::Message(Wrong::Root(_)) => "another root",
+        Fault::Message(Wrong::Release(_, _)) => "another release",
         Fault::Reference => "an unknown reference",
         Fault::TooLarge => "too large",
+        Fault::ManyPrefixes => "too many prefixes",
     }
 }
 
-/// Reads a line as a message, and says what it is, with the outlines of a message, or where reading stopped.
+/// Reads a line as a message, and says what it is, with the outlines of a message, or where reading
+/// stopped.
 pub fn tell(rt: HostRuntime, line: &[u8]) -> io::Result<()> {
     let bytes = with_feeds(rt.alloc(), line)?;
     let mut reader = bytes.as_slice();

@@ -81,9 +81,6 @@ some_may i files before after may = record {
   ];
 }
 
-pub free_none : (holds : Holdings) → AreFree [] holds
-free_none holds name text has is = absurd (omega (arith, has.1))
-
 none_some : {A : Type 0} (x : A) → None ≡ Some x → ⊥
 none_some x is = absurd cc
 
@@ -123,12 +120,6 @@ given_more view made i item name text is_new before mid after within is same all
     let longer : take (i + 1) (map view made) ≡ take i (map view made) ++ named name text ∷ [] =
     take_more view made i item within ∙ ap (λ f. take i (map view made) ++ f ∷ []) (ap view (sym is) ∙ sym same) in
     subst (λ files. Names files before after) (sym longer) (names_more (take i (map view made)) (named name text) is_new before mid after all one)
-
--- all that were made have their names
-pub given_all : {M : Type 0} (view : Target M → NamedText) (made : List (Target M)) (i : ℕ) (before after : Holdings)
-    → i ≡ length made → Names (take i (map view made)) before after → Names (map view made) before after
-given_all view made i before after end all =
-    subst (λ files. Names files before after) (ap (λ k. take k (map view made)) end ∙ take_all view made) all
 
 -- one free name more
 pub free_next : (given more : List (Bor (List ℕ))) (last : Bor (List ℕ)) (files : List NamedText) (name text : List ℕ) (before mid after : Holdings)

@@ -1,5 +1,5 @@
 -- Texts of parts that are kept and written.
-use Rattle.std.proofs.Common.{◌≡◌, ◌<◌, ◌≤◌, ◌+◌, ◌++◌, ◌∙◌, ℕ, List, [], Option, Some, None, Bool, true, false, Result, Ok, Err, refl, sym, ap, subst, append_assoc, append-nil, length, take}
+use Rattle.std.proofs.Common.{◌≡◌, ◌+◌, ◌++◌, ◌∙◌, ℕ, List, Option, Some, None, Bool, true, false, Result, Ok, Err, refl, sym, ap, subst, append_assoc, length}
 use Rattle.std.specs.Prelude.{◌&&◌, IsErr, OnOk, is_some, nat_le, not}
 use Rattle.std.specs.Io.KnownBytes.{Consumes}
 use Rattle.csv_records.specs.RecordTexts.{limit}

@@ -1,5 +1,5 @@
 -- The files of the parts of a message.
-use Rattle.std.specs.Prelude.{ℕ, ◌+◌, ◌++◌, Bool, List, [], ◌∷◌, length, string_bytes, suc}
+use Rattle.std.specs.Prelude.{ℕ, List, [], ◌∷◌, string_bytes, suc}
 use Rattle.named_files.specs.Holdings.{NamedText, named}
 use Rattle.named_files.specs.Names.{part_name, path_in}
 use Rattle.named_files.specs.declared.targets.Target.{Target}

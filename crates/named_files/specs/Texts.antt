@@ -1,5 +1,6 @@
 -- The texts of parts that are kept, and what is told of them.
-use Rattle.std.specs.Prelude.{◌≡◌, ℕ, ◌+◌, ◌++◌, ◌∷◌, [], Bool, ◌||◌, List, Option, Some, None, Result, Ok, Err, ⊤, if◌then◌else◌, nat_le, length}
+use Rattle.std.specs.Prelude.{◌≡◌, ℕ, ◌+◌, ◌++◌, ◌∷◌, [], Bool, ◌||◌, List, Option, Some, None}
+use Rattle.std.specs.Prelude.{Result, Ok, Err, ⊤, if◌then◌else◌, nat_le, length}
 use Rattle.csv_records.specs.RecordTexts.{limit}
 use Rattle.named_files.specs.Holdings.{told_text}
 

@@ -6,11 +6,7 @@ use Rattle.onix_mapping.specs.Elements.{Composite}
 use Rattle.onix_mapping.specs.Notes.{Note}
 use Rattle.onix_mapping.specs.ProductRecords.{Form, form}
 use Rattle.onix_conversion.specs.Keeping.{Keeping}
-use Rattle.onix_conversion.specs.Stages.{Held, IsKept, with_form, with_forms}
-
-pub kept-yes : {P N : Type 0} (is : Bool) (old new : Held P N) (told : Option (Held P N)) (rest : Held P N) → is ≡ true → IsKept is old new told → new ≡ unwrap_or told rest
-kept-yes true old new told rest e f = sym (ap (λ x. unwrap_or x rest) f)
-kept-yes false old new told rest e f = cc e
+use Rattle.onix_conversion.specs.private.Stages.{Held, IsKept, with_form, with_forms}
 
 pub kept-no : {P N : Type 0} (is : Bool) (old new : Held P N) (told : Option (Held P N)) (rest : Held P N) → is ≡ false → IsKept is old new told → unwrap_or told rest ≡ rest
 kept-no true old new told rest e f = cc e
@@ -19,11 +15,6 @@ kept-no false old new told rest e f = ap (λ x. unwrap_or x rest) f.0
 pub kept-same : {P N : Type 0} (is : Bool) (old new : Held P N) (told : Option (Held P N)) → is ≡ false → IsKept is old new told → new ≡ old
 kept-same true old new told e f = cc e
 kept-same false old new told e f = f.1
-
--- the first form was kept
-pub first-kept : {P N : Type 0} (k : Keeping P N) (most : ℕ) (is : Bool) (old new : Held P N) (c : Composite) (records : List (List (List ℕ))) (notes : List Note) (fs : List Form)
-    → is ≡ true → IsKept is old new (with_form k most old c records notes) → new ≡ with_forms k most old c (form records notes ∷ fs)
-first-kept k most is old new c records notes fs e f = kept-yes is old new (with_form k most old c records notes) (with_forms k most old c fs) e f
 
 -- it was not, and then the others were tried
 pub others-tried : {P N : Type 0} (k : Keeping P N) (most : ℕ) (is : Bool) (old mid new : Held P N) (c : Composite) (records : List (List (List ℕ))) (notes : List Note) (fs : List Form)

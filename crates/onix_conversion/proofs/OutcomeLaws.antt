@@ -13,9 +13,10 @@ use Rattle.onix_conversion.specs.declared.rejection.Fault.TheVariants as fault
 use Rattle.onix_conversion.specs.declared.rejection.Rejection.{Rejection}
 use Rattle.onix_conversion.specs.Conversion.{Options, conversion}
 use Rattle.onix_conversion.specs.Keeping.{Keeping}
-use Rattle.onix_conversion.specs.Outcomes.{Ends, ExplainsFault, Says}
+use Rattle.onix_conversion.specs.Outcomes.{ExplainsFault, Says}
+use Rattle.onix_conversion.specs.private.Endings.{Ends}
 use Rattle.onix_conversion.specs.Packing.{Converted}
-use Rattle.onix_conversion.specs.Stages.{State, Taken, finished, taken}
+use Rattle.onix_conversion.specs.private.Stages.{State, Taken, finished, taken}
 use Rattle.onix_conversion.proofs.PackingLaws.{behind, result_map}
 use Rattle.onix_conversion.proofs.StageLaws.{Tell, after_lines, conversion_is, start}
 
@@ -45,7 +46,7 @@ comes {P} {N} k bytes o before parts notes (Ok wrong) (Ok made) says e =
 comes k bytes o before parts notes (Ok wrong) (Err refused) says e = absurd cc
 comes k bytes o before parts notes (Err (fault.Refused rejection)) (Ok made) says e = absurd cc
 comes k bytes o before parts notes (Err (fault.Refused rejection)) (Err refused) says e = (tt, says (Err rejection) (ap Err (ap (reason rejection) e)))
-comes k bytes o before parts notes (Err (fault.Unread unread place)) told says e = absurd e
+comes k bytes o before parts notes (Err (fault.Unread unread place said)) told says e = absurd e
 comes k bytes o before parts notes (Err fault.Memory) told says e = (tt, tt)
 
 pub read : {P N : Type 0} (k : Keeping P N) → Tell → (bytes : Option (List ℕ)) (o : Options) (before : Taken P N) (parts : P) (notes : N) (text : List ℕ) (d : Dialect) (place : Position) (inside : Content)

@@ -16,11 +16,11 @@ use Rattle.onix_mapping.specs.declared.notes.Wrong.TheVariants.{TooLarge}
 use Rattle.onix_conversion.specs.Conversion.{Options, first_record, terms}
 use Rattle.onix_conversion.specs.Keeping.{Keeping}
 use Rattle.onix_conversion.specs.Messages.{empty_messages, fits, message_text}
-use Rattle.onix_conversion.specs.Packing.{Converted, Terms, Work, product_notes}
+use Rattle.onix_conversion.specs.Packing.{Converted, Work, product_notes}
 use Rattle.onix_conversion.specs.Packing as defined
-use Rattle.onix_conversion.specs.Stages.{Begun, Held, Taken, empty_parts, end_text, first_fields, first_text, has_room, held, kept, taken, with_part}
-use Rattle.onix_conversion.specs.Stages.{after_product as product_taken}
-use Rattle.onix_conversion.specs.Stages as run
+use Rattle.onix_conversion.specs.private.Stages.{Begun, Held, Taken, empty_parts, end_text, first_fields, first_text, has_room, held, kept, taken, with_part}
+use Rattle.onix_conversion.specs.private.Stages.{after_product as product_taken}
+use Rattle.onix_conversion.specs.private.Stages as run
 use Rattle.onix_conversion.specs.Tallies.{place_of, refused_for}
 use Rattle.onix_conversion.specs.declared.rejection.Rejection.{Rejection}
 use Rattle.onix_conversion.proofs.TextLaws.{closed, grown, room, text_first}

@@ -8,7 +8,7 @@ use Rattle.xml_text.specs.declared.position.Position.{Position}
 use Rattle.onix_outline.specs.Composites.{text_in}
 use Rattle.onix_outline.specs.Nodes.{Nodes}
 use Rattle.onix_mapping.specs.Elements.{Composite}
-use Rattle.onix_mapping.specs.Header.{◌>>=◌, Choices, Heading, added, addressee_pair, first_number, heading_in, number_in, number_or, sender_in}
+use Rattle.onix_mapping.specs.Header.{◌>>=◌, Choices, Heading, added, addressee_pair, first_number, heading_in, number_in, given_or, sender_in}
 use Rattle.onix_mapping.specs.Notes.{note, wrong}
 use Rattle.onix_mapping.specs.ProductRecords.{Form, forms}
 use Rattle.onix_mapping.specs.declared.header.Refusal.{Refusal}
@@ -282,7 +282,7 @@ part_there c nodes h e = go (ltb 0 c.parts) refl
         let a = bind_ok (sender_in c nodes) _ h e in
         let b = bind_ok (addressee_pair c nodes) _ h a.2 in
         let n = bind_ok (number_in c nodes) _ h b.2 in
-        let m = bind_ok (number_or c.number (added c.offset (text_in (codes "MessageNumber") nodes))) (first_number c.parts) n.0 n.1 in
+        let m = bind_ok (given_or c.number (added c.offset (text_in (codes "MessageNumber") nodes))) (first_number c.parts) n.0 n.1 in
         let no : first_number 0 m.0 ≡ Ok n.0 = ap (λ (k : ℕ). first_number k m.0) (sym zero_parts) ∙ m.2 in
         let other : Err denied.LastNumberTooGreat ≡ Ok n.0 = sym (no_part m.0) ∙ no in absurd cc
 

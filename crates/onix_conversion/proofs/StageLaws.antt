@@ -16,13 +16,14 @@ use Rattle.onix_mapping.specs.Header.{Heading, heading_in, message_fields}
 use Rattle.onix_mapping.specs.declared.header.Refusal.{Refusal}
 use Rattle.onix_conversion.specs.declared.rejection.Rejection.{Rejection}
 use Rattle.onix_conversion.specs.declared.rejection.Rejection.TheVariants as why
-use Rattle.onix_conversion.specs.Conversion.{Options, by_heading, by_refusal, composite, conversion, first_refusal, header_in, products_in, terms}
+use Rattle.onix_conversion.specs.Conversion.{Options, composite, conversion, header_in, header_refused, packed_unless, products_in, refused_behind, terms}
+use Rattle.onix_conversion.specs.private.Whole.{by_heading, by_refusal, decided, first_refusal}
 use Rattle.onix_conversion.specs.Keeping.{Keeping}
 use Rattle.onix_conversion.specs.Packing.{Converted, Work, after_products, no_work}
 use Rattle.onix_conversion.specs.Tallies.{no_tally, place_of}
 use Rattle.onix_conversion.specs.Packing as defined
-use Rattle.onix_conversion.specs.Stages.{Held, Stage, State, Taken, after_element, after_nodes, at_stage, begun_by, finished, first_fields, first_state, held, refused, stage_after_header, stage_after_stranger, with_held, with_product, within}
-use Rattle.onix_conversion.specs.Stages as run
+use Rattle.onix_conversion.specs.private.Stages.{Held, Stage, State, Taken, after_element, after_nodes, at_stage, begun_by, finished, first_fields, first_state, held, refused, stage_after_header, stage_after_stranger, with_held, with_product, within}
+use Rattle.onix_conversion.specs.private.Stages as run
 use Rattle.onix_conversion.proofs.PackingLaws.{behind, ended_is, product_is, result_map, seen}
 
 abbrev pub after_lines : {P N : Type 0} → Keeping P N → State P N → List Line → State P N
@@ -155,7 +156,7 @@ refused_here k tell rest t e is = ap (λ (stage : Stage). run.finished_at k stag
 
 -- what comes of a Header with these elements behind it
 abbrev headed_by : Options → Composite → Nodes → Result Heading Refusal → Option Rejection
-headed_by o c rest heading = option_or (option_map (λ refusal. why.Header refusal (place_of c)) (result_err heading)) (first_refusal o true rest)
+headed_by o c rest heading = option_or (option_map (header_refused c) (result_err heading)) (first_refusal o true rest)
 
 abbrev whole_by : Options → List Composite → Composite → Result Heading Refusal → Option Rejection → Result Converted Rejection
 whole_by o products c heading (Some e) = Err e
@@ -163,7 +164,7 @@ whole_by o products c heading None = by_heading o products c heading
 
 headed : {P N : Type 0} (k : Keeping P N) → Tell → (o : Options) (before : Taken P N) (c : Composite) (rest : Nodes) (heading : Result Heading Refusal) (t : State P N) → t ≡ at_stage (start o before) (begun_by c heading)
     → finished k (fold (after_lines k) t (parts_of rest)) ≡ result_map (behind k before) (whole_by o (products_in rest) c heading (headed_by o c rest heading))
-headed {P} {N} k tell o before c rest (Err refusal) t is = refused_here k tell rest t (why.Header refusal (place_of c)) (ap (λ (u : State P N). u.stage) is)
+headed {P} {N} k tell o before c rest (Err refusal) t is = refused_here k tell rest t (header_refused c refusal) (ap (λ (u : State P N). u.stage) is)
 headed {P} {N} k tell o before c rest (Ok h) t is =
     ap (λ (u : State P N). finished k (fold (after_lines k) u (parts_of rest))) (is ∙ begun_is k o h c.below before)
     ∙ came k o h c.below before (fold (after_lines k) (state_of o (seen k h c.below before no_work)) (parts_of rest)) (first_refusal o true rest) (after_products (terms o h c.below) no_work (products_in rest))
@@ -175,7 +176,7 @@ whole_is o nodes c products ps hs (Some e) = refl
 whole_is o nodes c products ps hs None = rw (ps, hs) refl
 
 passed_over : (o : Options) (name : List ℕ) (tag : Tag) (text : List ℕ) (below rest : Nodes) → bytes_eq name (codes "Product") ≡ false → bytes_eq name (codes "Header") ≡ false → bytes_eq name stranger ≡ false
-    → conversion o (node name tag text below rest) ≡ conversion o rest
+    → decided o (node name tag text below rest) ≡ decided o rest
 passed_over o name tag text below rest f g i =
     let refusal : first_refusal o false (node name tag text below rest) ≡ first_refusal o false rest = rw (g, f, i) refl in
     ap (by_refusal o (node name tag text below rest)) refusal ∙ go (first_refusal o false rest)
@@ -184,15 +185,15 @@ passed_over o name tag text below rest f g i =
     go (Some e) = refl
     go None = rw (f, g) refl
 
-pub conversion_is : {P N : Type 0} (k : Keeping P N) → Tell → (o : Options) (before : Taken P N) (nodes : Nodes)
-    → finished k (fold (after_lines k) (start o before) (parts_of nodes)) ≡ result_map (behind k before) (conversion o nodes)
-conversion_is k tell o before no_nodes = refl
-conversion_is {P} {N} k tell o before (node name tag text below rest) =
-    go (bytes_eq name (codes "Product")) refl (bytes_eq name (codes "Header")) refl (bytes_eq name stranger) refl (has_stranger below) refl (conversion_is k tell o before rest)
+decided_is : {P N : Type 0} (k : Keeping P N) → Tell → (o : Options) (before : Taken P N) (nodes : Nodes)
+    → finished k (fold (after_lines k) (start o before) (parts_of nodes)) ≡ result_map (behind k before) (decided o nodes)
+decided_is k tell o before no_nodes = refl
+decided_is {P} {N} k tell o before (node name tag text below rest) =
+    go (bytes_eq name (codes "Product")) refl (bytes_eq name (codes "Header")) refl (bytes_eq name stranger) refl (has_stranger below) refl (decided_is k tell o before rest)
   where
     go : (p : Bool) → bytes_eq name (codes "Product") ≡ p → (x : Bool) → bytes_eq name (codes "Header") ≡ x → (y : Bool) → bytes_eq name stranger ≡ y → (z : Bool) → has_stranger below ≡ z
-        → finished k (fold (after_lines k) (start o before) (parts_of rest)) ≡ result_map (behind k before) (conversion o rest)
-        → finished k (fold (after_lines k) (start o before) (parts_of (node name tag text below rest))) ≡ result_map (behind k before) (conversion o (node name tag text below rest))
+        → finished k (fold (after_lines k) (start o before) (parts_of rest)) ≡ result_map (behind k before) (decided o rest)
+        → finished k (fold (after_lines k) (start o before) (parts_of (node name tag text below rest))) ≡ result_map (behind k before) (decided o (node name tag text below rest))
     go true f x g y i z j later =
         let other : bytes_eq name (codes "Header") ≡ false = apart name f in
         let one : (after_element k (start o before) (composite name tag text below)).stage ≡ refused (why.NoHeader (Some tag.place)) = rw (other, f) refl in
@@ -214,7 +215,7 @@ conversion_is {P} {N} k tell o before (node name tag text below rest) =
         let products : products_in (node name tag text below rest) ≡ products_in rest = rw f refl in
         let first : header_in (node name tag text below rest) ≡ Some (composite name tag text below) = rw g refl in
         let refusal : first_refusal o false (node name tag text below rest) ≡ headed_by o (composite name tag text below) rest (heading_in o.choices below) = rw (g, j) refl in
-        let defined_is : conversion o (node name tag text below rest) ≡ whole_by o (products_in rest) (composite name tag text below) (heading_in o.choices below) (headed_by o (composite name tag text below) rest (heading_in o.choices below)) =
+        let defined_is : decided o (node name tag text below rest) ≡ whole_by o (products_in rest) (composite name tag text below) (heading_in o.choices below) (headed_by o (composite name tag text below) rest (heading_in o.choices below)) =
         ap (by_refusal o (node name tag text below rest)) refusal ∙ whole_is o (node name tag text below rest) (composite name tag text below) (products_in rest) products first (headed_by o (composite name tag text below) rest (heading_in o.choices below)) in
         let run_is : finished k (fold (after_lines k) (start o before) (parts_of (node name tag text below rest))) ≡ finished k (fold (after_lines k) (after_lines k (start o before) (part name tag text below)) (parts_of rest)) = rw (f, g) refl in
         run_is ∙ headed k tell o before (composite name tag text below) rest (heading_in o.choices below) (after_lines k (start o before) (part name tag text below)) step
@@ -225,6 +226,50 @@ conversion_is {P} {N} k tell o before (node name tag text below rest) =
         ap (λ (s : State P N). s.stage) (lines_tell k tell (start o before) name tag text below) ∙ one in
         rw (f, g, i) (refused_here k tell rest (after_lines k (start o before) (part name tag text below)) (why.OtherNamespace tag.place) step)
     go false f false g false i z j later =
-        let same : conversion o (node name tag text below rest) ≡ conversion o rest = passed_over o name tag text below rest f g i in
+        let same : decided o (node name tag text below rest) ≡ decided o rest = passed_over o name tag text below rest f g i in
         let run_is : finished k (fold (after_lines k) (start o before) (parts_of (node name tag text below rest))) ≡ finished k (fold (after_lines k) (start o before) (parts_of rest)) = rw (f, g, i) refl in
         run_is ∙ later ∙ ap (result_map (behind k before)) (sym same)
+
+-- ---- the whole message, as it is defined
+
+behind_is : (o : Options) (nodes : Nodes) → refused_behind nodes ≡ first_refusal o true nodes
+behind_is o no_nodes = refl
+behind_is o (node name tag text below rest) =
+    go (bytes_eq name (codes "Header")) refl (bytes_eq name (codes "Product")) refl (bytes_eq name stranger) refl (behind_is o rest)
+  where
+    go : (h : Bool) → bytes_eq name (codes "Header") ≡ h → (p : Bool) → bytes_eq name (codes "Product") ≡ p → (x : Bool) → bytes_eq name stranger ≡ x
+        → refused_behind rest ≡ first_refusal o true rest → refused_behind (node name tag text below rest) ≡ first_refusal o true (node name tag text below rest)
+    go true f p g x i later = rw f refl
+    go false f true g x i later = rw (f, g) later
+    go false f false g true i later = rw (f, g, i) refl
+    go false f false g false i later = rw (f, g, i) later
+
+pub decides : (o : Options) (nodes : Nodes) → conversion o nodes ≡ decided o nodes
+decides o no_nodes = refl
+decides o (node name tag text below rest) =
+    go (bytes_eq name (codes "Product")) refl (bytes_eq name (codes "Header")) refl (bytes_eq name stranger) refl (has_stranger below) refl (heading_in o.choices below) refl (decides o rest)
+  where
+    kept : (h : Heading) → bytes_eq name (codes "Product") ≡ false → bytes_eq name (codes "Header") ≡ true → heading_in o.choices below ≡ Ok h → (r : Option Rejection)
+        → packed_unless r (terms o h below) (products_in rest) ≡ by_refusal o (node name tag text below rest) r
+    kept h f g e (Some rejection) = refl
+    kept h f g e None = rw (f, g, e) refl
+
+    go : (p : Bool) → bytes_eq name (codes "Product") ≡ p → (x : Bool) → bytes_eq name (codes "Header") ≡ x → (y : Bool) → bytes_eq name stranger ≡ y → (z : Bool) → has_stranger below ≡ z
+        → (heading : Result Heading Refusal) → heading_in o.choices below ≡ heading → conversion o rest ≡ decided o rest
+        → conversion o (node name tag text below rest) ≡ decided o (node name tag text below rest)
+    go true f x g y i z j heading e later = rw (apart name f, f) refl
+    go false f true g y i true j heading e later = rw (g, j) refl
+    go false f true g y i false j (Err refusal) e later = rw (g, j, e) refl
+    go false f true g y i false j (Ok h) e later =
+        let told : conversion o (node name tag text below rest) ≡ packed_unless (refused_behind rest) (terms o h below) (products_in rest) = rw (g, j, e) refl in
+        let refusal : first_refusal o false (node name tag text below rest) ≡ first_refusal o true rest = rw (g, j, e) refl in
+        told ∙ ap (λ (r : Option Rejection). packed_unless r (terms o h below) (products_in rest)) (behind_is o rest)
+        ∙ kept h f g e (first_refusal o true rest) ∙ ap (by_refusal o (node name tag text below rest)) (sym refusal)
+    go false f false g true i z j heading e later = rw (g, f, i) refl
+    go false f false g false i z j heading e later =
+        let told : conversion o (node name tag text below rest) ≡ conversion o rest = rw (g, f, i) refl in
+        told ∙ later ∙ sym (passed_over o name tag text below rest f g i)
+
+pub conversion_is : {P N : Type 0} (k : Keeping P N) → Tell → (o : Options) (before : Taken P N) (nodes : Nodes)
+    → finished k (fold (after_lines k) (start o before) (parts_of nodes)) ≡ result_map (behind k before) (conversion o nodes)
+conversion_is k tell o before nodes = decided_is k tell o before nodes ∙ ap (result_map (behind k before)) (sym (decides o nodes))

@@ -18,7 +18,9 @@ use Rattle.onix_mapping.specs.Header.{Choices, Heading, heading_in}
 use Rattle.onix_mapping.specs.ProductRecords.{Form, forms}
 use Rattle.onix_mapping.specs.Rows.{AreOf, AreProducts, message_records, numbered, part_record, references_of, with_number}
 use Rattle.onix_mapping.specs.declared.header.Refusal.{Refusal}
-use Rattle.onix_conversion.specs.Conversion.{Options, by_header, by_heading, by_refusal, conversion, first_refusal, header_in, products_in, terms}
+use Rattle.onix_conversion.specs.Conversion.{Options, conversion, header_in, products_in, terms}
+use Rattle.onix_conversion.specs.private.Whole.{by_header, by_heading, by_refusal, first_refusal}
+use Rattle.onix_conversion.proofs.StageLaws.{decides}
 use Rattle.onix_conversion.specs.declared.rejection.Rejection.{Rejection}
 use Rattle.onix_conversion.specs.Messages.{empty_messages, fits, message, message_text}
 use Rattle.onix_conversion.specs.Packing.{Converted, Terms, Work, after_products, all_written, converted, no_work}
@@ -207,7 +209,7 @@ whole l o nodes made header h counts says z walked none is =
     }
 
 pub parts_are : (l : Laws) (o : Options) (nodes : Nodes) (made : Converted) → conversion o nodes ≡ Ok made → AreParts o nodes made
-parts_are l o nodes made e = by (first_refusal o false nodes) e
+parts_are l o nodes made e = by (first_refusal o false nodes) (sym (decides o nodes) ∙ e)
   where
     headed : (header : Composite) (r : Result Heading Refusal) → heading_in o.choices header.below ≡ r → header_in nodes ≡ Some header
         → by_heading o (products_in nodes) header r ≡ Ok made → AreParts o nodes made

@@ -5,7 +5,7 @@ use Rattle.std.proofs.lemmas.Grind.{flat_map-append}
 use Rattle.csv_records.specs.RecordTexts.{limit, records_text}
 use Rattle.onix_message.specs.Grammar.{most_records}
 use Rattle.onix_conversion.specs.Messages.{end_record, fits, message, message_text}
-use Rattle.onix_conversion.specs.Stages.{end_text, has_room}
+use Rattle.onix_conversion.specs.private.Stages.{end_text, has_room}
 
 pub text_append : (xs ys : List (List (List ℕ))) → records_text (xs ++ ys) ≡ records_text xs ++ records_text ys
 unfolding records_text

@@ -8,7 +8,7 @@ use Rattle.std.specs.Str.{bytes_eq}
 use Rattle.onix_outline.specs.Composites.{has_stranger}
 use Rattle.onix_outline.specs.Names.{stranger}
 use Rattle.onix_outline.specs.Nodes.{Nodes, Tag, no_nodes, node}
-use Rattle.onix_mapping.specs.Elements.{Composite, composites, first}
+use Rattle.onix_mapping.specs.Elements.{Composite, composites, first, text_or_empty}
 use Rattle.onix_mapping.specs.Header.{Choices, Heading, heading_in, message_fields}
 use Rattle.onix_mapping.specs.declared.header.Refusal.{Refusal}
 use Rattle.onix_conversion.specs.declared.rejection.Rejection.{Rejection}
@@ -55,52 +55,41 @@ terms o h header = record {
   allowed = o.wrong;
 }
 
-abbrev pub packed_products : Terms → List Composite → Result Converted Rejection
-packed_products t products = ended t (after_products t no_work products)
+-- that a message is refused for what its Header says
+abbrev pub header_refused : Composite → Refusal → Rejection
+header_refused header refusal =
+    why.Header refusal (text_or_empty (codes "MessageNumber") header.below) (place_of header)
 
-abbrev pub by_heading : Options → List Composite → Composite → Result Heading Refusal
-    → Result Converted Rejection
-by_heading o products header (Err refusal) = Err (why.Header refusal (place_of header))
-by_heading o products header (Ok h) = packed_products (terms o h header.below) products
-
-abbrev pub by_header : Options → List Composite → Option Composite → Result Converted Rejection
-by_header o products None = Err (why.NoHeader (option_map place_of (first products)))
-by_header o products (Some header) =
-    by_heading o products header (heading_in o.choices header.below)
-
--- ---- what is refused
-
--- why a Header is refused: an element in it is of another namespace, or for what it says
-abbrev pub header_refusal : Options → Composite → Option Rejection
-header_refusal o c =
-    if has_stranger c.below then Some (why.OtherNamespace (place_of c))
-    else option_map (λ refusal. why.Header refusal (place_of c))
-    (result_err (heading_in o.choices c.below))
-
--- why the elements in the root from here on are refused, by the first of them, before or behind the
--- Header
-abbrev pub first_refusal : Options → Bool → Nodes → Option Rejection
-first_refusal o true no_nodes = None
-first_refusal o false no_nodes = Some (why.NoHeader None)
-first_refusal o true (node name tag text below rest) =
+-- why the elements behind a Header refuse the message, by the first that does
+abbrev pub refused_behind : Nodes → Option Rejection
+refused_behind no_nodes = None
+refused_behind (node name tag text below rest) =
     if bytes_eq name (codes "Header") then Some (why.SecondHeader tag.place)
-    else if bytes_eq name (codes "Product") then first_refusal o true rest
+    else if bytes_eq name (codes "Product") then refused_behind rest
     else if bytes_eq name stranger then Some (why.OtherNamespace tag.place)
-    else first_refusal o true rest
-first_refusal o false (node name tag text below rest) =
-    if bytes_eq name (codes "Header")
-    then option_or (header_refusal o (composite name tag text below)) (first_refusal o true rest)
-    else if bytes_eq name (codes "Product") then Some (why.NoHeader (Some tag.place))
-    else if bytes_eq name stranger then Some (why.OtherNamespace tag.place)
-    else first_refusal o false rest
+    else refused_behind rest
 
-abbrev pub by_refusal : Options → Nodes → Option Rejection → Result Converted Rejection
-by_refusal o nodes (Some rejection) = Err rejection
-by_refusal o nodes None = by_header o (products_in nodes) (header_in nodes)
+abbrev pub packed_unless : Option Rejection → Terms → List Composite → Result Converted Rejection
+packed_unless (Some rejection) t products = Err rejection
+packed_unless None t products = ended t (after_products t no_work products)
+
+-- what comes of a Header that says so, and of the elements behind it
+abbrev pub headed : Options → Composite → Nodes → Result Heading Refusal
+    → Result Converted Rejection
+headed o header rest (Err refusal) = Err (header_refused header refusal)
+headed o header rest (Ok h) =
+    packed_unless (refused_behind rest) (terms o h header.below) (products_in rest)
 
 -- What comes of the elements in the root of a message. It is refused for the first of them that is:
 -- a Product before the Header, what the Header says, a second one, or an element of another
 -- namespace that is called so; and at the end where more products are wrong than may be, and where
 -- it needs more parts than there are.
 abbrev pub conversion : Options → Nodes → Result Converted Rejection
-conversion o nodes = by_refusal o nodes (first_refusal o false nodes)
+conversion o no_nodes = Err (why.NoHeader None)
+conversion o (node name tag text below rest) =
+    if bytes_eq name (codes "Header")
+    then (if has_stranger below then Err (why.OtherNamespace tag.place)
+    else headed o (composite name tag text below) rest (heading_in o.choices below))
+    else if bytes_eq name (codes "Product") then Err (why.NoHeader (Some tag.place))
+    else if bytes_eq name stranger then Err (why.OtherNamespace tag.place)
+    else conversion o rest

@@ -4,7 +4,7 @@ pub mod Packing
 pub mod Conversion
 pub mod Keeping
 pub mod Views
-pub mod Stages
+pub mod private
 pub mod Outcomes
 pub mod Taken
 pub mod Parts

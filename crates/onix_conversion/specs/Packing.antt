@@ -97,12 +97,9 @@ packed t w place records =
 
 -- ---- products
 
-abbrev pub product_note : List ℕ → Note → ProductNote
-product_note reference n = record { reference = reference; note = n }
-
 -- notes on a product of this reference
 abbrev pub product_notes : List ℕ → List Note → List ProductNote
-product_notes reference notes = map (product_note reference) notes
+product_notes reference notes = map (λ n. record { reference = reference; note = n }) notes
 
 -- with one more product, which has these notes
 abbrev pub noted : Composite → List Note → Work → Work

@@ -21,15 +21,13 @@ place_of c = c.element.tag.place
 abbrev pub no_tally : Tally
 no_tally = record { products = 0; wrong = 0; first = None }
 
-abbrev pub wrong_product : Composite → WrongProduct
-wrong_product c = record { reference = reference_in c.below; place = place_of c }
-
 -- with one more that is wrong
 abbrev pub with_wrong : Tally → Composite → Tally
 with_wrong t c = record {
   products = t.products;
   wrong = t.wrong + 1;
-  first = option_or t.first (Some (wrong_product c));
+  first = option_or t.first
+      (Some (record { reference = reference_in c.below; place = place_of c }));
 }
 
 abbrev pub with_product : Tally → Tally

@@ -1,10 +1,12 @@
 //! The conversion of a feed.
 
 ghost use Rattle.std.specs.Prelude.{◌≡◌, ◌+◌, ◌-◌, IfErr, IfOk, Ok, OnOk, fold};
-ghost use Rattle.onix_conversion.specs.Outcomes.{Ends, ExplainsFault, IsUnread, Says};
+ghost use Rattle.onix_conversion.specs.Outcomes.{ExplainsFault, Says};
+ghost use Rattle.onix_conversion.specs.private.Endings.{Ends, IsUnread};
 ghost use Rattle.onix_conversion.specs.Packing.{Converted};
-ghost use Rattle.onix_conversion.specs.Stages.{all_written, empty_parts, ended, ended_at, finished, held};
-ghost use Rattle.onix_conversion.specs.Views.{begun_view, options_view};
+ghost use Rattle.onix_conversion.specs.private.Stages.{all_written, empty_parts, ended, ended_at, finished, held};
+ghost use Rattle.onix_conversion.specs.Views.{options_view};
+ghost use Rattle.onix_conversion.specs.private.StageViews.{begun_view};
 
 use crate::converter::Converter;
 use crate::options::Options;
@@ -140,11 +142,12 @@ fn unread<'a, T: Target + Drop>(stopped: Stopped<Converter<'a, T>>) -> Outcome<T
         fault,
         place,
         taker,
+        told,
     } = stopped;
     let target = taker.into_target();
     let ended = match fault {
         onix_outline::Fault::Document(xml_text::Fault::Memory) => Err(Fault::Memory),
-        fault => Err(Fault::Unread(fault, place)),
+        fault => Err(Fault::Unread(fault, place, told)),
     };
     Outcome { target, ended }
 }

@@ -1,6 +1,6 @@
 //! The state of a conversion, which takes the Header and the Products of a message.
 
-ghost use Rattle.std.specs.Prelude.{◌≡◌, ◌∷◌, [], ℕ, IfOk, OnOk, fold};
+ghost use Rattle.std.specs.Prelude.{◌≡◌, ◌∷◌, [], ℕ, IfOk, OnOk};
 ghost use Rattle.onix_mapping.specs.Elements.{Composite as Told, Tells};
 ghost use Rattle.onix_mapping.specs.Header.{heading_in};
 ghost use Rattle.onix_mapping.specs.HeaderViews.{choices_view, heading_view};
@@ -10,10 +10,10 @@ ghost use Rattle.onix_mapping.specs.Products.{bare_record, emptied_record};
 ghost use Rattle.onix_outline.specs.Nodes.{Nodes};
 ghost use Rattle.onix_outline.specs.Outline.{outline};
 ghost use Rattle.onix_outline.specs.Views.{line_views};
-ghost use Rattle.onix_conversion.specs.Packing.{product_notes};
-ghost use Rattle.onix_conversion.specs.Stages.{IsKept, after_element, after_product, at_stage, begun_by, first_begun, first_state, held, noted, stage_after_header, stage_after_stranger, unbegun, with_form, with_forms, with_product};
+ghost use Rattle.onix_conversion.specs.private.Stages.{IsKept, after_element, after_product, at_stage, begun_by, first_begun, first_state, held, noted, stage_after_header, stage_after_stranger, unbegun, with_form, with_forms, with_product};
 ghost use Rattle.onix_conversion.specs.Conversion.{Options as Chosen};
-ghost use Rattle.onix_conversion.specs.Views.{begun_view, options_view, stage_view};
+ghost use Rattle.onix_conversion.specs.Views.{options_view};
+ghost use Rattle.onix_conversion.specs.private.StageViews.{begun_view, stage_view};
 
 use crate::messages::record_text;
 use crate::options::Options;
@@ -29,6 +29,7 @@ use onix_mapping::{
 };
 use onix_message::row::RowFault;
 use onix_outline::{Line, Taker, has_stranger, outlined};
+use onix_terms::items::Items;
 use std::alloc::{AllocError, Global};
 use std::marker::Model;
 
@@ -42,30 +43,12 @@ pub struct Converter<'a, T: Target> {
 }
 
 impl<'a, T: Target> Model for Converter<'a, T> {
-    ghost use Rattle.onix_conversion.specs.Stages.{State};
-    ghost use Rattle.onix_conversion.specs.Views.{state};
+    ghost use Rattle.onix_conversion.specs.private.Stages.{State};
+    ghost use Rattle.onix_conversion.specs.private.StageViews.{state};
 
     ghost Value = { State T.Parts T.Notes };
 
     ghost view = { λ c. state c.options.now (T.parts c.target) (T.notes c.target) c.stage };
-}
-
-// Hands on notes on a product of this reference.
-fn hand_notes<T: Target>(
-    target: &mut T,
-    reference: &[u8],
-    notes: &[Note<'_>],
-) -> Result<(), AllocError>
-    ensures notes { OnOk result (T.notes target.new ≡ fold T.keeping.with_note
-        (T.notes target.old) (product_notes reference.now (note_views notes.now))) }
-    ensures parts { OnOk result (T.parts target.new ≡ T.parts target.old) }
-{
-    let mut rest = notes;
-    while let [note, tail @ ..] = rest {
-        target.note(reference, *note)?;
-        rest = tail;
-    }
-    Ok(())
 }
 
 // Counts a product with these notes, and hands them on.
@@ -83,7 +66,7 @@ fn note_product<T: Target>(
 {
     count_product(alloc, &mut begun.tally, product, notes)?;
     let reference = text_or_empty(1, b"RecordReference", product.below);
-    hand_notes(target, reference, notes)
+    target.product(reference, notes)
 }
 
 // Puts the records of a form of a product into a part, and hands on the notes on it. It is false
@@ -205,7 +188,7 @@ fn add_large_product<T: Target>(
 }
 
 // Takes a product of a message that was begun.
-#[tactic(auto, unfolding(crate::specs::Stages::after_product))]
+#[tactic(auto, unfolding(crate::specs::private::Stages::after_product))]
 fn add<T: Target>(
     alloc: Global,
     options: &Options<'_>,
@@ -314,8 +297,9 @@ fn begin_own<'a>(
             Err(_) => Err(AllocError),
         },
         Err(HeaderFault::Refused(refusal)) => {
-            let place = header.line.place;
-            Ok(Stage::Refused(Rejection::Header(refusal, place)))
+            let number = text_or_empty(1, b"MessageNumber", header.below);
+            let number = Items::from_vec(Vec::from_slice(alloc, number)?);
+            Ok(Stage::Refused(Rejection::Header(refusal, number, header.line.place)))
         }
         Err(HeaderFault::Memory) => Err(AllocError),
     }
@@ -415,7 +399,7 @@ impl<'a, T: Target + Drop> Converter<'a, T> {
 
 impl<'a, T: Target + Drop> Taker for Converter<'a, T> {
     ghost use Rattle.onix_outline.specs.Outlined.{outlined};
-    ghost use Rattle.onix_conversion.specs.Stages.{after_nodes};
+    ghost use Rattle.onix_conversion.specs.private.Stages.{after_nodes};
 
     ghost after = { λ s lines. after_nodes T.keeping s (outlined lines) };
 

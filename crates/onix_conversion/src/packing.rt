@@ -4,8 +4,8 @@ ghost use Rattle.std.specs.Prelude.{◌≡◌, ◌+◌, ◌++◌, ◌∷◌, [],
 ghost use Rattle.std.specs.String.{string_bytes};
 ghost use Rattle.csv_records.specs.RecordTexts.{records_text};
 ghost use Rattle.onix_conversion.specs.Packing.{beyond_at};
-ghost use Rattle.onix_conversion.specs.Stages.{end_text, first_text, grown, has_room, held, kept, turned, with_part, IsKept};
-ghost use Rattle.onix_conversion.specs.Views.{begun_view};
+ghost use Rattle.onix_conversion.specs.private.Stages.{end_text, first_text, grown, has_room, held, kept, turned, with_part, IsKept};
+ghost use Rattle.onix_conversion.specs.private.StageViews.{begun_view};
 
 use crate::messages::{end_text, record_text};
 use crate::rejection::Rejection;
@@ -73,7 +73,7 @@ pub(crate) fn first_text(alloc: Global, begun: &Begun, before: u32) -> Result<St
 }
 
 // Whether a part of so many records and bytes has room for so many more.
-#[tactic(auto, unfolding(crate::specs::Stages::has_room))]
+#[tactic(auto, unfolding(crate::specs::private::Stages::has_room))]
 fn has_room(
     alloc: Global,
     count: usize,
@@ -168,7 +168,7 @@ fn turn(
 
 // Puts a product of so many records and this text into the part that was begun where that has room,
 // else into the next one. It is false where that has none either.
-#[tactic(auto, unfolding(crate::specs::Stages::kept))]
+#[tactic(auto, unfolding(crate::specs::private::Stages::kept))]
 fn keep_text<T: Target>(
     alloc: Global,
     most: u32,

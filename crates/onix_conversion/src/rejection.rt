@@ -1,6 +1,7 @@
 //! Why no messages come of a feed.
 
 use onix_mapping::Refusal;
+use onix_outline::Told;
 use onix_terms::items::Items;
 use xml_text::Position;
 
@@ -9,8 +10,9 @@ use xml_text::Position;
 pub enum Rejection {
     /// It has no Header before its first Product, which stands at the place, where it has one.
     NoHeader(Option<Position>),
-    /// For what its Header says, which stands at the place.
-    Header(Refusal, Position),
+    /// For what its Header says, which stands at the place and has this MessageNumber, empty where
+    /// it has none.
+    Header(Refusal, Items<u8>, Position),
     /// It has a second Header, which stands at the place.
     SecondHeader(Position),
     /// An element in another namespace than the root stands at the place, or in the Header that
@@ -26,8 +28,8 @@ pub enum Rejection {
 /// Why no messages come of a feed.
 #[derive(Debug, Drop)]
 pub enum Fault {
-    /// It was not read, and where reading stopped.
-    Unread(onix_outline::Fault, Position),
+    /// It was not read: why, where reading stopped, and what was told until then.
+    Unread(onix_outline::Fault, Position, Told),
     /// It is refused.
     Refused(Rejection),
     /// Memory ran out, or the target took no more.

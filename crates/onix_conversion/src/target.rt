@@ -6,10 +6,10 @@ use std::alloc::AllocError;
 /// What takes the texts of the parts of a message, in order, and the notes on what is left out of
 /// it, in order.
 pub trait Target {
-    ghost use Rattle.std.specs.Prelude.{◌≡◌, OnOk};
-    ghost use Rattle.onix_mapping.specs.Notes.{note_view};
+    ghost use Rattle.std.specs.Prelude.{◌≡◌, OnOk, fold};
+    ghost use Rattle.onix_mapping.specs.Notes.{note_views};
     ghost use Rattle.onix_conversion.specs.Keeping.{Keeping};
-    ghost use Rattle.onix_conversion.specs.Packing.{ProductNote};
+    ghost use Rattle.onix_conversion.specs.Packing.{product_notes};
 
     /// The values of this type are what it makes of parts. Where it is `Items<Items<u8>>` and
     /// `with_part` adds the text at the end, the clause of `convert` says that just these parts
@@ -33,10 +33,10 @@ pub trait Target {
         ensures part { OnOk result (parts self.new ≡ keeping.with_part (parts self.old) text.now) }
         ensures notes { OnOk result (notes self.new ≡ notes self.old) };
 
-    /// Takes the next note, which is on a product of this RecordReference. After an error nothing
-    /// more is handed to it.
-    fn note(&mut self, reference: &[u8], note: Note<'_>) -> Result<(), AllocError>
-        ensures note { OnOk result (notes self.new ≡ keeping.with_note (notes self.old)
-            (record { reference = reference.now; note = note_view note.entry })) }
+    /// Takes the notes on the next product, which has this RecordReference, in order, also where
+    /// there are none. After an error nothing more is handed to it.
+    fn product(&mut self, reference: &[u8], on_it: &[Note<'_>]) -> Result<(), AllocError>
+        ensures notes { OnOk result (notes self.new ≡ fold keeping.with_note (notes self.old)
+            (product_notes reference.now (note_views on_it.now))) }
         ensures parts { OnOk result (parts self.new ≡ parts self.old) };
 }

@@ -1,5 +1,6 @@
 -- How one FILE ends.
-use Rattle.std.specs.Prelude.{◌≡◌, ◌<◌, ◌≤◌, ◌⊎◌, ℕ, ◌++◌, Bool, true, false, List, [], Option, Some, None, ⊤, length}
+use Rattle.std.specs.Prelude.{◌≡◌, ◌<◌, ◌≤◌, ◌⊎◌, ℕ, ◌++◌, Bool, true, false, List, [], Option}
+use Rattle.std.specs.Prelude.{Some, None, ⊤, length}
 use Rattle.std.specs.Prelude.{Ok}
 use Rattle.std.specs.List.{concat, fold}
 use Rattle.xml_text.specs.declared.fault.Fault.TheVariants as document
@@ -33,9 +34,9 @@ is_converted other = false
 -- the fault is of what the bytes say: no read failed, memory did not run out, and nothing but the
 -- bytes was refused
 abbrev pub IsRefusal : Fault → Type 0
-IsRefusal (fault.Unread (unread.Document document.Read) place) = ⊥
-IsRefusal (fault.Unread (unread.Document document.Memory) place) = ⊥
-IsRefusal (fault.Unread (unread.Document document.Refused) place) = ⊥
+IsRefusal (fault.Unread (unread.Document document.Read) place told) = ⊥
+IsRefusal (fault.Unread (unread.Document document.Memory) place told) = ⊥
+IsRefusal (fault.Unread (unread.Document document.Refused) place told) = ⊥
 IsRefusal fault.Memory = ⊥
 IsRefusal other = ⊤
 
@@ -132,10 +133,11 @@ EndsAs ended.Refused a name bytes e =
 EndsAs ended.Packed a name bytes e = LeavesNothing e × (is_packed name ≡ true)
 EndsAs ended.Fault a name bytes e =
     LeavesNothing e
-    ⊎ ((made : Converted) × Says bytes a.options (Ok made) × MayWriteTo a.folder a name made.parts e)
+    ⊎ ((made : Converted) × Says bytes a.options (Ok made)
+    × MayWriteTo a.folder a name made.parts e)
 
 -- How a FILE of this name and of these bytes, where they are told, ends: its messages are written,
--- where it was converted, with or without wrong products; nothing is, where it was refused
--- for what its bytes say, or since it is packed by its name; after a fault at most a part of them is.
+-- where it was converted, with or without wrong products; nothing is, where it was refused for what
+-- its bytes say, or since it is packed by its name; after a fault at most a part of them is.
 abbrev pub IsEnd : Asking → List ℕ → Option (List ℕ) → FileEnd → Type 0
 IsEnd a name bytes e = EndsAs e.ended a name bytes e

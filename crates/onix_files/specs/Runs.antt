@@ -1,5 +1,6 @@
 -- How a run over FILEs ends.
-use Rattle.std.specs.Prelude.{◌≡◌, ◌≢◌, ◌⊎◌, ℕ, Bool, true, List, [], ◌∷◌, Option, codes, is_some, map, max, option_map}
+use Rattle.std.specs.Prelude.{◌≡◌, ◌≢◌, ◌⊎◌, ℕ, Bool, true, List, [], ◌∷◌, Option, codes, is_some}
+use Rattle.std.specs.Prelude.{map, max, option_map}
 use Rattle.std.specs.List.{concat, fold}
 use Rattle.named_files.specs.Holdings.{Holdings}
 use Rattle.onix_conversion.specs.Views.{options_view}

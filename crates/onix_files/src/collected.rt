@@ -41,7 +41,7 @@ impl<'a, S: Store + Drop> Target for Collected<'a, S> {
         }
     }
 
-    fn note(&mut self, reference: &[u8], note: Note<'_>) -> Result<(), AllocError> {
-        self.notes.add(reference, note)
+    fn product(&mut self, reference: &[u8], on_it: &[Note<'_>]) -> Result<(), AllocError> {
+        self.notes.add(reference, on_it)
     }
 }

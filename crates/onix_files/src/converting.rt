@@ -70,7 +70,7 @@ fn report_refusal<E: Write>(
     ensures { (result ≡ Ended.Fault) ⊎ (result ≡ Ended.Refused) }
 {
     let mut line = String::new(alloc);
-    match push_refusal(&mut line, alloc, known, fault) {
+    match push_refusal(&mut line, known, fault) {
         Ok(()) => {
             write_lines(line.as_str(), errors);
             Ended::Refused
@@ -84,14 +84,14 @@ fn report_ended<E: Write>(alloc: Global, known: &Known<'_>, fault: &Fault, error
     ensures { IsUnconverted fault.now result }
 {
     match fault {
-        Fault::Unread(onix_outline::Fault::Document(xml_text::Fault::Read), _) => {
+        Fault::Unread(onix_outline::Fault::Document(xml_text::Fault::Read), _, _) => {
             report_unread(alloc, known, errors)
         }
-        Fault::Unread(onix_outline::Fault::Document(xml_text::Fault::Memory), _) => {
+        Fault::Unread(onix_outline::Fault::Document(xml_text::Fault::Memory), _, _) => {
             report_fault(alloc, &FileFault::Memory, errors)
         }
-        Fault::Unread(onix_outline::Fault::Document(xml_text::Fault::Refused), _) | Fault::Memory =>
-            report_fault(alloc, &FileFault::Memory, errors),
+        Fault::Unread(onix_outline::Fault::Document(xml_text::Fault::Refused), _, _)
+        | Fault::Memory => report_fault(alloc, &FileFault::Memory, errors),
         _ => report_refusal(alloc, known, fault, errors),
     }
 }

@@ -2,7 +2,7 @@
 
 use crate::shown::{push_reference, push_shown};
 use crate::summary::Summary;
-use crate::words::{Saying, is_of_product, push_saying, saying_of};
+use crate::words::{Saying, is_counted_alone, is_of_product, push_saying, saying_of};
 use onix_mapping::Note;
 use std::alloc::{AllocError, Global};
 use xml_text::Position;
@@ -14,26 +14,22 @@ pub(crate) const PREFIX: &str = "onixdesk: ";
 // Those behind them are only counted.
 const MOST_LINES: u32 = 1_000;
 
-// The lines on a product begin here, and one of its notes says that something is wrong.
-#[derive(Clone, Copy)]
-struct OfProduct {
-    start: usize,
-    is_wrong: bool,
+// Lines of notes on a FILE: how many there are, but for those on Products, and how many of those.
+#[derive(Drop)]
+struct Lines {
+    text: String,
+    others: u32,
+    of_products: u32,
 }
 
 /// The notes on a FILE, kept until the whole of it was read.
 #[derive(Drop)]
 pub struct Notes<'a> {
-    alloc: Global,
     file: &'a str,
-    text: String,
-    // How many lines there are, but for those on Products, and how many of those.
-    lines: u32,
-    of_products: u32,
-    // The RecordReference of the last product that has notes, and where the lines on each begin.
-    // Two that follow each other and have one reference are taken for one.
-    reference: Vec<u8>,
-    products: Vec<OfProduct>,
+    all: Lines,
+    // Those on products that are wrong, with a bound of their own: they are told where the FILE is
+    // refused for these.
+    of_wrong: Lines,
     summary: Summary,
 }
 
@@ -59,63 +55,86 @@ fn push_line(
     text.push_str("\n")
 }
 
+// Whether a line more may be written, which is then counted.
+fn has_room(count: &mut u32) -> bool {
+    let has_room = *count < MOST_LINES;
+    *count = count.saturating_add(u32::from(has_room));
+    has_room
+}
+
+// Whether one of the notes says that something is wrong.
+fn has_wrong(notes: &[Note<'_>]) -> bool {
+    notes.iter().any(|note| note.reason.why.is_wrong())
+}
+
+impl Lines {
+    fn new(alloc: Global) -> Lines {
+        Lines {
+            text: String::new(alloc),
+            others: 0,
+            of_products: 0,
+        }
+    }
+
+    // Adds the line of a note on a product of that reference, where there is room for one of its
+    // kind.
+    fn add(
+        &mut self,
+        file: &str,
+        reference: &[u8],
+        note: Note<'_>,
+        saying: Saying,
+    ) -> Result<(), AllocError> {
+        let count = if is_of_product(note.reason.why) {
+            &mut self.of_products
+        } else {
+            &mut self.others
+        };
+        if has_room(count) {
+            push_line(&mut self.text, file, reference, note, saying)?;
+        }
+        Ok(())
+    }
+}
+
 impl<'a> Notes<'a> {
     /// None yet.
     pub(crate) fn new(alloc: Global, file: &'a str) -> Notes<'a> {
         Notes {
-            alloc,
             file,
-            text: String::new(alloc),
-            lines: 0,
-            of_products: 0,
-            reference: Vec::new(alloc),
-            products: Vec::new(alloc),
+            all: Lines::new(alloc),
+            of_wrong: Lines::new(alloc),
             summary: Summary::new(alloc),
         }
     }
 
-    // Whether there is room for a line of its kind, which is then counted.
-    fn has_room(&mut self, note: Note<'_>) -> bool {
-        if is_of_product(note.reason.why) {
-            let has_room = self.of_products < MOST_LINES;
-            self.of_products = self.of_products.saturating_add(u32::from(has_room));
-            return has_room;
+    /// Adds the notes on a product of that reference.
+    pub(crate) fn add(&mut self, reference: &[u8], notes: &[Note<'_>]) -> Result<(), AllocError> {
+        let is_wrong = has_wrong(notes);
+        for note in notes.iter() {
+            let saying = saying_of(*note);
+            let has_lines = !is_counted_alone(note.reason.why);
+            self.summary.add(saying, note.reason.text, has_lines)?;
+            if has_lines {
+                self.add_lines(reference, *note, saying, is_wrong)?;
+            }
         }
-        let has_room = self.lines < MOST_LINES;
-        self.lines = self.lines.saturating_add(u32::from(has_room));
-        has_room
-    }
-
-    // Begins the lines on a product, unless those on it were begun.
-    fn begin(&mut self, reference: &[u8]) -> Result<(), AllocError> {
-        if !self.products.is_empty() && self.reference.as_slice() == reference {
-            return Ok(());
-        }
-        self.reference.clear();
-        self.reference.extend_from_slice(reference)?;
-        self.products.push(OfProduct {
-            start: self.text.len(),
-            is_wrong: false,
-        })?;
         Ok(())
     }
 
-    // Marks the last product that has notes, where the note says that something is wrong.
-    fn mark(&mut self, note: Note<'_>) {
-        if let Some(last) = self.products.last_mut() {
-            last.is_wrong = last.is_wrong || note.reason.why.is_wrong();
+    // Adds the lines of a note on a product of that reference, which is wrong or not.
+    fn add_lines(
+        &mut self,
+        reference: &[u8],
+        note: Note<'_>,
+        saying: Saying,
+        is_wrong: bool,
+    ) -> Result<(), AllocError> {
+        self.all.add(self.file, reference, note, saying)?;
+        if is_wrong {
+            self.of_wrong.add(self.file, reference, note, saying)?;
         }
-    }
-
-    /// Adds a note on a product of that reference.
-    pub(crate) fn add(&mut self, reference: &[u8], note: Note<'_>) -> Result<(), AllocError> {
-        let saying = saying_of(note);
-        if self.has_room(note) {
-            self.begin(reference)?;
-            self.mark(note);
-            push_line(&mut self.text, self.file, reference, note, saying)?;
-        }
-        self.summary.add(saying, note.reason.text)
+        Ok(())
     }
 
     /// Counts so many wrong products.
@@ -130,23 +149,12 @@ impl<'a> Notes<'a> {
 
     /// Their lines.
     pub(crate) fn text(&self) -> &str {
-        self.text.as_str()
+        self.all.text.as_str()
     }
 
     /// The lines on products that are wrong.
-    pub(crate) fn of_wrong(&self) -> Result<String, AllocError> {
-        let mut lines = String::new(self.alloc);
-        for at in 0..self.products.len() {
-            let product = self.products[at];
-            if product.is_wrong {
-                let end = match self.products.get(at + 1) {
-                    Some(next) => next.start,
-                    None => self.text.len(),
-                };
-                lines.push_str(self.text.as_str().get(product.start..end).unwrap_or(""))?;
-            }
-        }
-        Ok(lines)
+    pub(crate) fn of_wrong(&self) -> &str {
+        self.of_wrong.text.as_str()
     }
 
     /// How often each reason was given.

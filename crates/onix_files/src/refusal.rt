@@ -1,14 +1,15 @@
 //! Why the message of a FILE is refused.
 
-use crate::header_number::{number_in, push_number};
+use crate::kinds::other_kind;
 use crate::notes::{Notes, push_place};
+use crate::numbers::push_number;
 use crate::seen::Seen;
 use crate::shown::{push_reference, push_shown_bytes};
-use crate::unread::{push_malformed, push_release, push_root};
+use crate::unread;
 use onix_conversion::{Fault, Options, Rejection};
 use onix_mapping::{Pair, Refusal};
-use onix_outline::Wrong;
-use std::alloc::{AllocError, Global};
+use onix_outline::{Told, Wrong};
+use std::alloc::AllocError;
 use xml_text::Position;
 
 const NO_HEADER: &str = "no Header before the first Product, and so neither a sender nor a number";
@@ -22,8 +23,8 @@ const OTHER_NAMESPACE: &str =
 const AGREED: &str =
     "the number of parts is a part of the agreement on the series, and with another one its numbers no longer follow each other (ONIX.md)";
 
-const OTHER_ENCODING: &str =
-    "its encoding is none of UTF-8, UTF-16, US-ASCII, ISO-8859-1, ISO-8859-15 and windows-1252";
+const NO_TEXT: &str =
+    "a byte that its encoding has not, or a character that no XML has; another encoding may be meant, as windows-1252";
 
 /// What is known of a FILE that was not converted, beside its fault.
 #[derive(Clone, Copy)]
@@ -35,32 +36,38 @@ pub struct Known<'a> {
     pub notes: &'a Notes<'a>,
 }
 
+// Adds that a file is no text, or what it is.
+fn push_no_text(line: &mut String, seen: &Seen) -> Result<(), AllocError> {
+    match other_kind(seen.first()) {
+        Some(kind) => write!(line, "no XML, but {kind}"),
+        None => line.push_str(NO_TEXT),
+    }
+}
+
 // Adds why a file is no document.
 fn push_unread(
     line: &mut String,
-    alloc: Global,
     fault: &xml_text::Fault,
+    told: &Told,
     seen: &Seen,
 ) -> Result<(), AllocError> {
     match fault {
+        xml_text::Fault::NotText => push_no_text(line, seen),
         xml_text::Fault::TooDeep => line.push_str("too many elements within one another"),
         xml_text::Fault::TooLong => line.push_str("a tag or name that is too long"),
         xml_text::Fault::LargeTag => line.push_str("a tag with too many attributes"),
-        xml_text::Fault::UnknownEncoding => line.push_str(OTHER_ENCODING),
-        _ => push_malformed(line, alloc, seen),
+        xml_text::Fault::UnknownEncoding(name) => unread::push_encoding(line, name.as_slice()),
+        _ => unread::push_malformed(line, told, seen),
     }
 }
 
 // Adds why a document is no message.
-fn push_wrong(
-    line: &mut String,
-    alloc: Global,
-    wrong: &Wrong,
-    seen: &Seen,
-) -> Result<(), AllocError> {
+fn push_wrong(line: &mut String, wrong: &Wrong, told: &Told) -> Result<(), AllocError> {
     match wrong {
-        Wrong::Root => push_root(line, alloc, seen),
-        Wrong::Release => push_release(line, alloc, seen),
+        Wrong::Root(name) => unread::push_root(line, name.as_slice()),
+        Wrong::Release(release, address) => {
+            unread::push_release(line, release, address.as_slice(), told)
+        }
     }
 }
 
@@ -74,11 +81,11 @@ fn push_pair(line: &mut String, pair: Option<Pair<'_>>) -> Result<(), AllocError
     push_shown_bytes(line, pair.id_value)
 }
 
-// Adds why a message is refused for its Header.
+// Adds why a message is refused for its Header, which has this MessageNumber.
 fn push_header(
     line: &mut String,
-    alloc: Global,
     refusal: Refusal,
+    number: &[u8],
     known: &Known<'_>,
 ) -> Result<(), AllocError> {
     match refusal {
@@ -93,8 +100,7 @@ fn push_header(
         }
         Refusal::NoNumber => line.push_str("no MessageNumber; --number N gives one"),
         Refusal::WrongNumber | Refusal::NumberTooGreat | Refusal::LastNumberTooGreat => {
-            let number = number_in(alloc, known.seen.first());
-            push_number(line, refusal, number.as_deref(), &known.options.choices)
+            push_number(line, refusal, number, &known.options.choices)
         }
         Refusal::Malformed => line.push_str(
             "a Header whose record Message the desk would call malformed",
@@ -118,7 +124,7 @@ fn push_products(
 fn place_of(rejection: &Rejection) -> Position {
     match rejection {
         Rejection::NoHeader(Some(place))
-        | Rejection::Header(_, place)
+        | Rejection::Header(_, _, place)
         | Rejection::SecondHeader(place)
         | Rejection::OtherNamespace(place)
         | Rejection::Wrong(_, _, _, place)
@@ -130,13 +136,14 @@ fn place_of(rejection: &Rejection) -> Position {
 // Adds why a message is refused.
 fn push_rejection(
     line: &mut String,
-    alloc: Global,
     rejection: &Rejection,
     known: &Known<'_>,
 ) -> Result<(), AllocError> {
     match rejection {
         Rejection::NoHeader(_) => line.push_str(NO_HEADER),
-        Rejection::Header(refusal, _) => push_header(line, alloc, *refusal, known),
+        Rejection::Header(refusal, number, _) => {
+            push_header(line, *refusal, number.as_slice(), known)
+        }
         Rejection::SecondHeader(_) => line.push_str("a second Header"),
         Rejection::OtherNamespace(_) => line.push_str(OTHER_NAMESPACE),
         Rejection::Wrong(wrong, products, reference, _) => {
@@ -155,16 +162,19 @@ fn push_rejection(
 // Adds why a feed is not read.
 fn push_stopped(
     line: &mut String,
-    alloc: Global,
     fault: &onix_outline::Fault,
+    told: &Told,
     seen: &Seen,
 ) -> Result<(), AllocError> {
     match fault {
-        onix_outline::Fault::Document(fault) => push_unread(line, alloc, fault, seen),
-        onix_outline::Fault::Message(wrong) => push_wrong(line, alloc, wrong, seen),
-        onix_outline::Fault::Reference => line.push_str("a reference that stands for nothing"),
+        onix_outline::Fault::Document(fault) => push_unread(line, fault, told, seen),
+        onix_outline::Fault::Message(wrong) => push_wrong(line, wrong, told),
+        onix_outline::Fault::Reference => unread::push_reference(line, told),
         onix_outline::Fault::TooLarge => {
             line.push_str("a Header or a Product of more than 4,194,304 bytes")
+        }
+        onix_outline::Fault::ManyPrefixes => {
+            line.push_str("more than 64 prefixes stand for the namespace of the root here")
         }
     }
 }
@@ -182,7 +192,7 @@ fn push_wrong_products(
     notes: &Notes<'_>,
 ) -> Result<(), AllocError> {
     match rejection {
-        Rejection::Wrong(_, _, _, _) => line.push_str(notes.of_wrong()?.as_str()),
+        Rejection::Wrong(_, _, _, _) => line.push_str(notes.of_wrong()),
         _ => Ok(()),
     }
 }
@@ -191,19 +201,18 @@ fn push_wrong_products(
 /// wrong products, where it is refused for these.
 pub(crate) fn push_refusal(
     line: &mut String,
-    alloc: Global,
     known: &Known<'_>,
     fault: &Fault,
 ) -> Result<(), AllocError> {
     match fault {
-        Fault::Unread(fault, place) => {
+        Fault::Unread(fault, place, told) => {
             push_start(line, known.file, *place)?;
-            push_stopped(line, alloc, fault, known.seen)?;
+            push_stopped(line, fault, told, known.seen)?;
         }
         Fault::Refused(rejection) => {
             push_wrong_products(line, rejection, known.notes)?;
             push_start(line, known.file, place_of(rejection))?;
-            push_rejection(line, alloc, rejection, known)?;
+            push_rejection(line, rejection, known)?;
         }
         Fault::Memory => return Ok(()),
     }

@@ -2,13 +2,10 @@
 
 use named_files::FileFault;
 use std::alloc::Global;
+use xml_text::HEAD;
 
-// How many of the first bytes are kept.
-const FIRST: usize = 65_536;
-
-// Within how many bytes the reader of XML looks for the name of the encoding, before it hands on
-// what it has read.
-const ENCODING: u64 = 1_024;
+// How many of the first bytes are kept: they tell what a FILE is that is no XML.
+const FIRST: usize = 4_096;
 
 /// What was seen of a FILE while it was read: its first bytes, how many there were, how often its
 /// end was met, and why a read failed.
@@ -67,15 +64,10 @@ impl Seen {
         self.count
     }
 
-    /// Whether the first bytes are all that there were.
-    pub(crate) fn is_whole(&self) -> bool {
-        self.first.len() as u64 == self.count
-    }
-
-    /// Whether the reader of XML has handed on all that there was, and asked for more. It asks once
-    /// for the first bytes, and again once it has handed them on.
+    /// Whether the reader of XML has handed on all that there was, and asked for more. Of a FILE of
+    /// less than `HEAD` bytes it has met the end once before.
     pub(crate) fn is_at_end(&self) -> bool {
-        self.ends > 1 || self.ends == 1 && self.count >= ENCODING
+        self.ends > 1 || self.ends == 1 && self.count >= HEAD as u64
     }
 
     /// Why a read failed.

@@ -3,12 +3,13 @@
 use crate::words::{Saying, push_saying};
 use std::alloc::{AllocError, Global};
 
-/// What is counted as one: what the lines say, and the text of the reason where that is a code of two
-/// digits.
+/// What is counted as one: what the lines say, the text of the reason where that is a code of two
+/// digits, and whether there are lines, or it is counted alone.
 #[derive(Clone, Copy, PartialEq, Eq)]
 struct Kind {
     saying: Saying,
     code: Option<[u8; 2]>,
+    has_lines: bool,
 }
 
 #[derive(Clone, Copy)]
@@ -17,8 +18,9 @@ struct Counted {
     count: u64,
 }
 
-/// How many notes there are for each reason, and how many products are wrong. A reason holds no text
-/// of a feed but a code of two digits, so that they stay few.
+/// How many notes there are for each reason, how often there is what is counted without a line, and
+/// how many products are wrong. A reason holds no text of a feed but a code of two digits, so that
+/// they stay few.
 #[derive(Drop)]
 pub struct Summary {
     alloc: Global,
@@ -56,14 +58,24 @@ impl Summary {
         Ok(())
     }
 
-    /// Counts a note that says this, with the text of its reason.
-    pub(crate) fn add(&mut self, saying: Saying, text: &[u8]) -> Result<(), AllocError> {
+    /// Counts what is said so, with the text of its reason, on lines or without any.
+    pub(crate) fn add(
+        &mut self,
+        saying: Saying,
+        text: &[u8],
+        has_lines: bool,
+    ) -> Result<(), AllocError> {
         let code = if saying.words.has_text {
             code_of(text)
         } else {
             None
         };
-        self.count(Kind { saying, code }, 1)
+        let kind = Kind {
+            saying,
+            code,
+            has_lines,
+        };
+        self.count(kind, 1)
     }
 
     /// Counts so many wrong products.
@@ -84,7 +96,9 @@ impl Summary {
     fn total(&self) -> u64 {
         let mut total = 0u64;
         for counted in self.counts.iter() {
-            total = total.saturating_add(counted.count);
+            if counted.kind.has_lines {
+                total = total.saturating_add(counted.count);
+            }
         }
         total
     }
@@ -129,8 +143,8 @@ impl Summary {
         write!(text, ", {} {products} wrong", self.wrong)
     }
 
-    /// Adds the lines of the summary: one for each reason, the most frequent first, and the count
-    /// of all notes and of wrong products. None where there are no notes.
+    /// Adds the lines of the summary: one for each reason, the most frequent first, and, where
+    /// there are notes, the count of all and of wrong products.
     pub(crate) fn push_lines(&self, prefix: &str, text: &mut String) -> Result<(), AllocError> {
         self.push_reasons(prefix, text)?;
         let total = self.total();

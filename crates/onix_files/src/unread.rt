@@ -1,25 +1,25 @@
-//! What is said of a FILE that is no message, by its first bytes.
+//! What is said of a FILE that is no message.
 
 use crate::kinds::other_kind;
-use crate::root::{Root, root_in};
 use crate::seen::Seen;
 use crate::shown::push_shown_bytes;
-use std::alloc::{AllocError, Global};
+use onix_outline::{Naming, Told};
+use std::alloc::AllocError;
+use xml_text::Bytes;
 
 const NO_XML: &str = "no well-formed XML";
 
 const OLD: &str = "; this looks like ONIX 2.1, ask its sender for 3.0 or 3.1";
 
-// Adds what a FILE ends before, by its root.
-fn push_cut(line: &mut String, seen: &Seen, root: &Root) -> Result<(), AllocError> {
-    match root.name() {
-        Some(name) => {
-            line.push_str("the file ends before </")?;
-            push_shown_bytes(line, name)?;
-            line.push_str(">")
-        }
-        None if seen.is_whole() => line.push_str("the file ends before its root element"),
-        None => line.push_str(NO_XML),
+const ENCODINGS: &str =
+    " is not read; read are UTF-8, UTF-16, US-ASCII, ISO-8859-1, ISO-8859-15 and windows-1252";
+
+// What a FILE ends before, by the names of its root.
+fn cut_of(naming: Option<Naming>) -> &'static str {
+    match naming {
+        Some(Naming::Reference) => "the file ends before </ONIXMessage>",
+        Some(Naming::Short) => "the file ends before </ONIXmessage>",
+        None => "the file ends before its root element",
     }
 }
 
@@ -27,60 +27,90 @@ fn push_cut(line: &mut String, seen: &Seen, root: &Root) -> Result<(), AllocErro
 /// that can be told.
 pub(crate) fn push_malformed(
     line: &mut String,
-    alloc: Global,
+    told: &Told,
     seen: &Seen,
 ) -> Result<(), AllocError> {
     match other_kind(seen.first()) {
         Some(kind) => write!(line, "no XML, but {kind}"),
-        None if seen.is_at_end() => push_cut(line, seen, &root_in(alloc, seen.first())),
+        None if seen.is_at_end() => line.push_str(cut_of(told.naming)),
         None => line.push_str(NO_XML),
     }
 }
 
-// Adds which root it is, where its tag was met, and that it is none of a message.
-fn push_other_root(line: &mut String, root: &Root) -> Result<(), AllocError> {
-    line.push_str(if root.name().is_some() {
-        "root "
-    } else {
-        "its root"
-    })?;
-    push_shown_bytes(line, root.name().unwrap_or(b""))?;
+/// Adds that a FILE is in an encoding of this name, and which ones are read.
+pub(crate) fn push_encoding(line: &mut String, name: &[u8]) -> Result<(), AllocError> {
+    line.push_str("encoding \"")?;
+    push_shown_bytes(line, name)?;
+    line.push_str("\"")?;
+    line.push_str(ENCODINGS)
+}
+
+/// Adds that a reference stands for nothing, and which.
+pub(crate) fn push_reference(line: &mut String, told: &Told) -> Result<(), AllocError> {
+    match &told.reference {
+        Some(body) => {
+            line.push_str("&")?;
+            push_shown_bytes(line, body)?;
+            line.push_str("; stands for nothing")
+        }
+        None => line.push_str("a reference that stands for nothing"),
+    }
+}
+
+// Whether a root of this name is that of a web page.
+fn is_web_page(name: &[u8]) -> bool {
+    name.eq_ignore_ascii_case(b"html")
+        || name.eq_ignore_ascii_case(b"head")
+        || name.eq_ignore_ascii_case(b"body")
+}
+
+/// Adds that a root has this name, and that it is none of a message.
+pub(crate) fn push_root(line: &mut String, name: &[u8]) -> Result<(), AllocError> {
+    line.push_str("root ")?;
+    push_shown_bytes(line, name)?;
     line.push_str(" is neither ONIXMessage nor ONIXmessage")?;
-    if root.is_web_page() {
+    if is_web_page(name) {
         line.push_str("; this is a web page")?;
     }
     Ok(())
 }
 
-/// Adds that the root is another one, and which, where its tag stands within the first bytes.
-pub(crate) fn push_root(line: &mut String, alloc: Global, seen: &Seen) -> Result<(), AllocError> {
-    push_other_root(line, &root_in(alloc, seen.first()))
+// Whether the address of a namespace is none of ONIX 3.
+fn names_no_third(address: &[u8]) -> bool {
+    match std::str::from_utf8(address) {
+        Ok(address) => !address.contains("/3."),
+        Err(_) => false,
+    }
 }
 
-// Adds which release the root tells, where its tag was met, and that the message looks like ONIX
-// 2.1.
-fn push_other_release(line: &mut String, root: &Root) -> Result<(), AllocError> {
-    match (root.name(), root.release()) {
-        (None, _) => return line.push_str("its release is not 3.0 or 3.1"),
-        (Some(_), None) => line.push_str("no release")?,
-        (Some(_), Some(release)) => {
+// Whether a root of this release, in the namespace of this address, is that of ONIX 2.1, as far as
+// can be told: its release begins with 2, or it has none, and neither the address nor the DOCTYPE
+// is of ONIX 3.
+fn looks_old(release: &Option<Bytes>, address: &[u8], told: &Told) -> bool {
+    match release {
+        Some(release) => matches!(release.as_slice(), [b'2', ..]),
+        None => names_no_third(address) && !told.is_third,
+    }
+}
+
+/// Adds that a root in the namespace of this address has this release, or none, and that the
+/// message looks like ONIX 2.1.
+pub(crate) fn push_release(
+    line: &mut String,
+    release: &Option<Bytes>,
+    address: &[u8],
+    told: &Told,
+) -> Result<(), AllocError> {
+    match release {
+        None => line.push_str("no release")?,
+        Some(release) => {
             line.push_str("release ")?;
-            push_shown_bytes(line, release)?;
+            push_shown_bytes(line, release.as_slice())?;
         }
     }
     line.push_str(", not 3.0 or 3.1")?;
-    if root.looks_old() {
+    if looks_old(release, address, told) {
         line.push_str(OLD)?;
     }
     Ok(())
-}
-
-/// Adds that the release is another one, and which, where the tag of the root stands within the
-/// first bytes; and that the message looks like ONIX 2.1.
-pub(crate) fn push_release(
-    line: &mut String,
-    alloc: Global,
-    seen: &Seen,
-) -> Result<(), AllocError> {
-    push_other_release(line, &root_in(alloc, seen.first()))
 }

@@ -163,6 +163,7 @@ fn words_of_foreign(why: Foreign, text: &[u8]) -> Words {
         Foreign::RegionIncluded => with_text("", " beside a country or WORLD"),
         Foreign::RegionExcluded => with_text("", " is a part of a country"),
         Foreign::CountryName => country(text),
+        Foreign::Discount | Foreign::DiscountCoded => plain("of a Price, not read"),
         Foreign::NoSupplyDetail => plain("no SupplyDetail"),
         Foreign::NoMarketLeft => plain("every Market is left out"),
         Foreign::LongMarkets => plain(LONG_MARKETS),
@@ -172,10 +173,23 @@ fn words_of_foreign(why: Foreign, text: &[u8]) -> Words {
     }
 }
 
+// Of an element of ONIX 2.1, which has this name.
+fn old_element(name: &[u8]) -> Words {
+    if name == b"PriceTypeCode".as_slice() {
+        plain("PriceTypeCode of ONIX 2.1")
+    } else if name == b"PriceEffectiveFrom".as_slice() {
+        plain("PriceEffectiveFrom of ONIX 2.1")
+    } else if name == b"PriceEffectiveUntil".as_slice() {
+        plain("PriceEffectiveUntil of ONIX 2.1")
+    } else {
+        plain("CountryCode of ONIX 2.1")
+    }
+}
+
 // Of what the desk would not take of a Price or a Territory.
 fn words_of_price(why: Wrong, text: &[u8]) -> Option<Words> {
     let words = match why {
-        Wrong::OldElement => with_text("", " of ONIX 2.1"),
+        Wrong::OldElement => old_element(text),
         Wrong::NoDate => with_text("PriceDate of role", " without Date"),
         Wrong::NotTwoDays => field("Date of PriceDate", text, " is not two days YYYYMMDD"),
         Wrong::Day => field("Date of PriceDate", text, " is not a day YYYYMMDD"),
@@ -207,7 +221,8 @@ fn words_of_detail(why: Wrong, text: &[u8]) -> Option<Words> {
     let words = match why {
         Wrong::SupplierRole => needed("SupplierRole", text, NO_CODE),
         Wrong::SupplierType => needed("SupplierIDType", text, NO_CODE),
-        Wrong::SupplierValue => absent("IDValue of SupplierIdentifier"),
+        Wrong::SupplierValue => needed("IDValue of SupplierIdentifier", text, ""),
+        Wrong::SupplierName => field("SupplierName", text, ""),
         Wrong::Supplier => plain("Supplier without identifier and name"),
         Wrong::Availability => needed("ProductAvailability", text, NO_CODE),
         Wrong::Unpriced => field("UnpricedItemType", text, NO_CODE),
@@ -251,6 +266,14 @@ fn words_of(why: Why, text: &[u8]) -> Words {
     }
 }
 
+/// Whether a note for this reason is counted alone, and has no line.
+pub(crate) fn is_counted_alone(why: Why) -> bool {
+    matches!(
+        why,
+        Why::Foreign(Foreign::Discount | Foreign::DiscountCoded)
+    )
+}
+
 /// Whether a note for this reason says that a Product is left out or emptied.
 pub(crate) fn is_of_product(why: Why) -> bool {
     matches!(why, Why::Wrong(Wrong::RecordReference)) || is_emptied(why)
@@ -292,7 +315,13 @@ fn thing_of(note: Note<'_>) -> &'static str {
 // What becomes of it.
 fn verb_of(why: Why) -> &'static str {
     match why {
-        Why::Foreign(Foreign::CountryName | Foreign::NoIsbn | Foreign::Ignored) => " ",
+        Why::Foreign(
+            Foreign::CountryName
+            | Foreign::NoIsbn
+            | Foreign::Ignored
+            | Foreign::Discount
+            | Foreign::DiscountCoded,
+        ) => " ",
         _ if is_emptied(why) => " emptied: ",
         _ => " left out: ",
     }

@@ -17,7 +17,7 @@ use Rattle.onix_message.proofs.CleanTexts.{digits-clean}
 use Rattle.onix_message.proofs.Fronts.{reads-length}
 use Rattle.onix_terms.specs.Digits.{digits_of}
 use Rattle.onix_terms.specs.Number.{number_from, number_of}
-use Rattle.onix_mapping.specs.Header.{Choices, Heading, ◌>>=◌, added, addressee_pair, first_number, heading_in, message_fields, number_in, number_or, opening_said, sender_in}
+use Rattle.onix_mapping.specs.Header.{Choices, Heading, ◌>>=◌, added, addressee_pair, first_number, heading_in, message_fields, number_in, given_or, opening_said, sender_in}
 use Rattle.onix_mapping.specs.Rows.{AreProducts, message_records, numbered, part_record}
 use Rattle.onix_mapping.specs.declared.header.Refusal.{Refusal}
 use Rattle.onix_mapping.specs.declared.header.Refusal.TheVariants as why
@@ -54,7 +54,7 @@ within (suc n) parts last k e less =
 -- the numbers of all parts are such
 pub number-within : (c : Choices) (nodes : Nodes) (number k : ℕ) → number_in c nodes ≡ Ok number → k < c.parts → (0 < number + k) × (number + k < 1000000000)
 number-within c nodes number k e less =
-    let (n, chosen, f) = bind-ok (number_or c.number (added c.offset (text_in (codes "MessageNumber") nodes))) (first_number c.parts) number e in
+    let (n, chosen, f) = bind-ok (given_or c.number (added c.offset (text_in (codes "MessageNumber") nodes))) (first_number c.parts) number e in
     let (last, is, g) = bind-ok (ok_or (number_from (n * c.parts)) why.LastNumberTooGreat) _ number f in
     let same : last - c.parts + 1 ≡ number = same_Some _ number (ap value g) in
     rw (← same) (within n c.parts last k (some-ok (number_from (n * c.parts)) why.LastNumberTooGreat last is) less)

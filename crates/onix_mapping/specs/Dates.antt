@@ -164,20 +164,14 @@ both_days role nodes =
     if bytes_eq (format_in nodes) (codes "06") then date_said two_days role (date_in nodes)
     else Err (foreign DateFormat (format_in nodes))
 
-abbrev pub first_alone : Days → Days
-first_alone d = days d.first None
-
-abbrev pub last_alone : Days → Days
-last_alone d = days None d.last
-
 -- What a PriceDate says: by its role the first day, the last day or both. Another role says
 -- nothing.
 abbrev pub days_of : Nodes → Result Days Reason
 days_of nodes =
     if is_text (codes "14") (text_in (codes "PriceDateRole") nodes)
-    then result_map_both first_alone (λ e. e) (one_day (codes "14") nodes)
+    then result_map_both (λ d. days d.first None) (λ e. e) (one_day (codes "14") nodes)
     else if is_text (codes "15") (text_in (codes "PriceDateRole") nodes)
-    then result_map_both last_alone (λ e. e) (one_day (codes "15") nodes)
+    then result_map_both (λ d. days None d.last) (λ e. e) (one_day (codes "15") nodes)
     else if is_text (codes "24") (text_in (codes "PriceDateRole") nodes)
     then both_days (codes "24") nodes
     else Ok (days None None)

@@ -4,26 +4,21 @@ use Rattle.std.specs.Prelude.{map, option_and_then}
 use Rattle.std.specs.Option.{option_or, unwrap_or}
 use Rattle.xml_text.specs.Grammar.{is_filled}
 use Rattle.onix_outline.specs.Composites.{text_in}
-use Rattle.onix_outline.specs.Nodes.{Nodes, no_nodes}
+use Rattle.onix_outline.specs.Nodes.{Nodes}
 use Rattle.onix_terms.specs.Code.{code2_of}
 use Rattle.onix_terms.specs.Options.{◌>>=◌}
 use Rattle.onix_terms.specs.Quantity.{quantity_of}
 use Rattle.onix_message.specs.Detail.{detail_of}
 use Rattle.onix_message.specs.Fields.{optional}
 use Rattle.onix_message.specs.declared.row.Opening.{Opening}
-use Rattle.onix_mapping.specs.Elements.{Composite, composites, first, text_or_empty}
+use Rattle.onix_mapping.specs.Elements.{Composite, below_of, composites, first, text_or_empty}
 use Rattle.onix_mapping.specs.Identifiers.{Identifier, chosen, identifiers_in}
 use Rattle.onix_mapping.specs.Notes.{Reason, wrong}
 use Rattle.onix_mapping.specs.Outcomes.{Outcome, all_notes, all_records, left_out, written}
 use Rattle.onix_mapping.specs.Parties.{Pair, pair_of, supplier_kind}
 use Rattle.onix_mapping.specs.Prices.{Around, price_outcome}
-use Rattle.onix_mapping.specs.Records.{first_some, said, term_said, unless, unread}
+use Rattle.onix_mapping.specs.Records.{first_some, is_field, said, term_said, unless, unread}
 use Rattle.onix_mapping.specs.declared.notes.Wrong.TheVariants as bad
-
--- what stands in an element, and nothing where there is none
-abbrev pub below_of : Option Composite → Nodes
-below_of None = no_nodes
-below_of (Some c) = c.below
 
 -- what stands in the Supplier
 abbrev pub supplier_in : Nodes → Nodes
@@ -71,13 +66,17 @@ detail_record preferred nodes = do
 
 -- ---- why it is left out
 
--- an identifier has a type and a value
+-- an identifier has a type, and a value that the desk takes
 abbrev pub identifier_reasons : Option Identifier → List ℕ → List (Option Reason)
 identifier_reasons None name = unless (is_filled name) bad.Supplier [] ∷ []
 identifier_reasons (Some i) name =
     unread (term_said code2_of) bad.SupplierType (unwrap_or i.id_type [])
-    ∷ unless (is_some i.id_value) bad.SupplierValue []
+    ∷ unless (is_field (unwrap_or i.id_value [])) bad.SupplierValue (unwrap_or i.id_value [])
     ∷ []
+
+-- a name of the supplier that the desk would not take
+abbrev pub name_reason : List ℕ → Option Reason
+name_reason name = if is_filled name then unless (is_field name) bad.SupplierName name else None
 
 -- which fields of a SupplyDetail the desk does not take, each where it does not
 abbrev pub detail_reasons : List ℕ → Nodes → List (Option Reason)
@@ -87,6 +86,7 @@ detail_reasons preferred nodes =
     ∷ first_some
     (identifier_reasons (supplier_identifier preferred nodes)
     (text_or_empty (codes "SupplierName") (supplier_in nodes)))
+    ∷ name_reason (text_or_empty (codes "SupplierName") (supplier_in nodes))
     ∷ unread (term_said code2_of) bad.Availability
     (text_or_empty (codes "ProductAvailability") nodes)
     ∷ unread (optional (term_said code2_of)) bad.Unpriced (unwrap_or (unpriced_in nodes) [])

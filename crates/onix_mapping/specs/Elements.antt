@@ -35,6 +35,11 @@ abbrev pub first : {A : Type 0} → List A → Option A
 first [] = None
 first (x ∷ xs) = Some x
 
+-- what stands in an element, and nothing where there is none
+abbrev pub below_of : Option Composite → Nodes
+below_of None = no_nodes
+below_of (Some c) = c.below
+
 -- the text of the first element of this name that has one, else the empty text
 abbrev pub text_or_empty : List ℕ → Nodes → List ℕ
 text_or_empty name nodes = unwrap_or (text_in name nodes) []

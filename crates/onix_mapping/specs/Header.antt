@@ -10,8 +10,7 @@ use Rattle.onix_outline.specs.Nodes.{Nodes, no_nodes}
 use Rattle.onix_message.specs.Opening.{opening_of}
 use Rattle.onix_message.specs.declared.row.Opening.{Opening}
 use Rattle.onix_terms.specs.Number.{number_from, number_of}
-use Rattle.onix_mapping.specs.Details.{below_of}
-use Rattle.onix_mapping.specs.Elements.{Composite, composites, first, text_or_empty}
+use Rattle.onix_mapping.specs.Elements.{Composite, below_of, composites, first, text_or_empty}
 use Rattle.onix_mapping.specs.Identifiers.{Identifier, chosen, identifiers_in, is_text}
 use Rattle.onix_mapping.specs.Parties.{Pair, addressee_kind, pair_of, sender_kind}
 use Rattle.onix_mapping.specs.declared.header.Refusal.{Refusal}
@@ -53,17 +52,17 @@ abbrev pub named_sender : Option Identifier → Result Pair Refusal
 named_sender None = Err why.NoSender
 named_sender (Some i) = ok_or (pair_of (Some i)) why.Malformed
 
--- the sender of the Header, or else the one that the caller gives
-abbrev pub sender_or : Option Pair → Result Pair Refusal → Result Pair Refusal
-sender_or None named = named
-sender_or (Some given) named = Ok given
+-- what the caller gives, else what the Header says
+abbrev pub given_or : {A : Type 0} → Option A → Result A Refusal → Result A Refusal
+given_or (Some given) said = Ok given
+given_or None said = said
 
 -- the type and the value of the sender: where the Header has a whole identifier, or the caller
 -- gives none, the one that is chosen
 abbrev pub sender_in : Choices → Nodes → Result Pair Refusal
 sender_in c nodes =
     if list_any is_whole (sender_ids nodes) then named_sender (chosen c.id_type (sender_ids nodes))
-    else sender_or c.sender (named_sender (chosen c.id_type (sender_ids nodes)))
+    else given_or c.sender (named_sender (chosen c.id_type (sender_ids nodes)))
 
 -- ---- addressee
 
@@ -106,11 +105,6 @@ added offset (Some text) = do
   n ← ok_or (number_said text) why.WrongNumber
   ok_or (number_from (n + offset)) why.NumberTooGreat
 
--- the number of the message: the one that the caller gives, else that of the Header
-abbrev pub number_or : Option ℕ → Result ℕ Refusal → Result ℕ Refusal
-number_or (Some n) of_header = Ok n
-number_or None of_header = of_header
-
 -- the message of this number has so many parts, and the last of them this number: so the first has
 -- the one that follows those of the message before
 abbrev pub first_number : ℕ → ℕ → Result ℕ Refusal
@@ -118,10 +112,10 @@ first_number parts n = do
   last ← ok_or (number_from (n * parts)) why.LastNumberTooGreat
   Ok (last - parts + 1)
 
--- the number of the first part
+-- the number of the first part, by the one that the caller gives, else that of the Header
 abbrev pub number_in : Choices → Nodes → Result ℕ Refusal
 number_in c nodes = do
-  n ← number_or c.number (added c.offset (text_in (codes "MessageNumber") nodes))
+  n ← given_or c.number (added c.offset (text_in (codes "MessageNumber") nodes))
   first_number c.parts n
 
 -- ---- the record

@@ -1,6 +1,7 @@
 -- The identifiers of senders, addressees, suppliers and products.
 use Rattle.std.specs.Prelude.{ℕ, Bool, false, ◌||◌, filter, List, [], ◌∷◌, Option, Some, None}
 use Rattle.std.specs.Prelude.{if◌then◌else◌, codes, is_some, map}
+use Rattle.std.specs.Option.{option_or}
 use Rattle.std.specs.Str.{bytes_eq}
 use Rattle.onix_outline.specs.Composites.{text_in, composites_in}
 use Rattle.onix_outline.specs.Nodes.{Nodes}
@@ -43,10 +44,6 @@ abbrev pub first_of : List Identifier → Option Identifier
 first_of [] = None
 first_of (i ∷ ids) = Some i
 
-abbrev pub or_other : Option Identifier → Option Identifier → Option Identifier
-or_other None other = other
-or_other (Some i) other = Some i
-
 -- the identifier that is written: the first of the preferred type, else the first
 abbrev pub chosen : List ℕ → List Identifier → Option Identifier
-chosen preferred ids = or_other (first_of_type preferred ids) (first_of ids)
+chosen preferred ids = option_or (first_of_type preferred ids) (first_of ids)

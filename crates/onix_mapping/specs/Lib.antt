@@ -1,3 +1,4 @@
+pub mod Depths
 pub mod Identifiers
 pub mod Views
 pub mod Next

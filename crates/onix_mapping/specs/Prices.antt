@@ -3,7 +3,7 @@ use Rattle.std.specs.Prelude.{ℕ, Bool, false, ◌+◌, ◌&&◌, ◌==◌, nat
 use Rattle.std.specs.Prelude.{List, [], ◌∷◌, ◌++◌, Option, Some, None, if◌then◌else◌, codes}
 use Rattle.std.specs.Prelude.{option_map, option_and_then, is_none, is_some}
 use Rattle.std.specs.Char.{is_ascii_digit}
-use Rattle.std.specs.List.{list_all}
+use Rattle.std.specs.List.{flat_map, list_all}
 use Rattle.std.specs.Option.{option_or, option_to_list, unwrap_or}
 use Rattle.std.specs.Result.{result_err, result_unwrap_or}
 use Rattle.std.specs.Str.{bytes_eq}
@@ -19,12 +19,14 @@ use Rattle.onix_mapping.specs.Dates.{days, days_in}
 use Rattle.onix_mapping.specs.declared.dates.Days.{Days}
 use Rattle.onix_mapping.specs.Elements.{Composite, composites, first, text_or_empty}
 use Rattle.onix_mapping.specs.Identifiers.{is_text}
-use Rattle.onix_mapping.specs.Notes.{Reason, foreign, is_wrong, wrong}
+use Rattle.onix_mapping.specs.Notes.{Note, Reason, foreign, is_wrong, note, wrong}
 use Rattle.onix_mapping.specs.Outcomes.{Outcome, left_out, nothing, written}
 use Rattle.onix_mapping.specs.Records.{first_some, said, term_said, unread}
 use Rattle.onix_mapping.specs.Territories.{Area, area_fields, area_in, area_refusal}
 use Rattle.onix_mapping.specs.Territories.{territory_notes, unheld}
-use Rattle.onix_mapping.specs.declared.notes.Foreign.TheVariants.{CurrencyZone, EpubLicense}
+use Rattle.onix_mapping.specs.declared.notes.Foreign.{Foreign}
+use Rattle.onix_mapping.specs.declared.notes.Foreign.TheVariants.{CurrencyZone, Discount}
+use Rattle.onix_mapping.specs.declared.notes.Foreign.TheVariants.{DiscountCoded, EpubLicense}
 use Rattle.onix_mapping.specs.declared.notes.Foreign.TheVariants.{MoreDecimals, NoCharge}
 use Rattle.onix_mapping.specs.declared.notes.Foreign.TheVariants.{PriceCoded, PriceCondition}
 use Rattle.onix_mapping.specs.declared.notes.Foreign.TheVariants.{PriceConstraint, PricePer}
@@ -210,9 +212,21 @@ reasons_against around nodes = early_reasons nodes ++ refusal around nodes ∷ [
 
 -- ---- what a Price comes to
 
+-- a note on each element of this name, which is not read
+abbrev pub unread_notes : List ℕ → Foreign → Nodes → List Note
+unread_notes name why nodes =
+    flat_map (λ c. note c.element (foreign why []) ∷ []) (composites name nodes)
+
+-- notes on what would make another price
+abbrev pub discount_notes : Nodes → List Note
+discount_notes nodes =
+    unread_notes (codes "Discount") Discount nodes
+    ++ unread_notes (codes "DiscountCoded") DiscountCoded nodes
+
 abbrev pub outcome_of : Option Reason → Around → Nodes → Outcome
 outcome_of None around nodes =
-    written ((codes "Price" ∷ price_fields around nodes) ∷ []) (territory_notes (area_in nodes))
+    written ((codes "Price" ∷ price_fields around nodes) ∷ [])
+    (territory_notes (area_in nodes) ++ discount_notes nodes)
 outcome_of (Some why) around nodes = left_out why
 
 -- A Price without an amount and without PriceCoded is nothing, whatever else stands in it, where

@@ -1,9 +1,10 @@
 -- A Product by itself: its reference, its NotificationType and its identifiers.
-use Rattle.std.specs.Prelude.{◌≡◌, ℕ, Bool, true, false, ◌&&◌, ◌||◌, ◌==◌, not, nat_le, filter}
+use Rattle.std.specs.Prelude.{◌≡◌, ℕ, Bool, true, false, ◌&&◌, ◌||◌, ◌==◌, not, filter}
 use Rattle.std.specs.Prelude.{List, [], ◌∷◌, Option, Some, None, if◌then◌else◌, codes, is_some}
 use Rattle.std.specs.List.{flat_map, list_any}
 use Rattle.std.specs.Char.{is_ascii_digit}
 use Rattle.std.specs.Str.{bytes_eq, chars, is_utf8}
+use Rattle.xml_text.specs.Characters.{within}
 use Rattle.xml_text.specs.Grammar.{is_filled}
 use Rattle.onix_outline.specs.Composites.{has_stranger}
 use Rattle.onix_outline.specs.Names.{stranger}
@@ -41,12 +42,9 @@ is_gtin_type id_type = bytes_eq id_type (codes "03") || bytes_eq id_type (codes 
 abbrev pub is_thirteen : List ℕ → Bool
 is_thirteen text = is_some (isbn13_of text)
 
-abbrev pub is_between : ℕ → ℕ → ℕ → Bool
-is_between low high c = nat_le low c && nat_le c high
-
 -- hyphens: U+002D, U+00AD, U+2010 to U+2015, U+2212
 abbrev pub is_hyphen : ℕ → Bool
-is_hyphen c = (c == 45) || ((c == 173) || (is_between 8208 8213 c || (c == 8722)))
+is_hyphen c = (c == 45) || ((c == 173) || (within 8208 8213 c || (c == 8722)))
 
 -- spaces: U+0020, U+00A0, U+2009, U+202F
 abbrev pub is_blank : ℕ → Bool

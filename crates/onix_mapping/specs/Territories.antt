@@ -6,7 +6,7 @@ use Rattle.onix_outline.specs.Nodes.{Nodes}
 use Rattle.onix_message.specs.Supply.{supply_of}
 use Rattle.onix_message.specs.declared.parts.ProductSupply.{ProductSupply}
 use Rattle.onix_terms.specs.Territory.{countries_of, words_of, world_text}
-use Rattle.onix_mapping.specs.Elements.{Element, Composite, composites, element_view, first}
+use Rattle.onix_mapping.specs.Elements.{Element, below_of, composites, element_view, first}
 use Rattle.onix_mapping.specs.Elements.{text_or_empty}
 use Rattle.onix_mapping.specs.Notes.{Note, Reason, foreign, note, wrong}
 use Rattle.onix_mapping.specs.Records.{first_some, said, term_said, unless}
@@ -30,29 +30,18 @@ pub record Area : Type 0 where
   pub excluded : List ℕ
   pub regions_excluded : List ℕ
 
-abbrev pub no_territory : Area
-no_territory =
-    record {
-      territory = None;
-      included = [];
-      regions_included = [];
-      excluded = [];
-      regions_excluded = [];
-    }
-
-abbrev pub area_of : Option Composite → Area
-area_of None = no_territory
-area_of (Some c) = record {
-  territory = Some c.element;
-  included = text_or_empty (codes "CountriesIncluded") c.below;
-  regions_included = text_or_empty (codes "RegionsIncluded") c.below;
-  excluded = text_or_empty (codes "CountriesExcluded") c.below;
-  regions_excluded = text_or_empty (codes "RegionsExcluded") c.below;
-}
-
 -- where a Market or a Price with these elements holds: its first Territory says it
 abbrev pub area_in : Nodes → Area
-area_in nodes = area_of (first (composites (codes "Territory") nodes))
+area_in nodes =
+    let found = first (composites (codes "Territory") nodes) in
+    let below = below_of found in
+    record {
+      territory = option_map (λ c. c.element) found;
+      included = text_or_empty (codes "CountriesIncluded") below;
+      regions_included = text_or_empty (codes "RegionsIncluded") below;
+      excluded = text_or_empty (codes "CountriesExcluded") below;
+      regions_excluded = text_or_empty (codes "RegionsExcluded") below;
+    }
 
 -- ---- what the desk cannot hold
 

@@ -5,6 +5,7 @@ ghost use Rattle.std.specs.List.{list_any};
 ghost use Rattle.std.specs.Option.{option_or};
 ghost use Rattle.std.specs.Result.{result_map_both};
 ghost use Rattle.std.specs.Str.{bytes_eq};
+ghost use Rattle.onix_mapping.specs.Depths.{LinesFit};
 ghost use Rattle.onix_mapping.specs.DateViews.{date_view, dated_view, days_read};
 ghost use Rattle.onix_mapping.specs.Dates.{and_days, both_days, date_in, date_said, day_said, days_in, days_of, days_said, format_in, formats, graver, has_hyphens, hyphened_day, in_day, in_format, in_month, in_year, is_time, last_of_month, month_digits, one_day, or_days, plain_day, two_days, without_hyphens, year_digits};
 ghost use Rattle.onix_mapping.specs.Notes.{foreign, reason_view, wrong};
@@ -445,7 +446,7 @@ fn and_days<'a>(one: &Dated<'a>, other: &Dated<'a>) -> Dated<'a>
 /// out where one of these roles has no Date, has a format that is not its own, or a Date that has
 /// not the form of its format: for the first reason that is foreign, else for the first.
 pub fn days_in<'a>(depth: usize, lines: &'a [Line]) -> Dated<'a>
-    requires { depth < 1000 }
+    requires { LinesFit 0 depth }
     ensures { (nodes : Nodes) → line_views lines.now ≡ outline depth nodes
         → dated_view result ≡ days_in nodes }
 {

@@ -1,11 +1,11 @@
 //! SupplyDetails.
 
-ghost use Rattle.std.specs.Prelude.{◌≡◌, ◌++◌, ◌∷◌, ◌+◌, ◌<◌, [], ℕ, List, None, Some, IfOk, OnOk, is_some, true, map, codes, option_map};
+ghost use Rattle.std.specs.Prelude.{◌≡◌, ◌++◌, ◌∷◌, ◌+◌, ◌<◌, [], ℕ, List, None, Some, IfOk, OnOk, true, map, codes, option_map};
 ghost use Rattle.std.specs.List.{list_all};
 ghost use Rattle.std.specs.Option.{unwrap_or};
 ghost use Rattle.std.specs.Str.{is_utf8};
-ghost use Rattle.onix_mapping.specs.Details.{around_in, below_of, default_minimum, detail_by, detail_fields, detail_outcome, detail_reasons, detail_record, detail_refusal, identifier_reasons, price_in, prices_in, supplier_identifier, supplier_in, supplier_pair, unpriced_in, unpriced_price};
-ghost use Rattle.onix_mapping.specs.Elements.{composites, first, text_or_empty};
+ghost use Rattle.onix_mapping.specs.Details.{around_in, default_minimum, detail_by, detail_fields, detail_outcome, detail_reasons, detail_record, detail_refusal, identifier_reasons, name_reason, price_in, prices_in, supplier_identifier, supplier_in, supplier_pair, unpriced_in, unpriced_price};
+ghost use Rattle.onix_mapping.specs.Elements.{composites, first, text_or_empty, below_of};
 ghost use Rattle.onix_mapping.specs.Notes.{note_views, reason_view};
 ghost use Rattle.onix_mapping.specs.Outcomes.{all_notes, all_records, notes_below, outcome_reason, outcome_records};
 ghost use Rattle.onix_mapping.specs.PartyViews.{pair_view};
@@ -28,7 +28,7 @@ use crate::identifiers::{Identifier, SUPPLIER, choose_identifier};
 use crate::notes::{Note, Reason, Why, Wrong};
 use crate::parties::{Pair, pair_of};
 use crate::prices::{Around, add_price, fill_record};
-use crate::records::{code_said, former, may_be_empty, quantity_said, unless};
+use crate::records::{code_said, former, is_field, may_be_empty, quantity_said, unless};
 use csv_records::buffer::RecordBuffer;
 use csv_records::fields::FieldBuffer;
 use csv_records::record::Record;
@@ -187,16 +187,7 @@ fn text_or_none<'a>(text: Option<&'a [u8]>) -> &'a [u8]
     }
 }
 
-fn is_given(text: Option<&[u8]>) -> bool
-    ensures { result ≡ is_some (text_view text.entry) }
-{
-    match text {
-        Some(_) => true,
-        None => false,
-    }
-}
-
-// What the identifier of a supplier lacks, who has this name.
+// What is wrong with the identifier of a supplier, who has this name.
 fn identifier_reason<'a>(supplier: Option<Identifier<'a>>, name: &[u8]) -> Option<Reason<'a>>
     ensures { reason_read result ≡ first_some
         (identifier_reasons (option_map identifier_view supplier.entry) name.now) }
@@ -206,7 +197,8 @@ fn identifier_reason<'a>(supplier: Option<Identifier<'a>>, name: &[u8]) -> Optio
         Some(identifier) => {
             let id_type = text_or_none(identifier.id_type);
             let typed = unless(code_said(id_type).is_some(), Wrong::SupplierType, id_type);
-            let valued = unless(is_given(identifier.id_value), Wrong::SupplierValue, b"");
+            let id_value = text_or_none(identifier.id_value);
+            let valued = unless(is_field(id_value), Wrong::SupplierValue, id_value);
             former(typed, former(valued, None))
         }
     }
@@ -224,8 +216,8 @@ fn role_reason<'a>(depth: usize, lines: &'a [Line]) -> Option<Reason<'a>>
     unless(code_said(role).is_some(), Wrong::SupplierRole, role)
 }
 
-// What the supplier with this identifier lacks.
-fn named_reason<'a>(
+// What is wrong with the identifier of the supplier, or that there is neither one nor a name.
+fn supplier_reason<'a>(
     supplier: Option<Identifier<'a>>,
     depth: usize,
     lines: &'a [Line],
@@ -237,6 +229,20 @@ fn named_reason<'a>(
 {
     let below = lines_below(b"Supplier", depth, lines);
     identifier_reason(supplier, text_or_empty(depth + 1, b"SupplierName", below))
+}
+
+// That the desk would not take the SupplierName.
+fn name_reason<'a>(depth: usize, lines: &'a [Line]) -> Option<Reason<'a>>
+    requires { depth < 999 }
+    ensures { (nodes : Nodes) → line_views lines.now ≡ outline depth nodes → reason_read result
+        ≡ name_reason (text_or_empty (codes "SupplierName") (supplier_in nodes)) }
+{
+    let below = lines_below(b"Supplier", depth, lines);
+    let name = text_or_empty(depth + 1, b"SupplierName", below);
+    if name.is_empty() {
+        return None;
+    }
+    unless(is_field(name), Wrong::SupplierName, name)
 }
 
 // That the ProductAvailability is no code.
@@ -272,8 +278,9 @@ fn detail_reason<'a>(
 {
     let last = former(unpriced_reason(depth, lines), None);
     let there = former(availability_reason(depth, lines), last);
-    let named = former(named_reason(supplier, depth, lines), there);
-    former(role_reason(depth, lines), named)
+    let named = former(name_reason(depth, lines), there);
+    let identified = former(supplier_reason(supplier, depth, lines), named);
+    former(role_reason(depth, lines), identified)
 }
 
 // Why a SupplyDetail that the desk would not take is left out.

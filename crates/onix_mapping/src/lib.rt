@@ -3,6 +3,7 @@
 
 pub mod dates;
 pub mod details;
+mod discounts;
 pub mod elements;
 pub mod header;
 pub mod identifiers;

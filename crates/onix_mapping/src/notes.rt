@@ -43,6 +43,10 @@ pub enum Foreign {
     /// A country of a Territory, the text, that is read by its code in ISO 3166: UK as GB, EL as
     /// GR.
     CountryName,
+    /// A Discount of a Price, which is not read and would make another price.
+    Discount,
+    /// A DiscountCoded of a Price, likewise.
+    DiscountCoded,
     /// A ProductSupply without SupplyDetail.
     NoSupplyDetail,
     /// A ProductSupply whose Markets are all left out, one of them as foreign.
@@ -88,8 +92,11 @@ pub enum Wrong {
     SupplierRole,
     /// A SupplyDetail with an identifier of the supplier whose type, the text, is no code.
     SupplierType,
-    /// A SupplyDetail with an identifier of the supplier that has no value.
+    /// A SupplyDetail with an identifier of the supplier whose value, the text, the desk would not
+    /// take.
     SupplierValue,
+    /// A SupplyDetail with a SupplierName, the text, that the desk would not take.
+    SupplierName,
     /// A SupplyDetail with neither an identifier nor a name of the supplier.
     Supplier,
     /// A SupplyDetail whose ProductAvailability, the text, is no code.

@@ -23,6 +23,7 @@ ghost use Rattle.onix_outline.specs.Views.{line_views};
 ghost use Rattle.onix_terms.specs.Amount.{amount_of};
 
 use crate::dates::{Dated, Days, days_in};
+use crate::discounts::push_discounts;
 use crate::elements::{Composite, first_composite, next_composite, text_or_empty};
 use crate::identifiers::is_text;
 use crate::notes::{Foreign, Note, Reason, Why, Wrong, push_reason};
@@ -629,6 +630,7 @@ fn add_known<'a>(
     let refused = write_price(alloc, around, depth, lines, area, days, fields, records)?;
     if refused.is_none() {
         push_territory_notes(notes, area)?;
+        push_discounts(notes, depth, lines)?;
     }
     Ok(refused)
 }

@@ -1,6 +1,7 @@
 //! The records of a Product and of its supplies.
 
 ghost use Rattle.std.specs.Prelude.{◌≡◌, ◌++◌, ◌∷◌, ◌<◌, [], None, IfOk, OnOk};
+ghost use Rattle.onix_mapping.specs.Depths.{LinesFit};
 ghost use Rattle.onix_mapping.specs.Elements.{Composite as Told, Tells, element_view};
 ghost use Rattle.onix_mapping.specs.Notes.{note_views};
 ghost use Rattle.onix_mapping.specs.PriceViews.{reason_read};
@@ -261,7 +262,7 @@ pub fn add_product<'a>(
     records: &mut RecordBuffer,
     notes: &mut Vec<Note<'a>>,
 ) -> Result<Fate, AllocError>
-    requires { depth < 997 }
+    requires { LinesFit 3 depth }
     ensures fate { (c : Told) → Tells product.entry depth c
         → IfOk result (λ f. f ≡ fate_of opening.now preferred.now c.below) }
     ensures records { (c : Told) → Tells product.entry depth c
@@ -302,7 +303,7 @@ pub fn add_large<'a>(
     records: &mut RecordBuffer,
     notes: &mut Vec<Note<'a>>,
 ) -> Result<(), AllocError>
-    requires { depth < 999 }
+    requires { LinesFit 1 depth }
     ensures record { (c : Told) → Tells product.entry depth c
         → OnOk result (records.new ≡ records.old ++ emptied_record c.below ∷ []) }
     ensures notes { (c : Told) → Tells product.entry depth c

@@ -40,7 +40,7 @@ past-append p x y = fold-append (λ q token. position_after q (spelling token)) 
 
 -- ---- an element that is passed over
 
-pass_leaf : {T : Type 0} (after : T → List Line → T) (t : T) (d : Dialect) (lines : List Line) (opens : List Open) (passed : ℕ) (p : Position) (token : Token) → IsLeaf token → is_known token ≡ true
+pub pass_leaf : {T : Type 0} (after : T → List Line → T) (t : T) (d : Dialect) (lines : List Line) (opens : List Open) (passed : ℕ) (p : Position) (token : Token) → IsLeaf token → is_known token ≡ true
     → feed after (inside_at t d lines opens (suc passed) p) token ≡ inside_at t d lines opens (suc passed) (position_after p (spelling token))
 pass_leaf after t d lines opens passed p (raw b) h k = refl
 pass_leaf after t d lines opens passed p (reference body) h k = ap (λ b. moved (spelling (reference body)) (feeding t (Some (Ok d)) (growing lines opens (suc passed)) (b && true) p)) k

@@ -10,3 +10,5 @@ pub mod MessageLaws
 pub mod CompositeLaws
 pub mod OutlineLaws
 pub mod NamespaceLaws
+pub mod PrefixLaws
+pub mod ManyLaws

@@ -2,33 +2,38 @@
 use Rattle.std.proofs.Common.{◌≡◌, ℕ, Bool, true, false, List, [], Option, Some, None, Result, Ok, Err, refl, sym, ap, ◌∙◌, append-nil, fold, subst}
 use Rattle.std.specs.Prelude.{IfOk, IfErr, IfSome, IsErrOf}
 use Rattle.std.specs.List.{flat_map, list_all}
+use Rattle.std.proofs.lemmas.Bool.{and_parts}
 use Rattle.xml_text.specs.declared.fault.Fault.{Fault as DocumentFault}
-use Rattle.xml_text.specs.declared.fault.Fault.TheVariants.{Malformed, TooDeep, TooLong, LargeTag, Refused, UnknownEncoding, Read, Memory}
+use Rattle.xml_text.specs.declared.fault.Fault.TheVariants.{Malformed, NotText, TooDeep, TooLong, LargeTag, Refused, UnknownEncoding, Read, Memory}
 use Rattle.xml_text.specs.declared.position.Position.{Position}
 use Rattle.xml_text.specs.Grammar.{Token, spelling}
 use Rattle.xml_text.specs.Faults.{AtFault}
-use Rattle.xml_text.specs.Places.{IsDocument, IsNoDocument, first_place, last_place}
+use Rattle.xml_text.specs.Places.{IsDocument, IsNoDocument, IsNoText, first_place, last_place}
 use Rattle.xml_text.specs.Positions.{first_position, position_past}
 use Rattle.xml_text.specs.Documents.{BeginsAt}
 use Rattle.xml_text.specs.EncodingNames.{IsTextOf, OfText, IsOfUnknown}
-use Rattle.xml_text.specs.Limits.{Bound, Meets, IsDeep, IsLarge, IsLong}
+use Rattle.xml_text.specs.Limits.{Bound, Meets, IsDeep, IsLarge, IsLong, NoneMayStand}
 use Rattle.xml_text.specs.Tree.{Content}
 use Rattle.xml_text.specs.Trees.{IsTree}
 use Rattle.onix_outline.specs.declared.dialect.Wrong.{Wrong}
-use Rattle.onix_outline.specs.declared.reading.Fault.TheVariants.{Document}
+use Rattle.onix_outline.specs.declared.reading.Fault.{Fault}
+use Rattle.onix_outline.specs.declared.reading.Fault.TheVariants.{Document, Message, Reference, TooLarge, ManyPrefixes}
 use Rattle.onix_outline.specs.declared.reading.Stopped.{Stopped}
 use Rattle.onix_outline.specs.Dialect.{Dialect}
 use Rattle.onix_outline.specs.Nodes.{is_known, nodes_in}
 use Rattle.onix_outline.specs.Outline.{Line, parts_of}
 use Rattle.onix_outline.specs.Sizes.{first_large}
+use Rattle.onix_outline.specs.private.Bounded.{Bounded, bounded, bound, ends, ends_with, first_bounded, goes_on}
 use Rattle.onix_outline.specs.private.Feed.{Feed, feed, first_feed, fits, is_sound, is_sound_with, takes_more, takes_more_with}
 use Rattle.onix_outline.specs.Roots.{root_of, root_place}
-use Rattle.onix_outline.specs.Faults.{Explains, IsAt, MeetsAt, IsPlaceOf, IsUnknown}
+use Rattle.onix_outline.specs.Faults.{Explains, MeetsAt, IsPlaceOf, IsUnknown}
+use Rattle.onix_outline.specs.private.Reasons.{IsAt, IsReason}
 use Rattle.onix_outline.specs.private.Finishing.{finished, finished_with, first_place_of, is_of_text}
 use Rattle.onix_outline.specs.Message.{IsMessage}
 use Rattle.onix_outline.proofs.FeedLaws.{tree_feeds}
 use Rattle.onix_outline.proofs.KnownLaws.{has_root, known_tree, unknown_among}
 use Rattle.onix_outline.proofs.LargeLaws.{is_stuck, stuck_large}
+use Rattle.onix_outline.proofs.ManyLaws.{bounds, is_many, many_behind, many_root, tree_many}
 use Rattle.onix_outline.proofs.RefusalLaws.{Finds, finds_root, finds_unknown, places, roots}
 use Rattle.onix_outline.proofs.TreeLaws.{is_large, tree_kept}
 
@@ -40,7 +45,7 @@ Reads after taker bytes taken =
 -- what a call gave is one of the two
 pub record Comes {T : Type 0} (after : T → List Line → T) (taker : T) (bytes : Option (List ℕ)) (result : Result T (Stopped T)) : Type 0 where
   pub ok : IfOk result (Reads after taker bytes)
-  pub err : IfErr result (λ s. Explains bytes s.fault)
+  pub err : IfErr result (λ s. IsReason bytes s.fault)
   pub at : IfErr result (λ s. IsAt bytes s.fault s.place)
 
 -- a document begins with all of its tokens
@@ -55,7 +60,7 @@ place_of : (P : List Token → Token → Type 0) (bytes : Option (List ℕ)) (to
     → IsPlaceOf P bytes place
 place_of P bytes tokens place begins h = (h.before, h.token, h.behind, rw (sym h.parts) begins, h.holds, h.at)
 
-pub refuses : {T : Type 0} (after : T → List Line → T) (taker : T) (bytes : Option (List ℕ)) (tokens : List Token) → OfText (BeginsAt first_place tokens) bytes
+refuses : {T : Type 0} (after : T → List Line → T) (taker : T) (bytes : Option (List ℕ)) (tokens : List Token) → OfText (BeginsAt first_place tokens) bytes
     → takes_more (fold (feed after) (first_feed taker) tokens) ≡ false → Comes after taker bytes (finished (fold (feed after) (first_feed taker) tokens))
 refuses {T = T} after taker bytes tokens begins refused = go f.root refl f.known refl (fits f.child) refl refused
   where
@@ -97,9 +102,10 @@ finished_is : {T : Type 0} (f : Feed T) (o : Option (Result Dialect Wrong)) (k s
 finished_is f o k small e known size =
     ap (λ r. finished_with r f.known (fits f.child) f) e ∙ ap (λ b. finished_with o b (fits f.child) f) known ∙ ap (λ b. finished_with o k b f) size
 
-pub comes : {T : Type 0} (after : T → List Line → T) (taker : T) (bytes : Option (List ℕ)) (text : List ℕ) (tokens : List Token) (name : List ℕ) (inside : Content)
-    → IsTextOf bytes text → IsDocument text tokens → IsTree tokens name inside → Comes after taker bytes (finished (fold (feed after) (first_feed taker) tokens))
-comes {T = T} after taker bytes text tokens name inside is document tree = go f.root refl f.known refl (fits f.child) refl (refuses after taker bytes tokens (all_tokens bytes text tokens is document))
+comes : {T : Type 0} (after : T → List Line → T) (taker : T) (bytes : Option (List ℕ)) (text : List ℕ) (tokens : List Token) (name : List ℕ) (inside : Content)
+    → IsTextOf bytes text → IsDocument text tokens → IsTree tokens name inside → many_behind after (first_feed taker) None tokens ≡ None
+    → Comes after taker bytes (finished (fold (feed after) (first_feed taker) tokens))
+comes {T = T} after taker bytes text tokens name inside is document tree none = go f.root refl f.known refl (fits f.child) refl (refuses after taker bytes tokens (all_tokens bytes text tokens is document))
   where
     f : Feed T
     f = fold (feed after) (first_feed taker) tokens
@@ -118,7 +124,17 @@ comes {T = T} after taker bytes text tokens name inside is document tree = go f.
       place,
       inside,
       is,
-      record { tokens = tokens; name = name; document = document; tree = tree; root = e; begins = refl; known = known; fits = small },
+      record {
+        tokens = tokens;
+        name = name;
+        document = document;
+        tree = tree;
+        root = e;
+        begins = refl;
+        known = known;
+        fits = small;
+        few = sym (tree_many after taker d tokens name inside tree e known) ∙ none;
+      },
       ap (λ g. g.taker) (tree_feeds after taker d tokens name inside tree e known small),
     )
     taken d e known size (Some q) large =
@@ -139,15 +155,51 @@ comes {T = T} after taker bytes text tokens name inside is document tree = go f.
     go (Some (Ok d)) e true known false size refused = by_refusal (Some (Ok d)) e true known false size refl refused
     go (Some (Ok d)) e false known small size refused = by_refusal (Some (Ok d)) e false known small size refl refused
 
+-- ---- within the bound on prefixes
+
+many_refused : {T : Type 0} (after : T → List Line → T) (taker : T) (bytes : Option (List ℕ)) (tokens : List Token) (place : Position) → OfText (BeginsAt first_place tokens) bytes
+    → many_behind after (first_feed taker) None tokens ≡ Some place → Comes after taker bytes (ends_with (Some place) (fold (feed after) (first_feed taker) tokens))
+many_refused after taker bytes tokens place begins met =
+    let r = many_root after (first_feed taker) tokens place met in
+    let many = is_many after taker r.0 tokens place (sym (roots after (first_feed taker) tokens) ∙ r.1) met in
+    record { ok = tt; err = (tokens, begins, (place, many)); at = (tokens, begins, many) }
+
+ends_is : {T : Type 0} (after : T → List Line → T) (taker : T) (tokens : List Token)
+    → ends (fold (bound after) (first_bounded taker) tokens) ≡ ends_with (many_behind after (first_feed taker) None tokens) (fold (feed after) (first_feed taker) tokens)
+ends_is after taker tokens = ap ends (bounds after (first_feed taker) None tokens)
+
+-- what comes of a document that was read to its end
+pub all_comes : {T : Type 0} (after : T → List Line → T) (taker : T) (bytes : Option (List ℕ)) (text : List ℕ) (tokens : List Token) (name : List ℕ) (inside : Content)
+    → IsTextOf bytes text → IsDocument text tokens → IsTree tokens name inside → Comes after taker bytes (ends (fold (bound after) (first_bounded taker) tokens))
+all_comes after taker bytes text tokens name inside is document tree =
+    subst (Comes after taker bytes) (sym (ends_is after taker tokens)) (go (many_behind after (first_feed taker) None tokens) refl)
+  where
+    go : (m : Option Position) → many_behind after (first_feed taker) None tokens ≡ m → Comes after taker bytes (ends_with m (fold (feed after) (first_feed taker) tokens))
+    go None e = comes after taker bytes text tokens name inside is document tree e
+    go (Some place) e = many_refused after taker bytes tokens place (all_tokens bytes text tokens is document) e
+
+-- and of tokens of which no more are taken
+pub all_refuses : {T : Type 0} (after : T → List Line → T) (taker : T) (bytes : Option (List ℕ)) (tokens : List Token) → OfText (BeginsAt first_place tokens) bytes
+    → goes_on (fold (bound after) (first_bounded taker) tokens) ≡ false → Comes after taker bytes (ends (fold (bound after) (first_bounded taker) tokens))
+all_refuses after taker bytes tokens begins refused =
+    subst (Comes after taker bytes) (sym (ends_is after taker tokens))
+    (go (many_behind after (first_feed taker) None tokens) refl (sym (ap goes_on (bounds after (first_feed taker) None tokens)) ∙ refused))
+  where
+    go : (m : Option Position) → many_behind after (first_feed taker) None tokens ≡ m → goes_on (bounded (fold (feed after) (first_feed taker) tokens) m) ≡ false
+        → Comes after taker bytes (ends_with m (fold (feed after) (first_feed taker) tokens))
+    go None e r = refuses after taker bytes tokens begins r
+    go (Some place) e r = many_refused after taker bytes tokens place begins e
+
 -- ---- a document that was not read to its end
 
 pub at_text : (P : Type 0) (fault : DocumentFault) → is_of_text fault ≡ true → AtFault P fault → P
 at_text P Malformed e h = h
+at_text P NotText e h = h
 at_text P TooDeep e h = h
 at_text P TooLong e h = h
 at_text P LargeTag e h = h
 at_text P Refused e h = h
-at_text P UnknownEncoding e h = absurd cc
+at_text P (UnknownEncoding name) e h = absurd cc
 at_text P Read e h = absurd cc
 at_text P Memory e h = absurd cc
 
@@ -161,51 +213,85 @@ takes_sound f h = go f.root f.known (fits f.child) h
     go (Some (Ok d)) false small h = h
 
 -- the text goes beyond a bound behind tokens, and they were fed
-abbrev pub Goes : {T : Type 0} → (T → List Line → T) → Option (List ℕ) → Feed T → Feed T → Bound → Type 0
-Goes after bytes start f Limit = (tokens : List Token) × OfText (Meets Limit first_place tokens) bytes × (f ≡ fold (feed after) start tokens)
+abbrev pub Goes : {T : Type 0} → (T → List Line → T) → Option (List ℕ) → Bounded T → Bounded T → Bound → Type 0
+Goes after bytes start b Limit = (tokens : List Token) × OfText (Meets Limit first_place tokens) bytes × (b ≡ fold (bound after) start tokens)
 
 -- what is said of each fault that comes from the reading of the document
-pub record Reasons {T R : Type 0} (after : T → List Line → T) (bytes : Option (List ℕ)) (start f : Feed T) (r : Result R DocumentFault) : Type 0 where
+pub record Reasons {T R : Type 0} (after : T → List Line → T) (bytes : Option (List ℕ)) (start f : Bounded T) (r : Result R DocumentFault) : Type 0 where
   pub malformed : IsErrOf r Malformed → OfText IsNoDocument bytes
+  pub stuck : IsErrOf r Malformed → Goes after bytes start f NoneMayStand
+  pub garbled : IsErrOf r NotText → OfText IsNoText bytes
   pub deep : IsErrOf r TooDeep → Goes after bytes start f IsDeep
   pub large : IsErrOf r LargeTag → Goes after bytes start f IsLarge
   pub long : IsErrOf r TooLong → Goes after bytes start f IsLong
-  pub unknown : IsErrOf r UnknownEncoding → IfSome bytes IsOfUnknown
-  pub refused : IsErrOf r Refused → takes_more f ≡ false
+  pub unknown : (name : List ℕ) → IsErrOf r (UnknownEncoding name) → IfSome bytes (IsOfUnknown name)
+  pub refused : IsErrOf r Refused → goes_on f ≡ false
 
-goes_at : {T : Type 0} (after : T → List Line → T) (bytes : Option (List ℕ)) (start f : Feed T) (Limit : Bound)
+goes_at : {T : Type 0} (after : T → List Line → T) (bytes : Option (List ℕ)) (start f : Bounded T) (Limit : Bound)
     → Goes after bytes start f Limit → (place : Position) × MeetsAt Limit bytes place
 goes_at after bytes start f Limit w = (position_past first_position w.0, (w.0, w.1, refl))
 
 -- a document that was read while more was taken is refused for a reason
-pub document_explained : {T R : Type 0} (after : T → List Line → T) (bytes : Option (List ℕ)) (start f : Feed T) (fault : DocumentFault)
-    → (is_of_text fault ≡ true → takes_more f ≡ true) → Reasons {T = T} {R = R} after bytes start f (Err fault) → Explains bytes (Document fault)
+pub document_explained : {T R : Type 0} (after : T → List Line → T) (bytes : Option (List ℕ)) (start f : Bounded T) (fault : DocumentFault)
+    → (is_of_text fault ≡ true → goes_on f ≡ true) → Reasons {T = T} {R = R} after bytes start f (Err fault) → IsReason bytes (Document fault)
 document_explained after bytes start f Malformed takes r = r.malformed refl
+document_explained after bytes start f NotText takes r = r.garbled refl
 document_explained after bytes start f TooDeep takes r = goes_at after bytes start f IsDeep (r.deep refl)
 document_explained after bytes start f TooLong takes r = goes_at after bytes start f IsLong (r.long refl)
 document_explained after bytes start f LargeTag takes r = goes_at after bytes start f IsLarge (r.large refl)
 document_explained after bytes start f Refused takes r = absurd (cc (sym (takes refl) ∙ r.refused refl))
-document_explained after bytes start f UnknownEncoding takes r = r.unknown refl
+document_explained after bytes start f (UnknownEncoding name) takes r = r.unknown name refl
 document_explained after bytes start f Read takes r = tt
 document_explained after bytes start f Memory takes r = tt
 
+-- while more is taken, the next token stands behind those that were
+place_is : {T : Type 0} (after : T → List Line → T) (taker : T) (b : Bounded T) (tokens : List Token) → goes_on b ≡ true → b ≡ fold (bound after) (first_bounded taker) tokens
+    → b.feed.place ≡ position_past first_position tokens
+place_is after taker b tokens more is =
+    let f = fold (feed after) (first_feed taker) tokens in
+    let whole : b ≡ bounded f (many_behind after (first_feed taker) None tokens) = is ∙ bounds after (first_feed taker) None tokens in
+    let takes : takes_more f ≡ true = (and_parts _ (takes_more f) (sym (ap goes_on whole) ∙ more)).1 in
+    ap (λ g. g.feed.place) whole ∙ places after (first_feed taker) tokens (takes_sound f takes)
+
 -- and so is its place
-pub document_at : {T R : Type 0} (after : T → List Line → T) (bytes : Option (List ℕ)) (taker : T) (start f : Feed T) (fault : DocumentFault) → start ≡ first_feed taker
-    → (is_of_text fault ≡ true → takes_more f ≡ true) → AtFault ((tokens : List Token) × OfText (BeginsAt first_place tokens) bytes × (f ≡ fold (feed after) start tokens)) fault
-    → Reasons {T = T} {R = R} after bytes start f (Err fault) → IsAt bytes (Document fault) f.place
+pub document_at : {T R : Type 0} (after : T → List Line → T) (bytes : Option (List ℕ)) (taker : T) (start f : Bounded T) (fault : DocumentFault) → start ≡ first_bounded taker
+    → (is_of_text fault ≡ true → goes_on f ≡ true) → AtFault ((tokens : List Token) × OfText (BeginsAt first_place tokens) bytes × (f ≡ fold (bound after) start tokens)) fault
+    → Reasons {T = T} {R = R} after bytes start f (Err fault) → IsAt bytes (Document fault) f.feed.place
 document_at {T = T} {R = R} after bytes taker start f fault starts takes h r = go fault takes h r
   where
-    place_is : takes_more f ≡ true → (tokens : List Token) → f ≡ fold (feed after) start tokens → f.place ≡ position_past first_position tokens
-    place_is more tokens is =
-        ap (λ h. h.place) is ∙ places after start tokens (ap is_sound (sym is) ∙ takes_sound f more) ∙ ap (λ h. position_past h.place tokens) starts
+    at : goes_on f ≡ true → (tokens : List Token) → f ≡ fold (bound after) start tokens → f.feed.place ≡ position_past first_position tokens
+    at more tokens is = place_is after taker f tokens more (is ∙ ap (λ g. fold (bound after) g tokens) starts)
 
-    go : (e : DocumentFault) → (is_of_text e ≡ true → takes_more f ≡ true) → AtFault ((tokens : List Token) × OfText (BeginsAt first_place tokens) bytes × (f ≡ fold (feed after) start tokens)) e
-        → Reasons {T = T} {R = R} after bytes start f (Err e) → IsAt bytes (Document e) f.place
-    go Malformed t w r = (w.0, w.1, place_is (t refl) w.0 w.2)
-    go TooDeep t w r = let g = r.deep refl in (g.0, g.1, place_is (t refl) g.0 g.2)
-    go TooLong t w r = let g = r.long refl in (g.0, g.1, place_is (t refl) g.0 g.2)
-    go LargeTag t w r = let g = r.large refl in (g.0, g.1, place_is (t refl) g.0 g.2)
+    go : (e : DocumentFault) → (is_of_text e ≡ true → goes_on f ≡ true) → AtFault ((tokens : List Token) × OfText (BeginsAt first_place tokens) bytes × (f ≡ fold (bound after) start tokens)) e
+        → Reasons {T = T} {R = R} after bytes start f (Err e) → IsAt bytes (Document e) f.feed.place
+    go Malformed t w r = let g = r.stuck refl in (g.0, g.1, at (t refl) g.0 g.2)
+    go NotText t w r = (w.0, w.1, at (t refl) w.0 w.2)
+    go TooDeep t w r = let g = r.deep refl in (g.0, g.1, at (t refl) g.0 g.2)
+    go TooLong t w r = let g = r.long refl in (g.0, g.1, at (t refl) g.0 g.2)
+    go LargeTag t w r = let g = r.large refl in (g.0, g.1, at (t refl) g.0 g.2)
     go Refused t w r = absurd (cc (sym (t refl) ∙ r.refused refl))
-    go UnknownEncoding t w r = tt
+    go (UnknownEncoding name) t w r = tt
     go Read t w r = tt
     go Memory t w r = tt
+
+-- ---- both as one
+
+pub explained : (bytes : Option (List ℕ)) (fault : Fault) (place : Position) → IsReason bytes fault → IsAt bytes fault place → Explains bytes fault place
+explained bytes (Document Malformed) place why at = (why, at)
+explained bytes (Document NotText) place why at = (why, at)
+explained bytes (Document TooDeep) place why at = at
+explained bytes (Document TooLong) place why at = at
+explained bytes (Document LargeTag) place why at = at
+explained bytes (Document Refused) place why at = at
+explained bytes (Document (UnknownEncoding name)) place why at = why
+explained bytes (Document Read) place why at = tt
+explained bytes (Document Memory) place why at = tt
+explained bytes (Message wrong) place why at = at
+explained bytes Reference place why at = at
+explained bytes TooLarge place why at = at
+explained bytes ManyPrefixes place why at = at
+
+pub all_explained : {T : Type 0} (bytes : Option (List ℕ)) (result : Result T (Stopped T)) → IfErr result (λ s. IsReason bytes s.fault) → IfErr result (λ s. IsAt bytes s.fault s.place)
+    → IfErr result (λ s. Explains bytes s.fault s.place)
+all_explained bytes (Ok taken) why at = tt
+all_explained bytes (Err s) why at = explained bytes s.fault s.place why at

@@ -191,7 +191,7 @@ tree_kept after t d tokens name inside place tree e k large =
 
 -- ---- tokens that a tree begins with
 
-root_front : (tokens more : List Token) (r : Result Dialect Wrong) → root_of tokens ≡ Some r → root_of (tokens ++ more) ≡ Some r
+pub root_front : (tokens more : List Token) (r : Result Dialect Wrong) → root_of tokens ≡ Some r → root_of (tokens ++ more) ≡ Some r
 root_front [] more r e = absurd cc
 root_front (start n attributes space ∷ tokens) more r e = e
 root_front (empty n attributes space ∷ tokens) more r e = e
@@ -204,7 +204,7 @@ root_front (declaration body ∷ tokens) more r e = root_front tokens more r e
 root_front (doctype body ∷ tokens) more r e = root_front tokens more r e
 root_front (end n space ∷ tokens) more r e = root_front tokens more r e
 
-place_front : (p : Position) (tokens more : List Token) (r : Result Dialect Wrong) → root_of tokens ≡ Some r → root_place p (tokens ++ more) ≡ root_place p tokens
+pub place_front : (p : Position) (tokens more : List Token) (r : Result Dialect Wrong) → root_of tokens ≡ Some r → root_place p (tokens ++ more) ≡ root_place p tokens
 place_front p [] more r e = absurd cc
 place_front p (start n attributes space ∷ tokens) more r e = refl
 place_front p (empty n attributes space ∷ tokens) more r e = refl

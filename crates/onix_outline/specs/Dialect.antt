@@ -29,24 +29,20 @@ is_release (Some release) = bytes_eq release (codes "3.0") || bytes_eq release (
 abbrev pub root_address : List ℕ → List Binding → List ℕ
 root_address prefix bindings = unwrap_or (address_among prefix bindings) (undeclared prefix)
 
-abbrev pub dialect_from : Naming → List ℕ → List Binding → Dialect
-dialect_from naming prefix bindings = record {
-  naming = naming;
-  address = root_address prefix bindings;
-  bindings = bindings;
-}
-
 abbrev pub with_naming : Option Naming → List ℕ → List Attribute → Result Dialect Wrong
-with_naming None prefix attributes = Err Root
-with_naming (Some naming) prefix attributes =
-    if is_release (normalized_value_of (codes "release") attributes)
-    then Ok (dialect_from naming prefix (bindings_of attributes))
-    else Err Release
+with_naming None name attributes = Err (Root (local_of name))
+with_naming (Some naming) name attributes =
+    let release = normalized_value_of (codes "release") attributes in
+    let bindings = bindings_of attributes in
+    let address = root_address (prefix_of name) bindings in
+    if is_release release
+    then Ok (record { naming = naming; address = address; bindings = bindings })
+    else Err (Release release address)
 
--- how a message is written whose root has this tag, or why it is none that is read
+-- how a message is written whose root has this tag, or why it is none that is read: for its name,
+-- or for its release, which is told with the address of its namespace
 abbrev pub dialect_of : List ℕ → List Attribute → Result Dialect Wrong
-dialect_of name attributes =
-    with_naming (naming_of_root (local_of name)) (prefix_of name) attributes
+dialect_of name attributes = with_naming (naming_of_root (local_of name)) name attributes
 
 -- ---- the elements below it
 

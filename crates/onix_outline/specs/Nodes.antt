@@ -58,10 +58,11 @@ leaf_nodes d around p (empty name attributes space) rest =
     rest
 leaf_nodes d around p other rest = rest
 
--- where the content of an element stands, and what follows its end tag
+-- where the content of an element stands
 abbrev pub content_place : Position → List ℕ → List Attribute → List ℕ → Position
 content_place p name attributes space = position_after p (spelling (start name attributes space))
 
+-- where what follows its end tag stands
 abbrev pub place_behind : Position → Content → List ℕ → List ℕ → Position
 place_behind p inside name closing =
     position_after (position_past p (tokens_of inside)) (spelling (end name closing))

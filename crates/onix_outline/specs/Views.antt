@@ -1,4 +1,5 @@
 -- Lines and words without where they lie in memory.
+use Rattle.std.specs.Borrow.{Bor}
 use Rattle.std.specs.Prelude.{List, map, option_map}
 use Rattle.onix_outline.specs.declared.line.Line.{Line}
 use Rattle.onix_outline.specs.declared.names.Word.{Word}
@@ -32,3 +33,6 @@ binding_view b = record { prefix = b.prefix.items; address = b.address.items }
 
 abbrev pub binding_views : List Binding → List Declared
 binding_views bindings = map binding_view bindings
+
+abbrev pub held_views : List (Bor Binding) → List Declared
+held_views bindings = map (λ b. binding_view b.now) bindings

@@ -4,23 +4,26 @@ ghost use Rattle.std.specs.Prelude.{◌≡◌, ◌∷◌, [], IfOk, option_map};
 ghost use Rattle.onix_outline.specs.Dialect.{address_of, counted, dialect_of, format_of, is_release, root_address};
 ghost use Rattle.onix_outline.specs.private.Growing.{scopes_of};
 ghost use Rattle.onix_outline.specs.Namespaces.{scope};
+ghost use Rattle.onix_outline.specs.Prefixes.{has_many};
 ghost use Rattle.onix_outline.specs.Views.{binding_views};
 
 use crate::grower::Grower;
 use crate::names::{Naming, name_of, naming_of_root, stranger};
 use crate::namespaces::{Binding, address_among, bindings_of, split_name, undeclared};
+use crate::prefixes::are_many_at;
 use crate::spaces::fill;
 use std::alloc::{AllocError, Global};
 use std::marker::Model;
-use xml_text::Attributes;
+use xml_text::{Attributes, Bytes};
 
 /// Why a document is no message that is read.
-#[derive(Clone, Copy, Debug)]
+#[derive(Debug, Drop)]
 pub enum Wrong {
-    /// Its root is neither `ONIXMessage` nor `ONIXmessage`.
-    Root,
-    /// Its release is neither 3.0 nor 3.1, or none.
-    Release,
+    /// Its root, which has this name behind its prefix, is neither `ONIXMessage` nor `ONIXmessage`.
+    Root(Bytes),
+    /// Its release, where it has one, is neither 3.0 nor 3.1. Its root is in the namespace of this
+    /// address, which is empty where it is in none.
+    Release(Option<Bytes>, Bytes),
 }
 
 /// The kind of names and the namespace of a message.
@@ -66,6 +69,17 @@ fn root_address<'a>(prefix: &[u8], bindings: &'a [Binding]) -> &'a [u8]
     }
 }
 
+// That the release of a root in the namespace of this address is none that is read.
+fn other_release(release: Option<Vec<u8>>, address: Vec<u8>) -> Wrong
+    ensures { result ≡ Wrong.Release (option_map (λ r. r.items) release) address.items }
+{
+    let address = Bytes::from_vec(address);
+    match release {
+        None => Wrong::Release(None, address),
+        Some(release) => Wrong::Release(Some(Bytes::from_vec(release)), address),
+    }
+}
+
 impl Dialect {
     /// How a message is written whose root has this tag.
     pub(crate) fn of_root(
@@ -77,13 +91,15 @@ impl Dialect {
     {
         let (prefix, local) = split_name(name);
         let Some(naming) = naming_of_root(local) else {
-            return Ok(Err(Wrong::Root));
+            let name = Bytes::from_vec(Vec::from_slice(alloc, local)?);
+            return Ok(Err(Wrong::Root(name)));
         };
-        if !is_release(&attributes.normalized_value_of(alloc, b"release")?) {
-            return Ok(Err(Wrong::Release));
-        }
+        let release = attributes.normalized_value_of(alloc, b"release")?;
         let bindings = bindings_of(alloc, attributes)?;
         let address = Vec::from_slice(alloc, root_address(prefix, &bindings))?;
+        if !is_release(&release) {
+            return Ok(Err(other_release(release, address)));
+        }
         Ok(Ok(Dialect {
             naming,
             address,
@@ -110,6 +126,11 @@ impl Dialect {
         }
     }
 
+    /// The kind of its names.
+    pub(crate) fn naming(&self) -> Naming {
+        self.naming
+    }
+
     /// The reference name of an element with this name and these declarations below what a grower
     /// has open, where it counts; a stranger's name, where it would in the root's namespace.
     pub(crate) fn counted(
@@ -127,6 +148,27 @@ impl Dialect {
             Some(reference)
         } else {
             Some(stranger())
+        }
+    }
+
+    /// Whether too many prefixes stand for the root's address at a tag with these declarations,
+    /// below what a grower has open; of a tag without a declaration it is not asked.
+    #[tactic(auto, using(crate::proofs::PrefixLaws::declaring))]
+    pub(crate) fn has_many(
+        &self,
+        alloc: Global,
+        around: &Grower,
+        bindings: &[Binding],
+    ) -> Result<bool, AllocError>
+        ensures { IfOk result (λ many. many ≡ has_many self.now
+            (scopes_of around.now.opens) (binding_views bindings.now)) }
+    {
+        match bindings {
+            [] => Ok(false),
+            [_first, ..] => {
+                let opens = around.opens();
+                are_many_at(alloc, &self.address, &self.bindings, opens, bindings)
+            }
         }
     }
 }

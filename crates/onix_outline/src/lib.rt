@@ -2,6 +2,7 @@
 //! how deep an element is, its name and its text, in order.
 #![tactic(auto)]
 
+mod bounded;
 pub mod composites;
 pub mod dialect;
 mod grower;
@@ -11,8 +12,10 @@ pub mod names;
 pub mod namespaces;
 pub mod outliner;
 pub mod outlines;
+mod prefixes;
 pub mod reading;
 mod spaces;
+pub mod told;
 
 pub use composites::{Node, first_node, has_stranger, text_in};
 pub use dialect::{Dialect, Wrong};
@@ -22,3 +25,4 @@ pub use names::{Naming, Word};
 pub use outliner::{Outliner, Taker};
 pub use outlines::{is_outline, outlined};
 pub use reading::{Fault, Stopped, read_message};
+pub use told::Told;

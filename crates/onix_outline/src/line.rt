@@ -2,8 +2,8 @@
 
 use xml_text::Position;
 
-/// A line of an outline: how deep its element is, its reference name, where its tag stands, its attribute
-/// `dateformat` and its text.
+/// A line of an outline: how deep its element is, its reference name, where its tag stands, its
+/// attribute `dateformat` and its text.
 #[derive(Drop)]
 pub struct Line {
     pub depth: usize,

@@ -21,7 +21,7 @@ pub struct Word {
     pub short: &'static [u8],
 }
 
-static WORDS: [Word; 61] = [
+static WORDS: [Word; 63] = [
     Word {
         composite: b"ONIXMessage",
         reference: b"Header",
@@ -301,6 +301,16 @@ static WORDS: [Word; 61] = [
         composite: b"Price",
         reference: b"PriceDate",
         short: b"pricedate",
+    },
+    Word {
+        composite: b"Price",
+        reference: b"Discount",
+        short: b"discount",
+    },
+    Word {
+        composite: b"Price",
+        reference: b"DiscountCoded",
+        short: b"discountcoded",
     },
     Word {
         composite: b"PriceCondition",

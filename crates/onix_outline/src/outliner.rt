@@ -4,6 +4,7 @@ ghost use Rattle.std.specs.Prelude.{◌≡◌, [], IfOk, OnOk, true, unwrap_or, 
 ghost use Rattle.xml_text.specs.References.{reference_text};
 ghost use Rattle.xml_text.specs.View.{token_view};
 ghost use Rattle.onix_outline.specs.private.Feed.{feeding, first_feed, begun, ended, emptied, spoken, handed, settled, told, moved, is_sound, takes_more};
+ghost use Rattle.onix_outline.specs.private.Bounded.{many_at};
 ghost use Rattle.onix_outline.specs.private.Finishing.{finished, first_place_of, stopped};
 ghost use Rattle.onix_outline.specs.private.Growing.{closed};
 ghost use Rattle.onix_outline.specs.Outline.{is_part};
@@ -12,15 +13,16 @@ ghost use Rattle.onix_outline.specs.Views.{line_views};
 use crate::dialect::{Dialect, Wrong, format_of};
 use crate::grower::Grower;
 use crate::line::Line;
-use crate::names::stranger;
+use crate::names::{Naming, stranger};
 use crate::namespaces::bindings_of;
 use crate::reading::{Fault, Stopped};
+use crate::told::Told;
 use std::alloc::{AllocError, Global};
 use std::marker::Model;
-use xml_text::{Attributes, Piece, Position, Sink, Token, push_reference};
+use xml_text::{Attributes, Bytes, Piece, Position, Sink, Token, push_reference};
 
-/// What takes the outlines of a message: that of its Header, of each of its Products, and of each stranger that is
-/// called so, in order.
+/// What takes the outlines of a message: that of its Header, of each of its Products, and of each
+/// stranger that is called so, in order.
 pub trait Taker {
     ghost use Rattle.std.specs.Prelude.{List};
     ghost use Rattle.onix_outline.specs.Outline.{Line};
@@ -42,6 +44,7 @@ pub struct Outliner<T> {
     child: Grower,
     known: bool,
     place: Position,
+    told: Told,
 }
 
 impl<T> Model for Outliner<T> {
@@ -79,6 +82,14 @@ fn is_part(name: &[u8]) -> bool
     name == b"Product".as_slice() || name == b"Header".as_slice() || name == stranger()
 }
 
+// The kind of names that a root tells, where it is that of a message.
+fn naming_in(root: &Option<Result<Dialect, Wrong>>) -> Option<Naming> {
+    match root {
+        Some(Ok(dialect)) => Some(dialect.naming()),
+        _ => None,
+    }
+}
+
 impl<T: Taker + Drop> Outliner<T> {
     /// Before the first token.
     pub(crate) fn new(alloc: Global, taker: T) -> Outliner<T>
@@ -91,6 +102,7 @@ impl<T: Taker + Drop> Outliner<T> {
             child: Grower::new(alloc),
             known: true,
             place: Position::first(),
+            told: Told::new(),
         }
     }
 
@@ -98,50 +110,81 @@ impl<T: Taker + Drop> Outliner<T> {
     pub(crate) fn finish(self) -> Result<T, Stopped<T>>
         ensures { result ≡ finished self }
     {
-        let place = self.place;
-        match &self.root {
-            None => Err(self.stop(Fault::Message(Wrong::Root), place)),
-            Some(Err(wrong)) => {
-                let wrong = *wrong;
-                Err(self.stop(Fault::Message(wrong), place))
+        let Outliner {
+            alloc,
+            taker,
+            root,
+            child,
+            known,
+            place,
+            mut told,
+        } = self;
+        match root {
+            None => {
+                let name = Bytes::from_vec(Vec::new(alloc));
+                let fault = Fault::Message(Wrong::Root(name));
+                Err(Stopped {
+                    fault,
+                    place,
+                    taker,
+                    told,
+                })
             }
-            Some(Ok(_)) => {
-                if !self.known {
-                    return Err(self.stop(Fault::Reference, place));
+            Some(Err(wrong)) => {
+                let fault = Fault::Message(wrong);
+                Err(Stopped {
+                    fault,
+                    place,
+                    taker,
+                    told,
+                })
+            }
+            Some(Ok(dialect)) => {
+                told.naming = Some(dialect.naming());
+                if !known {
+                    let fault = Fault::Reference;
+                    return Err(Stopped {
+                        fault,
+                        place,
+                        taker,
+                        told,
+                    });
                 }
-                if self.child.fits() {
-                    Ok(self.into_taker())
+                if child.fits() {
+                    Ok(taker)
                 } else {
-                    let place = first_place_of(self.child.lines(), place);
-                    Err(self.stop(Fault::TooLarge, place))
+                    let place = first_place_of(child.lines(), place);
+                    let fault = Fault::TooLarge;
+                    Err(Stopped {
+                        fault,
+                        place,
+                        taker,
+                        told,
+                    })
                 }
             }
         }
-    }
-
-    // What took the outlines.
-    fn into_taker(self) -> T
-        ensures { result ≡ self.taker }
-    {
-        let Outliner {
-            alloc: _,
-            taker,
-            root: _,
-            child: _,
-            known: _,
-            place: _,
-        } = self;
-        taker
     }
 
     /// No message was read, for this reason, at this place.
     pub(crate) fn stop(self, fault: Fault, place: Position) -> Stopped<T>
         ensures { result ≡ stopped fault place self }
     {
+        let Outliner {
+            alloc: _,
+            taker,
+            root,
+            child: _,
+            known: _,
+            place: _,
+            mut told,
+        } = self;
+        told.naming = naming_in(&root);
         Stopped {
             fault,
             place,
-            taker: self.into_taker(),
+            taker,
+            told,
         }
     }
 
@@ -199,6 +242,33 @@ impl<T: Taker + Drop> Outliner<T> {
         }
     }
 
+    /// Where a tag stands at which too many prefixes hold, if they do; of one that is passed over
+    /// it is not asked.
+    #[tactic(auto, using(crate::proofs::PrefixLaws::none_passed, crate::proofs::PrefixLaws::none_else))]
+    pub(crate) fn many_at(
+        &self,
+        attributes: &Attributes<'_>,
+    ) -> Result<Option<Position>, AllocError>
+        ensures { IfOk result (λ place. place
+            ≡ many_at self.now.root self.now.child self.now.place attributes.now) }
+    {
+        match &self.root {
+            None => Ok(None),
+            Some(Err(_)) => Ok(None),
+            Some(Ok(dialect)) => {
+                if self.child.is_passing() {
+                    return Ok(None);
+                }
+                let bindings = bindings_of(self.alloc, attributes)?;
+                if dialect.has_many(self.alloc, &self.child, &bindings)? {
+                    Ok(Some(self.place))
+                } else {
+                    Ok(None)
+                }
+            }
+        }
+    }
+
     // Takes an end tag.
     fn end(&mut self) -> Result<(), AllocError>
         ensures { OnOk result (self.new ≡ ended T.after self.old.root self.old) }
@@ -241,6 +311,9 @@ impl<T: Taker + Drop> Outliner<T> {
             (is_some (reference_text body.now)) self.old) }
     {
         let (text, known) = reference_text(self.alloc, body)?;
+        if !known {
+            self.told.take_reference(self.alloc, body)?;
+        }
         self.speak(&text, known)
     }
 
@@ -257,7 +330,10 @@ impl<T: Taker + Drop> Outliner<T> {
             Token::Comment(_) => self.speak(b"", true),
             Token::Instruction(_) => self.speak(b"", true),
             Token::Declaration(_) => self.speak(b"", true),
-            Token::Doctype(_) => self.speak(b"", true),
+            Token::Doctype(body) => {
+                self.told.take_doctype(body);
+                self.speak(b"", true)
+            }
         }
     }
 

@@ -4,14 +4,16 @@ ghost use Rattle.std.specs.Prelude.{◌≡◌, ℕ, List, [], IfOk, IfErr, fold}
 ghost use Rattle.xml_text.specs.EncodingNames.{IsTextOf};
 ghost use Rattle.xml_text.specs.Tree.{Content};
 ghost use Rattle.onix_outline.specs.Dialect.{Dialect};
-ghost use Rattle.onix_outline.specs.Faults.{Explains, IsAt};
+ghost use Rattle.onix_outline.specs.Faults.{Explains};
 ghost use Rattle.onix_outline.specs.private.Finishing.{is_of_text};
 ghost use Rattle.onix_outline.specs.Message.{IsMessage};
 ghost use Rattle.onix_outline.specs.Nodes.{nodes_in};
 ghost use Rattle.onix_outline.specs.Outline.{parts_of};
 
+use crate::bounded::BoundedOutliner;
 use crate::dialect::Wrong;
-use crate::outliner::{Outliner, Taker};
+use crate::outliner::Taker;
+use crate::told::Told;
 use std::alloc::Global;
 use std::io::Read;
 use xml_text::{Position, documents_are_trees, read_document};
@@ -25,20 +27,24 @@ pub enum Fault {
     Message(Wrong),
     /// A reference stands for nothing.
     Reference,
-    /// A Header or a Product is larger than 4,194,304 bytes: those of the texts and of the attributes `dateformat` of
-    /// its elements that count, and 64 for each of them.
+    /// A Header or a Product is larger than 4,194,304 bytes: those of the texts and of the
+    /// attributes `dateformat` of its elements that count, and 64 for each of them.
     TooLarge,
+    /// At a tag more than 64 prefixes stand for the namespace of the root.
+    ManyPrefixes,
 }
 
-/// Why no message was read, where, and what took the Header and Products until then. The place is that of the tag of a
-/// root that is refused, of a reference that stands for nothing, of the tag of a Header or Product that is too large,
-/// else behind the last token that was taken; it tells nothing where the encoding is none that is known, a read failed
-/// or memory ran out.
+/// Why no message was read, where, and what took the Header and Products until then. The place is
+/// that of the tag of a root that is refused, of a reference that stands for nothing, of the tag of
+/// a Header or Product that is too large, of a tag at which too many prefixes hold, else behind the
+/// last token that was taken, and of a malformed document there no other may follow. It tells
+/// nothing where the encoding is none that is known, a read failed or memory ran out.
 #[derive(Debug, Drop)]
 pub struct Stopped<T> {
     pub fault: Fault,
     pub place: Position,
     pub taker: T,
+    pub told: Told,
 }
 
 // Whether a fault has a place.
@@ -46,15 +52,15 @@ fn is_of_text(fault: &xml_text::Fault) -> bool
     ensures { result ≡ is_of_text fault.now }
 {
     match fault {
-        xml_text::Fault::UnknownEncoding => false,
+        xml_text::Fault::UnknownEncoding(_) => false,
         xml_text::Fault::Read => false,
         xml_text::Fault::Memory => false,
         _ => true,
     }
 }
 
-/// Reads a message, hands on its Header, each of its Products and each stranger that is called so, in
-/// order, and gives back what took them. Its first bytes tell its encoding.
+/// Reads a message, hands on its Header, each of its Products and each stranger that is called so,
+/// in order, and gives back what took them. Its first bytes tell its encoding.
 pub fn read_message<R: Read, T: Taker + Drop>(
     alloc: Global,
     reader: &mut R,
@@ -64,12 +70,11 @@ pub fn read_message<R: Read, T: Taker + Drop>(
         × (inside : Content) × IsTextOf (R.remaining reader.old) text
         × IsMessage text d place inside
         × (taken ≡ fold T.after taker (parts_of (nodes_in d [] place inside)))) }
-    ensures refused { IfErr result (λ stopped. Explains (R.remaining reader.old) stopped.fault) }
-    ensures place { IfErr result (λ stopped.
-        IsAt (R.remaining reader.old) stopped.fault stopped.place) }
+    ensures refused { IfErr result (λ stopped.
+        Explains (R.remaining reader.old) stopped.fault stopped.place) }
 {
     documents_are_trees();
-    let mut outliner = Outliner::new(alloc, taker);
+    let mut outliner = BoundedOutliner::new(alloc, taker);
     match read_document(alloc, reader, &mut outliner) {
         Ok(()) => outliner.finish(),
         Err(fault) => {

@@ -13,8 +13,8 @@ fn is_space(b: u8) -> bool
     b == 32 || b == 10 || b == 13 || b == 9
 }
 
-/// Adds text with each run of white space made one space, and none at the ends; whether white space stands before it
-/// is told.
+/// Adds text with each run of white space made one space, and none at the ends; whether white space
+/// stands before it is told.
 pub(crate) fn push_words(out: &mut Vec<u8>, waits: bool, text: &[u8]) -> Result<(), AllocError>
     ensures { OnOk result (out.new.items ≡ grown out.old.items waits text.now) }
 {

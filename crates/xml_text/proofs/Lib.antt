@@ -11,6 +11,7 @@ pub mod PieceLaws
 pub mod PositionLaws
 pub mod NestingLaws
 pub mod PlaceLaws
+pub mod FittingLaws
 pub mod DocumentLaws
 pub mod LimitLaws
 pub mod NumberLaws

@@ -8,7 +8,7 @@ use Rattle.std.proofs.lemmas.List.Concat.{flat_map-cons}
 use Rattle.xml_text.specs.declared.place.Place.{Place}
 use Rattle.xml_text.specs.Documents.{Advances}
 use Rattle.xml_text.specs.Grammar.{Token, spelling, is_token}
-use Rattle.xml_text.specs.Limits.{Meets, Follows, IsDeep, IsLarge, IsLong}
+use Rattle.xml_text.specs.Limits.{Meets, Follows, IsDeep, IsLarge, IsLong, NoneMayStand, NoneWillStand}
 use Rattle.xml_text.specs.Pieces.{Begins, HasNoToken}
 use Rattle.xml_text.specs.Places.{first_place}
 use Rattle.xml_text.proofs.DocumentLaws.{advance_further, advance_longer}
@@ -26,6 +26,14 @@ deep_lasts p rest more h = (h.0, h.1, follows_lasts h.0 rest more h.2, h.3)
 
 pub large_lasts : Lasts IsLarge
 large_lasts p rest more h = (h.0, follows_lasts h.0 rest more h.1, h.2)
+
+pub stuck_lasts : Lasts NoneWillStand
+stuck_lasts p rest more h = λ later. subst (NoneMayStand p) (sym (append_assoc rest more later)) (h (more ++ later))
+
+-- whatever stands behind the rest, and so what does
+pub stuck_now : (told : Option (List ℕ)) (tokens : List Token) → IfSome told (Meets NoneWillStand first_place tokens) → IfSome told (Meets NoneMayStand first_place tokens)
+stuck_now None tokens h = tt
+stuck_now (Some x) tokens h = record { rest = h.rest; place = h.place; leads = h.leads; meets = subst (NoneMayStand h.place) (append-nil h.rest) (h.meets []) }
 
 pub long_lasts : Lasts IsLong
 long_lasts p rest more h = (h.0, h.1 ++ more, ap (λ (l : List ℕ). l ++ more) h.2 ∙ append_assoc h.0 h.1 more, h.3, h.4)

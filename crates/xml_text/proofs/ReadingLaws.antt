@@ -4,19 +4,19 @@ use Rattle.std.specs.Prelude.{IfSome, IfErr, option_and_then}
 use Rattle.std.specs.Io.KnownBytes.{Consumes, IsAtEnd, prepend_known}
 use Rattle.std.proofs.KnownBytes.{Consumes-trans, prepend_known-nil}
 use Rattle.xml_text.specs.declared.fault.Fault.{Fault}
-use Rattle.xml_text.specs.declared.fault.Fault.TheVariants.{Malformed, TooDeep, TooLong, LargeTag, Refused, UnknownEncoding, Read, Memory}
+use Rattle.xml_text.specs.declared.fault.Fault.TheVariants.{Malformed, NotText, TooDeep, TooLong, LargeTag, Refused, UnknownEncoding, Read, Memory}
 use Rattle.xml_text.specs.declared.place.Place.{Place}
 use Rattle.xml_text.specs.declared.texts.Part.{Part}
 use Rattle.xml_text.specs.declared.texts.Part.TheVariants.{Whole}
 use Rattle.xml_text.specs.Documents.{Advances, BeginsAt, Grows, IsEnding, IsTold, is_whole}
 use Rattle.xml_text.specs.Faults.{AtFault}
 use Rattle.xml_text.specs.Grammar.{Token}
-use Rattle.xml_text.specs.Limits.{Meets, IsLong}
+use Rattle.xml_text.specs.Limits.{Meets, IsLong, NoneMayStand}
 use Rattle.xml_text.specs.Pieces.{HasNoToken}
-use Rattle.xml_text.specs.Places.{Completes, IsDocument, IsNoDocument, first_place}
-use Rattle.xml_text.specs.Texts.{follow, IsSmall}
+use Rattle.xml_text.specs.Places.{Completes, IsDocument, IsNoDocument, IsNoText, first_place}
+use Rattle.xml_text.specs.Texts.{follow, is_start, IsSmall}
 use Rattle.xml_text.proofs.Runs.{rest_is}
-use Rattle.xml_text.proofs.DocumentLaws.{at_start, advance_further, advance_longer, a_round, known_malformed, known_told, known_cut, known_garbled, nothing_read, whole_document}
+use Rattle.xml_text.proofs.DocumentLaws.{at_start, advance_further, advance_longer, a_round, known_malformed, known_told, known_cut, known_garbled, known_half, known_stuck, nothing_read, whole_document}
 use Rattle.xml_text.proofs.EncodingLaws.{ends_clean}
 use Rattle.xml_text.proofs.LimitLaws.{Lasts, known_limit, long_lasts}
 use Rattle.xml_text.proofs.TextLaws.{follow-append}
@@ -107,7 +107,7 @@ goes_beyond Limit told left window shown tokens q part lasts others s is m =
     known_limit Limit told (prepend_known s.bad left) s.text window tokens q lasts s.read others s.advances (subst (Meets Limit q others) is m)
 
 pub is_garbled : (told left : Option (List ℕ)) (window : List ℕ) (tokens : List Token) (q : Place) (part : Option Part) → part ≡ None → State told left window tokens q part
-    → IfSome told IsNoDocument
+    → IfSome told IsNoText
 is_garbled told left window tokens q (Some p) is s = absurd cc
 is_garbled told left window tokens q None is s = known_garbled told left (s.text ++ s.bad) (put_back told left s.text s.bad s.read) s.at_part
 
@@ -141,21 +141,23 @@ begins_further told left window shown tokens others q part s is b =
 
 pub at_fault : (P : Type 0) (fault : Fault) → P → AtFault P fault
 at_fault P Malformed h = h
+at_fault P NotText h = h
 at_fault P TooDeep h = h
 at_fault P TooLong h = h
 at_fault P LargeTag h = h
 at_fault P Refused h = h
-at_fault P UnknownEncoding h = tt
+at_fault P (UnknownEncoding name) h = tt
 at_fault P Read h = tt
 at_fault P Memory h = tt
 
 pub at_same_fault : (P Q : Type 0) (fault : Fault) → (P → Q) → AtFault P fault → AtFault Q fault
 at_same_fault P Q Malformed f h = f h
+at_same_fault P Q NotText f h = f h
 at_same_fault P Q TooDeep f h = f h
 at_same_fault P Q TooLong f h = f h
 at_same_fault P Q LargeTag f h = f h
 at_same_fault P Q Refused f h = f h
-at_same_fault P Q UnknownEncoding f h = tt
+at_same_fault P Q (UnknownEncoding name) f h = tt
 at_same_fault P Q Read f h = tt
 at_same_fault P Q Memory f h = tt
 
@@ -218,6 +220,27 @@ ends_cut told left later before window shown tokens place was part piece next la
     let kept_window = same_window before window piece part last grows ending_is in
     is_cut told later window tokens place last (subst (λ (o : Option Part). State told later window tokens place o) found t) end_here (subst HasNoToken (sym kept_window) none)
     (ap (λ (l : List ℕ). is_whole l place last) (sym same) ∙ not_whole)
+
+last_state : (told left later : Option (List ℕ)) (before window : List ℕ) (tokens : List Token) (place : Place) (was : Option Part) (part : Part) (piece : List ℕ) (next : Option Part) (last : Part)
+    → State told left before tokens place was → was ≡ Some part → Consumes left later piece → Grows before window part piece next → next ≡ Some last → IsEnding piece → State told later before tokens place (Some last)
+last_state told left later before window tokens place was part piece next last s is c g found ending_is =
+    let t = reads_on_at told left later before window tokens place was part piece next s is c g in
+    let same = same_window before window piece part last (subst (Grows before window part piece) found g) ending_is in
+    subst (λ (l : List ℕ). State told later l tokens place (Some last)) same (subst (λ (o : Option Part). State told later window tokens place o) found t)
+
+pub ends_stuck : (told left later : Option (List ℕ)) (before window : List ℕ) (tokens : List Token) (place : Place) (was : Option Part) (part : Part) (piece : List ℕ) (next : Option Part) (last : Part)
+    → State told left before tokens place was → was ≡ Some part → Consumes left later piece → Grows before window part piece next → next ≡ Some last → IsAtEnd later
+    → IsEnding piece → HasNoToken before → IfSome told (Meets NoneMayStand first_place tokens)
+ends_stuck told left later before window tokens place was part piece next last s is c g found end_here ending_is none =
+    let t = last_state told left later before window tokens place was part piece next last s is c g found ending_is in
+    known_stuck told later t.text before tokens place (nothing_bad told later t.text t.bad t.at_part.0 t.read) end_here t.advances none
+
+pub ends_half : (told left later : Option (List ℕ)) (before window : List ℕ) (tokens : List Token) (place : Place) (was : Option Part) (part : Part) (piece : List ℕ) (next : Option Part) (last : Part)
+    → State told left before tokens place was → was ≡ Some part → Consumes left later piece → Grows before window part piece next → next ≡ Some last → IsAtEnd later
+    → IsEnding piece → is_start last ≡ false → IfSome told IsNoText
+ends_half told left later before window tokens place was part piece next last s is c g found end_here ending_is half =
+    let t = last_state told left later before window tokens place was part piece next last s is c g found ending_is in
+    known_half told later t.text last (nothing_bad told later t.text t.bad t.at_part.0 t.read) end_here t.at_part.1 half
 
 pub at_err : {T : Type 0} (P : Type 0) (r : Result T Fault) → P → IfErr r (AtFault P)
 at_err P (Ok x) h = tt

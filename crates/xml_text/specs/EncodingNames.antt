@@ -1,6 +1,6 @@
 -- The encoding that a document says it has.
 use Rattle.std.specs.Prelude.{◌≡◌, ℕ, Bool, ◌||◌, ◌==◌, codes, List, [], ◌∷◌, Option, Some, None}
-use Rattle.std.specs.Prelude.{Ok, Err, ⊤, if◌then◌else◌, option_map, take, drop}
+use Rattle.std.specs.Prelude.{Ok, Err, ⊤, if◌then◌else◌, option_map, take, drop, unwrap_or}
 use Rattle.std.specs.Char.{to_ascii_lowercase}
 use Rattle.std.specs.Str.{bytes_eq}
 use Rattle.xml_text.specs.declared.encodings.Encoding.{Encoding}
@@ -42,6 +42,9 @@ declared_name head = named_in (literal (codes "<?xml") head >>= λ x. attributes
     named_in (Ok x) = value_of (codes "encoding") x.0
     named_in (Err e) = None
 
+abbrev pub declared_or_empty : List ℕ → List ℕ
+declared_or_empty head = unwrap_or (declared_name head) []
+
 -- where nothing is said, UTF-8
 abbrev pub named : Option (List ℕ) → Option Encoding
 named None = Some Utf8
@@ -80,6 +83,7 @@ abbrev pub OfText : (List ℕ → Type 0) → Option (List ℕ) → Type 0
 OfText P None = ⊤
 OfText P (Some bytes) = (text : List ℕ) × (text_of bytes ≡ Some text) × P text
 
--- their encoding is none that is known
-abbrev pub IsOfUnknown : List ℕ → Type 0
-IsOfUnknown bytes = text_of bytes ≡ None
+-- their encoding is none that is known, and their declaration gives it this name
+abbrev pub IsOfUnknown : List ℕ → List ℕ → Type 0
+IsOfUnknown name bytes =
+    (text_of bytes ≡ None) × (declared_or_empty (take 1024 bytes) ≡ name)

@@ -1,6 +1,6 @@
 -- Encodings, and the text that bytes are in one.
 use Rattle.std.specs.Prelude.{ℕ, ◌+◌, ◌-◌, ◌*◌, Bool, ◌&&◌, ◌==◌, nat_lt, nat_le, List, [], ◌∷◌}
-use Rattle.std.specs.Prelude.{◌++◌, Option, if◌then◌else◌, option_map, encode_utf8}
+use Rattle.std.specs.Prelude.{◌++◌, Option, if◌then◌else◌, option_map, encode_utf8, slice_index}
 use Rattle.std.specs.List.{flat_map}
 use Rattle.std.specs.Io.KnownBytes.{prepend_known}
 use Rattle.xml_text.specs.declared.encodings.Encoding.{Encoding}
@@ -10,37 +10,16 @@ use Rattle.xml_text.specs.declared.encodings.Encoding.TheVariants.{Utf16Big, Utf
 use Rattle.xml_text.specs.declared.encodings.Held.{Held}
 use Rattle.xml_text.specs.declared.encodings.Held.TheVariants.{Nothing, Byte, Lead, LeadByte}
 
--- the code point of a byte of windows-1252 from 128 on; 0 where it has none
+-- the code points of the bytes 128 to 159 of windows-1252; 0 where it has none
+abbrev pub windows_codes : List ℕ
+windows_codes =
+    8364 ∷ 0 ∷ 8218 ∷ 402 ∷ 8222 ∷ 8230 ∷ 8224 ∷ 8225 ∷ 710 ∷ 8240 ∷ 352 ∷ 8249 ∷ 338 ∷ 0 ∷ 381 ∷ 0
+    ∷ 0 ∷ 8216 ∷ 8217 ∷ 8220 ∷ 8221 ∷ 8226 ∷ 8211 ∷ 8212 ∷ 732 ∷ 8482 ∷ 353 ∷ 8250 ∷ 339 ∷ 0 ∷ 382
+    ∷ 376 ∷ []
+
+-- the code point of a byte of windows-1252 from 128 on
 abbrev pub windows_code : ℕ → ℕ
-windows_code b =
-    if b == 128 then 8364 else
-    if b == 130 then 8218 else
-    if b == 131 then 402 else
-    if b == 132 then 8222 else
-    if b == 133 then 8230 else
-    if b == 134 then 8224 else
-    if b == 135 then 8225 else
-    if b == 136 then 710 else
-    if b == 137 then 8240 else
-    if b == 138 then 352 else
-    if b == 139 then 8249 else
-    if b == 140 then 338 else
-    if b == 142 then 381 else
-    if b == 145 then 8216 else
-    if b == 146 then 8217 else
-    if b == 147 then 8220 else
-    if b == 148 then 8221 else
-    if b == 149 then 8226 else
-    if b == 150 then 8211 else
-    if b == 151 then 8212 else
-    if b == 152 then 732 else
-    if b == 153 then 8482 else
-    if b == 154 then 353 else
-    if b == 155 then 8250 else
-    if b == 156 then 339 else
-    if b == 158 then 382 else
-    if b == 159 then 376 else
-    if nat_lt b 160 then 0 else b
+windows_code b = if nat_lt b 160 then slice_index windows_codes (b - 128) else b
 
 -- the code point of a byte of ISO-8859-15, which has eight others than ISO-8859-1
 abbrev pub latin9_code : ℕ → ℕ
@@ -127,12 +106,9 @@ held_behind other held bytes = held
 
 abbrev pub text_from : Encoding → Held → List ℕ → List ℕ
 text_from Utf8 held bytes = bytes
-text_from Ascii held bytes = flat_map (byte_text Ascii) bytes
-text_from Latin1 held bytes = flat_map (byte_text Latin1) bytes
-text_from Latin9 held bytes = flat_map (byte_text Latin9) bytes
-text_from Windows1252 held bytes = flat_map (byte_text Windows1252) bytes
 text_from Utf16Big held bytes = text16 Utf16Big held bytes
 text_from Utf16Little held bytes = text16 Utf16Little held bytes
+text_from other held bytes = flat_map (byte_text other) bytes
 
 -- what the end of a text adds to it
 abbrev pub ending : Encoding → Held → List ℕ

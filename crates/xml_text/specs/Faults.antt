@@ -1,6 +1,6 @@
 -- Faults, by where they come from.
 use Rattle.xml_text.specs.declared.fault.Fault.{Fault}
-use Rattle.xml_text.specs.declared.fault.Fault.TheVariants.{Malformed, TooDeep, LargeTag}
+use Rattle.xml_text.specs.declared.fault.Fault.TheVariants.{Malformed, NotText, TooDeep, LargeTag}
 use Rattle.xml_text.specs.declared.fault.Fault.TheVariants.{UnknownEncoding, Read, Memory}
 
 -- those of a token that may not stand at a place, and out of memory
@@ -11,10 +11,16 @@ IsOfPlace LargeTag = Unit {0}
 IsOfPlace Memory = Unit {0}
 IsOfPlace other = ⊥
 
+-- those of the end of a text
+abbrev pub IsOfEnd : Fault → Type 0
+IsOfEnd Malformed = Unit {0}
+IsOfEnd NotText = Unit {0}
+IsOfEnd other = ⊥
+
 -- this holds at a fault of the text; nothing is said where the encoding is none that is known, a
 -- read failed or memory ran out
 abbrev pub AtFault : Type 0 → Fault → Type 0
-AtFault P UnknownEncoding = Unit {0}
+AtFault P (UnknownEncoding name) = Unit {0}
 AtFault P Read = Unit {0}
 AtFault P Memory = Unit {0}
 AtFault P other = P

@@ -1,10 +1,11 @@
 -- What goes beyond what is taken.
-use Rattle.std.specs.Prelude.{◌≡◌, ◌<◌, ◌≤◌, ℕ, true, List, ◌++◌, length}
+use Rattle.std.specs.Prelude.{◌≡◌, ◌<◌, ◌≤◌, ℕ, true, List, [], ◌∷◌, ◌++◌, length, None}
 use Rattle.xml_text.specs.declared.place.Place.{Place}
 use Rattle.xml_text.specs.Distinct.{is_large}
 use Rattle.xml_text.specs.Documents.{Advances}
 use Rattle.xml_text.specs.Grammar.{Token, start, spelling, is_token}
 use Rattle.xml_text.specs.Pieces.{HasNoToken}
+use Rattle.xml_text.specs.Places.{steps}
 
 -- what may be said of a place and of what follows there
 abbrev pub Bound : Type 1
@@ -21,6 +22,14 @@ pub record Meets (Limit : Bound) (from : Place) (tokens : List Token)
 -- the rest begins with this token
 abbrev pub Follows : Token → List ℕ → Type 0
 Follows token rest = (more : List ℕ) × (rest ≡ spelling token ++ more) × (is_token token ≡ true)
+
+-- no token that follows may stand here
+abbrev pub NoneMayStand : Place → List ℕ → Type 0
+NoneMayStand p rest = (token : Token) → Follows token rest → steps p (token ∷ []) ≡ None
+
+-- the same whatever stands behind the rest
+abbrev pub NoneWillStand : Place → List ℕ → Type 0
+NoneWillStand p rest = (more : List ℕ) → NoneMayStand p (rest ++ more)
 
 abbrev pub IsStart : Token → Type 0
 IsStart (start name attributes space) = Unit {0}

@@ -11,6 +11,7 @@ pub data Content : Type 0 where
   -- and what follows it
   element : List ℕ → List Attribute → List ℕ → Content → List ℕ → Content → Content
 
+-- the tokens that a tree is made of, in order
 abbrev pub tokens_of : Content → List Token
 tokens_of nothing = []
 tokens_of (leaf token rest) = token ∷ tokens_of rest

@@ -103,7 +103,8 @@ fn lead_bits(b: u8) -> u32
     }
 }
 
-// Whether the character whose bytes so far come to the value, and the characters behind it, are those of a name.
+// Whether the character whose bytes so far come to the value, and the characters behind it, are
+// those of a name.
 fn are_left(left: u8, value: u32, bytes: &[u8]) -> bool
     requires left { left ≤ 3 }
     requires value { value < 128 }

@@ -1,7 +1,7 @@
 //! The encoding that a document says it has.
 
 ghost use Rattle.std.specs.Prelude.{◌≡◌, ◌≤◌, ◌∷◌, [], IfSome, length, option_map};
-ghost use Rattle.xml_text.specs.EncodingNames.{is_alike, encoding_of, declared_name, named, marked, encoding_at};
+ghost use Rattle.xml_text.specs.EncodingNames.{is_alike, encoding_of, declared_name, declared_or_empty, named, marked, encoding_at};
 
 use crate::attributes::read_attributes;
 use crate::encodings::Encoding;
@@ -62,6 +62,13 @@ fn declared_name(head: &[u8]) -> Option<&[u8]>
     }
 }
 
+/// The name of an encoding in a declaration at the front, empty where there is none.
+pub(crate) fn declared_or_empty(head: &[u8]) -> &[u8]
+    ensures { result.now ≡ declared_or_empty head.now }
+{
+    declared_name(head).unwrap_or(b"")
+}
+
 // The encoding that the declaration names, and UTF-8 where none does.
 fn declared_encoding(head: &[u8]) -> Option<Encoding>
     ensures { result ≡ named (declared_name head.now) }
@@ -85,10 +92,11 @@ fn marked(head: &[u8]) -> Option<(Encoding, usize)>
     }
 }
 
-/// The encoding of a document that begins so, if it is one that is known, and how many bytes its byte order mark has:
-/// UTF-8 or UTF-16 behind their marks, else the encoding that the declaration names, in capital letters or small ones,
-/// with hyphens and low lines or without, and UTF-8 where none does, or where it names UTF-16, which its own bytes are
-/// not. A declaration has to be there whole.
+/// The encoding of a document that begins so, if it is one that is known, and how many bytes its
+/// byte order mark has: UTF-8 or UTF-16 behind their marks, else the encoding that the declaration
+/// names, in capital letters or small ones, with hyphens and low lines or without, and UTF-8 where
+/// none does, or where it names UTF-16, which its own bytes are not. A declaration has to be there
+/// whole.
 pub(crate) fn encoding_at(head: &[u8]) -> Option<(Encoding, usize)>
     ensures gives { result ≡ encoding_at head.now }
     ensures within { IfSome result (λ x. x.1 ≤ length head.now) }

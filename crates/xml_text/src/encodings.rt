@@ -2,7 +2,7 @@
 
 ghost use Rattle.std.specs.Prelude.{◌≡◌, ◌<◌, ◌≤◌, ◌++◌, OnOk, IfOk, encode_utf8, length, true};
 ghost use Rattle.std.specs.List.{flat_map, list_all};
-ghost use Rattle.xml_text.specs.Encodings.{windows_code, latin9_code, code_of, byte_text, unit_of, is_lead, is_trail, after_unit, after_pair, after_byte, held16, text16, held_behind, text_from, ending, ending16};
+ghost use Rattle.xml_text.specs.Encodings.{windows_code, windows_codes, latin9_code, code_of, byte_text, unit_of, is_lead, is_trail, after_unit, after_pair, after_byte, held16, text16, held_behind, text_from, ending, ending16};
 ghost use Rattle.xml_text.specs.private.NameCharacters.{is_ascii};
 
 use std::alloc::AllocError;
@@ -26,8 +26,8 @@ pub enum Encoding {
     Utf16Little,
 }
 
-/// What a decoder holds of a character whose bytes have not all come: the first byte of a unit of UTF-16, the first
-/// unit of a surrogate pair, or both.
+/// What a decoder holds of a character whose bytes have not all come: the first byte of a unit of
+/// UTF-16, the first unit of a surrogate pair, or both.
 #[derive(Clone, Copy, Debug, PartialEq, Eq)]
 pub(crate) enum Held {
     Nothing,
@@ -36,66 +36,27 @@ pub(crate) enum Held {
     LeadByte(u32, u8),
 }
 
-// The code point of a byte of windows-1252 from 128 on; 0 where it has none.
+static WINDOWS: [u32; 32] = [
+    8364, 0, 8218, 402, 8222, 8230, 8224, 8225, 710, 8240, 352, 8249, 338, 0, 381, 0, 0, 8216,
+    8217, 8220, 8221, 8226, 8211, 8212, 732, 8482, 353, 8250, 339, 0, 382, 376,
+];
+
+// The code points of the bytes 128 to 159 of windows-1252; 0 where it has none.
+fn windows_codes() -> &'static [u32]
+    ensures codes { result.now ≡ windows_codes }
+    ensures count { length result.now ≡ 32 }
+{
+    &WINDOWS
+}
+
+// The code point of a byte of windows-1252 from 128 on.
 fn windows_code(b: u8) -> u32
+    requires { 128 ≤ b }
     ensures { result ≡ windows_code b }
 {
-    if b == 128 {
-        8364
-    } else if b == 130 {
-        8218
-    } else if b == 131 {
-        402
-    } else if b == 132 {
-        8222
-    } else if b == 133 {
-        8230
-    } else if b == 134 {
-        8224
-    } else if b == 135 {
-        8225
-    } else if b == 136 {
-        710
-    } else if b == 137 {
-        8240
-    } else if b == 138 {
-        352
-    } else if b == 139 {
-        8249
-    } else if b == 140 {
-        338
-    } else if b == 142 {
-        381
-    } else if b == 145 {
-        8216
-    } else if b == 146 {
-        8217
-    } else if b == 147 {
-        8220
-    } else if b == 148 {
-        8221
-    } else if b == 149 {
-        8226
-    } else if b == 150 {
-        8211
-    } else if b == 151 {
-        8212
-    } else if b == 152 {
-        732
-    } else if b == 153 {
-        8482
-    } else if b == 154 {
-        353
-    } else if b == 155 {
-        8250
-    } else if b == 156 {
-        339
-    } else if b == 158 {
-        382
-    } else if b == 159 {
-        376
-    } else if b < 160 {
-        0
+    if b < 160 {
+        let at = usize::from(b) - 128;
+        windows_codes()[at]
     } else {
         u32::from(b)
     }
@@ -177,7 +138,8 @@ fn split_ascii(bytes: &[u8]) -> (&[u8], &[u8])
     bytes.split_at(at)
 }
 
-// Adds the ASCII that bytes begin with, at once since it is its own text, and gives what stands behind it.
+// Adds the ASCII that bytes begin with, at once since it is its own text, and gives what stands
+// behind it.
 #[tactic(auto, using(crate::proofs::AsciiLaws::ascii_first))]
 fn push_ascii<'a>(
     out: &mut Vec<u8>,

@@ -153,7 +153,8 @@ fn is_from_version(bytes: &[u8]) -> bool
     }
 }
 
-/// Whether this is an XML declaration: `xml`, version, and encoding and standalone where they are (XMLDecl).
+/// Whether this is an XML declaration: `xml`, version, and encoding and standalone where they are
+/// (XMLDecl).
 pub(crate) fn is_declaration(body: &[u8]) -> bool
     ensures { result ≡ is_declaration body.now }
 {

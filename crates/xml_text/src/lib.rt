@@ -2,6 +2,7 @@
 #![tactic(auto)]
 
 pub mod attributes;
+pub mod bytes;
 mod characters;
 mod classes;
 mod encoding_names;
@@ -28,11 +29,12 @@ mod texts;
 pub mod values;
 
 pub use attributes::{Attribute, Attributes};
+pub use bytes::Bytes;
 pub use fault::Fault;
 pub use laws::{documents_are_trees, one_document, one_tree, tokens_are_read, utf16_is_read};
 pub use pieces::Piece;
 pub use position::Position;
-pub use reading::read_document;
+pub use reading::{HEAD, read_document};
 pub use references::push_reference;
 pub use sink::Sink;
 pub use tags::Token;

@@ -1,10 +1,10 @@
 //! Elements in one another.
 
-ghost use Rattle.std.specs.Prelude.{◌≡◌, ◌≤◌, ◌<◌, Some, None, OnOk, IfErr, IsErrOf, map, length};
+ghost use Rattle.std.specs.Prelude.{◌≡◌, ◌≤◌, ◌<◌, Some, None, OnOk, OnErr, IfErr, IsErrOf, map, length};
 ghost use Rattle.std.specs.List.{list_all};
 ghost use Rattle.xml_text.specs.Grammar.{is_space, raw};
 ghost use Rattle.xml_text.specs.Limits.{IsStart};
-ghost use Rattle.xml_text.specs.Places.{nested, nests, first_nesting, opened, is_closed};
+ghost use Rattle.xml_text.specs.Places.{nested, nests, first_nesting, opened, is_closed, is_nothing};
 ghost use Rattle.xml_text.specs.Faults.{IsOfPlace};
 ghost use Rattle.xml_text.specs.View.{token_view};
 
@@ -42,11 +42,19 @@ impl Nesting {
         self.begun && self.names.is_nothing()
     }
 
+    /// Whether no element is open.
+    pub(crate) fn is_outside(&self) -> bool
+        ensures { result ≡ is_nothing self.now.names }
+    {
+        self.names.is_nothing()
+    }
+
     /// Goes on by a stretch of text.
     pub(crate) fn take_text(&mut self, run: &[u8]) -> Result<(), Fault>
         ensures ok { OnOk result (nests self.old (map raw run.now) ≡ Some self.new) }
         ensures malformed { IsErrOf result Fault.Malformed
             → nests self.old (map raw run.now) ≡ None }
+        ensures same { OnErr result (self.new ≡ self.old) }
         ensures deep { ¬ (IsErrOf result Fault.TooDeep) }
         ensures large { ¬ (IsErrOf result Fault.LargeTag) }
         ensures fault { IfErr result IsOfPlace }

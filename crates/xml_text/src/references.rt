@@ -109,8 +109,8 @@ fn push_standing(out: &mut Vec<u8>, body: &[u8]) -> Result<bool, AllocError>
     }
 }
 
-/// Adds what stands for the body of a reference, the character of a number or those that HTML gives a name, and tells
-/// whether anything does.
+/// Adds what stands for the body of a reference, the character of a number or those that HTML gives
+/// a name, and tells whether anything does.
 pub fn push_reference(out: &mut Vec<u8>, body: &[u8]) -> Result<bool, AllocError>
     ensures text { OnOk result (out.new.items
         ≡ out.old.items ++ unwrap_or (reference_text body.now) []) }

@@ -5,8 +5,8 @@ ghost use Rattle.xml_text.specs.Texts.{next_part, follow, is_start, IsSmall};
 
 use crate::characters::is_char;
 
-/// Where the next byte stands: at the first one of a character, or behind some of its bytes, with what these come to.
-/// With two bytes and more stands the least code point that needs so many.
+/// Where the next byte stands: at the first one of a character, or behind some of its bytes, with
+/// what these come to. With two bytes and more stands the least code point that needs so many.
 #[derive(Clone, Copy)]
 pub(crate) enum Part {
     Whole,
@@ -103,7 +103,8 @@ fn skip_ascii(part: Part, bytes: &[u8]) -> &[u8]
     }
 }
 
-/// The part behind these bytes, where they are of a text; else how many stand before the character that is none.
+/// The part behind these bytes, where they are of a text; else how many stand before the character
+/// that is none.
 pub(crate) fn follow(part: Part, bytes: &[u8]) -> Result<Part, usize>
     requires { IsSmall part }
     ensures gives { IfOk result (λ next. follow part bytes.now ≡ Some next) }

@@ -15,7 +15,7 @@ use Rattle.onix_outline.specs.private.Feed.{Feed, fits}
 
 -- those of which a place tells something
 abbrev pub is_of_text : DocumentFault → Bool
-is_of_text UnknownEncoding = false
+is_of_text (UnknownEncoding name) = false
 is_of_text Read = false
 is_of_text Memory = false
 is_of_text other = true
@@ -27,11 +27,11 @@ first_place_of (l ∷ lines) place = l.tag.place
 
 -- no message was read, for this reason
 abbrev pub stopped : {T : Type 0} → Fault → Position → Feed T → Stopped T
-stopped fault place f = record { fault = fault; place = place; taker = f.taker }
+stopped fault place f = record { fault = fault; place = place; taker = f.taker; told = tt }
 
 abbrev pub finished_with : {T : Type 0}
     → Option (Result Dialect Wrong) → Bool → Bool → Feed T → Result T (Stopped T)
-finished_with None known small f = Err (stopped (Message Root) f.place f)
+finished_with None known small f = Err (stopped (Message (Root [])) f.place f)
 finished_with (Some (Err wrong)) known small f = Err (stopped (Message wrong) f.place f)
 finished_with (Some (Ok d)) known small f =
     if known

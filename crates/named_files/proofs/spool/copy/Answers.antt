@@ -1,4 +1,4 @@
-use Rattle.std.proofs.Common.{◌≡◌, ◌++◌, List, ℕ, subst, sym, take}
+use Rattle.std.proofs.Common.{◌++◌, subst, sym, take}
 use Rattle.std.specs.Io.KnownBytes.{Consumes}
 use Rattle.std.proofs.KnownBytes.{Appends-trans, Consumes-trans}
 use Rattle.named_files.proofs.TextLemmas.{copied_part, with_error}

@@ -1,4 +1,4 @@
-use Rattle.onix_conversion.specs.Stages.{taken}
+use Rattle.onix_conversion.specs.private.Stages.{taken}
 use Rattle.onix_conversion.specs.Views.{options_view}
 use Rattle.onix_conversion.proofs.OutcomeLaws.{read}
 use Rattle.onix_conversion.proofs.conversion.convert.Goals as goal

@@ -1,6 +1,6 @@
 use Rattle.std.proofs.Common.{◌≡◌, ◌∙◌}
-use Rattle.onix_conversion.specs.Stages.{first_text}
-use Rattle.onix_conversion.specs.Views.{begun_view}
+use Rattle.onix_conversion.specs.private.Stages.{first_text}
+use Rattle.onix_conversion.specs.private.StageViews.{begun_view}
 use Rattle.onix_conversion.proofs.PackingLaws.{one_more}
 use Rattle.onix_conversion.proofs.conversion.hand_empty.Goals as goal
 

@@ -1,6 +1,6 @@
 use Rattle.std.proofs.Common.{◌≡◌, ◌-◌, fold}
-use Rattle.onix_conversion.specs.Stages.{empty_parts}
-use Rattle.onix_conversion.specs.Views.{begun_view}
+use Rattle.onix_conversion.specs.private.Stages.{empty_parts}
+use Rattle.onix_conversion.specs.private.StageViews.{begun_view}
 use Rattle.onix_conversion.proofs.conversion.hand_empty.Given as goal
 
 abbrev pub invariant-loop-before : goal.invariant-loop-before

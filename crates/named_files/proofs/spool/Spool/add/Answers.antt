@@ -1,7 +1,6 @@
-use Rattle.std.proofs.Common.{◌≡◌, ◌++◌, true, ap, List, ℕ, subst, sym}
-use Rattle.std.specs.Prelude.{OnOk, is_some}
-use Rattle.named_files.specs.Holdings.{told_text}
-use Rattle.named_files.specs.Texts.{rest_text, told_texts, with_text}
+use Rattle.std.proofs.Common.{◌≡◌, true, ap, subst, sym}
+use Rattle.std.specs.Prelude.{OnOk}
+use Rattle.named_files.specs.Texts.{told_texts, with_text}
 use Rattle.named_files.proofs.TextLemmas.{kept_in_file, kept_in_memory, on_ok_both}
 use Rattle.named_files.proofs.spool.Spool.add.Goals as goal
 

@@ -18,7 +18,7 @@ use Rattle.onix_mapping.specs.ProductRecords.{Form, forms}
 use Rattle.onix_mapping.specs.Products.{reference_in}
 use Rattle.onix_mapping.specs.declared.header.Refusal.{Refusal}
 use Rattle.onix_mapping.specs.declared.notes.Wrong.TheVariants.{TooLarge}
-use Rattle.onix_conversion.specs.Conversion.{Options, composite}
+use Rattle.onix_conversion.specs.Conversion.{Options, composite, header_refused}
 use Rattle.onix_conversion.specs.Keeping.{Keeping}
 use Rattle.onix_conversion.specs.Messages.{end_record}
 use Rattle.onix_conversion.specs.Packing.{beyond_at, product_notes}
@@ -186,7 +186,7 @@ first_begun h header = record {
 }
 
 abbrev pub begun_by : Composite → Result Heading Refusal → Stage
-begun_by header (Err refusal) = refused (why.Header refusal (place_of header))
+begun_by header (Err refusal) = refused (header_refused header refusal)
 begun_by header (Ok h) = within (first_begun h header.below)
 
 -- the first Header begins the message, and a second one refuses it

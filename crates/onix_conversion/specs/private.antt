@@ -1,0 +1,4 @@
+pub mod Stages
+pub mod StageViews
+pub mod Endings
+pub mod Whole

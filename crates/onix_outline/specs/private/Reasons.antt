@@ -1,0 +1,81 @@
+-- Why no message was read, and where, each by itself.
+use Rattle.std.specs.Prelude.{◌≡◌, ℕ, true, false, List, [], ◌∷◌, ◌++◌, Option, Some, None}
+use Rattle.std.specs.Prelude.{Ok, Err, IfSome}
+use Rattle.std.specs.List.{list_all}
+use Rattle.xml_text.specs.declared.fault.Fault.TheVariants.{Malformed, TooDeep, TooLong, LargeTag}
+use Rattle.xml_text.specs.declared.fault.Fault.TheVariants.{NotText}
+use Rattle.xml_text.specs.declared.fault.Fault.TheVariants.{Refused, UnknownEncoding, Read, Memory}
+use Rattle.xml_text.specs.Grammar.{Token}
+use Rattle.xml_text.specs.declared.position.Position.{Position}
+use Rattle.xml_text.specs.Documents.{BeginsAt}
+use Rattle.xml_text.specs.EncodingNames.{OfText, IsOfUnknown}
+use Rattle.xml_text.specs.Positions.{first_position, position_past}
+use Rattle.xml_text.specs.Limits.{Bound, Meets, IsDeep, IsLarge, IsLong, NoneMayStand}
+use Rattle.xml_text.specs.Places.{IsNoDocument, IsNoText, first_place}
+use Rattle.xml_text.specs.Tree.{Content}
+use Rattle.xml_text.specs.Trees.{IsTree}
+use Rattle.onix_outline.specs.declared.dialect.Wrong.{Wrong}
+use Rattle.onix_outline.specs.declared.reading.Fault.{Fault}
+use Rattle.onix_outline.specs.declared.reading.Fault.TheVariants.{Document, Message, Reference}
+use Rattle.onix_outline.specs.declared.reading.Fault.TheVariants.{TooLarge, ManyPrefixes}
+use Rattle.onix_outline.specs.Dialect.{Dialect}
+use Rattle.onix_outline.specs.Nodes.{is_known, nodes_in}
+use Rattle.onix_outline.specs.Prefixes.{first_with_many}
+use Rattle.onix_outline.specs.Sizes.{first_large}
+use Rattle.onix_outline.specs.Roots.{root_of, root_place}
+use Rattle.onix_outline.specs.Faults.{IsLargeAt, IsManyAt, IsPlaceOf, IsRefusedRoot, IsUnknown}
+use Rattle.onix_outline.specs.Faults.{MeetsAt}
+
+-- what is said of these tokens of a document
+abbrev pub Refuses : Fault → List Token → Type 0
+Refuses (Document fault) tokens = Unit {0}
+Refuses (Message wrong) tokens = root_of tokens ≡ Some (Err wrong)
+Refuses Reference tokens = list_all is_known tokens ≡ false
+Refuses TooLarge tokens = (place : Position) × IsLargeAt tokens place
+Refuses ManyPrefixes tokens = (place : Position) × IsManyAt tokens place
+
+-- the text of the bytes that a reader has left, where it tells them, begins with tokens that are
+-- refused
+abbrev pub RefusesText : Option (List ℕ) → Fault → Type 0
+RefusesText bytes fault =
+    (tokens : List Token) × OfText (BeginsAt first_place tokens) bytes × Refuses fault tokens
+
+-- why it is refused
+abbrev pub IsReason : Option (List ℕ) → Fault → Type 0
+IsReason bytes (Document Malformed) = OfText IsNoDocument bytes
+IsReason bytes (Document NotText) = OfText IsNoText bytes
+IsReason bytes (Document TooDeep) = (place : Position) × MeetsAt IsDeep bytes place
+IsReason bytes (Document TooLong) = (place : Position) × MeetsAt IsLong bytes place
+IsReason bytes (Document LargeTag) = (place : Position) × MeetsAt IsLarge bytes place
+IsReason bytes (Document (UnknownEncoding name)) = IfSome bytes (IsOfUnknown name)
+IsReason bytes (Document Read) = Unit {0}
+IsReason bytes (Document Memory) = Unit {0}
+IsReason bytes (Document Refused) = ⊥
+IsReason bytes (Message wrong) = RefusesText bytes (Message wrong)
+IsReason bytes Reference = RefusesText bytes Reference
+IsReason bytes TooLarge = RefusesText bytes TooLarge
+IsReason bytes ManyPrefixes = RefusesText bytes ManyPrefixes
+
+-- A place is the one behind the first tokens of the text. Of some faults it tells nothing.
+abbrev pub IsBehind : Option (List ℕ) → Position → Type 0
+IsBehind bytes place =
+    (tokens : List Token) × OfText (BeginsAt first_place tokens) bytes
+    × (place ≡ position_past first_position tokens)
+
+-- where it is
+abbrev pub IsAt : Option (List ℕ) → Fault → Position → Type 0
+IsAt bytes (Document (UnknownEncoding name)) place = Unit {0}
+IsAt bytes (Document Read) place = Unit {0}
+IsAt bytes (Document Memory) place = Unit {0}
+IsAt bytes (Document TooDeep) place = MeetsAt IsDeep bytes place
+IsAt bytes (Document TooLong) place = MeetsAt IsLong bytes place
+IsAt bytes (Document LargeTag) place = MeetsAt IsLarge bytes place
+IsAt bytes (Document Malformed) place = MeetsAt NoneMayStand bytes place
+IsAt bytes (Document NotText) place = IsBehind bytes place
+IsAt bytes (Document Refused) place = ⊥
+IsAt bytes (Message wrong) place = IsPlaceOf (IsRefusedRoot wrong) bytes place
+IsAt bytes Reference place = IsPlaceOf IsUnknown bytes place
+IsAt bytes TooLarge place =
+    (tokens : List Token) × OfText (BeginsAt first_place tokens) bytes × IsLargeAt tokens place
+IsAt bytes ManyPrefixes place =
+    (tokens : List Token) × OfText (BeginsAt first_place tokens) bytes × IsManyAt tokens place

@@ -25,7 +25,8 @@ next_row o last before fields = do
 -- the rows of records, as far as each may come next
 unfoldable pub front_rows : Opening → Row → ℕ → List (List (List ℕ)) → List Row
 front_rows o last before [] = []
-front_rows o last before (r ∷ records) = option_map_or (λ x. x ∷ front_rows o x (suc before) records) (next_row o last before r) []
+front_rows o last before (r ∷ records) =
+    option_map_or (λ x. x ∷ front_rows o x (suc before) records) (next_row o last before r) []
 
 -- the parts that rows make, of each kind those that stand in no other
 pub record PartLists : Type 0 where
@@ -42,19 +43,39 @@ no_parts = record { products = []; supplies = []; details = []; prices = [] }
 
 -- a product takes supplies
 abbrev pub with_product : Product → PartLists → PartLists
-with_product p g = record { products = record p { supplies = g.supplies } ∷ g.products; supplies = []; details = []; prices = [] }
+with_product p g = record {
+  products = record p { supplies = g.supplies } ∷ g.products;
+  supplies = [];
+  details = [];
+  prices = [];
+}
 
 -- a supply takes details
 abbrev pub with_supply : ProductSupply → PartLists → PartLists
-with_supply s g = record { products = g.products; supplies = record s { details = g.details } ∷ g.supplies; details = []; prices = [] }
+with_supply s g = record {
+  products = g.products;
+  supplies = record s { details = g.details } ∷ g.supplies;
+  details = [];
+  prices = [];
+}
 
 -- a detail takes prices
 abbrev pub with_detail : SupplyDetail → PartLists → PartLists
-with_detail d g = record { products = g.products; supplies = g.supplies; details = record d { prices = g.prices } ∷ g.details; prices = [] }
+with_detail d g = record {
+  products = g.products;
+  supplies = g.supplies;
+  details = record d { prices = g.prices } ∷ g.details;
+  prices = [];
+}
 
 -- a price takes nothing
 abbrev pub with_price : Price → PartLists → PartLists
-with_price p g = record { products = g.products; supplies = g.supplies; details = g.details; prices = p ∷ g.prices }
+with_price p g = record {
+  products = g.products;
+  supplies = g.supplies;
+  details = g.details;
+  prices = p ∷ g.prices;
+}
 
 -- rows from the last to the first: each takes the parts after it that belong to it
 unfoldable pub parts_of : List Row → PartLists
@@ -76,7 +97,8 @@ ends first (r ∷ rows) = ends r rows
 unfoldable pub message_after : Opening → List (List (List ℕ)) → Option (Header × List Product)
 message_after o rest =
     let rows = front_rows o (message_row o) 1 rest in
-    if (length rows == length rest) && ends (message_row o) rows then Some (o.header, (parts_of rows).products) else None
+    if (length rows == length rest) && ends (message_row o) rows
+    then Some (o.header, (parts_of rows).products) else None
 
 -- the header and the contents of the message that records are
 unfoldable pub message_of : List (List (List ℕ)) → Option (Header × List Product)
@@ -88,9 +110,12 @@ message_of (first ∷ rest) = do
 -- the row at which records stop being a message
 unfoldable pub bad_row : List (List (List ℕ)) → ℕ
 bad_row [] = 1
-bad_row (first ∷ rest) = option_map_or (λ o. 2 + length (front_rows o (message_row o) 1 rest)) (opening_of first) 1
+bad_row (first ∷ rest) =
+    option_map_or (λ o. 2 + length (front_rows o (message_row o) 1 rest)) (opening_of first) 1
 
--- why a message was not read: the records are none, and this is the row at which they stop being one; or memory ran out
+-- why a message was not read: the records are none, and this is the row at which they stop being
+-- one; or memory ran out
 abbrev pub Explains : List (List (List ℕ)) → MessageFault → Type 0
-Explains records (fault.Malformed row) = ((h : Header) (c : List Product) → IsMessage records h c → ⊥) × IsBadRow records row
+Explains records (fault.Malformed row) =
+    ((h : Header) (c : List Product) → IsMessage records h c → ⊥) × IsBadRow records row
 Explains records fault.Memory = ⊤

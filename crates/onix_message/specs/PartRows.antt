@@ -25,7 +25,8 @@ content_rows products = flat_map product_rows products
 
 -- the rows after the first: the contents, and the end, which counts the records before it
 abbrev pub rows_after : List Product → List Row
-rows_after products = content_rows products ++ row.EndMessage (1 + length (content_rows products)) ∷ []
+rows_after products =
+    content_rows products ++ row.EndMessage (1 + length (content_rows products)) ∷ []
 
 -- each supply has a detail
 abbrev pub HasDetails : ProductSupply → Type 0

@@ -26,7 +26,8 @@ minimum_of form.Two (minimum ∷ []) = quantity_or_one minimum
 minimum_of _ _ = None
 
 -- what the eight fields that each price has say, under a header with its defaults
-unfoldable pub price_from : Header → ℕ → List ℕ → List ℕ → List ℕ → List ℕ → List ℕ → List ℕ → List ℕ → List ℕ → Option Price
+unfoldable pub price_from : Header → ℕ → List ℕ → List ℕ → List ℕ → List ℕ → List ℕ → List ℕ
+    → List ℕ → List ℕ → Option Price
 price_from h minimum price_type amount currency included regions excluded from until = do
   t ← or_default code2_of h.default_type price_type
   a ← amount_of amount
@@ -34,13 +35,23 @@ price_from h minimum price_type amount currency included regions excluded from u
   z ← territory_of included regions excluded
   f ← optional day_of from
   u ← optional day_of until
-  Some (record { price_type = t; amount = a; currency = c; territory = z; minimum = minimum; from = f; until = u })
+  Some (record {
+    price_type = t;
+    amount = a;
+    currency = c;
+    territory = z;
+    minimum = minimum;
+    from = f;
+    until = u;
+  })
 
--- what the fields of a Price record say, with the defaults of the header that the message begins with
+-- what the fields of a Price record say, with the defaults of the header that the message begins
+-- with
 unfoldable pub price_of : Opening → List (List ℕ) → Option Price
-price_of o (price_type ∷ amount ∷ currency ∷ included ∷ regions ∷ excluded ∷ from ∷ until ∷ more) = do
-  m ← minimum_of o.form more
-  price_from o.header m price_type amount currency included regions excluded from until
+price_of o (price_type ∷ amount ∷ currency ∷ included ∷ regions ∷ excluded ∷ from ∷ until ∷ more) =
+    do
+      m ← minimum_of o.form more
+      price_from o.header m price_type amount currency included regions excluded from until
 price_of o _ = None
 
 -- a day, or the empty text
@@ -55,4 +66,5 @@ minimum_fields m = if nat_lt 1 m then decimal m ∷ [] else []
 abbrev pub price_record : Price → List (List ℕ)
 price_record p =
     codes "Price" ∷ p.price_type ∷ amount_text p.amount ∷ p.currency
-    ∷ (territory_fields p.territory ++ (day_field p.from ∷ day_field p.until ∷ minimum_fields p.minimum))
+    ∷ (territory_fields p.territory
+    ++ (day_field p.from ∷ day_field p.until ∷ minimum_fields p.minimum))

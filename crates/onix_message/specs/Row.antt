@@ -27,7 +27,8 @@ abbrev pub named_row : Opening → List ℕ → List (List ℕ) → Option Row
 named_row o name fields =
     if bytes_eq name (codes "Message") then option_map message_row (opening_fields fields)
     else if bytes_eq name (codes "Product") then option_map row.Product (product_of fields)
-    else if bytes_eq name (codes "ProductSupply") then option_map row.ProductSupply (supply_of fields)
+    else if bytes_eq name (codes "ProductSupply")
+    then option_map row.ProductSupply (supply_of fields)
     else if bytes_eq name (codes "SupplyDetail") then option_map row.SupplyDetail (detail_of fields)
     else if bytes_eq name (codes "Price") then option_map row.Price (price_of o fields)
     else if bytes_eq name (codes "EndMessage") then option_map row.EndMessage (end_of fields)
@@ -36,4 +37,5 @@ named_row o name fields =
 -- the row that a record is in a message that begins so, if it is none that is wrong
 unfoldable pub row_of : Opening → List (List ℕ) → Option Row
 row_of o [] = None
-row_of o (name ∷ fields) = if list_all is_clean (name ∷ fields) then named_row o name fields else None
+row_of o (name ∷ fields) =
+    if list_all is_clean (name ∷ fields) then named_row o name fields else None

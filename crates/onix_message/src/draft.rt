@@ -1,5 +1,5 @@
 //! A message that is being read, row by row. What is left over where a row is refused is dropped by
-//! a call, and not where it goes out of scope: docs/DECISIONS.md says why.
+//! a call: what goes out of scope on several ways out is dear to prove on each of them.
 
 ghost use Rattle.std.specs.Prelude.{◌≡◌, ◌≢◌, ◌++◌, [], IfOk, IfErr, OnOk, Some, true};
 ghost use Rattle.std.specs.List.{AllByRecursion, flat_map};

@@ -9,6 +9,8 @@
 //! `laws` ties both. `specs/ContentsText.antt` has the text of contents. `specs/private/` is what
 //! private functions say to one another.
 //!
+//! The records that a message is made of, `Record`, and their reading, `read_records`, are handed on.
+//!
 //! What every desk shares is here too: `agreements` has what a shop and a wholesaler agreed,
 //! `effects` what the products of a message did, and `faults` why a store could not answer.
 #![tactic(auto)]
@@ -33,5 +35,7 @@ pub mod supply;
 pub mod term;
 
 pub use agreements::Agreement;
+pub use csv_records::reading::read_records;
+pub use csv_records::record::Record;
 pub use effects::Effect;
 pub use faults::StoreFault;

@@ -14,7 +14,9 @@ last_digit_worth places = if places == 1 then 100 else if places == 2 then 10 el
 
 -- the thousandths that 1 to 3 digits behind the point write
 abbrev pub thousandths_of : List ℕ → Option ℕ
-thousandths_of text = if nat_le (length text) 3 then option_map (λ n. n * last_digit_worth (length text)) (digits_of text) else None
+thousandths_of text =
+    if nat_le (length text) 3
+    then option_map (λ n. n * last_digit_worth (length text)) (digits_of text) else None
 
 -- the decimal point
 abbrev pub is_point : ℕ → Bool

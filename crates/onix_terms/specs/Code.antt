@@ -5,7 +5,8 @@ use Rattle.std.specs.Char.{is_ascii_digit, is_ascii_uppercase}
 
 -- a text of this length with only such bytes
 abbrev pub fixed_text : (ℕ → Bool) → ℕ → List ℕ → Option (List ℕ)
-fixed_text allowed size text = if (length text == size) && list_all allowed text then Some text else None
+fixed_text allowed size text =
+    if (length text == size) && list_all allowed text then Some text else None
 
 -- two digits
 abbrev pub code2_of : List ℕ → Option (List ℕ)

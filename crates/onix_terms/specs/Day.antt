@@ -18,7 +18,8 @@ is_date year month day =
 
 -- the number of this day, where the calendar has it
 abbrev pub day_from : ℕ → ℕ → ℕ → Option ℤ
-day_from year month day = if is_date year month day then Some (days_from_civil (pos year) month day) else None
+day_from year month day =
+    if is_date year month day then Some (days_from_civil (pos year) month day) else None
 
 -- the number of the day whose date the number YYYYMMDD is
 abbrev pub day_at : ℕ → Option ℤ
@@ -39,7 +40,9 @@ date_of day = last_below (λ date. option_eq int_eq (day_at date) (Some day)) 10
 
 -- the eight digits of a number below 100,000,000
 abbrev pub eight_digits : ℕ → List ℕ
-eight_digits n = two_digits (n / 1_000_000) ++ two_digits (n / 10_000 % 100) ++ two_digits (n / 100 % 100) ++ two_digits (n % 100)
+eight_digits n =
+    two_digits (n / 1_000_000) ++ two_digits (n / 10_000 % 100) ++ two_digits (n / 100 % 100)
+    ++ two_digits (n % 100)
 
 -- the date of a day, written YYYYMMDD
 abbrev pub day_text : ℤ → List ℕ

@@ -6,7 +6,9 @@ use Rattle.std.specs.Str.Parse.{digits_value}
 
 -- the number that 1 to 9 digits write
 abbrev pub digits_of : List ℕ → Option ℕ
-digits_of text = if nat_lt 0 (length text) && nat_le (length text) 9 && list_all is_ascii_digit text then Some (digits_value 10 text) else None
+digits_of text =
+    if nat_lt 0 (length text) && nat_le (length text) 9 && list_all is_ascii_digit text
+    then Some (digits_value 10 text) else None
 
 -- the two digits of a number below 100
 abbrev pub two_digits : ℕ → List ℕ

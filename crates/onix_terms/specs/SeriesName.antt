@@ -9,7 +9,8 @@ is_name_byte b = is_ascii_lowercase b || is_ascii_digit b || (b == 45)
 
 -- 1 to 32 characters, each a letter a to z, a digit or a hyphen
 abbrev pub is_series_name : List ℕ → Bool
-is_series_name text = nat_lt 0 (length text) && nat_le (length text) 32 && list_all is_name_byte text
+is_series_name text =
+    nat_lt 0 (length text) && nat_le (length text) 32 && list_all is_name_byte text
 
 -- the series name that a text is
 abbrev pub series_name_of : List ℕ → Option (List ℕ)

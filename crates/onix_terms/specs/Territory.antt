@@ -15,13 +15,15 @@ abbrev pub ends_code : List ℕ → Bool
 ends_code [] = true
 ends_code (b ∷ rest) = b == 32
 
--- the codes of a text, in the order in which they stand: two letters each, with spaces between them and at the ends
+-- the codes of a text, in the order in which they stand: two letters each, with spaces between
+-- them and at the ends
 unfoldable pub codes_in : List ℕ → Option (List (List ℕ))
 codes_in [] = Some []
 codes_in (a ∷ []) = if a == 32 then Some [] else None
 codes_in (a ∷ b ∷ rest) =
     if a == 32 then codes_in (b ∷ rest)
-    else if is_ascii_uppercase a && is_ascii_uppercase b && ends_code rest then option_map (λ codes. (a ∷ b ∷ []) ∷ codes) (codes_in rest)
+    else if is_ascii_uppercase a && is_ascii_uppercase b && ends_code rest
+    then option_map (λ codes. (a ∷ b ∷ []) ∷ codes) (codes_in rest)
     else None
 
 -- x comes before y in the order of bytes
@@ -70,13 +72,18 @@ world_of (b ∷ bs) = if bytes_eq (b ∷ bs) (codes "WORLD") then Some true else
 abbrev pub world_text : Bool → List ℕ
 world_text world = if world then codes "WORLD" else []
 
--- the territory of CountriesIncluded, RegionsIncluded and CountriesExcluded. It is the world too where nothing is included
+-- the territory of CountriesIncluded, RegionsIncluded and CountriesExcluded. It is the world too
+-- where nothing is included
 abbrev pub territory_of : List ℕ → List ℕ → List ℕ → Option Territory
 territory_of included regions excluded = do
   i ← countries_of included
   w ← world_of regions
   e ← countries_of excluded
-  Some (record { included = i; world = w || ((length included == 0) && (length regions == 0)); excluded = e })
+  Some (record {
+    included = i;
+    world = w || ((length included == 0) && (length regions == 0));
+    excluded = e;
+  })
 
 -- not excluded, and either the territory is the world or it includes the country
 abbrev pub IsIn : List ℕ → Territory → Type 0

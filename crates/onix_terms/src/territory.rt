@@ -6,13 +6,16 @@ use crate::code::Country;
 use crate::countries::{read_countries, read_world};
 use crate::items::Items;
 use std::alloc::{AllocError, Global};
+use thiserror::Error;
 
 /// Why fields gave no territory.
-#[derive(Debug, Drop)]
+#[derive(Debug, Drop, Error)]
 pub enum TermFault {
     /// The fields write none.
+    #[error("no territory")]
     NotATerm,
     /// Memory ran out.
+    #[error("out of memory")]
     Memory,
 }
 

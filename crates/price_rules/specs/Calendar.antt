@@ -16,14 +16,21 @@ is_bad_range from to = int_lt to from || int_lt (from +ℤ pos 3_659) to
 
 -- the prices of a calendar's question that are asked for on one day
 abbrev pub on_day : CalendarQuery → ℤ → PriceQuery
-on_day q day = record { day = day; country = q.country; currency = q.currency; price_type = q.price_type; quantity = q.quantity }
+on_day q day = record {
+  day = day;
+  country = q.country;
+  currency = q.currency;
+  price_type = q.price_type;
+  quantity = q.quantity;
+}
 
 -- the spans do not begin with one of the same amount
 abbrev pub Differs : Span → List Span → Type 0
 Differs s [] = Unit {0}
 Differs s (t ∷ rest) = s.amount ≡ t.amount → ⊥
 
--- the spans cover, in order, the days from `first` to the one before `end`: each has the amount of all its days, and neighbours differ
+-- the spans cover, in order, the days from `first` to the one before `end`: each has the amount of
+-- all its days, and neighbours differ
 abbrev pub Covers : (ℤ → Option ℕ → Type 0) → ℤ → ℤ → List Span → Type 0
 Covers HasAmount first end [] = first ≡ end
 Covers HasAmount first end (s ∷ rest) =
@@ -32,6 +39,8 @@ Covers HasAmount first end (s ∷ rest) =
     × Differs s rest
     × Covers HasAmount (s.last +ℤ pos 1) end rest
 
--- the calendar of the offer for the question: spans that cover the range in order, each with the current price of all its days, neighbours of different amounts
+-- the calendar of the offer for the question: spans that cover the range in order, each with the
+-- current price of all its days, neighbours of different amounts
 abbrev pub IsCalendar : Offer → CalendarQuery → List Span → Type 0
-IsCalendar offer q spans = Covers (λ day. IsCurrent offer (on_day q day)) q.from (q.to +ℤ pos 1) spans
+IsCalendar offer q spans =
+    Covers (λ day. IsCurrent offer (on_day q day)) q.from (q.to +ℤ pos 1) spans

@@ -29,7 +29,8 @@ amount_under rule offer q =
     then amount_within rule.max (current offer q)
     else None
 
--- the pair of the rule at this number and the offer at this index, if the rule takes the offer at an amount
+-- the pair of the rule at this number and the offer at this index, if the rule takes the offer at
+-- an amount
 abbrev pub pair_of : ℕ → ℕ → Offer → Option ℕ → List Pair
 pair_of number index offer None = []
 pair_of number index offer (Some amount) =
@@ -39,7 +40,8 @@ pair_of number index offer (Some amount) =
 abbrev pub rule_candidates : Rule → ℕ → PriceQuery → ℕ → List Offer → List Pair
 rule_candidates rule number q index [] = []
 rule_candidates rule number q index (offer ∷ rest) =
-    pair_of number index offer (amount_under rule offer q) ++ rule_candidates rule number q (index + 1) rest
+    pair_of number index offer (amount_under rule offer q)
+    ++ rule_candidates rule number q (index + 1) rest
 
 -- the candidates of rules from this number on
 abbrev pub candidates : ℕ → List Rule → List Offer → PriceQuery → List Pair
@@ -62,4 +64,5 @@ precedes =
 
 -- the choice by the rules
 unfoldable pub choice : List Rule → List Offer → PriceQuery → Option Choice
-choice rules offers q = option_map (λ c. c.0) (best_of (λ c. true) precedes (candidates 1 rules offers q))
+choice rules offers q =
+    option_map (λ c. c.0) (best_of (λ c. true) precedes (candidates 1 rules offers q))

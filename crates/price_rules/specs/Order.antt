@@ -14,10 +14,12 @@ ByThen key Less Next x y = Less (key x) (key y) ⊎ ((key x ≡ key y) × Next x
 -- x is in the list and passes, and none that passes comes before it; none where nothing passes
 abbrev pub IsBest : {X : Type 0} → (X → Type 0) → (X → X → Type 0) → List X → Option X → Type 0
 IsBest Passes Before xs None = All (λ x. Passes x → ⊥) xs
-IsBest Passes Before xs (Some x) = Contains xs x × Passes x × All (λ y. Passes y → Before y x → ⊥) xs
+IsBest Passes Before xs (Some x) =
+    Contains xs x × Passes x × All (λ y. Passes y → Before y x → ⊥) xs
 
 -- the test of `ByThen`, of tests of its parts
-abbrev pub by_then : {X K : Type 0} → (X → K) → (K → K → Bool) → (K → K → Bool) → (X → X → Bool) → X → X → Bool
+abbrev pub by_then : {X K : Type 0} → (X → K) → (K → K → Bool) → (K → K → Bool) → (X → X → Bool)
+    → X → X → Bool
 by_then key less same next x y = less (key x) (key y) || (same (key x) (key y) && next x y)
 
 -- the best so far, and the next item in its place where that passes and comes before it

@@ -12,7 +12,8 @@ abbrev pub copies_asked : Option (List ℕ) → Option ℕ
 copies_asked None = Some 1
 copies_asked (Some quantity) = quantity_of quantity
 
--- which prices are asked for: on a day, in a country and a currency, of a type, and perhaps for a quantity
+-- which prices are asked for: on a day, in a country and a currency, of a type, and perhaps for a
+-- quantity
 unfoldable pub price_query : List ℕ → List ℕ → List ℕ → List ℕ → Option (List ℕ) → Option PriceQuery
 price_query day country currency price_type quantity = do
   d ← day_of day
@@ -24,4 +25,23 @@ price_query day country currency price_type quantity = do
 
 -- the calendar of these prices from their day to a last one
 abbrev pub until : PriceQuery → ℤ → CalendarQuery
-until q last = record { from = q.day; to = last; country = q.country; currency = q.currency; price_type = q.price_type; quantity = q.quantity }
+until q last = record {
+  from = q.day;
+  to = last;
+  country = q.country;
+  currency = q.currency;
+  price_type = q.price_type;
+  quantity = q.quantity;
+}
+
+-- a calendar from one day to another: of prices for sale in a country, in a currency, of a type, for
+-- a quantity
+abbrev pub calendar_query : ℤ → ℤ → List ℕ → List ℕ → List ℕ → ℕ → CalendarQuery
+calendar_query from to country currency price_type quantity = record {
+  from = from;
+  to = to;
+  country = country;
+  currency = currency;
+  price_type = price_type;
+  quantity = quantity;
+}

@@ -23,11 +23,14 @@ is_top_key key = bytes_eq key (codes "rule")
 
 -- the keys that a rule may have
 abbrev pub is_rule_key : List ℕ → Bool
-is_rule_key key = bytes_eq key (codes "series") || bytes_eq key (codes "codes") || bytes_eq key (codes "max")
+is_rule_key key =
+    bytes_eq key (codes "series") || bytes_eq key (codes "codes") || bytes_eq key (codes "max")
 
 -- the series that a text names, or all of them for a star
 abbrev pub series_of : List ℕ → Option (Option (List ℕ))
-series_of text = if bytes_eq text (codes "*") then Some None else option_map (λ name. Some name) (series_name_of text)
+series_of text =
+    if bytes_eq text (codes "*") then Some None
+    else option_map (λ name. Some name) (series_name_of text)
 
 -- the series of a rule, a text
 abbrev pub series_at : Option Data → Option (Option (List ℕ))
@@ -54,7 +57,8 @@ codes_of (item value rest) = do
 abbrev pub codes_at : Option Data → Option (List (List ℕ))
 codes_at value = value >>= as_array >>= codes_of >>= nonempty
 
--- the rule that the members of a table are: a series, one or more codes, a greatest amount or none, and nothing else
+-- the rule that the members of a table are: a series, one or more codes, a greatest amount or
+-- none, and nothing else
 abbrev pub rule_in : Members → Option Rule
 rule_in members =
     if keys_pass is_rule_key members then (do
@@ -69,7 +73,8 @@ unfoldable pub rule_of : Data → Option Rule
 rule_of value = as_table value >>= rule_in
 
 -- a rule at this number before the rules after it, or the first fault
-abbrev pub rule_before : ℕ → Option Rule → Result (List Rule) PrecedenceFault → Result (List Rule) PrecedenceFault
+abbrev pub rule_before : ℕ → Option Rule → Result (List Rule) PrecedenceFault
+    → Result (List Rule) PrecedenceFault
 rule_before number None rest = Err (fault.BadRule number)
 rule_before number (Some rule) (Err e) = Err e
 rule_before number (Some rule) (Ok rules) = Ok (rule ∷ rules)
@@ -78,7 +83,8 @@ rule_before number (Some rule) (Ok rules) = Ok (rule ∷ rules)
 abbrev pub rules_from : ℕ → Items → Result (List Rule) PrecedenceFault
 rules_from number no_items = Ok []
 rules_from number (item value rest) =
-    rule_before number (if nat_le number 1_000 then rule_of value else None) (rules_from (number + 1) rest)
+    rule_before number (if nat_le number 1_000 then rule_of value
+    else None) (rules_from (number + 1) rest)
 
 -- the items of an array that may be absent
 abbrev pub items_at : Option Data → Option Items
@@ -87,7 +93,8 @@ items_at (Some value) = as_array value
 
 -- the items of the array `rule` of a top-level table that holds nothing else
 abbrev pub top_items : Members → Option Items
-top_items members = if keys_pass is_top_key members then items_at (get_member (codes "rule") members) else None
+top_items members =
+    if keys_pass is_top_key members then items_at (get_member (codes "rule") members) else None
 
 -- the rules of the items, if there are such
 abbrev pub rules_of : Option Items → Result (List Rule) PrecedenceFault

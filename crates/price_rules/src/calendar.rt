@@ -6,6 +6,7 @@ ghost use Rattle.onix_terms.specs.Day.{IsDayNumber};
 ghost use Rattle.price_rules.specs.Breaks.{IsBreakDays, IsSteady};
 ghost use Rattle.price_rules.specs.Calendar.{IsBadRange, IsCalendar, is_bad_range, on_day};
 ghost use Rattle.price_rules.specs.Price.{IsCurrent};
+ghost use Rattle.price_rules.specs.Queries.{calendar_query};
 ghost use Rattle.price_rules.specs.Spans.{calendar_spans};
 ghost use Rattle.price_rules.specs.Steps.{IsJoined};
 ghost use Rattle.price_rules.specs.declared.calendar.CalendarFault.TheVariants.{Memory};
@@ -14,8 +15,10 @@ use crate::breaks::break_days;
 use crate::current::current_price;
 use crate::offer::{CalendarQuery, Offer, PriceQuery};
 use onix_terms::amount::Amount;
+use onix_terms::code::{Code2, Country, Currency};
 use onix_terms::day::Day;
 use onix_terms::items::Items;
+use onix_terms::quantity::Quantity;
 use std::alloc::{AllocError, AllocFailed, Global};
 use thiserror::Error;
 
@@ -147,7 +150,7 @@ fn spans_of(
 
 /// The calendar of the offer: in order, the spans of days with one current price, as long as they
 /// can be. `BadRange` comes exactly where the range is bad, `Memory` only where memory ran out.
-pub fn calendar(
+pub fn calendar_for(
     alloc: Global,
     offer: &Offer,
     query: &CalendarQuery,
@@ -159,4 +162,33 @@ pub fn calendar(
 {
     let days = break_days(alloc, offer, query.from, query.to)?;
     Ok(spans_of(alloc, offer, query, days.as_slice())?)
+}
+
+/// The calendar of the offer from one day to another, both included, as `calendar_for` has it: of
+/// prices of this type, in this currency, for so many copies that are sold in this country.
+pub fn calendar(
+    alloc: Global,
+    offer: &Offer,
+    from: Day,
+    to: Day,
+    country: Country,
+    currency: Currency,
+    price_type: Code2,
+    quantity: Quantity,
+) -> Result<Items<Span>, CalendarFault>
+    ensures meaning { IfOk result (λ spans. IsCalendar offer.now
+        (calendar_query from to country currency price_type quantity) spans) }
+    ensures value { IfOk result (λ spans. spans ≡ calendar_spans offer.now
+        (calendar_query from to country currency price_type quantity)) }
+    ensures bad_range { (result ≡ Err CalendarFault.BadRange) ↔ IsBadRange from to }
+{
+    let query = CalendarQuery {
+        from,
+        to,
+        country,
+        currency,
+        price_type,
+        quantity,
+    };
+    calendar_for(alloc, offer, &query)
 }

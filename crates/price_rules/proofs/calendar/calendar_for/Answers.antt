@@ -1,5 +1,5 @@
 use Rattle.price_rules.proofs.CalendarSpans.{calendar_exact}
-use Rattle.price_rules.proofs.calendar.calendar.Goals as goal
+use Rattle.price_rules.proofs.calendar.calendar_for.Goals as goal
 
 pub returns-clause-value : goal.returns-clause-value
 returns-clause-value c =

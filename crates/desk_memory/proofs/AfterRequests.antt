@@ -17,7 +17,7 @@ use Rattle.series_rules.specs.Firsts.{first_at, put_at, admitted, admitted_at}
 use Rattle.series_rules.specs.Series.{front_of, next_of, IsFront, after_all}
 use Rattle.series_rules.specs.Gaps.{IsGreatest, greatest_of, report_by}
 use Rattle.series_rules.specs.declared.answers.GapReport.{GapReport}
-use Rattle.series_rules.specs.GapLemmas.{greatest_is, greatest_same, report_by_same}
+use Rattle.series_rules.proofs.GapLemmas.{greatest_is, greatest_same, report_by_same}
 use Rattle.desk_memory.specs.Stands.{kept_agreements, place_in_order, series_named, standing_of, with_standing, StandsFor}
 use Rattle.series_rules.specs.Answers.{same_agreement, agree_answer, agree_answer_by, answer_against, delivery_answer_at, message_answer_by, delivery_answer_by, delivery_answer, waived_by, waive_answer_at, waive_answer, gaps_answer, catalogue_answer}
 use Rattle.desk_memory.specs.KeptSeries.{stands_at}
@@ -32,9 +32,9 @@ use Rattle.series_rules.specs.declared.answers.DeliveryAnswer.{DeliveryAnswer}
 use Rattle.series_rules.specs.declared.answers.DeliveryAnswer.TheVariants as delivery
 use Rattle.series_rules.specs.declared.answers.WaiveAnswer.{WaiveAnswer}
 use Rattle.series_rules.specs.declared.answers.WaiveAnswer.TheVariants as waiver
-use Rattle.series_rules.specs.AgreementLemmas.{agreements_are_distinct, distinct_alike, distinct_with, between_by_name, named_with, named_has_name}
-use Rattle.series_rules.specs.FirstLemmas.{first_left}
-use Rattle.series_rules.specs.FrontLemmas.{front_is, is_front_same}
+use Rattle.series_rules.proofs.AgreementLemmas.{agreements_are_distinct, distinct_alike, distinct_with, between_by_name, named_with, named_has_name}
+use Rattle.series_rules.proofs.FirstLemmas.{first_left}
+use Rattle.series_rules.proofs.FrontLemmas.{front_is, is_front_same}
 use Rattle.desk_memory.proofs.Kept.{FirstAt, first_found, own_place, named_kept, between_kept, set_agreements, set_standing}
 use Rattle.desk_memory.proofs.OptionsOr.{or_none}
 use Rattle.desk_memory.proofs.InOrder.{named_inserted, between_inserted, insert_standing, still_in_order}

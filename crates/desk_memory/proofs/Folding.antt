@@ -20,7 +20,7 @@ use Rattle.series_rules.specs.declared.answers.DeliveryAnswer.TheVariants as del
 use Rattle.desk_memory.specs.declared.fold.Fold.{Fold}
 use Rattle.series_rules.specs.declared.requests.Standing.{Standing}
 use Rattle.desk_memory.proofs.Folds.{after_all_last, kept_of_last, slice_get_last}
-use Rattle.series_rules.specs.FrontLemmas.{front_goes_on, front_unique, kept_front, slice_get_front, slice_get_none}
+use Rattle.series_rules.proofs.FrontLemmas.{front_goes_on, front_unique, kept_front, slice_get_front, slice_get_none}
 
 pub last_length : (hs : List Standing) (h : Standing) → length (hs ++ h ∷ []) ≡ length hs + 1
 last_length hs h = length-append hs (h ∷ [])

@@ -6,7 +6,7 @@ use Rattle.std.proofs.Math.Seq.{take-append_seam}
 use Rattle.catalogue_rules.specs.Records.{ByReference}
 use Rattle.series_rules.specs.Series.{after_all, after_standing, effect_of_standing, kept_of}
 use Rattle.series_rules.specs.declared.requests.Standing.{Standing}
-use Rattle.series_rules.specs.FrontLemmas.{after_all_append}
+use Rattle.series_rules.proofs.FrontLemmas.{after_all_append}
 
 pub slice_get_last : {A : Type 0} (hs : List A) (h : A) → slice_get (hs ++ h ∷ []) (length hs) ≡ Some h
 slice_get_last [] h = refl

@@ -7,7 +7,7 @@ use Rattle.std.proofs.lemmas.Bool.Decides.{nat_tests}
 use Rattle.std.proofs.lemmas.List.{append_assoc, append-nil}
 use Rattle.std.proofs.lemmas.List.Elements.{All-cons, All-contains, All-nil, Contains-append_left, Contains-append_right, Contains-push}
 use Rattle.series_rules.specs.Gaps.{AreHeldFrom}
-use Rattle.series_rules.specs.GapLemmas.{held_gap, held_none, held_rest}
+use Rattle.series_rules.proofs.GapLemmas.{held_gap, held_none, held_rest}
 use Rattle.series_rules.specs.Series.{IsNext}
 use Rattle.series_rules.specs.declared.requests.Standing.{Standing}
 use Rattle.desk_memory.proofs.Walks.{Rest, at, at_test, rest_first, rest_more}

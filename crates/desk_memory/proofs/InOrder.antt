@@ -27,9 +27,9 @@ use Rattle.series_rules.specs.Offers.{with_names, by_name}
 use Rattle.desk_memory.specs.Stands.{StandsFor, AreInOrder, kept_agreements, number_of_series, place_in_order, series_named, standing_of}
 use Rattle.series_rules.specs.declared.requests.Request.{Request}
 use Rattle.desk_memory.specs.declared.series.Series.{Series}
-use Rattle.series_rules.specs.AgreementLemmas.{same_bytes, parties_are}
+use Rattle.series_rules.proofs.AgreementLemmas.{same_bytes, parties_are}
 use Rattle.desk_memory.proofs.Kept.{FirstAt, push_agreements, push_standing}
-use Rattle.series_rules.specs.OfferLemmas.{equal_maps, find_named, get-by_name}
+use Rattle.series_rules.proofs.OfferLemmas.{equal_maps, find_named, get-by_name}
 use Rattle.desk_memory.proofs.OptionsOr.{or_none}
 
 place_or_end : (place end : ℕ) → place ≤ end → (b : Bool) → nat_lt place end ≡ b → unwrap_or (cond b (Some place) None) end ≡ place

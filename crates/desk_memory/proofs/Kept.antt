@@ -14,7 +14,7 @@ use Rattle.series_rules.specs.Agreements.{named, between, has_name, has_parties,
 use Rattle.desk_memory.specs.Stands.{kept_agreements, series_named, number_of_series, standing_of}
 use Rattle.desk_memory.specs.KeptSeries.{stands_at}
 use Rattle.desk_memory.specs.declared.series.Series.{Series}
-use Rattle.series_rules.specs.AgreementLemmas.{same_bytes}
+use Rattle.series_rules.proofs.AgreementLemmas.{same_bytes}
 
 -- s stands at that place, and is the first that passes
 abbrev pub FirstAt : (Series → Bool) → List Series → ℕ → Series → Type 0

@@ -149,7 +149,7 @@ fn waive_at(
 {
     match numbers.get(&number) {
         Some(Standing::Waived) => Ok(WaiveAnswer::Waived),
-        Some(Standing::Message(_)) => Ok(WaiveAnswer::HasMessage),
+        Some(Standing::Message(_)) => Ok(WaiveAnswer::Had),
         None => {
             numbers.insert(number, Standing::Waived)?;
             Ok(WaiveAnswer::Waived)

@@ -10,7 +10,7 @@ use Rattle.series_rules.specs.Gaps.{IsHeldCount, AreRangesFrom, AreRisingFrom, I
 use Rattle.series_rules.specs.Series.{next_of}
 use Rattle.series_rules.specs.Laws.{GapsAreTrue}
 use Rattle.series_rules.specs.declared.requests.Standing.{Standing}
-use Rattle.series_rules.specs.GapLemmas.{greatest_is}
+use Rattle.series_rules.proofs.GapLemmas.{greatest_is}
 use Rattle.series_rules.proofs.LawProofs.{next_is_least}
 
 -- n is one of them

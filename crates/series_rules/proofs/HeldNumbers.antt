@@ -5,7 +5,7 @@ use Rattle.std.specs.List.{range_with_len}
 use Rattle.std.proofs.lemmas.Bool.{cases_lt}
 use Rattle.std.proofs.lemmas.Bool.Decides.{nat_tests}
 use Rattle.series_rules.specs.Gaps.{AreHeldFrom, AreRangesFrom, IsGreatest, IsUpTo, having, lacking, numbers_up_to, range_below, ranges_of, with_number}
-use Rattle.series_rules.specs.GapLemmas.{held_first, held_gap, held_none, held_rest}
+use Rattle.series_rules.proofs.GapLemmas.{held_first, held_gap, held_none, held_rest}
 use Rattle.series_rules.specs.Series.{IsNext}
 use Rattle.series_rules.specs.declared.requests.Standing.{Standing}
 use Rattle.series_rules.proofs.GapLaw.{is_some_is, not_above, picked_rises, ranges_rise}

@@ -22,11 +22,11 @@ use Rattle.series_rules.specs.declared.requests.Request.{Request}
 use Rattle.series_rules.specs.declared.requests.Request.TheVariants.{Agree, Deliver, Waive, AskPrice, AskChoice, AskCalendar, AskGaps, AskCatalogue, Malformed}
 use Rattle.series_rules.specs.declared.requests.Standing.{Standing}
 use Rattle.series_rules.specs.declared.requests.Standing.TheVariants.{Message, Waived}
-use Rattle.series_rules.specs.AgreementLemmas.{agreements_are_distinct, between_by_name, named_stays, named_with}
-use Rattle.series_rules.specs.GapLemmas.{report_same}
-use Rattle.series_rules.specs.OfferLemmas.{same_offers}
-use Rattle.series_rules.specs.FirstLemmas.{first_again}
-use Rattle.series_rules.specs.FrontLemmas.{front_is, front_next, front_same, front_unique, kept_front}
+use Rattle.series_rules.proofs.AgreementLemmas.{agreements_are_distinct, between_by_name, named_stays, named_with}
+use Rattle.series_rules.proofs.GapLemmas.{report_same}
+use Rattle.series_rules.proofs.OfferLemmas.{same_offers}
+use Rattle.series_rules.proofs.FirstLemmas.{first_again}
+use Rattle.series_rules.proofs.FrontLemmas.{front_is, front_next, front_same, front_unique, kept_front}
 
 -- the next number
 

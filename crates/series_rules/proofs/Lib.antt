@@ -1,3 +1,8 @@
+pub mod OfferLemmas
+pub mod GapLemmas
+pub mod FrontLemmas
+pub mod FirstLemmas
+pub mod AgreementLemmas
 pub mod Questions
 pub mod ViewLemmas
 pub mod LawProofs

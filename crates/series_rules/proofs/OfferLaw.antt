@@ -24,7 +24,7 @@ use Rattle.onix_terms.specs.declared.territory.Territory.{Territory}
 use Rattle.price_rules.specs.declared.offer.Offer.{Offer}
 use Rattle.series_rules.specs.Agreements.{agreements_of, named}
 use Rattle.series_rules.specs.OfferLaws.{AreInOrder, ComesBefore, IsArticle, IsOffer, OffersAreTrue}
-use Rattle.series_rules.specs.OfferLemmas.{get-by_name, same_test}
+use Rattle.series_rules.proofs.OfferLemmas.{get-by_name, same_test}
 use Rattle.series_rules.specs.Offers.{by_name, offers_after, series_offers}
 use Rattle.series_rules.specs.Series.{catalogue_of}
 use Rattle.series_rules.specs.declared.requests.Request.{Request}

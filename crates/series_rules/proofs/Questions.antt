@@ -5,7 +5,7 @@ use Rattle.onix_message.specs.declared.agreements.Agreement.{Agreement}
 use Rattle.series_rules.specs.Agreements.{agreements_of, clashes, named, with_agreement}
 use Rattle.series_rules.specs.Changes.{changes, is_question, puts_something}
 use Rattle.series_rules.specs.Content.{SameContent}
-use Rattle.series_rules.specs.FirstLemmas.{first_again, first_left, first_other}
+use Rattle.series_rules.proofs.FirstLemmas.{first_again, first_left, first_other}
 use Rattle.series_rules.specs.Firsts.{Placement, admitted, first_at}
 use Rattle.series_rules.specs.declared.requests.Request.{Request}
 use Rattle.series_rules.specs.declared.requests.Request.TheVariants.{Agree, Deliver, Waive, AskPrice, AskChoice, AskCalendar, AskGaps, AskCatalogue, Malformed}

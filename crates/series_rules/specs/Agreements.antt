@@ -1,4 +1,5 @@
--- The agreements that a list of requests comes to. A list of requests has its latest request first, so that `r ∷ L` is L and then r.
+-- The agreements that a list of requests comes to. A list of requests has its latest request
+-- first, so that `r ∷ L` is L and then r.
 use Rattle.std.specs.Prelude.{◌≡◌, ◌≢◌, AllPairs, Bool, ◌||◌, ◌&&◌, List, [], ◌∷◌, ◌++◌, Option, Some, bytes_eq, find, is_some, if◌then◌else◌, ℕ}
 use Rattle.std.specs.Option.{option_eq}
 use Rattle.onix_terms.specs.declared.party.Party.{Party}
@@ -29,13 +30,15 @@ between agreements sender addressee = find (has_parties sender addressee) agreem
 
 -- some agreement has the name of this one, or has its sender and addressee
 abbrev pub clashes : List Agreement → Agreement → Bool
-clashes agreements a = is_some (named agreements a.name) || is_some (between agreements a.sender a.addressee)
+clashes agreements a =
+    is_some (named agreements a.name) || is_some (between agreements a.sender a.addressee)
 
 -- the agreements with one more at the end, unless it clashes
 abbrev pub with_agreement : List Agreement → Agreement → List Agreement
 with_agreement agreements a = if clashes agreements a then agreements else agreements ++ a ∷ []
 
--- the agreements that stand after a list of requests, the earliest first: each that was asked for, unless it clashes with one before it
+-- the agreements that stand after a list of requests, the earliest first: each that was asked for,
+-- unless it clashes with one before it
 abbrev pub agreements_of : List Request → List Agreement
 agreements_of [] = []
 agreements_of (Agree a ∷ L) = with_agreement (agreements_of L) a
@@ -43,8 +46,10 @@ agreements_of (_ ∷ L) = agreements_of L
 
 -- what is found by its name is found by its sender and addressee too, and the other way round
 pub record AreDistinct (agreements : List Agreement) : Type 0 where
-  pub by_name : (name : List ℕ) (a : Agreement) → named agreements name ≡ Some a → between agreements a.sender a.addressee ≡ Some a
-  pub by_parties : (sender : Party) (addressee : Option Party) (a : Agreement) → between agreements sender addressee ≡ Some a → named agreements a.name ≡ Some a
+  pub by_name : (name : List ℕ) (a : Agreement) → named agreements name ≡ Some a
+      → between agreements a.sender a.addressee ≡ Some a
+  pub by_parties : (sender : Party) (addressee : Option Party) (a : Agreement)
+      → between agreements sender addressee ≡ Some a → named agreements a.name ≡ Some a
 
 -- no two of the agreements have a name in common, nor a sender and addressee
 pub record NoTwoClash (agreements : List Agreement) : Type 0 where

@@ -29,7 +29,9 @@ use Rattle.series_rules.specs.declared.answers.Answer.TheVariants as answer
 
 -- two agreements that are equal in all parts
 abbrev pub same_agreement : Agreement → Agreement → Bool
-same_agreement a b = bytes_eq a.name b.name && same_party a.sender b.sender && same_addressee a.addressee b.addressee && nat_eq a.first b.first
+same_agreement a b =
+    bytes_eq a.name b.name && same_party a.sender b.sender
+    && same_addressee a.addressee b.addressee && nat_eq a.first b.first
 
 -- what an agreement is answered, by the one that has its name and the one that has its parties
 abbrev pub agree_answer_by : Agreement → Option Agreement → Option Agreement → AgreeAnswer
@@ -37,54 +39,72 @@ agree_answer_by a (Some b) other = if same_agreement b a then Agreed else NameTa
 agree_answer_by a None (Some b) = SeriesTaken b.name
 agree_answer_by a None None = Agreed
 
--- what an agreement is answered after L: agreed, where it stands; the name is taken, the series is taken by another; or agreed
+-- what an agreement is answered after L: agreed, where it stands; the name is taken, the series is
+-- taken by another; or agreed
 abbrev pub agree_answer : List Request → Agreement → AgreeAnswer
-agree_answer L a = agree_answer_by a (named (agreements_of L) a.name) (between (agreements_of L) a.sender a.addressee)
+agree_answer L a =
+    agree_answer_by a (named (agreements_of L) a.name)
+    (between (agreements_of L) a.sender a.addressee)
 
--- what a delivery is answered whose contents stand at number n, where hs stands from the first number on without a gap
+-- what a delivery is answered whose contents stand at number n, where hs stands from the first
+-- number on without a gap
 abbrev pub placed_answer : List Standing → List ℕ → ℕ → ℕ → DeliveryAnswer
 placed_answer hs series from n =
-    if nat_lt n (from + length hs) then delivery.Applied series n (kept_of hs (n - from)) else delivery.Held series n (from + length hs)
+    if nat_lt n (from + length hs) then delivery.Applied series n (kept_of hs (n - from))
+    else delivery.Held series n (from + length hs)
 
 -- the same, by what stands at the number
-abbrev pub answer_against : List Standing → List ℕ → ℕ → ℕ → List Product → Option Standing → DeliveryAnswer
+abbrev pub answer_against : List Standing → List ℕ → ℕ → ℕ → List Product → Option Standing
+    → DeliveryAnswer
 answer_against hs series from n c None = placed_answer hs series from n
 answer_against hs series from n c (Some standing.Waived) = delivery.Waived series n
 answer_against hs series from n c (Some (standing.Message other)) =
-    if same_contents other c then placed_answer hs series from n else delivery.OtherContents series n
+    if same_contents other c then placed_answer hs series from n
+    else delivery.OtherContents series n
 
--- what a delivery with a number is answered, by the agreement of its parties. L is the list with the delivery
+-- what a delivery with a number is answered, by the agreement of its parties. L is the list with
+-- the delivery
 abbrev pub delivery_answer_at : List Request → ℕ → List Product → Option Agreement → DeliveryAnswer
 delivery_answer_at L n c None = delivery.UnknownSeries
 delivery_answer_at L n c (Some a) =
-    if nat_lt n a.first then delivery.BeforeFirst a.name n a.first else answer_against (front_of L a) a.name a.first n c (first_at L a.name n)
+    if nat_lt n a.first then delivery.BeforeFirst a.name n a.first
+    else answer_against (front_of L a) a.name a.first n c (first_at L a.name n)
 
 -- what a message is answered, by its number
-abbrev pub message_answer_by : List Request → List Agreement → Header → List Product → Option ℕ → DeliveryAnswer
+abbrev pub message_answer_by : List Request → List Agreement → Header → List Product → Option ℕ
+    → DeliveryAnswer
 message_answer_by L agreements h c None = delivery.Unnumbered
-message_answer_by L agreements h c (Some n) = delivery_answer_at L n c (between agreements h.sender h.addressee)
+message_answer_by L agreements h c (Some n) =
+    delivery_answer_at L n c (between agreements h.sender h.addressee)
 
 -- what a delivery is answered, by the message that its records are
-abbrev pub delivery_answer_by : List Request → List Agreement → ℕ → Option (Header × List Product) → DeliveryAnswer
+abbrev pub delivery_answer_by : List Request → List Agreement → ℕ → Option (Header × List Product)
+    → DeliveryAnswer
 delivery_answer_by L agreements row None = delivery.Malformed row
 delivery_answer_by L agreements row (Some m) = message_answer_by L agreements m.0 m.1 m.0.number
 
--- what a delivery is answered after L, the first that fits: malformed with its row, unnumbered, unknown series, before the first, waived, other contents, applied with its counts, held. What stands is counted with the delivery itself
+-- what a delivery is answered after L, the first that fits: malformed with its row, unnumbered,
+-- unknown series, before the first, waived, other contents, applied with its counts, held. What
+-- stands is counted with the delivery itself
 abbrev pub delivery_answer : List Request → List (List (List ℕ)) → DeliveryAnswer
-delivery_answer L records = delivery_answer_by (Deliver records ∷ L) (agreements_of L) (bad_row records) (message_of records)
+delivery_answer L records =
+    delivery_answer_by (Deliver records ∷ L) (agreements_of L) (bad_row records)
+    (message_of records)
 
 -- what a waiver is answered, by what stands at its number
 abbrev pub waived_by : Option Standing → WaiveAnswer
 waived_by None = waiver.Waived
 waived_by (Some standing.Waived) = waiver.Waived
-waived_by (Some (standing.Message c)) = waiver.HasMessage
+waived_by (Some (standing.Message c)) = waiver.Had
 
 -- the same, by the agreement of its name. L is the list with the waiver
 abbrev pub waive_answer_at : List Request → ℕ → Option Agreement → WaiveAnswer
 waive_answer_at L n None = waiver.UnknownSeries
-waive_answer_at L n (Some a) = if nat_lt n a.first then waiver.BeforeFirst a.first else waived_by (first_at L a.name n)
+waive_answer_at L n (Some a) =
+    if nat_lt n a.first then waiver.BeforeFirst a.first else waived_by (first_at L a.name n)
 
--- what a waiver is answered after L, the first that fits: unknown series, before the first, a message stands there, waived
+-- what a waiver is answered after L, the first that fits: unknown series, before the first, a
+-- message stands there, waived
 abbrev pub waive_answer : List Request → List ℕ → ℕ → WaiveAnswer
 waive_answer L series n = waive_answer_at (Waive series n ∷ L) n (named (agreements_of L) series)
 

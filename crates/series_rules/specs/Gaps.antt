@@ -24,7 +24,8 @@ greater_of (Some m) (Some n) = Some (max m n)
 -- the greatest number of the series that has something
 abbrev pub greatest_of : List Request → List ℕ → Option ℕ
 greatest_of [] series = None
-greatest_of (r ∷ L) series = greater_of (greatest_of L series) (number_in (admitted (agreements_of L) r) series)
+greatest_of (r ∷ L) series =
+    greater_of (greatest_of L series) (number_in (admitted (agreements_of L) r) series)
 
 -- the number is the greatest that has something, or nothing has
 abbrev pub IsGreatest : (ℕ → Option Standing) → Option ℕ → Type 0
@@ -54,7 +55,8 @@ abbrev pub ranges_of : List ℕ → List (ℕ × ℕ)
 ranges_of [] = []
 ranges_of (n ∷ ns) = with_number n (ranges_of ns)
 
--- the report on what stands in a series, by its first number, the first number that has nothing and the greatest that has something
+-- the report on what stands in a series, by its first number, the first number that has nothing
+-- and the greatest that has something
 abbrev pub report_by : List ℕ → (ℕ → Option Standing) → ℕ → ℕ → Option ℕ → GapReport
 report_by series f from after greatest = record {
   series = series;
@@ -109,7 +111,9 @@ pub record IsHeldCount (f : ℕ → Option Standing) (from held : ℕ) : Type 0 
   pub are_held : AreHeldFrom f from numbers
   pub counted : held ≡ length numbers
 
--- the report is true of what stands in an agreed series: its name, its first number, the first number that has nothing, the greatest that has something, how many from the next on have something, and the numbers up to the greatest that have nothing
+-- the report is true of what stands in an agreed series: its name, its first number, the first
+-- number that has nothing, the greatest that has something, how many from the next on have
+-- something, and the numbers up to the greatest that have nothing
 pub record IsGapReport (f : ℕ → Option Standing) (a : Agreement) (report : GapReport) : Type 0 where
   pub of_series : report.series ≡ a.name
   pub is_first : report.first ≡ a.first
@@ -117,5 +121,7 @@ pub record IsGapReport (f : ℕ → Option Standing) (a : Agreement) (report : G
   pub is_greatest : IsGreatest f report.greatest
   pub is_held : IsHeldCount f report.next report.held
   pub in_order : AreRangesFrom a.first report.missing
-  pub all_lacking : (n : ℕ) → a.first ≤ n → IsUpTo n report.greatest → f n ≡ None → IsInRanges n report.missing
-  pub only_lacking : (n : ℕ) → IsInRanges n report.missing → (a.first ≤ n) × IsUpTo n report.greatest × (f n ≡ None)
+  pub all_lacking : (n : ℕ) → a.first ≤ n → IsUpTo n report.greatest → f n ≡ None
+      → IsInRanges n report.missing
+  pub only_lacking : (n : ℕ) → IsInRanges n report.missing
+      → (a.first ≤ n) × IsUpTo n report.greatest × (f n ≡ None)

@@ -1,14 +1,9 @@
 pub mod Agreements
-pub mod AgreementLemmas
 pub mod Firsts
-pub mod FirstLemmas
 pub mod Series
-pub mod FrontLemmas
 pub mod Gaps
-pub mod GapLemmas
 pub mod MessageFaults
 pub mod Offers
-pub mod OfferLemmas
 pub mod PriceAnswers
 pub mod Answers
 pub mod Content

@@ -19,7 +19,12 @@ use Rattle.series_rules.specs.declared.answers.OfferCalendar.{OfferCalendar}
 
 -- an offer, as answers name it
 abbrev pub listed : Offer → ListedOffer
-listed o = record { series = o.series; reference = o.reference; place = o.place; availability = o.availability }
+listed o = record {
+  series = o.series;
+  reference = o.reference;
+  place = o.place;
+  availability = o.availability;
+}
 
 -- an offer with its current price
 abbrev pub priced : PriceQuery → Offer → PricedOffer
@@ -31,7 +36,9 @@ prices_of q offers = map (priced q) offers
 
 -- the offer that a choice is of
 abbrev pub chosen_offer : List Offer → Choice → Option ChosenOffer
-chosen_offer offers c = option_map (λ o. record { rule = c.rule; offer = listed o; amount = c.amount }) (slice_get offers c.offer_index)
+chosen_offer offers c =
+    option_map (λ o. record { rule = c.rule; offer = listed o; amount = c.amount })
+    (slice_get offers c.offer_index)
 
 -- the offer that the rules choose
 abbrev pub chosen_by : List Rule → PriceQuery → List Offer → Option ChosenOffer
@@ -45,6 +52,9 @@ dated q o = record { offer = listed o; spans = calendar_spans o q }
 abbrev pub calendars_of : CalendarQuery → List Offer → List OfferCalendar
 calendars_of q offers = map (dated q) offers
 
--- the answer to a question about a calendar: a bad range is refused, whether or not there are offers
+-- the answer to a question about a calendar: a bad range is refused, whether or not there are
+-- offers
 abbrev pub calendar_answer : List ℕ → CalendarQuery → List Offer → Answer
-calendar_answer isbn q offers = if is_bad_range q.from q.to then answer.BadRange else answer.Calendar isbn (calendars_of q offers)
+calendar_answer isbn q offers =
+    if is_bad_range q.from q.to then answer.BadRange
+    else answer.Calendar isbn (calendars_of q offers)

@@ -71,7 +71,7 @@ pub enum WaiveAnswer {
     /// The number is below the agreed first.
     BeforeFirst { first: Number },
     /// A message has the number.
-    HasMessage,
+    Had,
     /// The number is waived.
     Waived,
 }

@@ -7,8 +7,8 @@
 //! request), `Runs` (a run of requests) and `Content` (what two lists of requests have in common);
 //! `laws` says what they come to. Code meets them through the trait `desk::Desk`; this crate has no
 //! desk of its own. `gaps` makes the report on a series, for any desk. What a desk's proof needs of
-//! the definitions stands beside them, in `AgreementLemmas`, `FirstLemmas`, `FrontLemmas`,
-//! `GapLemmas` and `OfferLemmas`.
+//! the definitions is in `proofs/`: `AgreementLemmas`, `FirstLemmas`, `FrontLemmas`, `GapLemmas` and
+//! `OfferLemmas`.
 #![tactic(auto)]
 
 pub mod answering;

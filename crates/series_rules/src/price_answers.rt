@@ -6,7 +6,7 @@ ghost use Rattle.series_rules.specs.PriceAnswers.{calendars_of, chosen_by, dated
 
 use crate::answers::{ChosenOffer, ListedOffer, OfferCalendar, PricedOffer};
 use onix_terms::items::Items;
-use price_rules::calendar::{CalendarFault, calendar};
+use price_rules::calendar::{CalendarFault, calendar_for};
 use price_rules::choice::choose;
 use price_rules::current::current_price;
 use price_rules::offer::{CalendarQuery, Offer, PriceQuery};
@@ -87,7 +87,7 @@ fn date_offer(
     requires { is_bad_range query.now.from query.now.to ≡ false }
     ensures { IfOk result (λ o. o ≡ dated query.now offer) }
 {
-    let spans = calendar(alloc, &offer, query);
+    let spans = calendar_for(alloc, &offer, query);
     let offer = into_listed(offer);
     match spans {
         Ok(spans) => Ok(OfferCalendar { offer, spans }),

@@ -1,5 +1,5 @@
 use Rattle.std.proofs.Common.{refl}
-use Rattle.series_rules.specs.GapLemmas.{greatest_unique}
+use Rattle.series_rules.proofs.GapLemmas.{greatest_unique}
 use Rattle.series_rules.proofs.HeldNumbers.{held_count, lacking_from_next}
 use Rattle.series_rules.proofs.gaps.gap_report.Goals as goal
 

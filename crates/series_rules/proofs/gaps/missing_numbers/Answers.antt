@@ -1,7 +1,7 @@
 use Rattle.std.proofs.Common.{◌≡◌, ◌+◌, ◌++◌, ◌∷◌, [], arith, drop, refl, sym, ap, ◌∙◌, subst}
 use Rattle.std.proofs.lemmas.List.{append_assoc, append-nil, drop_all, drop_more}
 use Rattle.series_rules.specs.Gaps.{AreHeldFrom, range_below, ranges_of}
-use Rattle.series_rules.specs.GapLemmas.{held_rest}
+use Rattle.series_rules.proofs.GapLemmas.{held_rest}
 use Rattle.series_rules.proofs.HeldNumbers.{lacking_from, ranges_next, ranges_over}
 use Rattle.series_rules.proofs.gaps.missing_numbers.Goals as goal
 

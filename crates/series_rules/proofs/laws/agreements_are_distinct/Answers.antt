@@ -1,4 +1,4 @@
-use Rattle.series_rules.specs.AgreementLemmas.{agreements_are_distinct, no_two_clash}
+use Rattle.series_rules.proofs.AgreementLemmas.{agreements_are_distinct, no_two_clash}
 use Rattle.series_rules.proofs.laws.agreements_are_distinct.Goals as goal
 
 pub returns : goal.returns

@@ -1,7 +1,7 @@
 use Rattle.std.proofs.Common.{◌≡◌, ◌+◌, length, sym, subst}
 use Rattle.std.specs.BTreeMap.{get}
 use Rattle.std.specs.Ordering.{nat_cmp}
-use Rattle.series_rules.specs.FrontLemmas.{front_next, next_unique}
+use Rattle.series_rules.proofs.FrontLemmas.{front_next, next_unique}
 use Rattle.series_rules.specs.Gaps.{AreHeldFrom}
 use Rattle.desk_memory.proofs.series.Series.gaps.Goals as goal
 

@@ -15,7 +15,7 @@ use Rattle.series_rules.specs.Content.{SameContent}
 use Rattle.series_rules.specs.Offers.{with_names, by_name, series_offers, offers_after}
 use Rattle.series_rules.specs.Series.{after_all}
 use Rattle.series_rules.specs.declared.requests.Request.{Request}
-use Rattle.series_rules.specs.FrontLemmas.{front_same}
+use Rattle.series_rules.proofs.FrontLemmas.{front_same}
 
 -- two maps that answer alike are equal
 pub equal_maps : {X : Type 0} (m n : FinMap (slice_cmp nat_cmp) X) → ((q : List ℕ) → fin.get m q ≡ fin.get n q) → m ≡ n

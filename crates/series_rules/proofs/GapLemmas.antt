@@ -20,8 +20,8 @@ use Rattle.series_rules.specs.declared.requests.Request.TheVariants.{Deliver, Wa
 use Rattle.series_rules.specs.Firsts.{Placement}
 use Rattle.series_rules.specs.declared.requests.Standing.{Standing}
 use Rattle.series_rules.specs.declared.requests.Standing.TheVariants.{Message, Waived}
-use Rattle.series_rules.specs.AgreementLemmas.{agreements_are_distinct, named_has_name, named_stays}
-use Rattle.series_rules.specs.FrontLemmas.{front_same}
+use Rattle.series_rules.proofs.AgreementLemmas.{agreements_are_distinct, named_has_name, named_stays}
+use Rattle.series_rules.proofs.FrontLemmas.{front_same}
 
 -- the greatest of one more number
 

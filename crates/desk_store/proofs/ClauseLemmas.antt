@@ -22,6 +22,7 @@ use Rattle.price_rules.specs.declared.precedence.Rule.{Rule}
 use Rattle.series_rules.specs.Answers.{answer_to}
 use Rattle.series_rules.specs.declared.answers.Answer.{Answer}
 use Rattle.series_rules.specs.declared.requests.Request.{Request}
+use Rattle.desk_store.proofs.ComesTo.{come_rows, or_rows}
 use Rattle.desk_store.specs.ContentLemmas.{keeps_by_content}
 use Rattle.desk_store.specs.Desks.{AreRowsOf, KeepsRequests}
 use Rattle.desk_store.specs.Openings.{HoldRowsOf, IsReady, ShowsOnly}
@@ -50,12 +51,12 @@ module _ {Store : Type 0} (g : Ghosts Store) (rules : List Rule) where
       → (result : Result X StoreFault) (old new : Held Store) → Asks r answer (seen g rules old) (seen g rules new) result → IsEvent g rules r answer_of result old new
   asked r answer_of answer answers (Ok x) old new it = record {
     ok = λ sound L stands. let done = it.ok L stands sound in (ap answer_of done.0 ∙ sym (answers L), done.1);
-    crash = λ sound L stands. it.crash L stands sound;
-    alone = λ sound L stands did. it.changed L stands sound did;
+    crash = λ sound L stands d leaves. or_rows d (r ∷ L) (it.crash L stands sound d leaves);
+    alone = λ sound L stands did d leaves. come_rows d (r ∷ L) (it.changed L stands sound did d leaves);
   }
   asked r answer_of answer answers (Err fault) old new it = record {
     err = λ sound L stands. it.err L stands sound;
-    crash = λ sound L stands. it.crash L stands sound;
+    crash = λ sound L stands d leaves. or_rows d (r ∷ L) (it.crash L stands sound d leaves);
   }
 
   trace_runs : (found : Trees) (h : List (Event Request Answer)) (steps : List (Request × Result Answer StoreFault)) (old new : Held Store)

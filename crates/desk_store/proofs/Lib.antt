@@ -1,5 +1,6 @@
 pub mod RunLemmas
 pub mod WholeLists
+pub mod ComesTo
 pub mod ConnectionLaws
 pub mod ClauseLemmas
 pub mod FileLemmas

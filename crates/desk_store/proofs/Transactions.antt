@@ -10,7 +10,8 @@ use Rattle.onix_message.specs.declared.faults.StoreFault.{StoreFault}
 use Rattle.series_rules.specs.declared.requests.Request.{Request}
 use Rattle.series_rules.specs.Changes.{changes, is_question}
 use Rattle.series_rules.specs.Views.{Asks, IsFaultOf, Stays, Tells}
-use Rattle.desk_store.specs.Desks.{Answers, AreRowsOf, Finishes, HoldsRequests, KeepsRequests, OnlyAnswers}
+use Rattle.desk_store.proofs.ComesTo.{rows_come}
+use Rattle.desk_store.specs.Desks.{Answers, Finishes, HoldsRequests, KeepsRequests, OnlyAnswers}
 use Rattle.desk_store.specs.Seen.{in_tables, seen_in}
 use Rattle.desk_store.specs.Stands.{StandsFor}
 
@@ -108,15 +109,15 @@ module _ {A W : Type 0} (w : W) (r : Request) (plain : is_question r ≡ false) 
       ((gives.0, gives.1, post.0), post.1)
 
   -- a crash leaves what it could leave before, or the request
-  crash_done : {B E : Type 0} (result : Result B E) → EndsWork s2 s3 spent result → HasCleanDisk s3 → (L : List Request) → KeepsRequests s0 L → (d : Trees) → s3.may_leave d → s0.may_leave d ⊎ ((is_question r ≡ false) × AreRowsOf d (r ∷ L))
+  crash_done : {B E : Type 0} (result : Result B E) → EndsWork s2 s3 spent result → HasCleanDisk s3 → (L : List Request) → KeepsRequests s0 L → (d : Trees) → s3.may_leave d → s0.may_leave d ⊎ ((is_question r ≡ false) × in_tables.comes_to d (r ∷ L))
   crash_done result ends clean L keeps d may = go (ends.survives.crash clean d may)
     where
       clean2 : HasCleanDisk s2
       clean2 = omega (arith, ends.survives.clean)
 
-      go : s2.may_leave d ⊎ ((spent ≡ false) × (d ≡ s2.now.trees)) → s0.may_leave d ⊎ ((is_question r ≡ false) × AreRowsOf d (r ∷ L))
+      go : s2.may_leave d ⊎ ((spent ≡ false) × (d ≡ s2.now.trees)) → s0.may_leave d ⊎ ((is_question r ≡ false) × in_tables.comes_to d (r ∷ L))
       go (inl before) = inl ((is_begun w L s0 s1 (clean1 clean2) begins keeps).crash d (either (done.survives.crash clean2 d before)))
-      go (inr now) = inr (plain, (s2.now, sym now.1, (stands_now clean2 L keeps).0))
+      go (inr now) = inr (plain, rows_come d (r ∷ L) (s2.now, sym now.1, (stands_now clean2 L keeps).0))
 
   -- it is committed
   asked_done : {B : Type 0} (b : B) → EndsWork {E = StoreFault} s2 s3 spent (Ok b) → (HasCleanDisk s3 → LeavesOnly s3) → Asks r answer (seen_in s0) (seen_in s3) (Ok a)
@@ -128,7 +129,7 @@ module _ {A W : Type 0} (w : W) (r : Request) (plain : is_question r ≡ false) 
         (now.1, λ up. (committed.autocommit, subst (λ db. HoldsRequests db (r ∷ L)) (sym committed.now) now.0, subst (λ db. HoldsRequests db (r ∷ L)) (sym committed.committed) now.0));
     err = λ L keeps clean. tt;
     crash = λ L keeps clean. crash_done (Ok b) ends clean L keeps;
-    changed = λ L keeps clean change. λ d may. (s2.now, sym (durable clean d may ∙ ap (λ (db : Database). db.trees) (ends.committed clean).committed), (stands_now (clean2 clean) L keeps).0);
+    changed = λ L keeps clean change. λ d may. rows_come d (r ∷ L) (s2.now, sym (durable clean d may ∙ ap (λ (db : Database). db.trees) (ends.committed clean).committed), (stands_now (clean2 clean) L keeps).0);
     question = λ is. absurd (differ (sym plain ∙ is));
     undone = λ clean. tt;
     fault = tt;

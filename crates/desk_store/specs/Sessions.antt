@@ -24,7 +24,7 @@ use Rattle.desk_store.specs.Events.{Closing, Event, Open, Opening}
 use Rattle.desk_store.specs.Files.{AreFilesAt}
 use Rattle.desk_store.specs.Runs.{Runs}
 
--- What was asked of a desk one after the other goes on with a run, as a batch was and what a connection asked for (the field `asked` of the clauses of `run_batch` and `serve_one`). At: the connection that a desk is over
+-- What was asked of a desk one after the other goes on with a run, as a batch was and what a connection asked for (the field `asked` of the clauses of `run_batch` and `serve_routed`). At: the connection that a desk is over
 abbrev pub AskedAreRuns : {Store D : Type 0} → (g : Ghosts Store) → (D → Held Store) → List Rule → Type 0
 AskedAreRuns {D = D} g at rules =
     (steps : List (Request × Result Answer StoreFault)) (old new : D) → Trace (λ d. seen g rules (at d)) rules steps old new

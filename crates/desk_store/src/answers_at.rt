@@ -129,6 +129,6 @@ pub(crate) fn waive_at<S: Alter>(
     if is_waived(stored.text.as_str()) {
         Ok(WaiveAnswer::Waived)
     } else {
-        Ok(WaiveAnswer::HasMessage)
+        Ok(WaiveAnswer::Had)
     }
 }

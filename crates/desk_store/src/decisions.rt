@@ -45,7 +45,7 @@ pub(crate) fn agree_in<S: Alter>(
         return Ok(answer_named(&row.agreement, agreement));
     }
     drop(named);
-    let taken = work.series_by_parties(&agreement.sender, &agreement.addressee)?;
+    let taken = work.series_by_parties(&agreement.sender, agreement.addressee.as_ref())?;
     if let Some(row) = &taken {
         return Ok(AgreeAnswer::SeriesTaken {
             name: row.agreement.name,
@@ -70,7 +70,7 @@ pub(crate) fn deliver_in<S: Alter>(
         → Achieves (Answers (Request.Deliver records) (λ L. delivery_answer L records))
         (seen S.Store work.old) (seen S.Store work.new) result }
 {
-    let found = work.series_by_parties(&header.sender, &header.addressee)?;
+    let found = work.series_by_parties(&header.sender, header.addressee.as_ref())?;
     let Some(row) = &found else {
         return Ok(DeliveryAnswer::UnknownSeries);
     };

@@ -12,6 +12,7 @@ ghost use Rattle.sqlite_wal.specs.Files.{image_at};
 ghost use Rattle.sqlite_wal.specs.Reads.{AreClean};
 ghost use Rattle.desk_store.specs.Desks.{AreRowsOf, KeepsRequests};
 ghost use Rattle.desk_store.specs.Openings.{AreFilesOf, AreItsTrees, HasNoMeta, HoldRowsOf, IsFaultFor, IsOther, IsReady, KeepsFiles, KeepsStore, LeavesOne, MakesNothing, ShowsOnly, Spares, TakesFound, TellsFiles, TellsFound, left_in};
+ghost use Rattle.desk_store.specs.Seen.{in_tables};
 ghost use Rattle.series_rules.specs.Views.{LeavesOnly};
 ghost use Rattle.series_rules.specs.declared.requests.Request.{Request};
 
@@ -71,8 +72,8 @@ impl<S: Alter + Drop> DeskStore<S> {
 impl<S: Alter> DeskStore<S> {
     /// What the desk is against its tables: its premise is a clean disk, and it stands for a list of
     /// requests exactly where, while its store is open, the tables hold what those come to. A crash
-    /// leaves the trees that it leaves of the store; while that is open, only the rows of what the
-    /// desk stands for.
+    /// leaves the trees that it leaves of the store, which come to a list exactly where they hold its
+    /// rows; while the store is open, only the rows of what the desk stands for.
     pub fn is_by_its_tables(&self)
         ensures premise { (⟦<DeskStore<S> as Desk>⟧.seen self.now).sound
             ↔ HasCleanDisk (state S.Store self.now.tables.connection) }
@@ -82,6 +83,8 @@ impl<S: Alter> DeskStore<S> {
         ensures leaves { (left : Trees)
             → (⟦<DeskStore<S> as Desk>⟧.seen self.now).may_leave left
             ↔ (state S.Store self.now.tables.connection).may_leave left }
+        ensures rows { (left : Trees) (L : List Request)
+            → in_tables.comes_to left L ↔ AreRowsOf left L }
         ensures durable { IsTrue (state S.Store self.now.tables.connection).is_open
             → (L : List Request) → KeepsRequests (state S.Store self.now.tables.connection) L
             → LeavesOnly (⟦<DeskStore<S> as Desk>⟧.seen self.now) L }
@@ -151,6 +154,32 @@ impl<D: Disk + Drop> DeskStore<FileStore<D>> {
     /// `OtherVersion`, and stay. Files that are no sound database, and not empty, are refused and
     /// stay too. A fault comes with what is left of the files.
     pub fn open_files(
+        alloc: Global,
+        files: Files<D>,
+    ) -> Result<DeskStore<FileStore<D>>, (OpenFault, Leftover<D>)>
+        requires log { IsTrue (D.Disk.is_usable files.log) }
+        requires db { IsTrue (D.Disk.is_usable files.db) }
+        ensures clean { IfOk result (λ d. HasCleanDisk (file_state d.tables.connection)
+            → AreClean D.Disk files.log files.db) }
+        ensures stands { IfOk result (λ d. HasCleanDisk (file_state d.tables.connection)
+            → (L : List Request) → AreFilesOf (image_of D.Disk files) L
+            → KeepsRequests (file_state d.tables.connection) L) }
+        ensures alone { IfOk result (λ d. HasCleanDisk (file_state d.tables.connection)
+            → (L : List Request) → AreFilesOf (image_of D.Disk files) L → (left : Trees)
+            → (file_state d.tables.connection).may_leave left → AreRowsOf left L) }
+        ensures taken { IfOk result (λ d. HasCleanDisk (file_state d.tables.connection)
+            → TakesFound (image_of D.Disk files) (file_state d.tables.connection)) }
+        ensures fault { IfErr result (λ e. IsCleanLeft e.1
+            → TellsFiles IsFaultFor (image_of D.Disk files) (left_in e.1) e.0) }
+        ensures left { IfErr result (λ e. IsCleanLeft e.1
+            → KeepsFiles (λ were. were ≡ files) MakesNothing (image_of D.Disk files) e.1) }
+    {
+        DeskStore::open_files_with(alloc, files, Options::new(1))
+    }
+
+    /// The same under options of `sqlite`: how many pages stay in memory, how long the log grows, and
+    /// the random number for the log's salts, which is always the same one in `open_files`.
+    pub fn open_files_with(
         alloc: Global,
         files: Files<D>,
         options: Options,
@@ -242,7 +271,7 @@ impl<S: Start> DeskStore<FileStore<FileFrom<S>>> {
 
 impl<S: Alter> Desk for DeskStore<S> {
     ghost use Rattle.sqlite.specs.Held.{state};
-    ghost use Rattle.desk_store.specs.Seen.{in_tables, seen_in};
+    ghost use Rattle.desk_store.specs.Seen.{seen_in};
 
     ghost kind = { in_tables };
 

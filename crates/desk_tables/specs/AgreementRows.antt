@@ -1,4 +1,5 @@
--- The rows of the tables of the version, of agreements, and of held and applied messages, as plain values, and those tables as lists of columns.
+-- The rows of the tables of the version, of agreements, and of held and applied messages, as plain
+-- values, and those tables as lists of columns.
 use Rattle.std.specs.Prelude.{ℕ, List, [], ◌∷◌, codes}
 use Rattle.sqlite_schema.specs.declared.schema.Action.TheVariants.{NoAction}
 use Rattle.sqlite_value.specs.Order.{Row}
@@ -18,7 +19,9 @@ pub record MetaRow : Type 0 where
 abbrev pub meta_definition : TableDefinition MetaRow
 meta_definition = record {
   name = codes "meta";
-  columns = text_column (codes "item") (λ r. r.item) ∷ number_column (codes "amount") (λ r. r.amount) ∷ [];
+  columns =
+      text_column (codes "item") (λ r. r.item) ∷ number_column (codes "amount") (λ r. r.amount)
+      ∷ [];
   key = 1;
   uniques = [];
   foreign = [];
@@ -68,7 +71,9 @@ pub record HeldRow : Type 0 where
 abbrev pub held_definition : TableDefinition HeldRow
 held_definition = record {
   name = codes "held";
-  columns = text_column (codes "series") (λ r. r.series) ∷ number_column (codes "number") (λ r. r.number) ∷ text_column (codes "contents") (λ r. r.contents) ∷ [];
+  columns =
+      text_column (codes "series") (λ r. r.series) ∷ number_column (codes "number") (λ r. r.number)
+      ∷ text_column (codes "contents") (λ r. r.contents) ∷ [];
   key = 2;
   uniques = [];
   foreign = to_series ∷ [];
@@ -116,4 +121,9 @@ applied_columns = values_of applied_definition
 
 -- the row of a message that is applied
 abbrev pub applied_row : List ℕ → ℕ → List ℕ → Effect → AppliedRow
-applied_row series number contents effect = record { series = series; number = number; contents = contents; effect = effect }
+applied_row series number contents effect = record {
+  series = series;
+  number = number;
+  contents = contents;
+  effect = effect;
+}

@@ -1,5 +1,5 @@
 -- The texts of the countries of territories, as columns keep them.
-use Rattle.std.specs.Prelude.{◌≡◌, ℕ, List, map}
+use Rattle.std.specs.Prelude.{◌≡◌, List, map}
 use Rattle.onix_terms.specs.Territory.{countries_text}
 use Rattle.onix_terms.specs.declared.territory.Territory.{Territory}
 use Rattle.desk_tables.specs.declared.offers.OfferRow as typed

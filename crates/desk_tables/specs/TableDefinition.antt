@@ -1,4 +1,5 @@
--- A table as a list of columns, and what follows of it: its rows as values, and the table that its text means.
+-- A table as a list of columns, and what follows of it: its rows as values, and the table that its
+-- text means.
 use Rattle.std.specs.Prelude.{ℕ, ℤ, pos, zero, suc, ◌+◌, Bool, true, false, List, [], ◌∷◌, length, map, Option, None, if◌then◌else◌}
 use Rattle.sqlite_value.specs.declared.value.Value.{Value}
 use Rattle.sqlite_value.specs.declared.value.Value.TheVariants.{Int, Null, Text}
@@ -13,7 +14,8 @@ use Rattle.sqlite_schema.specs.declared.schema.Reference.{Reference}
 use Rattle.sqlite_schema.specs.declared.schema.Table.{Table}
 use Rattle.sqlite.specs.Values.{or_null}
 
--- a column by its name, and what a row has in it: a text, a whole number, true or false, or a day that may be none
+-- a column by its name, and what a row has in it: a text, a whole number, true or false, or a day
+-- that may be none
 pub data Column (A : Type 0) : Type 0 where
   text_column : List ℕ → (A → List ℕ) → Column A
   number_column : List ℕ → (A → ℕ) → Column A
@@ -26,7 +28,8 @@ pub record ForeignKey : Type 0 where
   pub columns : List (List ℕ)
   pub on_delete : Action
 
--- a table: its name, its columns in their order, how many of the first are its primary key, the places of those that are a further key, counted from 1, and the tables that it refers to
+-- a table: its name, its columns in their order, how many of the first are its primary key, the
+-- places of those that are a further key, counted from 1, and the tables that it refers to
 pub record TableDefinition (A : Type 0) : Type 0 where
   pub name : List ℕ
   pub columns : List (Column A)
@@ -90,9 +93,17 @@ places_from first zero = []
 places_from first (suc n) = first ∷ places_from (first + 1) n
 
 abbrev pub reference_of : ForeignKey → Reference
-reference_of k = record { columns = places_from 1 (length k.columns); parent = k.parent; parent_columns = k.columns; on_delete = k.on_delete; on_update = NoAction; is_deferred = false }
+reference_of k = record {
+  columns = places_from 1 (length k.columns);
+  parent = k.parent;
+  parent_columns = k.columns;
+  on_delete = k.on_delete;
+  on_update = NoAction;
+  is_deferred = false;
+}
 
-abbrev pub strict_table : List ℕ → ℕ → List schema.Column → List (List ℕ) → List ℕ → List Reference → Table
+abbrev pub strict_table : List ℕ → ℕ → List schema.Column → List (List ℕ) → List ℕ → List Reference
+    → Table
 strict_table name tree columns uniques primary references = record {
   name = name;
   tree = tree;
@@ -110,4 +121,6 @@ strict_table name tree columns uniques primary references = record {
 
 -- the table, with its rows in that tree
 abbrev pub table_of : {A : Type 0} → TableDefinition A → ℕ → Table
-table_of d tree = strict_table d.name tree (map schema_column d.columns) (places_from 1 d.key ∷ d.uniques) (places_from 1 d.key) (map reference_of d.foreign)
+table_of d tree =
+    strict_table d.name tree (map schema_column d.columns) (places_from 1 d.key ∷ d.uniques)
+    (places_from 1 d.key) (map reference_of d.foreign)

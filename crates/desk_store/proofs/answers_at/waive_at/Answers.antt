@@ -37,7 +37,7 @@ returns g c =
     let stored = c.as_str.result.now in
     let w : bytes_eq stored (codes "waived") ≡ false = sym c.is_waived.ensures ∙ c.if-is_waived.false in
     does (search rules)
-    (achieves_as (Finds s n) _ old new c.in_ok-stored.stored waiver.HasMessage c.in_ok-stored.ensures.achieves
+    (achieves_as (Finds s n) _ old new c.in_ok-stored.stored waiver.Had c.in_ok-stored.ensures.achieves
     (λ rows now h m one. waives_late s c.args.next n stored rows now one.0 (ap (λ (t : List ℕ). Some t) c.as_str.ensures ∙ (subst (IsStored s n rows) c.in-Some.is one.1).0) w))
 
 pub returns-in_default : goal.returns-in_default

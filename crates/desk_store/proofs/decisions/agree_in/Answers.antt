@@ -35,7 +35,7 @@ returns-in_err-taken g c =
     let Taken : DeskRows → Option SeriesRow → Type 0 = λ rows row. row ≡ series_between a.sender a.addressee rows in
     handed_on (search rules) (search rules)
     (achieves_call_failed Asked Taken (λ rows. rows) _ old mid new c.series_by_name.new.self.spent c.series_by_parties.new.self.spent c.in_ok-named.named c.in_err-taken.field-0.0
-    (achieves_call Named (λ rows. rows) old mid c.args.work.now.spent c.series_by_name.new.self.spent (Ok c.in_ok-named.named) c.in_ok-named.ensures.works) c.in_err-taken.ensures.works)
+    (achieves_call Named (λ rows. rows) old mid c.args.work.now.spent c.series_by_name.new.self.spent (Ok c.in_ok-named.named) c.in_ok-named.ensures.works) (rw c.as_ref.ensures.value at c.in_err-taken.ensures.works))
 
 pub returns-in-Some-taken : goal.returns-in-Some-taken
 returns-in-Some-taken g c =
@@ -50,7 +50,7 @@ returns-in-Some-taken g c =
     let Done : DeskRows → Option SeriesRow → DeskRows → Type 0 = λ rows taken now. taken ≡ Some c.in-Some-taken.row → Answers (Agree a) (λ L. agree_answer L a) rows (SeriesTaken c.in-Some-taken.row.agreement.name) now in
     does (search rules)
     (achieves_as Done _ old new c.in_ok-taken.taken _
-    (achieves_calls Asked Taken (λ rows. rows) Done old mid new c.series_by_name.new.self.spent c.series_by_parties.new.self.spent c.in_ok-named.named (Ok c.in_ok-taken.taken) first c.in_ok-taken.ensures.works
+    (achieves_calls Asked Taken (λ rows. rows) Done old mid new c.series_by_name.new.self.spent c.series_by_parties.new.self.spent c.in_ok-named.named (Ok c.in_ok-taken.taken) first (rw c.as_ref.ensures.value at c.in_ok-taken.ensures.works)
     (λ rows between taken h m one two. λ is. agrees_taken_at rows between between a c.in-Some-taken.row one.1 refl (sym c.in_default.is ∙ one.0) (sym is ∙ two)))
     (λ rows now h m one. one c.in-Some-taken.is))
 
@@ -70,7 +70,7 @@ returns g c =
     does (search rules)
     (achieves_as Done _ old end tt Agreed
     (achieves_calls Free (NoAnswer {A = Unit {0}}) (with_series a) Done old new end c.series_by_parties.new.self.spent c.put_series.new.self.spent c.in_ok-taken.taken (Ok tt)
-    (achieves_calls Asked Taken (λ rows. rows) Free old mid new c.series_by_name.new.self.spent c.series_by_parties.new.self.spent c.in_ok-named.named (Ok c.in_ok-taken.taken) first c.in_ok-taken.ensures.works
+    (achieves_calls Asked Taken (λ rows. rows) Free old mid new c.series_by_name.new.self.spent c.series_by_parties.new.self.spent c.in_ok-named.named (Ok c.in_ok-taken.taken) first (rw c.as_ref.ensures.value at c.in_ok-taken.ensures.works)
     (λ rows between taken h m one two. (one.1, sym c.in_default.is ∙ one.0, two ∙ ap (series_between a.sender a.addressee) one.1))) c.in_ok-put_series.ensures.works
     (λ rows between x h m one two. agrees_new rows (with_series a between) a (ap (with_series a) one.0) one.1 (sym c.in_default-taken.is ∙ one.2)))
     (λ rows now h m one. one))
@@ -89,5 +89,5 @@ returns-in_err-put_series g c =
     let Both : DeskRows → Option SeriesRow → DeskRows → Type 0 = λ rows taken now. Unit {0} in
     handed_on (search rules) (search rules)
     (achieves_call_failed Both (NoAnswer {A = Unit {0}}) (with_series a) _ old new end c.series_by_parties.new.self.spent c.put_series.new.self.spent c.in_ok-taken.taken c.in_err-put_series.field-0.0
-    (achieves_calls Asked Taken (λ rows. rows) Both old mid new c.series_by_name.new.self.spent c.series_by_parties.new.self.spent c.in_ok-named.named (Ok c.in_ok-taken.taken) first c.in_ok-taken.ensures.works
+    (achieves_calls Asked Taken (λ rows. rows) Both old mid new c.series_by_name.new.self.spent c.series_by_parties.new.self.spent c.in_ok-named.named (Ok c.in_ok-taken.taken) first (rw c.as_ref.ensures.value at c.in_ok-taken.ensures.works)
     (λ rows between taken h m one two. tt)) c.in_err-put_series.ensures.works)

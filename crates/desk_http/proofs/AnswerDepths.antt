@@ -33,7 +33,7 @@ delivered_depth (delivery.Held series n next) = refl
 waiver_depth : (series : List ℕ) (n : ℕ) (a : WaiveAnswer) → depth (waiver_answer series n a) ≡ 1
 waiver_depth series n waiver.UnknownSeries = refl
 waiver_depth series n (waiver.BeforeFirst first) = refl
-waiver_depth series n waiver.HasMessage = refl
+waiver_depth series n waiver.Had = refl
 waiver_depth series n waiver.Waived = refl
 
 gaps_depth : (g : GapReport) → depth (gaps g) ≤ 3

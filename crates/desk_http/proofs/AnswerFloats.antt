@@ -33,7 +33,7 @@ delivered_has_none (delivery.Held series n next) = refl
 waiver_has_none : (series : List ℕ) (n : ℕ) (a : WaiveAnswer) → has_float (waiver_answer series n a) ≡ false
 waiver_has_none series n waiver.UnknownSeries = refl
 waiver_has_none series n (waiver.BeforeFirst first) = refl
-waiver_has_none series n waiver.HasMessage = refl
+waiver_has_none series n waiver.Had = refl
 waiver_has_none series n waiver.Waived = refl
 
 gaps_has_none : (g : GapReport) → has_float (gaps g) ≡ false

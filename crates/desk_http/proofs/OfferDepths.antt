@@ -10,7 +10,7 @@ use Rattle.series_rules.specs.declared.answers.OfferCalendar.{OfferCalendar}
 use Rattle.desk_http.specs.OfferJson.{calendar, choice, chosen, dated, price, priced, span}
 use Rattle.desk_http.proofs.Depths.{list_depth, text_depth}
 
-priced_depth : (p : PricedOffer) → depth (priced p) ≤ 1
+pub priced_depth : (p : PricedOffer) → depth (priced p) ≤ 1
 priced_depth p = rw (text_depth (option_map amount_text p.amount)) (omega arith)
 
 pub price_depth : (isbn : List ℕ) (offers : List PricedOffer) → depth (price isbn offers) ≤ 3
@@ -26,7 +26,7 @@ choice_depth isbn c = omega (arith, chosen_depth c)
 span_depth : (s : Span) → depth (span s) ≤ 1
 span_depth s = rw (text_depth (option_map amount_text s.amount)) (omega arith)
 
-dated_depth : (d : OfferCalendar) → depth (dated d) ≤ 3
+pub dated_depth : (d : OfferCalendar) → depth (dated d) ≤ 3
 dated_depth d = omega (arith, list_depth span 1 span_depth d.spans)
 
 pub calendar_depth : (isbn : List ℕ) (offers : List OfferCalendar) → depth (calendar isbn offers) ≤ 5

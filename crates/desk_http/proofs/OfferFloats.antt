@@ -10,7 +10,7 @@ use Rattle.series_rules.specs.declared.answers.OfferCalendar.{OfferCalendar}
 use Rattle.desk_http.specs.OfferJson.{calendar, choice, chosen, dated, price, priced, span}
 use Rattle.desk_http.proofs.NoFloats.{list_has_none, text_has_none}
 
-priced_has_none : (p : PricedOffer) → has_float (priced p) ≡ false
+pub priced_has_none : (p : PricedOffer) → has_float (priced p) ≡ false
 priced_has_none p = rw (text_has_none (option_map amount_text p.amount)) refl
 
 pub price_has_none : (isbn : List ℕ) (offers : List PricedOffer) → has_float (price isbn offers) ≡ false
@@ -26,7 +26,7 @@ choice_has_none isbn c = rw (chosen_has_none c) refl
 span_has_none : (s : Span) → has_float (span s) ≡ false
 span_has_none s = rw (text_has_none (option_map amount_text s.amount)) refl
 
-dated_has_none : (d : OfferCalendar) → has_float (dated d) ≡ false
+pub dated_has_none : (d : OfferCalendar) → has_float (dated d) ≡ false
 dated_has_none d = rw (list_has_none span span_has_none d.spans) refl
 
 pub calendar_has_none : (isbn : List ℕ) (offers : List OfferCalendar) → has_float (calendar isbn offers) ≡ false

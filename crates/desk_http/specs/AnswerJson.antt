@@ -1,6 +1,6 @@
 -- The JSON of each answer of a desk.
 use Rattle.std.specs.Prelude.{ℕ, List, [], ◌∷◌, codes}
-use Rattle.serde_json.specs.Data.{Data, array, member, no_members, object, string}
+use Rattle.serde_json.specs.Data.{Data, array, string}
 use Rattle.serde_json.specs.View.{items_of}
 use Rattle.onix_message.specs.declared.effects.Effect.{Effect}
 use Rattle.series_rules.specs.declared.answers.AgreeAnswer.{AgreeAnswer}
@@ -13,51 +13,33 @@ use Rattle.series_rules.specs.declared.answers.GapReport.{GapReport}
 use Rattle.series_rules.specs.declared.answers.Answer.{Answer}
 use Rattle.series_rules.specs.declared.answers.Answer.TheVariants as answer
 use Rattle.desk_http.specs.CatalogueJson.{catalogue}
-use Rattle.desk_http.specs.Json.{count, count_or_null, list_of, refused}
+use Rattle.desk_http.specs.Json.{Fields, answered, count, count_or_null, list_of, refused}
 use Rattle.desk_http.specs.OfferJson.{calendar, choice, price}
 
 -- the records are no message, or no request, from this row on
 abbrev pub malformed : ℕ → Data
-malformed row = object
-    (member (codes "answer") (string (codes "refused"))
-    (member (codes "reason") (string (codes "malformed"))
-    (member (codes "row") (count row)
-    no_members)))
+malformed row = refused (codes "malformed") (("row", count row) ∷ [])
+
+-- a number of a series, and these members
+abbrev pub numbered : List ℕ → ℕ → Fields → Fields
+numbered series n fields = ("number", count n) ∷ ("series", string series) ∷ fields
 
 -- the number is below the agreed first
 abbrev pub before_first : List ℕ → ℕ → ℕ → Data
-before_first series n first = object
-    (member (codes "answer") (string (codes "refused"))
-    (member (codes "first") (count first)
-    (member (codes "number") (count n)
-    (member (codes "reason") (string (codes "before-first"))
-    (member (codes "series") (string series)
-    no_members)))))
+before_first series n first =
+    refused (codes "before-first") (numbered series n (("first", count first) ∷ []))
 
 -- an agreement is refused for that reason, which has to do with the series of that name
 abbrev pub not_agreed : List ℕ → List ℕ → Data
-not_agreed reason series = object
-    (member (codes "answer") (string (codes "refused"))
-    (member (codes "reason") (string reason)
-    (member (codes "series") (string series)
-    no_members)))
+not_agreed reason series = refused reason (("series", string series) ∷ [])
 
 -- a number of a series is refused for that reason
 abbrev pub number_refused : List ℕ → List ℕ → ℕ → Data
-number_refused reason series n = object
-    (member (codes "answer") (string (codes "refused"))
-    (member (codes "number") (count n)
-    (member (codes "reason") (string reason)
-    (member (codes "series") (string series)
-    no_members))))
+number_refused reason series n = refused reason (numbered series n [])
 
 -- an agreement stands, with its first number
 abbrev pub agreed : List ℕ → ℕ → Data
-agreed series first = object
-    (member (codes "answer") (string (codes "agreed"))
-    (member (codes "first") (count first)
-    (member (codes "series") (string series)
-    no_members)))
+agreed series first = answered "agreed" (("first", count first) ∷ ("series", string series) ∷ [])
 
 -- the answer to an agreement of that name and first number
 abbrev pub agreement : List ℕ → ℕ → AgreeAnswer → Data
@@ -67,31 +49,20 @@ agreement name first (agree.SeriesTaken holder) = not_agreed (codes "series-take
 
 -- a message is applied, with the five counts of its effect
 abbrev pub applied : List ℕ → ℕ → Effect → Data
-applied series n e = object
-    (member (codes "answer") (string (codes "applied"))
-    (member (codes "deleted") (count e.deleted)
-    (member (codes "ignored") (count e.ignored)
-    (member (codes "number") (count n)
-    (member (codes "replaced") (count e.replaced)
-    (member (codes "series") (string series)
-    (member (codes "unknown") (count e.unknown)
-    (member (codes "updated") (count e.updated)
-    no_members))))))))
+applied series n e = answered "applied" (numbered series n (
+    ("replaced", count e.replaced) ∷ ("updated", count e.updated)
+    ∷ ("deleted", count e.deleted) ∷ ("unknown", count e.unknown)
+    ∷ ("ignored", count e.ignored) ∷ []))
 
 -- a message waits for that number
 abbrev pub held : List ℕ → ℕ → ℕ → Data
-held series n next = object
-    (member (codes "answer") (string (codes "held"))
-    (member (codes "number") (count n)
-    (member (codes "series") (string series)
-    (member (codes "waiting_for") (count next)
-    no_members))))
+held series n next = answered "held" (numbered series n (("waiting_for", count next) ∷ []))
 
 -- the answer to a delivery
 abbrev pub delivered : DeliveryAnswer → Data
 delivered (delivery.Malformed row) = malformed row
-delivered delivery.Unnumbered = refused (codes "unnumbered")
-delivered delivery.UnknownSeries = refused (codes "unknown-series")
+delivered delivery.Unnumbered = refused (codes "unnumbered") []
+delivered delivery.UnknownSeries = refused (codes "unknown-series") []
 delivered (delivery.BeforeFirst series n first) = before_first series n first
 delivered (delivery.Waived series n) = number_refused (codes "waived") series n
 delivered (delivery.OtherContents series n) = number_refused (codes "other-contents") series n
@@ -100,17 +71,13 @@ delivered (delivery.Held series n next) = held series n next
 
 -- a number of a series is waived
 abbrev pub waived : List ℕ → ℕ → Data
-waived series n = object
-    (member (codes "answer") (string (codes "waived"))
-    (member (codes "number") (count n)
-    (member (codes "series") (string series)
-    no_members)))
+waived series n = answered "waived" (numbered series n [])
 
 -- the answer to a waiver of that number
 abbrev pub waiver_answer : List ℕ → ℕ → WaiveAnswer → Data
-waiver_answer series n waiver.UnknownSeries = refused (codes "unknown-series")
+waiver_answer series n waiver.UnknownSeries = refused (codes "unknown-series") []
 waiver_answer series n (waiver.BeforeFirst first) = before_first series n first
-waiver_answer series n waiver.HasMessage = number_refused (codes "had") series n
+waiver_answer series n waiver.Had = number_refused (codes "had") series n
 waiver_answer series n waiver.Waived = waived series n
 
 -- numbers that have nothing, by the first and the last of them
@@ -119,17 +86,13 @@ missing range = array (items_of (count range.0 ∷ count range.1 ∷ []))
 
 -- which numbers of a series have something
 abbrev pub gaps : GapReport → Data
-gaps g = object
-    (member (codes "answer") (string (codes "gaps"))
-    (member (codes "first") (count g.first)
-    (member (codes "greatest") (count_or_null g.greatest)
-    (member (codes "held") (count g.held)
-    (member (codes "missing") (list_of missing g.missing)
-    (member (codes "next") (count g.next)
-    (member (codes "series") (string g.series)
-    no_members)))))))
+gaps g = answered "gaps" (
+    ("series", string g.series) ∷ ("first", count g.first)
+    ∷ ("next", count g.next) ∷ ("greatest", count_or_null g.greatest)
+    ∷ ("held", count g.held) ∷ ("missing", list_of missing g.missing) ∷ [])
 
--- the JSON of an answer: an amount is a text with three decimals, a day a text YYYYMMDD, what is absent null
+-- the JSON of an answer: an amount is a text with three decimals, a day a text YYYYMMDD, what is
+-- absent null
 abbrev pub answer_json : Answer → Data
 answer_json (answer.Agreement name first a) = agreement name first a
 answer_json (answer.Delivery a) = delivered a
@@ -137,8 +100,8 @@ answer_json (answer.Waiver series n a) = waiver_answer series n a
 answer_json (answer.Price isbn offers) = price isbn offers
 answer_json (answer.Choice isbn c) = choice isbn c
 answer_json (answer.Calendar isbn offers) = calendar isbn offers
-answer_json answer.BadRange = refused (codes "bad-range")
+answer_json answer.BadRange = refused (codes "bad-range") []
 answer_json (answer.Gaps report) = gaps report
 answer_json (answer.Catalogue series m) = catalogue series m
-answer_json answer.UnknownSeries = refused (codes "unknown-series")
+answer_json answer.UnknownSeries = refused (codes "unknown-series") []
 answer_json (answer.Malformed row) = malformed row

@@ -1,6 +1,5 @@
 -- The reply to each answer of a desk, and to its faults.
-use Rattle.std.specs.Prelude.{ℕ, List, None, codes}
-use Rattle.serde_json.specs.Written.{compact_text}
+use Rattle.std.specs.Prelude.{ℕ, List, codes}
 use Rattle.onix_message.specs.declared.faults.StoreFault.{StoreFault}
 use Rattle.onix_message.specs.declared.faults.StoreFault.TheVariants as store
 use Rattle.series_rules.specs.declared.answers.AgreeAnswer.{AgreeAnswer}
@@ -12,49 +11,45 @@ use Rattle.series_rules.specs.declared.answers.WaiveAnswer.TheVariants as waiver
 use Rattle.series_rules.specs.declared.answers.Answer.{Answer}
 use Rattle.series_rules.specs.declared.answers.Answer.TheVariants as answer
 use Rattle.desk_http.specs.AnswerJson.{answer_json}
-use Rattle.desk_http.specs.Reply.{Reply, fault_reply}
+use Rattle.desk_http.specs.Json.{fault}
+use Rattle.desk_http.specs.Reply.{Reply, reply_of}
 
 -- an agreement stands, or clashes with one that stands
 abbrev pub agree_status : AgreeAnswer → ℕ
 agree_status agree.Agreed = 200
-agree_status agree.NameTaken = 409
-agree_status (agree.SeriesTaken holder) = 409
+agree_status _ = 409
 
--- a message is applied; it waits for another; its number has something else; or it cannot be taken as it is
+-- a message is applied; it waits for another; its number has something else; or it cannot be taken
+-- as it is
 abbrev pub delivery_status : DeliveryAnswer → ℕ
-delivery_status (delivery.Malformed row) = 422
-delivery_status delivery.Unnumbered = 422
-delivery_status delivery.UnknownSeries = 422
-delivery_status (delivery.BeforeFirst series n first) = 422
-delivery_status (delivery.Waived series n) = 409
-delivery_status (delivery.OtherContents series n) = 409
 delivery_status (delivery.Applied series n e) = 200
 delivery_status (delivery.Held series n next) = 202
+delivery_status (delivery.Waived series n) = 409
+delivery_status (delivery.OtherContents series n) = 409
+delivery_status _ = 422
 
--- no such series; a number that the series cannot have; a number that a message has; or the number is waived
+-- no such series; a number that the series cannot have; a number that a message has; or the number
+-- is waived
 abbrev pub waiver_status : WaiveAnswer → ℕ
 waiver_status waiver.UnknownSeries = 404
 waiver_status (waiver.BeforeFirst first) = 422
-waiver_status waiver.HasMessage = 409
+waiver_status waiver.Had = 409
 waiver_status waiver.Waived = 200
 
--- the status of an answer: 200; 202 held; 400 a bad range; 404 the unknown series of a question or a waiver; 409 what clashes with what stands; 422 what cannot be taken as it is
+-- the status of an answer: 200; 202 held; 400 a bad range; 404 the unknown series of a question or
+-- a waiver; 409 what clashes with what stands; 422 what cannot be taken as it is
 abbrev pub status_of : Answer → ℕ
 status_of (answer.Agreement name first a) = agree_status a
 status_of (answer.Delivery a) = delivery_status a
 status_of (answer.Waiver series n a) = waiver_status a
-status_of (answer.Price isbn offers) = 200
-status_of (answer.Choice isbn c) = 200
-status_of (answer.Calendar isbn offers) = 200
 status_of answer.BadRange = 400
-status_of (answer.Gaps report) = 200
-status_of (answer.Catalogue series m) = 200
 status_of answer.UnknownSeries = 404
 status_of (answer.Malformed row) = 422
+status_of _ = 200
 
 -- the reply to an answer: its status and its JSON without spaces
 unfoldable pub reply_of_answer : Answer → Reply
-reply_of_answer a = record { status = status_of a; allow = None; body = compact_text (answer_json a) }
+reply_of_answer a = reply_of (status_of a) (answer_json a)
 
 -- the kind of a fault of storage
 abbrev pub fault_kind : StoreFault → List ℕ
@@ -65,4 +60,4 @@ fault_kind store.Unusable = codes "unusable"
 
 -- the reply where a fault of storage comes in the place of an answer
 abbrev pub reply_of_fault : StoreFault → Reply
-reply_of_fault f = fault_reply (fault_kind f)
+reply_of_fault f = reply_of 503 (fault (fault_kind f))

@@ -22,11 +22,15 @@ use Rattle.http_requests.specs.Steps.{◌>>=◌}
 -- The path of messages asks no question
 abbrev pub question_of : Route → List ℕ → List ℕ → Result Request Refusal
 question_of route.Messages part query = Err refusal.NotFound
-question_of route.Price part query = prices_asked part query >>= λ asked. Ok (request.AskPrice asked.0 asked.1)
-question_of route.Choice part query = prices_asked part query >>= λ asked. Ok (request.AskChoice asked.0 asked.1)
-question_of route.Calendar part query = calendar_asked part query >>= λ asked. Ok (request.AskCalendar asked.0 asked.1)
+question_of route.Price part query =
+    prices_asked part query >>= λ asked. Ok (request.AskPrice asked.0 asked.1)
+question_of route.Choice part query =
+    prices_asked part query >>= λ asked. Ok (request.AskChoice asked.0 asked.1)
+question_of route.Calendar part query =
+    calendar_asked part query >>= λ asked. Ok (request.AskCalendar asked.0 asked.1)
 question_of route.Gaps part query = series_asked part >>= λ name. Ok (request.AskGaps name)
-question_of route.Catalogue part query = series_asked part >>= λ name. Ok (request.AskCatalogue name)
+question_of route.Catalogue part query =
+    series_asked part >>= λ name. Ok (request.AskCatalogue name)
 
 -- the same by the target of a head
 abbrev pub question_at : Route → List ℕ → Result Request Refusal
@@ -35,24 +39,17 @@ question_at route target = question_of route (part_at route (path_of target)) (q
 -- the request of a route: a delivery of the records in the body, or a question
 abbrev pub request_at : RequestHead → List ℕ → Route → Result Request Refusal
 request_at h rest route.Messages = records_posted h rest >>= λ records. Ok (request.Deliver records)
-request_at h rest route.Price = question_at route.Price h.target
-request_at h rest route.Choice = question_at route.Choice h.target
-request_at h rest route.Calendar = question_at route.Calendar h.target
-request_at h rest route.Gaps = question_at route.Gaps h.target
-request_at h rest route.Catalogue = question_at route.Catalogue h.target
+request_at h rest route = question_at route h.target
 
 -- what a head and the bytes behind it ask for: the refusal that comes first, or the request
 unfoldable pub asks_of : RequestHead → List ℕ → Result Request Refusal
 asks_of h rest = route_asked h >>= request_at h rest
 
--- how many bytes behind a head are looked at, by the route: those of the body of a delivery, and none for a question
+-- how many bytes behind a head are looked at, by the route: those of the body of a delivery, and
+-- none for a question
 abbrev pub most_at : RequestHead → Route → ℕ
 most_at h route.Messages = most_posted h
-most_at h route.Price = 0
-most_at h route.Choice = 0
-most_at h route.Calendar = 0
-most_at h route.Gaps = 0
-most_at h route.Catalogue = 0
+most_at h _ = 0
 
 -- none where there is no route
 abbrev pub most_by : RequestHead → Result Route Refusal → ℕ
@@ -68,10 +65,13 @@ abbrev pub wanted_by : Result Request Refusal → Wanted
 wanted_by (Ok r) = Asked r
 wanted_by (Err why) = Refused why
 
--- what an input asks for, by its bytes alone: the refusal of one without a head, or what its head and body ask for, the first step that refuses deciding
+-- what an input asks for, by its bytes alone: the refusal of one without a head, or what its head
+-- and body ask for, the first step that refuses deciding
 pub data AsksFor : List ℕ → Wanted → Type 0 where
-  without_head : {input : List ℕ} {why : Refusal} → IsRefused input why → AsksFor input (Refused why)
-  with_head : {input rest : List ℕ} {h : RequestHead} → HasHead input h rest → AsksFor input (wanted_by (asks_of h rest))
+  without_head : {input : List ℕ} {why : Refusal} → IsRefused input why
+      → AsksFor input (Refused why)
+  with_head : {input rest : List ℕ} {h : RequestHead} → HasHead input h rest
+      → AsksFor input (wanted_by (asks_of h rest))
 
 -- P of what was asked for, unless a read failed or memory ran out
 abbrev pub IfDecided : Result Request InputFault → (Wanted → Type 0) → Type 0

@@ -1,6 +1,6 @@
 -- The JSON of a catalogue, under the names that ONIX has for its parts.
 use Rattle.std.specs.Prelude.{ℕ, ℤ, List, [], ◌∷◌, Option, Some, None, codes, option_map}
-use Rattle.serde_json.specs.Data.{Data, array, boolean, member, no_members, null, object, string}
+use Rattle.serde_json.specs.Data.{Data, array, boolean, null, string}
 use Rattle.serde_json.specs.View.{items_of}
 use Rattle.onix_terms.specs.Amount.{amount_text}
 use Rattle.onix_terms.specs.Day.{day_text}
@@ -12,7 +12,7 @@ use Rattle.onix_message.specs.declared.parts.ProductSupply.{ProductSupply}
 use Rattle.onix_message.specs.declared.parts.SupplyDetail.{SupplyDetail}
 use Rattle.catalogue_rules.specs.Records.{ByReference, records_of}
 use Rattle.catalogue_rules.specs.declared.entry.Entry.{Entry}
-use Rattle.desk_http.specs.Json.{count, list_of, text_or_null}
+use Rattle.desk_http.specs.Json.{answered, count, list_of, object_of, text_or_null}
 
 -- a type and a value
 abbrev pub type_and_value : List ℕ → List ℕ → Data
@@ -29,11 +29,9 @@ party_or_null (Some p) = type_and_value p.id_type p.id_value
 
 -- where a price or a market holds
 abbrev pub territory : Territory → Data
-territory t = object
-    (member (codes "excluded") (list_of string t.excluded)
-    (member (codes "included") (list_of string t.included)
-    (member (codes "world") (boolean t.world)
-    no_members)))
+territory t = object_of (
+    ("included", list_of string t.included) ∷ ("world", boolean t.world)
+    ∷ ("excluded", list_of string t.excluded) ∷ [])
 
 -- a day YYYYMMDD, or null where there is none
 abbrev pub day_or_null : Option ℤ → Data
@@ -41,46 +39,30 @@ day_or_null day = text_or_null (option_map day_text day)
 
 -- a price
 abbrev pub price : Price → Data
-price p = object
-    (member (codes "amount") (string (amount_text p.amount))
-    (member (codes "currency") (string p.currency)
-    (member (codes "from") (day_or_null p.from)
-    (member (codes "minimum") (count p.minimum)
-    (member (codes "territory") (territory p.territory)
-    (member (codes "type") (string p.price_type)
-    (member (codes "until") (day_or_null p.until)
-    no_members)))))))
+price p = object_of (
+    ("type", string p.price_type) ∷ ("amount", string (amount_text p.amount))
+    ∷ ("currency", string p.currency) ∷ ("territory", territory p.territory)
+    ∷ ("from", day_or_null p.from) ∷ ("until", day_or_null p.until)
+    ∷ ("minimum", count p.minimum) ∷ [])
 
 -- one supplier's availability of a product, and its prices
 abbrev pub detail : SupplyDetail → Data
-detail d = object
-    (member (codes "availability") (string d.availability)
-    (member (codes "name") (string d.supplier.name)
-    (member (codes "prices") (list_of price d.prices)
-    (member (codes "role") (string d.supplier.role)
-    (member (codes "supplier") (party_or_null d.supplier.party)
-    (member (codes "unpriced") (text_or_null d.unpriced)
-    no_members))))))
+detail d = object_of (
+    ("role", string d.supplier.role) ∷ ("supplier", party_or_null d.supplier.party)
+    ∷ ("name", string d.supplier.name) ∷ ("availability", string d.availability)
+    ∷ ("unpriced", text_or_null d.unpriced) ∷ ("prices", list_of price d.prices) ∷ [])
 
 -- the supply of a product to a market
 abbrev pub supply : ProductSupply → Data
-supply s = object
-    (member (codes "details") (list_of detail s.details)
-    (member (codes "market") (territory s.market)
-    no_members))
+supply s = object_of (("market", territory s.market) ∷ ("details", list_of detail s.details) ∷ [])
 
 -- what a catalogue keeps under a reference
 abbrev pub entry : List ℕ × Entry → Data
-entry (reference, e) = object
-    (member (codes "ids") (list_of identifier e.ids)
-    (member (codes "reference") (string reference)
-    (member (codes "supplies") (list_of supply e.supplies)
-    no_members)))
+entry (reference, e) = object_of (
+    ("reference", string reference) ∷ ("ids", list_of identifier e.ids)
+    ∷ ("supplies", list_of supply e.supplies) ∷ [])
 
 -- the catalogue of a series: its records in order of reference
 abbrev pub catalogue : List ℕ → ByReference → Data
-catalogue series m = object
-    (member (codes "answer") (string (codes "catalogue"))
-    (member (codes "records") (list_of entry (records_of m))
-    (member (codes "series") (string series)
-    no_members)))
+catalogue series m = answered "catalogue" (
+    ("series", string series) ∷ ("records", list_of entry (records_of m)) ∷ [])

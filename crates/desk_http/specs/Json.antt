@@ -1,6 +1,9 @@
 -- The JSON of what answers are made of. The keys of each object stand in the order of their bytes.
-use Rattle.std.specs.Prelude.{ℕ, List, Option, Some, None, codes, map}
-use Rattle.serde_json.specs.Data.{Data, array, null, member, no_members, number, object, string, unsigned}
+use Prim.Native.String.{String}
+use Rattle.std.specs.Prelude.{ℕ, List, [], ◌∷◌, Option, codes, map}
+use Rattle.std.specs.Option.{option_map_or}
+use Rattle.serde_json.specs.Data.{Data, Members, array, null, no_members, number, object, put}
+use Rattle.serde_json.specs.Data.{string, unsigned}
 use Rattle.serde_json.specs.View.{items_of}
 
 -- a whole number
@@ -9,28 +12,37 @@ count n = number (unsigned n)
 
 -- a whole number, or null where there is none
 abbrev pub count_or_null : Option ℕ → Data
-count_or_null None = null
-count_or_null (Some n) = count n
+count_or_null n = option_map_or count n null
 
 -- a text, or null where there is none
 abbrev pub text_or_null : Option (List ℕ) → Data
-text_or_null None = null
-text_or_null (Some text) = string text
+text_or_null text = option_map_or string text null
 
 -- a list of what each of these is
 abbrev pub list_of : {A : Type 0} → (A → Data) → List A → Data
 list_of f xs = array (items_of (map f xs))
 
--- a refusal for that reason, with nothing else to say
-abbrev pub refused : List ℕ → Data
-refused reason = object
-    (member (codes "answer") (string (codes "refused"))
-    (member (codes "reason") (string reason)
-    no_members))
+-- members, each a key and what stands under it
+abbrev pub Fields : Type 0
+Fields = List (String × Data)
+
+-- the same in the order of their keys
+abbrev pub members : Fields → Members
+members [] = no_members
+members (field ∷ fields) = put (codes field.0) field.1 (members fields)
+
+-- the object of these members
+abbrev pub object_of : Fields → Data
+object_of fields = object (members fields)
+
+-- what is answered, with these members beside its name
+abbrev pub answered : String → Fields → Data
+answered name fields = object_of (("answer", string (codes name)) ∷ fields)
+
+-- a refusal for that reason
+abbrev pub refused : List ℕ → Fields → Data
+refused reason fields = answered "refused" (("reason", string reason) ∷ fields)
 
 -- a fault of storage of that kind
 abbrev pub fault : List ℕ → Data
-fault kind = object
-    (member (codes "answer") (string (codes "fault"))
-    (member (codes "reason") (string kind)
-    no_members))
+fault kind = answered "fault" (("reason", string kind) ∷ [])

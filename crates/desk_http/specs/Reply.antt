@@ -1,7 +1,9 @@
 -- A reply over HTTP/1.1, and its text.
+use Prim.Native.String.{String}
 use Rattle.std.specs.Prelude.{ℕ, ◌==◌, if◌then◌else◌, List, [], ◌∷◌, ◌++◌, length, Option, Some, None, codes, decimal}
+use Rattle.serde_json.specs.Data.{Data}
 use Rattle.serde_json.specs.Written.{compact_text}
-use Rattle.desk_http.specs.Json.{fault, refused}
+use Rattle.desk_http.specs.Json.{refused}
 
 -- a status, the method that the path takes where another was asked, and the body, which is JSON
 pub record Reply : Type 0 where
@@ -36,25 +38,24 @@ abbrev pub allow_line : Option (List ℕ) → List ℕ
 allow_line None = []
 allow_line (Some method) = codes "Allow: " ++ method ++ line_end
 
--- the text of a reply: the status line, the header fields, an empty line and the body
-unfoldable pub reply_text : Reply → List ℕ
-reply_text r =
+-- the head of a reply: the status line, the header fields and an empty line
+unfoldable pub head_text : Reply → List ℕ
+head_text r =
     codes "HTTP/1.1 " ++ decimal r.status ++ codes " " ++ phrase_of r.status ++ line_end
     ++ allow_line r.allow
     ++ codes "Content-Type: application/json" ++ line_end
     ++ codes "Content-Length: " ++ decimal (length r.body) ++ line_end
     ++ codes "Connection: close" ++ line_end
     ++ line_end
-    ++ r.body
+
+-- the text of a reply: its head and its body
+abbrev pub reply_text : Reply → List ℕ
+reply_text r = head_text r ++ r.body
+
+-- the reply of that status with this JSON, without spaces
+abbrev pub reply_of : ℕ → Data → Reply
+reply_of status json = record { status = status; allow = None; body = compact_text json }
 
 -- a request is refused with that status, for that reason
-abbrev pub refusal : ℕ → List ℕ → Reply
-refusal status reason = record { status = status; allow = None; body = compact_text (refused reason) }
-
--- a request is refused whose path takes that method alone
-abbrev pub method_refusal : List ℕ → Reply
-method_refusal method = record { status = 405; allow = Some method; body = compact_text (refused (codes "method-not-allowed")) }
-
--- the desk had a fault of storage of that kind
-abbrev pub fault_reply : List ℕ → Reply
-fault_reply kind = record { status = 503; allow = None; body = compact_text (fault kind) }
+abbrev pub refusal : ℕ → String → Reply
+refusal status reason = reply_of status (refused (codes reason) [])

@@ -23,11 +23,7 @@ query_of target = after_first (λ b. b == 63) target
 -- the method that a route takes
 abbrev pub method_of : Route → Method
 method_of route.Messages = method.Post
-method_of route.Price = method.Get
-method_of route.Choice = method.Get
-method_of route.Calendar = method.Get
-method_of route.Gaps = method.Get
-method_of route.Catalogue = method.Get
+method_of _ = method.Get
 
 -- the name of a method
 abbrev pub method_name : Method → List ℕ
@@ -36,7 +32,9 @@ method_name method.Post = codes "POST"
 
 -- the route, where it is asked by its method
 abbrev pub route_by : List ℕ → Route → Result Route Refusal
-route_by name r = if bytes_eq name (method_name (method_of r)) then Ok r else Err (refusal.MethodNotAllowed (method_of r))
+route_by name r =
+    if bytes_eq name (method_name (method_of r)) then Ok r
+    else Err (refusal.MethodNotAllowed (method_of r))
 
 -- the route of a path that is asked by the method of that name
 abbrev pub route_found : List ℕ → List ℕ → Result Route Refusal
@@ -45,5 +43,6 @@ route_found path name = or_refuse refusal.NotFound (route_at path) >>= route_by 
 -- the route that a head asks for
 unfoldable pub route_asked : RequestHead → Result Route Refusal
 route_asked h =
-    if nat_lt 0 (length (field_values (codes "transfer-encoding") h)) then Err refusal.TransferEncoding
+    if nat_lt 0 (length (field_values (codes "transfer-encoding") h))
+    then Err refusal.TransferEncoding
     else route_found (path_of h.target) h.method

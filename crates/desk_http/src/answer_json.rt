@@ -11,7 +11,8 @@ use crate::bodies::refused_json;
 use crate::catalogue_json::catalogue_json;
 use crate::member::Member;
 use crate::members::{object_of, object_with};
-use crate::offer_json::{calendar_json, choice_json, price_json};
+use crate::offer_json::choice_json;
+use crate::texts::offers_text;
 use crate::to_json::{ToJson, array_of};
 use onix_message::Effect;
 use onix_terms::number::Number;
@@ -203,7 +204,7 @@ fn waiver_json(
     match answer {
         WaiveAnswer::UnknownSeries => refused_json(alloc, "unknown-series"),
         WaiveAnswer::BeforeFirst { first } => before_first_json(alloc, series, number, *first),
-        WaiveAnswer::HasMessage => number_refused_json(alloc, "had", series, number),
+        WaiveAnswer::Had => number_refused_json(alloc, "had", series, number),
         WaiveAnswer::Waived => waived_json(alloc, series, number),
     }
 }
@@ -232,41 +233,50 @@ fn gaps_json(alloc: Global, report: &GapReport) -> Result<Value, AllocError>
     object_with(alloc, &members, "missing", missing)
 }
 
-fn answer_json(alloc: Global, answer: &Answer) -> Result<Value, AllocError>
-    ensures { IfOk result (λ v. view v ≡ json.answer_json answer.now) }
+// The text of the JSON of an answer.
+fn value_text(alloc: Global, answer: &Answer, value: Value) -> Result<String, AllocError>
+    requires { view value ≡ json.answer_json answer.now }
+    ensures text { IfOk result
+        (λ text. string_bytes text ≡ compact_text (json.answer_json answer.now)) }
+    ensures reads { IfOk result
+        (λ text. read (string_bytes text) ≡ Some (json.answer_json answer.now)) }
 {
-    match answer {
-        Answer::Agreement {
-            name,
-            first,
-            answer,
-        } => agreement_json(alloc, name, *first, answer),
-        Answer::Delivery(answer) => delivered_json(alloc, answer),
-        Answer::Waiver {
-            series,
-            number,
-            answer,
-        } => waiver_json(alloc, series, *number, answer),
-        Answer::Price { isbn, offers } => price_json(alloc, isbn, offers.as_slice()),
-        Answer::Choice { isbn, choice } => choice_json(alloc, isbn, choice),
-        Answer::Calendar { isbn, offers } => calendar_json(alloc, isbn, offers.as_slice()),
-        Answer::BadRange => refused_json(alloc, "bad-range"),
-        Answer::Gaps(report) => gaps_json(alloc, report),
-        Answer::Catalogue { series, catalogue } => catalogue_json(alloc, series, catalogue),
-        Answer::UnknownSeries => refused_json(alloc, "unknown-series"),
-        Answer::Malformed { row } => malformed_json(alloc, *row),
-    }
+    value.to_string(alloc)
 }
 
 /// The text of an answer's JSON. Whoever reads it as JSON gets the answer's data. Fails only
-/// where memory runs out.
+/// where memory runs out. Of the offers of an article no more JSON is held than that of one.
 pub fn answer_text(alloc: Global, answer: &Answer) -> Result<String, AllocError>
     ensures text { IfOk result
         (λ text. string_bytes text ≡ compact_text (json.answer_json answer.now)) }
     ensures reads { IfOk result
         (λ text. read (string_bytes text) ≡ Some (json.answer_json answer.now)) }
 {
-    let value = answer_json(alloc, answer)?;
-    let text = value.to_string(alloc)?;
-    Ok(text)
+    match answer {
+        Answer::Price { isbn, offers } => offers_text(alloc, "price", isbn, offers.as_slice()),
+        Answer::Calendar { isbn, offers } => {
+            offers_text(alloc, "calendar", isbn, offers.as_slice())
+        }
+        Answer::Agreement {
+            name,
+            first,
+            answer: agreed,
+        } => value_text(alloc, answer, agreement_json(alloc, name, *first, agreed)?),
+        Answer::Delivery(delivered) => value_text(alloc, answer, delivered_json(alloc, delivered)?),
+        Answer::Waiver {
+            series,
+            number,
+            answer: waived,
+        } => value_text(alloc, answer, waiver_json(alloc, series, *number, waived)?),
+        Answer::Choice { isbn, choice } => {
+            value_text(alloc, answer, choice_json(alloc, isbn, choice)?)
+        }
+        Answer::BadRange => value_text(alloc, answer, refused_json(alloc, "bad-range")?),
+        Answer::Gaps(report) => value_text(alloc, answer, gaps_json(alloc, report)?),
+        Answer::Catalogue { series, catalogue } => {
+            value_text(alloc, answer, catalogue_json(alloc, series, catalogue)?)
+        }
+        Answer::UnknownSeries => value_text(alloc, answer, refused_json(alloc, "unknown-series")?),
+        Answer::Malformed { row } => value_text(alloc, answer, malformed_json(alloc, *row)?),
+    }
 }

@@ -40,7 +40,7 @@ fn waiver_status(answer: &WaiveAnswer) -> u16
     match answer {
         WaiveAnswer::Waived => 200,
         WaiveAnswer::UnknownSeries => 404,
-        WaiveAnswer::HasMessage => 409,
+        WaiveAnswer::Had => 409,
         WaiveAnswer::BeforeFirst { .. } => 422,
     }
 }

@@ -1,6 +1,7 @@
 //! The desk over HTTP/1.1: one request and one reply for each connection. `serve::serve_one` reads
-//! a request, finds its route among the desk's `Routes`, which are made once, asks a desk, and
-//! writes the reply; `answer_reply::reply_of` makes the reply to an answer.
+//! a request, finds its route, asks a desk, and writes the reply; `serve::serve_routed` does so by
+//! `Routes` that are made once for all connections. `answer_reply::reply_of` makes the reply to an
+//! answer.
 //!
 //! `specs/Asks.antt` says what the bytes of a connection ask for. Its parts: the head and the body,
 //! which are defined in `http_requests`; `Routing` over `Place`, `Table` and `Keys` (the path and
@@ -10,7 +11,8 @@
 //! that a desk stands for, and `Serves` for the desk itself. `laws` has what these definitions come
 //! to.
 //!
-//! The body of a reply is JSON: `answer_json::answer_text` writes that of an answer, `bodies` those
+//! The body of a reply is JSON: `answer_json::answer_text` writes that of an answer, by `texts` offer
+//! by offer where it has many, `bodies` those
 //! of what is refused before a desk is asked and of faults of storage. `AnswerJson` says which JSON
 //! an answer is, over `CatalogueJson`, `OfferJson` and `Json` (the values that all of it is made
 //! of).
@@ -35,10 +37,11 @@ mod request;
 pub mod routes;
 mod routing;
 pub mod serve;
+mod texts;
 mod to_json;
 mod values;
 
 pub use answer_reply::reply_of;
 pub use exchange::HttpFault;
 pub use routes::Routes;
-pub use serve::serve_one;
+pub use serve::{serve_one, serve_routed};

@@ -29,22 +29,6 @@ impl ToJson for PricedOffer {
     }
 }
 
-/// The JSON of the offers of an article with their current prices.
-pub(crate) fn price_json(
-    alloc: Global,
-    isbn: &Isbn13,
-    offers: &[PricedOffer],
-) -> Result<Value, AllocError>
-    ensures { IfOk result (λ v. view v ≡ json.price isbn.now offers.now) }
-{
-    let offers = array_of(alloc, offers)?;
-    let members = [
-        Member::Text("answer", "price"),
-        Member::Text("isbn", isbn.as_str()),
-    ];
-    object_with(alloc, &members, "offers", offers)
-}
-
 fn chosen_offer_json(alloc: Global, chosen: &ChosenOffer) -> Result<Value, AllocError>
     ensures { IfOk result (λ v. view v ≡ json.chosen_offer chosen.now) }
 {
@@ -112,20 +96,4 @@ impl ToJson for OfferCalendar {
         ];
         object_with(alloc, &members, "spans", spans)
     }
-}
-
-/// The JSON of the offers of an article with their calendars.
-pub(crate) fn calendar_json(
-    alloc: Global,
-    isbn: &Isbn13,
-    offers: &[OfferCalendar],
-) -> Result<Value, AllocError>
-    ensures { IfOk result (λ v. view v ≡ json.calendar isbn.now offers.now) }
-{
-    let offers = array_of(alloc, offers)?;
-    let members = [
-        Member::Text("answer", "calendar"),
-        Member::Text("isbn", isbn.as_str()),
-    ];
-    object_with(alloc, &members, "offers", offers)
 }

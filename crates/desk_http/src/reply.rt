@@ -2,7 +2,7 @@
 
 ghost use Rattle.std.specs.Prelude.{◌≡◌, IfOk, option_copied};
 ghost use Rattle.std.specs.String.{string_bytes};
-ghost use Rattle.desk_http.specs.Reply.{allow_line, phrase_of, reply_text};
+ghost use Rattle.desk_http.specs.Reply.{allow_line, head_text, phrase_of, reply_text};
 
 use std::alloc::{AllocError, Global};
 
@@ -39,9 +39,27 @@ fn allow_line(alloc: Global, allow: Option<&str>) -> Result<String, AllocError>
     }
 }
 
-/// The text of a reply: the status line, the header fields, an empty line and the body. `allow` is
-/// the method that the path takes, where the request had another. Fails only where memory runs out.
-#[tactic(auto, unfolding(crate::specs::Reply::reply_text))]
+/// The head of a reply: the status line, the header fields and an empty line. `allow` is the method
+/// that the path takes, where the request had another. Fails only where memory runs out.
+#[tactic(auto, unfolding(crate::specs::Reply::head_text))]
+pub fn head_text(
+    alloc: Global,
+    status: u16,
+    allow: Option<&str>,
+    body: &str,
+) -> Result<String, AllocError>
+    ensures { IfOk result (λ text. string_bytes text ≡ head_text
+        (record { status = status; allow = option_copied allow.entry; body = body.now })) }
+{
+    let phrase = phrase_of(status);
+    let allow = allow_line(alloc, allow)?;
+    let length = body.len();
+    format!(in alloc;
+        "HTTP/1.1 {status} {phrase}\r\n{allow}Content-Type: application/json\r\nContent-Length: {length}\r\nConnection: close\r\n\r\n"
+    )
+}
+
+/// The text of a reply: its head and the body. Fails only where memory runs out.
 pub fn reply_text(
     alloc: Global,
     status: u16,
@@ -51,10 +69,7 @@ pub fn reply_text(
     ensures { IfOk result (λ text. string_bytes text ≡ reply_text
         (record { status = status; allow = option_copied allow.entry; body = body.now })) }
 {
-    let phrase = phrase_of(status);
-    let allow = allow_line(alloc, allow)?;
-    let length = body.len();
-    format!(in alloc;
-        "HTTP/1.1 {status} {phrase}\r\n{allow}Content-Type: application/json\r\nContent-Length: {length}\r\nConnection: close\r\n\r\n{body}"
-    )
+    let mut text = head_text(alloc, status, allow, body)?;
+    text.push_str(body)?;
+    Ok(text)
 }

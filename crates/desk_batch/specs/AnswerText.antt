@@ -26,13 +26,15 @@ unknown_fields = codes "refused" ∷ codes "unknown-series" ∷ []
 
 -- the answer about a number below the first of its series
 abbrev pub before_first_fields : List ℕ → ℕ → ℕ → List (List ℕ)
-before_first_fields series n first = codes "refused" ∷ codes "before-first" ∷ series ∷ decimal n ∷ decimal first ∷ []
+before_first_fields series n first =
+    codes "refused" ∷ codes "before-first" ∷ series ∷ decimal n ∷ decimal first ∷ []
 
 -- the record of the answer to an agreement of that name and first number
 abbrev pub agree_fields : List ℕ → ℕ → AgreeAnswer → List (List ℕ)
 agree_fields name first agree.Agreed = codes "agreed" ∷ name ∷ decimal first ∷ []
 agree_fields name first agree.NameTaken = codes "refused" ∷ codes "name-taken" ∷ name ∷ []
-agree_fields name first (agree.SeriesTaken holder) = codes "refused" ∷ codes "series-taken" ∷ holder ∷ []
+agree_fields name first (agree.SeriesTaken holder) =
+    codes "refused" ∷ codes "series-taken" ∷ holder ∷ []
 
 -- the five counts of an effect, each behind its name
 abbrev pub effect_fields : Effect → List (List ℕ)
@@ -50,16 +52,20 @@ delivery_fields (delivery.Malformed row) = malformed_fields row
 delivery_fields delivery.Unnumbered = codes "refused" ∷ codes "unnumbered" ∷ []
 delivery_fields delivery.UnknownSeries = unknown_fields
 delivery_fields (delivery.BeforeFirst series n first) = before_first_fields series n first
-delivery_fields (delivery.Waived series n) = codes "refused" ∷ codes "waived" ∷ series ∷ decimal n ∷ []
-delivery_fields (delivery.OtherContents series n) = codes "refused" ∷ codes "other-contents" ∷ series ∷ decimal n ∷ []
-delivery_fields (delivery.Applied series n e) = codes "applied" ∷ series ∷ decimal n ∷ effect_fields e
-delivery_fields (delivery.Held series n next) = codes "held" ∷ series ∷ decimal n ∷ (codes "waiting-for=" ++ decimal next) ∷ []
+delivery_fields (delivery.Waived series n) =
+    codes "refused" ∷ codes "waived" ∷ series ∷ decimal n ∷ []
+delivery_fields (delivery.OtherContents series n) =
+    codes "refused" ∷ codes "other-contents" ∷ series ∷ decimal n ∷ []
+delivery_fields (delivery.Applied series n e) =
+    codes "applied" ∷ series ∷ decimal n ∷ effect_fields e
+delivery_fields (delivery.Held series n next) =
+    codes "held" ∷ series ∷ decimal n ∷ (codes "waiting-for=" ++ decimal next) ∷ []
 
 -- the record of the answer to a waiver of that number
 abbrev pub waiver_fields : List ℕ → ℕ → WaiveAnswer → List (List ℕ)
 waiver_fields series n waiver.UnknownSeries = unknown_fields
 waiver_fields series n (waiver.BeforeFirst first) = before_first_fields series n first
-waiver_fields series n waiver.HasMessage = codes "refused" ∷ codes "had" ∷ series ∷ decimal n ∷ []
+waiver_fields series n waiver.Had = codes "refused" ∷ codes "had" ∷ series ∷ decimal n ∷ []
 waiver_fields series n waiver.Waived = codes "waived" ∷ series ∷ decimal n ∷ []
 
 -- the records of an answer

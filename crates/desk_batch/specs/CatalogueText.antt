@@ -10,8 +10,10 @@ use Rattle.catalogue_rules.specs.Records.{ByReference, records_of}
 
 -- what a catalogue keeps under a reference: its identifiers, then its supplies
 abbrev pub entry_records : List ℕ × Entry → List (List (List ℕ))
-entry_records (reference, e) = (codes "record" ∷ reference ∷ flat_map identifier_fields e.ids) ∷ supplies_records e.supplies
+entry_records (reference, e) =
+    (codes "record" ∷ reference ∷ flat_map identifier_fields e.ids) ∷ supplies_records e.supplies
 
 -- the catalogue of a series: how many records it has, then each in order of reference
 unfoldable pub catalogue_records : List ℕ → ByReference → List (List (List ℕ))
-catalogue_records series m = (codes "catalogue" ∷ series ∷ decimal (len m) ∷ []) ∷ flat_map entry_records (records_of m)
+catalogue_records series m =
+    (codes "catalogue" ∷ series ∷ decimal (len m) ∷ []) ∷ flat_map entry_records (records_of m)

@@ -1,12 +1,12 @@
 -- The records of a report on the gaps of a series.
-use Rattle.std.specs.Prelude.{ℕ, List, [], ◌∷◌, ◌++◌, Option, Some, None, codes, length, map}
+use Rattle.std.specs.Prelude.{ℕ, List, [], ◌∷◌, ◌++◌, Option, codes, length, map}
 use Rattle.std.specs.Fmt.{decimal}
+use Rattle.std.specs.Option.{option_map_or}
 use Rattle.series_rules.specs.declared.answers.GapReport.{GapReport}
 
 -- a number, or nothing
 abbrev pub optional_decimal : Option ℕ → List ℕ
-optional_decimal None = []
-optional_decimal (Some n) = decimal n
+optional_decimal n = option_map_or decimal n []
 
 -- the numbers of a report, each behind its name
 unfoldable pub gap_fields : GapReport → List (List ℕ)

@@ -29,10 +29,12 @@ abbrev pub are_request : List (List (List ℕ)) → Bool
 are_request [] = false
 are_request (row ∷ more) = begins_request row
 
--- pieces with one more record in front: it joins the first piece, unless that is a request of its own
+-- pieces with one more record in front: it joins the first piece, unless that is a request of its
+-- own
 abbrev pub in_front : List (List ℕ) → List (List (List (List ℕ))) → List (List (List (List ℕ)))
 in_front row [] = (row ∷ []) ∷ []
-in_front row (piece ∷ more) = if are_request piece then (row ∷ []) ∷ piece ∷ more else (row ∷ piece) ∷ more
+in_front row (piece ∷ more) =
+    if are_request piece then (row ∷ []) ∷ piece ∷ more else (row ∷ piece) ∷ more
 
 -- records cut before each that begins a request, and at the first of all
 unfoldable pub pieces : List (List (List ℕ)) → List (List (List (List ℕ)))

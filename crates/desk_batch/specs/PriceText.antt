@@ -2,6 +2,7 @@
 use Rattle.std.specs.Prelude.{ℕ, List, [], ◌∷◌, ◌++◌, Option, Some, None, codes, length, map}
 use Rattle.std.specs.Fmt.{decimal}
 use Rattle.std.specs.List.{flat_map}
+use Rattle.std.specs.Option.{option_map_or}
 use Rattle.onix_terms.specs.Amount.{amount_text}
 use Rattle.onix_terms.specs.Day.{day_text}
 use Rattle.price_rules.specs.declared.calendar.Span.{Span}
@@ -12,8 +13,7 @@ use Rattle.series_rules.specs.declared.answers.OfferCalendar.{OfferCalendar}
 
 -- an amount, or nothing where no price holds
 abbrev pub optional_amount : Option ℕ → List ℕ
-optional_amount None = []
-optional_amount (Some amount) = amount_text amount
+optional_amount amount = option_map_or amount_text amount []
 
 -- which offer it is
 abbrev pub listed_fields : ListedOffer → List (List ℕ)
@@ -29,11 +29,13 @@ head_fields name isbn count = name ∷ isbn ∷ decimal count ∷ []
 
 -- how many offers an article has, then each with its current price
 unfoldable pub price_records : List ℕ → List PricedOffer → List (List (List ℕ))
-price_records isbn offers = head_fields (codes "price") isbn (length offers) ∷ map priced_fields offers
+price_records isbn offers =
+    (codes "price" ∷ isbn ∷ decimal (length offers) ∷ []) ∷ map priced_fields offers
 
 -- the rule that takes an offer, the offer and its current price
 abbrev pub chosen_fields : List ℕ → ChosenOffer → List (List ℕ)
-chosen_fields isbn c = codes "choice" ∷ isbn ∷ decimal c.rule ∷ (listed_fields c.offer ++ amount_text c.amount ∷ [])
+chosen_fields isbn c =
+    codes "choice" ∷ isbn ∷ decimal c.rule ∷ (listed_fields c.offer ++ amount_text c.amount ∷ [])
 
 -- the chosen offer, or that there is none
 abbrev pub choice_fields : List ℕ → Option ChosenOffer → List (List ℕ)
@@ -50,4 +52,5 @@ dated_records c = (codes "offer" ∷ listed_fields c.offer) ∷ map span_fields 
 
 -- how many offers an article has, then each with its calendar
 unfoldable pub calendar_records : List ℕ → List OfferCalendar → List (List (List ℕ))
-calendar_records isbn offers = head_fields (codes "calendar") isbn (length offers) ∷ flat_map dated_records offers
+calendar_records isbn offers =
+    (codes "calendar" ∷ isbn ∷ decimal (length offers) ∷ []) ∷ flat_map dated_records offers

@@ -26,7 +26,8 @@ agreement_from name sender_type sender_value to_type to_value first = do
 
 -- the agreement that the fields after `Agree` make
 unfoldable pub agreement_of : List (List ℕ) → Option Agreement
-agreement_of (name ∷ sender_type ∷ sender_value ∷ to_type ∷ to_value ∷ first ∷ []) = agreement_from name sender_type sender_value to_type to_value first
+agreement_of (name ∷ sender_type ∷ sender_value ∷ to_type ∷ to_value ∷ first ∷ []) =
+    agreement_from name sender_type sender_value to_type to_value first
 agreement_of _ = None
 
 -- the waiver that the fields after `Waive` make
@@ -42,10 +43,13 @@ abbrev pub series_of : List (List ℕ) → Option (List ℕ)
 series_of (series ∷ []) = series_name_of series
 series_of _ = None
 
--- the prices on a day that these fields ask for: a country, a currency and a type, and perhaps a quantity
+-- the prices on a day that these fields ask for: a country, a currency and a type, and perhaps a
+-- quantity
 unfoldable pub prices_on : List ℕ → List (List ℕ) → Option PriceQuery
-prices_on day (country ∷ currency ∷ price_type ∷ []) = price_query day country currency price_type None
-prices_on day (country ∷ currency ∷ price_type ∷ quantity ∷ []) = price_query day country currency price_type (Some quantity)
+prices_on day (country ∷ currency ∷ price_type ∷ []) =
+    price_query day country currency price_type None
+prices_on day (country ∷ currency ∷ price_type ∷ quantity ∷ []) =
+    price_query day country currency price_type (Some quantity)
 prices_on day _ = None
 
 -- the article and the prices that the fields after `AskPrice` or `AskChoice` ask for
@@ -68,11 +72,15 @@ calendar_question_of _ = None
 -- the question that the fields after a name ask
 abbrev pub question_of : List ℕ → List (List ℕ) → Option Request
 question_of name fields =
-    if bytes_eq name (codes "AskPrice") then option_map (λ (i, q). request.AskPrice i q) (price_question_of fields)
-    else if bytes_eq name (codes "AskChoice") then option_map (λ (i, q). request.AskChoice i q) (price_question_of fields)
-    else if bytes_eq name (codes "AskCalendar") then option_map (λ (i, q). request.AskCalendar i q) (calendar_question_of fields)
+    if bytes_eq name (codes "AskPrice")
+    then option_map (λ (i, q). request.AskPrice i q) (price_question_of fields)
+    else if bytes_eq name (codes "AskChoice")
+    then option_map (λ (i, q). request.AskChoice i q) (price_question_of fields)
+    else if bytes_eq name (codes "AskCalendar")
+    then option_map (λ (i, q). request.AskCalendar i q) (calendar_question_of fields)
     else if bytes_eq name (codes "AskGaps") then option_map request.AskGaps (series_of fields)
-    else if bytes_eq name (codes "AskCatalogue") then option_map request.AskCatalogue (series_of fields)
+    else if bytes_eq name (codes "AskCatalogue")
+    then option_map request.AskCatalogue (series_of fields)
     else None
 
 -- the request that the fields after a name make
@@ -85,7 +93,8 @@ named_request name fields =
 -- the request that a record is, unless one of its fields is wrong
 abbrev pub row_request : List (List ℕ) → Option Request
 row_request [] = None
-row_request (name ∷ fields) = if list_all is_clean (name ∷ fields) then named_request name fields else None
+row_request (name ∷ fields) =
+    if list_all is_clean (name ∷ fields) then named_request name fields else None
 
 -- a record begins a message
 abbrev pub begins_message : List (List ℕ) → Bool
@@ -98,7 +107,9 @@ alone None more = request.Malformed 1
 alone (Some r) [] = r
 alone (Some r) (next ∷ more) = request.Malformed 2
 
--- the request that a piece is: a delivery, or one record; else malformed at row 1, or at row 2 where another record follows. A question about prices is for one copy where it names no quantity
+-- the request that a piece is: a delivery, or one record; else malformed at row 1, or at row 2
+-- where another record follows. A question about prices is for one copy where it names no quantity
 abbrev pub request_of : List (List (List ℕ)) → Request
 request_of [] = request.Malformed 1
-request_of (row ∷ more) = if begins_message row then request.Deliver (row ∷ more) else alone (row_request row) more
+request_of (row ∷ more) =
+    if begins_message row then request.Deliver (row ∷ more) else alone (row_request row) more

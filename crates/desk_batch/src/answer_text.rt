@@ -179,7 +179,7 @@ fn fill_waiver(
     match answer {
         WaiveAnswer::UnknownSeries => fill_refusal(out, "unknown-series"),
         WaiveAnswer::BeforeFirst { first } => fill_before_first(out, series, number, *first),
-        WaiveAnswer::HasMessage => fill_numbered(out, &["refused", "had"], series, number),
+        WaiveAnswer::Had => fill_numbered(out, &["refused", "had"], series, number),
         WaiveAnswer::Waived => fill_numbered(out, &["waived"], series, number),
     }
 }

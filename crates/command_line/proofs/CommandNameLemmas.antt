@@ -5,10 +5,10 @@ use Rattle.clap.proofs.OnLiterals.{clap_on_literals}
 use Rattle.clap.specs.Simple.{Shape, built, entered, matches_of, names_of, subcommand_of}
 use Rattle.clap.specs.Walk.{Names, Row, Rule, Text, Walk, nothing_held, stop_after, walk_from, walked, walked_from}
 use Rattle.command_line.specs.Asked.{IsAction, IsTask, Reads, ReadsWords}
-use Rattle.command_line.specs.CommandLine.{batch_command, convert_command, deliver_command, gaps_command, migrate_command, onixdesk, serve_command}
+use Rattle.command_line.specs.CommandLine.{batch_command, convert_command, deliver_command, gaps_command, migrate_command, onixdesk, rules_command, serve_command}
 use Rattle.command_line.specs.CommandNames.{NamesAreOfCommands, action_name, task_name}
 use Rattle.command_line.specs.declared.invocation.Action.{Action}
-use Rattle.command_line.specs.declared.invocation.Action.TheVariants.{Convert, InMemory, InFile, Migrate, Send}
+use Rattle.command_line.specs.declared.invocation.Action.TheVariants.{CheckRules, Convert, InMemory, InFile, Migrate, Send}
 use Rattle.command_line.specs.declared.invocation.Invocation.{Invocation}
 use Rattle.command_line.specs.declared.invocation.Reading.TheVariants as reading
 use Rattle.command_line.specs.declared.invocation.Task.{Task}
@@ -27,6 +27,7 @@ action_named top name own (InFile db task) is = task_named name own task is.0
 action_named top name own (Migrate db) is = sym is.0
 action_named top name own (Send socket) is = sym is.0
 action_named top name own (Convert conversion) is = sym is.0
+action_named top name own (CheckRules file) is = sym is.0
 
 abbrev first : Option (Text × List Text) → Option Text
 first = option_map (λ p. p.0)
@@ -90,6 +91,10 @@ migrate : IsMet (codes "migrate")
 unfolding clap_on_literals
 migrate = (refl, λ more. refl)
 
+rules_met : IsMet (codes "rules")
+unfolding clap_on_literals
+rules_met = (refl, λ more. refl)
+
 serve : IsMet (codes "serve")
 unfolding clap_on_literals
 serve = (refl, λ more. refl)
@@ -101,8 +106,11 @@ IsNamed command = (program : Text) (rest : List Text) (asked : Invocation) → R
 more : (command : Shape) (commands : List Shape) → IsNamed command → All IsNamed commands → All IsNamed (command ∷ commands)
 more = All-cons IsNamed
 
+abbrev from_rules : List Shape
+from_rules = rules_command ∷ serve_command ∷ []
+
 abbrev from_migrate : List Shape
-from_migrate = migrate_command ∷ serve_command ∷ []
+from_migrate = migrate_command ∷ from_rules
 
 abbrev from_gaps : List Shape
 from_gaps = gaps_command ∷ from_migrate
@@ -119,5 +127,6 @@ names_are_of_commands =
     (more convert_command from_deliver (named (codes "convert") convert)
     (more deliver_command from_gaps (named (codes "deliver") deliver)
     (more gaps_command from_migrate (named (codes "gaps") gaps)
-    (more migrate_command (serve_command ∷ []) (named (codes "migrate") migrate)
-    (more serve_command [] (named (codes "serve") serve) (All-nil IsNamed))))))
+    (more migrate_command from_rules (named (codes "migrate") migrate)
+    (more rules_command (serve_command ∷ []) (named (codes "rules") rules_met)
+    (more serve_command [] (named (codes "serve") serve) (All-nil IsNamed)))))))

@@ -7,7 +7,7 @@ use Rattle.command_line.specs.CommandLine.{onixdesk}
 use Rattle.command_line.specs.ConvertWords.{AsksFor, asked_view}
 use Rattle.command_line.specs.Words.{has_flag, number_in, text_in, texts_in}
 use Rattle.command_line.specs.declared.invocation.Action.{Action}
-use Rattle.command_line.specs.declared.invocation.Action.TheVariants.{Convert, InMemory, InFile, Migrate, Send}
+use Rattle.command_line.specs.declared.invocation.Action.TheVariants.{CheckRules, Convert, InMemory, InFile, Migrate, Send}
 use Rattle.command_line.specs.declared.invocation.Database.{Database}
 use Rattle.command_line.specs.declared.invocation.Invocation.{Invocation}
 use Rattle.command_line.specs.declared.invocation.Reading.{Reading}
@@ -21,7 +21,8 @@ use Rattle.command_line.specs.declared.invocation.Task.TheVariants as task
 abbrev pub IsTask : Text → List Row → Task → Type 0
 IsTask name own task.Batch = name ≡ codes "batch"
 IsTask name own (task.Deliver files) =
-    (name ≡ codes "deliver") × (texts_in own (codes "file") ≡ Some (map (λ file. file.now) files.items))
+    (name ≡ codes "deliver")
+    × (texts_in own (codes "file") ≡ Some (map (λ file. file.now) files.items))
 IsTask name own (task.Gaps series) =
     (name ≡ codes "gaps") × (text_in own (codes "name") ≡ Some series.now)
 IsTask name own (task.Serve port requests batches) =
@@ -30,11 +31,13 @@ IsTask name own (task.Serve port requests batches) =
     × (requests ≡ unwrap_or (number_in own (codes "requests")) 18446744073709551615)
     × (option_map (λ socket. socket.now) batches ≡ text_in own (codes "batches"))
 
--- the database file is that of `--db`, which `--existing` wants to be there; without `--db` there is none
+-- the database file is that of `--db`, which `--existing` wants to be there; without `--db` there
+-- is none
 abbrev pub IsDatabase : List Row → Option Database → Type 0
 IsDatabase top None = text_in top (codes "db") ≡ None
 IsDatabase top (Some db) =
-    (text_in top (codes "db") ≡ Some db.name.now) × (db.is_existing ≡ has_flag top (codes "existing"))
+    (text_in top (codes "db") ≡ Some db.name.now)
+    × (db.is_existing ≡ has_flag top (codes "existing"))
 
 -- the action is that of the command `name`. Top: the options before it
 abbrev pub IsAction : List Row → Text → List Row → Action → Type 0
@@ -47,24 +50,31 @@ IsAction top name own (Migrate db) =
 IsAction top name own (Send socket) =
     (name ≡ codes "batch") × (text_in top (codes "batches") ≡ Some socket.now)
 IsAction top name own (Convert conversion) =
-    (name ≡ codes "convert") × AsksFor own (asked_view conversion) × (text_in top (codes "batches") ≡ None)
+    (name ≡ codes "convert") × AsksFor own (asked_view conversion)
+    × (text_in top (codes "batches") ≡ None)
+IsAction top name own (CheckRules file) =
+    (name ≡ codes "rules") × (text_in own (codes "file") ≡ Some file.now)
+    × (text_in top (codes "batches") ≡ None)
 
 -- the rules file under which an action is done, where that one is named: a desk that is open has its
--- own rules, and a conversion has none
+-- own rules, and a conversion and the reading of rules have none
 abbrev pub rules_for : Action → Option Text → Option Text
 rules_for (Send socket) named = None
 rules_for (Convert conversion) named = None
+rules_for (CheckRules file) named = None
 rules_for _ named = named
 
 -- the invocation is what the command `name` asks for
 abbrev pub IsInvocation : List Row → Text → List Row → Invocation → Type 0
 IsInvocation top name own asked =
     IsAction top name own asked.action
-    × (option_map (λ file. file.now) asked.rules ≡ rules_for asked.action (text_in top (codes "rules")))
+    × (option_map (λ file. file.now) asked.rules
+    ≡ rules_for asked.action (text_in top (codes "rules")))
 
 -- ---- how the words read
 
--- how a command reads, behind those options. Nothing is said of help, of a fault of the command line
+-- how a command reads, behind those options. Nothing is said of help, of a fault of the command
+-- line
 -- and of memory that ran out
 abbrev pub ReadsAs : List Row → Text → List Row → Reading → Type 0
 ReadsAs top name own (reading.Run asked) = IsInvocation top name own asked

@@ -87,6 +87,10 @@ gaps_command = command_of (codes "gaps") (one_operand (codes "name") ∷ [])
 abbrev pub migrate_command : Shape
 migrate_command = command_of (codes "migrate") []
 
+-- rules FILE
+abbrev pub rules_command : Shape
+rules_command = command_of (codes "rules") (one_operand (codes "file") ∷ [])
+
 -- serve --port N [--batches SOCKET] [--requests K]
 abbrev pub serve_command : Shape
 serve_command = command_of (codes "serve") (
@@ -119,11 +123,11 @@ program_options =
     ∷ tied (text_option (codes "batches"))
     ∷ []
 
--- batch, convert, deliver, gaps, migrate, serve
+-- batch, convert, deliver, gaps, migrate, rules, serve
 abbrev pub program_commands : List Shape
 program_commands =
     batch_command ∷ convert_command ∷ deliver_command ∷ gaps_command ∷ migrate_command
-    ∷ serve_command ∷ []
+    ∷ rules_command ∷ serve_command ∷ []
 
 -- onixdesk [OPTIONS] COMMAND
 abbrev pub onixdesk : App

@@ -4,7 +4,7 @@ use Rattle.clap.specs.Walk.{Text}
 use Rattle.command_line.specs.Asked.{Reads}
 use Rattle.command_line.specs.CommandLine.{program_commands}
 use Rattle.command_line.specs.declared.invocation.Action.{Action}
-use Rattle.command_line.specs.declared.invocation.Action.TheVariants.{Convert, InMemory, InFile, Migrate, Send}
+use Rattle.command_line.specs.declared.invocation.Action.TheVariants.{CheckRules, Convert, InMemory, InFile, Migrate, Send}
 use Rattle.command_line.specs.declared.invocation.Invocation.{Invocation}
 use Rattle.command_line.specs.declared.invocation.Reading.TheVariants as reading
 use Rattle.command_line.specs.declared.invocation.Task.{Task}
@@ -24,6 +24,7 @@ action_name (InFile db task) = task_name task
 action_name (Migrate db) = codes "migrate"
 action_name (Send socket) = codes "batch"
 action_name (Convert conversion) = codes "convert"
+action_name (CheckRules file) = codes "rules"
 
 -- where the word behind the program's name is a command's, what is run is of that command, whatever words follow
 abbrev pub NamesAreOfCommands : Type 0

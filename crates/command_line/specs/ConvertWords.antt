@@ -20,7 +20,8 @@ use Rattle.command_line.specs.declared.convert_words.Conversion.{Conversion}
 use Rattle.command_line.specs.declared.convert_words.OptionName.{OptionName}
 use Rattle.command_line.specs.declared.convert_words.OptionName.TheVariants as named
 
--- What is asked: how each message is converted, the folder that takes the messages, and the names of the FILEs
+-- What is asked: how each message is converted, the folder that takes the messages, and the names
+-- of the FILEs
 pub record Asked : Type 0 where
   pub options : Options
   pub folder : Option (List ℕ)
@@ -59,13 +60,15 @@ word_or read default own name = option_map_or read (text_in own name) (Some defa
 
 -- what the word of an option is read as, if it has one
 abbrev pub word_as : {A : Type 0} → (List ℕ → Option A) → List Row → List ℕ → Option (Option A)
-word_as read own name = option_map_or (λ word. option_map Some (read word)) (text_in own name) (Some None)
+word_as read own name =
+    option_map_or (λ word. option_map Some (read word)) (text_in own name) (Some None)
 
 -- the FILEs that are named, or standard input
 abbrev pub files_named : List Row → List (List ℕ)
 files_named own = unwrap_or (texts_in own (codes "file")) (codes "-" ∷ [])
 
--- how each message is converted, by the options and operands: each word is read by its rule, and has its default
+-- how each message is converted, by the options and operands: each word is read by its rule, and
+-- has its default
 abbrev pub AreOptions : List Row → Options → Type 0
 AreOptions own o =
     (word_or digits_of 1 own (codes "parts") ≡ Some o.choices.parts)
@@ -107,9 +110,12 @@ abbrev pub IsOf : OptionName → (List ℕ → Type 0) → BadWords → Type 0
 IsOf option such (bad.Value told word) = (told ≡ option) × such word.now
 IsOf option such other = ⊥
 
--- Why words ask for nothing: one breaks its rule, or they are not for several FILEs; or memory ran out.
+-- Why words ask for nothing: one breaks its rule, or they are not for several FILEs; or memory ran
+-- out.
 abbrev pub AsksNothing : List Row → BadWords → Type 0
 AsksNothing own (bad.Value option word) = IsWrongWord own option word.now
-AsksNothing own bad.NoFolder = (1 < length (files_named own)) × (text_in own (codes "folder") ≡ None)
-AsksNothing own bad.OneNumber = (1 < length (files_named own)) × (is_some (text_in own (codes "number")) ≡ true)
+AsksNothing own bad.NoFolder =
+    (1 < length (files_named own)) × (text_in own (codes "folder") ≡ None)
+AsksNothing own bad.OneNumber =
+    (1 < length (files_named own)) × (is_some (text_in own (codes "number")) ≡ true)
 AsksNothing own bad.Memory = Unit {0}

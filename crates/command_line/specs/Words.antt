@@ -21,7 +21,8 @@ texts_in words name = all_of name words
 
 -- the number that its digits write
 abbrev pub number_in : List Row → Text → Option ℕ
-number_in words name = option_map (λ t. digits_value 10 (without_leading_plus t)) (one_of name words)
+number_in words name =
+    option_map (λ t. digits_value 10 (without_leading_plus t)) (one_of name words)
 
 -- the option without a text is there
 abbrev pub has_flag : List Row → Text → Bool

@@ -2,7 +2,7 @@
 
 ghost use Rattle.std.specs.Prelude.{◌∷◌, ℕ, [], IfOk, codes};
 ghost use Rattle.clap.specs.Built.{AddsArg, AddsSubcommand};
-ghost use Rattle.command_line.specs.CommandLine.{AddsMade, IsCommand, IsProgram, IsWord, batch_command, convert_command, deliver_command, flag_option, gaps_command, migrate_command, needed, number_option, one_operand, onixdesk, program_of, program_options, serve_command, short_option, some_operands, text_option, tied};
+ghost use Rattle.command_line.specs.CommandLine.{AddsMade, IsCommand, IsProgram, IsWord, batch_command, convert_command, deliver_command, flag_option, gaps_command, migrate_command, needed, number_option, one_operand, onixdesk, program_of, program_options, rules_command, serve_command, short_option, some_operands, text_option, tied};
 
 use clap::builder::ValueParser;
 use clap::{Arg, ArgAction, Command};
@@ -153,6 +153,22 @@ fn migrate<'a>(alloc: Global) -> Command<'a>
         .long_about(
             "Brings the desk in the database file from version 1, which knows no minimum quantities, to version 2, in one transaction, and writes 'migrated'; an empty or missing file becomes a desk without agreements. A file of version 2 stays as it is, and 'schema 2' is written. Any other version is a fault, and the file stays. The file is named before the command: onixdesk --db FILE migrate. Copy the file first.",
         )
+}
+
+fn rules_check<'a>(alloc: Global) -> Result<Command<'a>, AllocError>
+    ensures { IfOk result (IsCommand rules_command) }
+{
+    let file = Arg::new(alloc, "file")
+        .value_name("FILE")
+        .required(true)
+        .action(ArgAction::Set)
+        .help("A precedence table as a TOML file");
+    Command::new(alloc, "rules")
+        .about("Read a precedence table, and write how many rules it has")
+        .long_about(
+            "Reads the precedence table of a TOML file, as a desk does that is started with --rules FILE, and writes 'rules N', with the number of its rules. Where it is none, or cannot be read, the status is 2, and a line on standard error says in which line of the file, and why. Try a changed file so before the desk is started again.",
+        )
+        .arg(file)
 }
 
 fn parts<'a>(alloc: Global) -> Arg<'a>
@@ -382,5 +398,6 @@ pub fn program<'a>(alloc: Global) -> Result<Command<'a>, AllocError>
     let program = with_command(program, deliver(alloc))?;
     let program = with_command(program, gaps(alloc))?;
     let program = with_command(program, Ok(migrate(alloc)))?;
+    let program = with_command(program, rules_check(alloc))?;
     with_command(program, serve(alloc))
 }

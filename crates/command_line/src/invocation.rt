@@ -52,6 +52,8 @@ pub enum Action<'a> {
     Send { socket: &'a str },
     /// `convert`: messages in XML become CSV records, and no desk is opened.
     Convert(Conversion<'a>),
+    /// `rules FILE`: the precedence table of a file is read, and no desk is opened.
+    CheckRules { file: &'a str },
 }
 
 /// What the program is asked to do, under the precedence table of a file or under no rules.
@@ -242,6 +244,20 @@ fn convert_reading<'a>(alloc: Global, words: &ArgMatches<'a>) -> Reading<'a>
     }
 }
 
+// What `rules` asks for.
+fn rules_reading<'a>(alloc: Global, words: &ArgMatches<'a>) -> Reading<'a>
+    ensures { (top : List Row) → text_in top (codes "batches") ≡ None
+        → ReadsAs top (codes "rules") (words_in words.now) result }
+{
+    match text_in(words, "file") {
+        Some(file) => Reading::Run(Invocation {
+            rules: None,
+            action: Action::CheckRules { file },
+        }),
+        None => Reading::Wrong(String::new(alloc)),
+    }
+}
+
 // What the command of that name asks for, behind the options that were found.
 fn command_reading<'a>(
     alloc: Global,
@@ -257,6 +273,7 @@ fn command_reading<'a>(
     match name {
         "convert" => convert_reading(alloc, words),
         "migrate" => migrate_reading(matches),
+        "rules" => rules_reading(alloc, words),
         _ => desk_reading(alloc, matches, name, words),
     }
 }

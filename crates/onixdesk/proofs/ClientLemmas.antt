@@ -5,13 +5,13 @@ use Rattle.std.specs.Io.KnownBytes.{Appends}
 use Rattle.std.proofs.lemmas.List.{map-append}
 use Rattle.csv_records.specs.Streams.{IsTold}
 use Rattle.series_rules.specs.Steps.{Step}
-use Rattle.desk_batch.specs.Batch.{RunsBatch, requests_of}
+use Rattle.desk_batch.specs.Batch.{RunsBatch}
 use Rattle.desk_batch.specs.declared.batch.BatchFault.{BatchFault}
 use Rattle.desk_batch.specs.declared.batch.BatchFault.TheVariants as batch_fault
 use Rattle.desk_http.specs.Exchange.{Exchanges}
 use Rattle.desk_http.specs.declared.exchange.HttpFault.{HttpFault}
 use Rattle.desk_http.specs.declared.exchange.HttpFault.TheVariants as fault
-use Rattle.onixdesk.proofs.TalkEnds.{talks_as}
+use Rattle.onixdesk.proofs.TalkEnds.{batch_as}
 use Rattle.onixdesk.specs.Clients.{AreFirst, IsNext, IsOf, MayCome, ServesClient}
 use Rattle.onixdesk.specs.Connections.{Connection, MayEnd}
 use Rattle.onixdesk.specs.Serving.{Ending, EndsAs, IsBy, ServesConnection, batch, exchange}
@@ -53,17 +53,9 @@ module _ (written to : List ℕ → Type 0) (f : (text : List ℕ) → written t
   exchanges_as sent steps (Err fault.Read) is = (is.0, f [] is.1)
   exchanges_as sent steps (Err (fault.Memory taken)) is = (is.0, is.1, f [] is.2)
 
-  runs_as : (steps : List Step) (text : List ℕ) (outcome : Result ℕ BatchFault) → RunsBatch (λ all. all ≡ steps) written text outcome → RunsBatch (λ all. all ≡ steps) to text outcome
-  runs_as steps text (Ok n) is = (is.0, talks_as _ _ written to (requests_of text) _ _ (λ all same. same) f (λ all stop gives. gives) is.1)
-  runs_as steps text (Err (batch_fault.Records e)) is = (is.0, is.1, f [] is.2)
-  runs_as steps text (Err batch_fault.Read) is = (is.0, f [] is.1)
-  runs_as steps text (Err (batch_fault.Store done e)) is = (is.0, talks_as _ _ written to (requests_of text) _ _ (λ all same. same) f (λ all stop gives. gives) is.1)
-  runs_as steps text (Err (batch_fault.Write done)) is = (is.0, talks_as _ _ written to (requests_of text) _ _ (λ all same. same) f (λ all stop gives. gives) is.1)
-  runs_as steps text (Err (batch_fault.Memory done)) is = (is.0, talks_as _ _ written to (requests_of text) _ _ (λ all same. same) f (λ all stop gives. gives) is.1)
-
   ends_as : (sent : Option (List ℕ)) (steps : List Step) (ending : Ending) → EndsAs sent steps written ending → EndsAs sent steps to ending
   ends_as sent steps (exchange outcome) is = exchanges_as sent steps outcome is
-  ends_as sent steps (batch text outcome) is = (is.0, runs_as steps text outcome is.1)
+  ends_as sent steps (batch text outcome) is = (is.0, batch_as (λ all. all ≡ steps) (λ all. all ≡ steps) written to (λ all same. same) f text outcome is.1)
 
 -- ---- the next one
 

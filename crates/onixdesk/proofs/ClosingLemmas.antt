@@ -19,11 +19,12 @@ use Rattle.sqlite_wal.specs.Recovery.{Image}
 use Rattle.desk_tables.proofs.OneSchema.{no_meta_again}
 use Rattle.desk_tables.specs.Rows.{DeskRows}
 use Rattle.desk_tables.specs.Schema.{is_meta}
+use Rattle.named_files.specs.Holdings.{Holdings}
 use Rattle.price_rules.specs.declared.precedence.Rule.{Rule}
 use Rattle.series_rules.specs.Steps.{Leads, Step}
 use Rattle.series_rules.specs.Views.{LeavesOnly, View}
 use Rattle.series_rules.specs.declared.requests.Request.{Request}
-use Rattle.desk_store.specs.ContentLemmas.{rows_by_content}
+use Rattle.desk_store.proofs.ComesTo.{come_rows, rows_come}
 use Rattle.desk_store.specs.Desks.{AreRowsOf, KeepsRequests}
 use Rattle.desk_store.specs.Openings.{AreFilesOf, AreFoundAs, HoldRowsOf, KeepsFiles, TakesFound}
 use Rattle.desk_store.specs.Seen.{in_tables, seen_in}
@@ -32,7 +33,7 @@ use Rattle.onixdesk.specs.Closings.{Closes, RunsAndCloses}
 use Rattle.onixdesk.specs.Databases.{AreSettled}
 use Rattle.onixdesk.specs.FileEnds.{FileEnds}
 use Rattle.onixdesk.specs.FileViews.{HoldMeta, seen_files, seen_image, seen_store}
-use Rattle.onixdesk.specs.Leftovers.{HasNoFiles, SparesUnopened}
+use Rattle.onixdesk.specs.Leftovers.{HasNoFiles}
 use Rattle.onixdesk.specs.MigrationEnd.{MigrateEnds}
 use Rattle.onixdesk.specs.TaskEnds.{TaskEnds}
 use Rattle.command_line.specs.declared.invocation.Task.{Task}
@@ -69,8 +70,8 @@ pub opened_comes : (image : Image) (s : State)
 opened_comes image s stands alone taken = record {
   premise = λ sound. tt;
   stands = λ sound M files. (seen_in s).by_content files.0 M files.2 (stands sound files.0 files.1);
-  alone = λ sound M files d may. rows_by_content d files.0 M files.2 (alone sound files.0 files.1 d may);
-  all = λ d each L files. each L (L, files, same_refl L);
+  alone = λ sound M files d may. (files.0, alone sound files.0 files.1 d may, files.2);
+  all = λ d each L files. come_rows d L (each L (L, files, same_refl L));
   holds = λ sound d held. holds_meta image s (taken sound) d held;
 }
 
@@ -80,14 +81,14 @@ opened_comes image s stands alone taken = record {
 closed_alone : {D : Type 0} (g : Ghosts D) (c : Held (FileStore D g)) (files : Files D) → IsCopied c files → (M : List Request) → KeepsRequests (file_state c) M → LeavesOnly (seen_files g files) M
 closed_alone g c files copied M keeps = λ d may.
     let same : d ≡ (file_state c).committed.trees = ∥∥₁_elim (copied.left may.0 may.1).both (Trees-set _ _) (may.2.1 (file_state c).committed.trees) in
-    subst (λ x. AreRowsOf x M) (sym same) ((file_state c).committed, refl, (keeps copied.was_open).2)
+    rows_come d M (subst (λ x. AreRowsOf x M) (sym same) ((file_state c).committed, refl, (keeps copied.was_open).2))
 
 closed_comes : {D : Type 0} (g : Ghosts D) (c : Held (FileStore D g)) (files : Files D)
     → (AreClean g files.log files.db → IsCopied c files × ((L : List Request) → KeepsRequests (file_state c) L → HoldRowsOf (image_of g files) L))
     → ComesOf (seen_in (file_state c)) (seen_files g files)
 closed_comes g c files closes = record {
   premise = λ sound. (closes sound).0.was_clean;
-  stands = λ sound M keeps. (closes sound).1 M keeps;
+  stands = λ sound M keeps. (M, (closes sound).1 M keeps, same_refl M);
   left = λ sound. inr (λ M keeps. closed_alone g c files (closes sound).0 M keeps);
   holds = λ sound d held. let copied = (closes sound).0 in subst (λ x. ∥ HoldsDatabase (image_of g files) x ∥₁) (held copied.was_open) copied.seen.both;
 }
@@ -101,24 +102,24 @@ unclosed_comes g c store closes = record {
 }
 
 -- a command that ended over a desk whose files were then closed, as over what these were before they were opened
-pub closed_ended : {O U D : Type 0} (g : Ghosts D) (rules : List Rule) (image : Image) (was : View in_tables) (written : List ℕ → Type 0) (left : FilesLeft O U D g) (task : Task) (told : Option (List ℕ)) (status : ℕ)
-    → ComesTo (seen_image image) was → RunsAndCloses rules was written task told status left → FileEnds image rules written task told status left
-closed_ended g rules image was written (Closed files) task told status begins (own, c, (same, closes), ended) =
+pub closed_ended : {O U D : Type 0} (g : Ghosts D) (rules : List Rule) (image : Image) (was : View in_tables) (written : List ℕ → Type 0) (left : FilesLeft O U D g) (task : Task) (holds : Holdings) (told : Option (List ℕ)) (status : ℕ)
+    → ComesTo (seen_image image) was → RunsAndCloses rules was written task holds told status left → FileEnds rules written task holds told image status left
+closed_ended g rules image was written (Closed files) task holds told status begins (own, c, (same, closes), ended) =
     let asks : List Step → Type 0 = λ steps. Leads rules steps (seen_image image) (seen_files g files) in (
-      subst (λ s. TaskEnds asks written task told s) (sym same)
+      subst (λ s. TaskEnds asks written task holds told s) (sym same)
           (task_as (λ steps. Leads rules steps was (seen_in (file_state c))) asks written
-          (λ steps leads. leads_between rules steps (seen_image image) was (seen_in (file_state c)) (seen_files g files) begins (closed_comes g c files closes) leads) task told own ended),
+          (λ steps leads. leads_between rules steps (seen_image image) was (seen_in (file_state c)) (seen_files g files) begins (closed_comes g c files closes) leads) task holds told own ended),
       λ clean. let copied = (closes clean).0 in ((file_state c).committed.trees, copied.seen, copied.left),
     )
-closed_ended g rules image was written (Unclosed store) task told status begins (own, c, (three, closed), ended) = (
+closed_ended g rules image was written (Unclosed store) task holds told status begins (own, c, (three, closed), ended) = (
   three,
   own,
   task_as (λ steps. Leads rules steps was (seen_in (file_state c))) (λ steps. Leads rules steps (seen_image image) (seen_store store)) written
-      (λ steps leads. leads_between rules steps (seen_image image) was (seen_in (file_state c)) (seen_store store) begins (unclosed_comes g c store closed) leads) task told own ended,
+      (λ steps leads. leads_between rules steps (seen_image image) was (seen_in (file_state c)) (seen_store store) begins (unclosed_comes g c store closed) leads) task holds told own ended,
 )
-closed_ended g rules image was written (Unopened left) task told status begins (own, c, closes, ended) = absurd closes
-closed_ended g rules image was written (NotOpened none) task told status begins (own, c, closes, ended) = absurd closes
-closed_ended g rules image was written (Untouched databases) task told status begins (own, c, closes, ended) = absurd closes
+closed_ended g rules image was written (Unopened left) task holds told status begins (own, c, closes, ended) = absurd closes
+closed_ended g rules image was written (NotOpened none) task holds told status begins (own, c, closes, ended) = absurd closes
+closed_ended g rules image was written (Untouched databases) task holds told status begins (own, c, closes, ended) = absurd closes
 
 -- ---- not opened
 
@@ -130,13 +131,13 @@ spares_settled g made image files (leftover.Unopened now) settled (were, is, lea
 spares_settled g made image files (leftover.Store it) settled kept = subst (λ i. KeepsFiles {g = g} (AreSettled g image) made i (leftover.Store it)) settled.0 kept
 
 -- there are no files
-pub file_unopened : {O U D : Type 0} (g : Ghosts D) (image : Image) (rules : List Rule) (written : List ℕ → Type 0) (task : Task) (told : Option (List ℕ)) (status : ℕ) (left : FilesLeft O U D g)
-    → HasNoFiles left → status ≡ 3 → written [] → FileEnds image rules written task told status left
-file_unopened g image rules written task told status (Untouched databases) none three nothing = (three, nothing)
-file_unopened g image rules written task told status (NotOpened files) none three nothing = (three, nothing)
-file_unopened g image rules written task told status (Unopened files) none three nothing = absurd none
-file_unopened g image rules written task told status (Unclosed files) none three nothing = absurd none
-file_unopened g image rules written task told status (Closed files) none three nothing = absurd none
+pub file_unopened : {O U D : Type 0} (g : Ghosts D) (image : Image) (rules : List Rule) (written : List ℕ → Type 0) (task : Task) (holds : Holdings) (told : Option (List ℕ)) (status : ℕ) (left : FilesLeft O U D g)
+    → HasNoFiles left → status ≡ 3 → written [] → FileEnds rules written task holds told image status left
+file_unopened g image rules written task holds told status (Untouched databases) none three nothing = (three, nothing)
+file_unopened g image rules written task holds told status (NotOpened files) none three nothing = (three, nothing)
+file_unopened g image rules written task holds told status (Unopened files) none three nothing = absurd none
+file_unopened g image rules written task holds told status (Unclosed files) none three nothing = absurd none
+file_unopened g image rules written task holds told status (Closed files) none three nothing = absurd none
 
 pub migrate_unopened : {O U D : Type 0} (g : Ghosts D) (image : Image) (written : List ℕ → Type 0) (status : ℕ) (left : FilesLeft O U D g)
     → HasNoFiles left → status ≡ 3 → written [] → MigrateEnds image written status left

@@ -1,6 +1,7 @@
 -- What led from one desk to another led from what that came from to what comes of it, as from the files of a desk before they are opened to those that are closed.
 use Rattle.std.proofs.Common.{◌≡◌, ◌⊎◌, ◌||◌, ℕ, Bool, true, false, List, [], ◌∷◌, Option, Some, None, Ok, Err, inl, inr, refl, sym}
 use Rattle.std.proofs.lemmas.List.Elements.{All-head, All-tail}
+use Rattle.named_files.specs.Holdings.{Holdings}
 use Rattle.onix_terms.specs.SeriesName.{series_name_of}
 use Rattle.price_rules.specs.declared.precedence.Rule.{Rule}
 use Rattle.series_rules.proofs.Questions.{question_changes_nothing}
@@ -10,7 +11,7 @@ use Rattle.series_rules.specs.Content.{SameContent}
 use Rattle.series_rules.specs.Steps.{AreQuestions, Follows, HasAll, Leads, Step, has_change, in_doubt, with_answered}
 use Rattle.series_rules.specs.Views.{DeskKind, LeavesOnly, View}
 use Rattle.series_rules.specs.declared.requests.Request.{Request}
-use Rattle.onixdesk.proofs.TalkEnds.{talks_as}
+use Rattle.onixdesk.proofs.TalkEnds.{batch_as, talks_as}
 use Rattle.onixdesk.specs.TaskEnds.{GapsEnds, TaskEnds}
 use Rattle.command_line.specs.declared.invocation.Task.{Task}
 use Rattle.command_line.specs.declared.invocation.Task.TheVariants as task
@@ -92,15 +93,14 @@ module _ {k : DeskKind} (rules : List Rule) (steps : List Step) (old first last 
   }
 
 -- a command that asked so asked as well so
-pub task_as : (asked asks : List Step → Type 0) (written : List ℕ → Type 0) → ((steps : List Step) → asked steps → asks steps) → (task : Task) (told : Option (List ℕ)) (status : ℕ) → TaskEnds asked written task told status → TaskEnds asks written task told status
-task_as asked asks written f task.Batch told status (text, is, inl (has, talks)) = (text, is, inl (has, talks_as asked asks written written _ _ _ f (λ t was. was) (λ steps stop given. given) talks))
-task_as asked asks written f task.Batch told status (text, is, inr (three, none, nothing)) = (text, is, inr (three, f [] none, nothing))
-task_as asked asks written f (task.Deliver names) told status ended =
+pub task_as : (asked asks : List Step → Type 0) (written : List ℕ → Type 0) → ((steps : List Step) → asked steps → asks steps) → (task : Task) (holds : Holdings) (told : Option (List ℕ)) (status : ℕ) → TaskEnds asked written task holds told status → TaskEnds asks written task holds told status
+task_as asked asks written f task.Batch holds told status (text, result, is, ran, same) = (text, result, is, batch_as asked asks written written f (λ t was. was) text result ran, same)
+task_as asked asks written f (task.Deliver names) holds told status ended =
     (ended.0, ended.1, ended.2, ended.3, talks_as asked asks written written _ _ _ f (λ t was. was) (λ steps stop given. given) ended.4)
-task_as asked asks written f (task.Gaps name) told status ended = by (series_name_of name.now) ended
+task_as asked asks written f (task.Gaps name) holds told status ended = by (series_name_of name.now) ended
   where
     by : (o : Option (List ℕ)) → GapsEnds asked written o status → GapsEnds asks written o status
     by (Some series) talks = talks_as asked asks written written _ _ _ f (λ t was. was) (λ steps stop given. given) talks
     by None end = (f [] end.0, end.1)
-task_as asked asks written f (task.Serve port requests batches) told status ended =
+task_as asked asks written f (task.Serve port requests batches) holds told status ended =
     (ended.0, (ended.1.0, ended.1.1, f _ ended.1.2), ended.2, ended.3)

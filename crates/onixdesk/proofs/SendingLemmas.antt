@@ -1,10 +1,8 @@
 -- What comes of a desk, of which a first part is written.
-use Rattle.std.proofs.Common.{◌≡◌, ◌++◌, ◌∙◌, ℕ, List, [], Option, None, Some, Result, Ok, Err, Bool, ap, append_assoc, subst, sym}
+use Rattle.std.proofs.Common.{◌≡◌, ◌++◌, ◌∙◌, ℕ, List, [], Option, None, Some, ap, append_assoc, sym}
 use Rattle.std.specs.Io.KnownBytes.{Consumes}
-use Rattle.std.specs.Prelude.{⊤}
 use Rattle.csv_records.specs.Streams.{IsTold}
-use Rattle.onixdesk.specs.Sending.{SendFits, WritesCame}
-use Rattle.onixdesk.specs.declared.fault.Fault.{Fault}
+use Rattle.onixdesk.specs.Sending.{WritesCame}
 
 -- what was taken begins what comes
 came_of : (was now : Option (List ℕ)) (bytes : List ℕ) → Consumes was now bytes → (rest : List ℕ) × IsTold was (bytes ++ rest)
@@ -29,16 +27,3 @@ told_part (Some xs) bytes part rest chunk ys is told =
 pub wrote_part : (was now : Option (List ℕ)) (written : List ℕ → Type 0) (bytes chunk part rest : List ℕ) → Consumes was now (bytes ++ chunk) → part ++ rest ≡ chunk → written (bytes ++ part) → WritesCame was written
 wrote_part was now written bytes chunk part rest took is wrote =
     let came = came_of was now (bytes ++ chunk) took in (bytes ++ part, rest ++ came.0, told_part was bytes part rest chunk came.0 is came.1, wrote)
-
--- what comes over a connection is what comes of the desk
-pub comes_of : (text : List ℕ) (came comes : Option (List ℕ)) (sent written : List ℕ → Type 0) (result : Result Bool Fault) → came ≡ comes → SendFits text came sent written result → SendFits text comes (λ _. ⊤) written result
-comes_of text came comes sent written (Ok refused) same fits = record {
-  has_records = fits.has_records;
-  all_sent = tt;
-  answers = fits.answers;
-  are_told = subst (λ c. IsTold c fits.answers) same fits.are_told;
-  all_answered = fits.all_answered;
-  refused_is = fits.refused_is;
-  all_written = fits.all_written;
-}
-comes_of text came comes sent written (Err f) same fits = subst (λ c. WritesCame c written) same fits

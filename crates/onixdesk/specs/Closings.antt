@@ -13,6 +13,7 @@ use Rattle.series_rules.specs.declared.requests.Request.{Request}
 use Rattle.desk_store.specs.Desks.{KeepsRequests}
 use Rattle.desk_store.specs.Openings.{HoldRowsOf}
 use Rattle.desk_store.specs.Seen.{in_tables, seen_in}
+use Rattle.named_files.specs.Holdings.{Holdings}
 use Rattle.onixdesk.specs.TaskEnds.{TaskEnds}
 use Rattle.command_line.specs.declared.invocation.Task.{Task}
 use Rattle.onixdesk.specs.declared.files.FilesLeft.{FilesLeft}
@@ -33,7 +34,7 @@ Closes own c status (Untouched databases) = ⊥
 
 -- a command over a desk that was opened as `was` ended over some connection, which was then closed
 abbrev pub RunsAndCloses : {O U D : Type 0} → {g : Ghosts D} → List Rule → View in_tables
-    → (List ℕ → Type 0) → Task → Option (List ℕ) → ℕ → FilesLeft O U D g → Type 0
-RunsAndCloses {D = D} {g = g} rules was written task told status left =
+    → (List ℕ → Type 0) → Task → Holdings → Option (List ℕ) → ℕ → FilesLeft O U D g → Type 0
+RunsAndCloses {D = D} {g = g} rules was written task holds told status left =
     (own : ℕ) × (c : Held (FileStore D g)) × Closes own c status left
-    × TaskEnds (λ steps. Leads rules steps was (seen_in (file_state c))) written task told own
+    × TaskEnds (λ steps. Leads rules steps was (seen_in (file_state c))) written task holds told own

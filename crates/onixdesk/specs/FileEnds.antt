@@ -8,52 +8,50 @@ use Rattle.series_rules.specs.Steps.{Leads}
 use Rattle.series_rules.specs.Views.{DeskKind, View}
 use Rattle.desk_store.specs.ClosedFiles.{HoldOneDatabase}
 use Rattle.desk_store.specs.Openings.{MakesNothing}
-use Rattle.desk_http.specs.Writing.{WritesFront}
 use Rattle.named_files.specs.Holdings.{Holdings}
 use Rattle.command_line.specs.Asked.{Reads}
 use Rattle.onixdesk.specs.ConvertEnds.{ConvertEnds}
 use Rattle.onixdesk.specs.FileViews.{seen_files, seen_image, seen_store}
-use Rattle.onixdesk.specs.Leftovers.{IsUntouched, SparesUnopened}
+use Rattle.onixdesk.specs.Leftovers.{IsUntouched, LeavesUndone}
 use Rattle.onixdesk.specs.MigrationEnd.{MigrateEnds}
-use Rattle.onixdesk.specs.RulesFile.{RulesFit, status_of}
+use Rattle.onixdesk.specs.Printing.{PrintEnds}
+use Rattle.onixdesk.specs.RulesFile.{CheckEnds, RulesFit, status_of}
 use Rattle.onixdesk.specs.Sending.{SendEnds}
 use Rattle.onixdesk.specs.TaskEnds.{TaskEnds}
 use Rattle.command_line.specs.declared.invocation.Action.{Action}
-use Rattle.command_line.specs.declared.invocation.Action.TheVariants.{Convert, InMemory, InFile, Migrate, Send}
+use Rattle.command_line.specs.declared.invocation.Action.TheVariants.{CheckRules, Convert, InMemory, InFile, Migrate, Send}
 use Rattle.command_line.specs.declared.invocation.Invocation.{Invocation}
 use Rattle.command_line.specs.declared.invocation.Reading.{Reading}
 use Rattle.command_line.specs.declared.invocation.Reading.TheVariants as reading
 use Rattle.command_line.specs.declared.invocation.Task.{Task}
 use Rattle.onixdesk.specs.declared.files.FilesLeft.{FilesLeft}
-use Rattle.onixdesk.specs.declared.files.FilesLeft.TheVariants.{Closed, NotOpened, Unclosed, Unopened, Untouched}
+use Rattle.onixdesk.specs.declared.files.FilesLeft.TheVariants.{Closed, Unclosed}
 use Rattle.onixdesk.specs.declared.rules.RulesFault.{RulesFault}
 
--- How a command over the desk in two files can end that held `image`. It ended, and what it asked of
--- the desk led from what the files held to what they hold: closed, they hold one database, and so a
--- crash leaves them; where they could not be closed, the status is 3 in the place of its own. Else
--- the desk was not opened: the status is 3, and nothing is written. Written: these bytes were
--- written. Told: what the input tells
-abbrev pub FileEnds : {O U D : Type 0} → {g : Ghosts D} → Image → List Rule → (List ℕ → Type 0)
-    → Task → Option (List ℕ) → ℕ → FilesLeft O U D g → Type 0
-FileEnds {g = g} image rules written task told status (Closed files) =
-    TaskEnds (λ steps. Leads rules steps (seen_image image) (seen_files g files)) written task told
-    status
-    × (AreClean g files.log files.db → HoldOneDatabase g files)
-FileEnds image rules written task told status (Unclosed store) =
-    (status ≡ 3) × (own : ℕ)
-    × TaskEnds (λ steps. Leads rules steps (seen_image image) (seen_store store)) written task told
-    own
-FileEnds image rules written task told status (Unopened left) =
-    (status ≡ 3) × written [] × SparesUnopened image MakesNothing left
-FileEnds image rules written task told status (NotOpened none) = (status ≡ 3) × written []
-FileEnds image rules written task told status (Untouched databases) = (status ≡ 3) × written []
+-- Of a command under these rules. Written: these bytes were written. Holds: what names hold. Told: what
+-- the input tells of its bytes
+module _ (rules : List Rule) (written : List ℕ → Type 0) (task : Task) (holds : Holdings)
+    (told : Option (List ℕ)) where
+  -- How it can end over the desk in two files that held `image`. It ended, and what it asked of the
+  -- desk led from what the files held to what they hold: closed, they hold one database, and so a
+  -- crash leaves them; where they could not be closed, the status is 3 in the place of its own. Else
+  -- the desk was not opened: the status is 3, and nothing is written
+  abbrev pub FileEnds : {O U D : Type 0} → {g : Ghosts D} → Image → ℕ → FilesLeft O U D g → Type 0
+  FileEnds {g = g} image status (Closed files) =
+      TaskEnds (λ steps. Leads rules steps (seen_image image) (seen_files g files)) written task
+      holds told status
+      × (AreClean g files.log files.db → HoldOneDatabase g files)
+  FileEnds image status (Unclosed store) =
+      (status ≡ 3) × (own : ℕ)
+      × TaskEnds (λ steps. Leads rules steps (seen_image image) (seen_store store)) written task
+      holds told own
+  FileEnds image status left = LeavesUndone image MakesNothing written status left
 
--- how a command over a new desk can end, which has seen no request
-abbrev pub NewDeskEnds : {M : Type 0} → {k : DeskKind} → (M → View k) → List Rule
-    → (List ℕ → Type 0) → Task → Option (List ℕ) → ℕ → Type 0
-NewDeskEnds {M} seen rules written task told status =
-    (new last : M) × (seen new).stands_for [] × (seen last).sound
-    × TaskEnds (λ steps. Leads rules steps (seen new) (seen last)) written task told status
+  -- how it can end over a new desk, which has seen no request
+  abbrev pub NewDeskEnds : {M : Type 0} → {k : DeskKind} → (M → View k) → ℕ → Type 0
+  NewDeskEnds {M} seen status =
+      (new last : M) × (seen new).stands_for [] × (seen last).sound
+      × TaskEnds (λ steps. Leads rules steps (seen new) (seen last)) written task holds told status
 
 -- the rules of a precedence table: none where none is named, and else those of a text
 abbrev pub AreRulesOf : {N : Type 0} → Option N → List Rule → Type 0
@@ -65,11 +63,6 @@ abbrev pub IsUnruled : {N : Type 0} → Option N → RulesFault → Type 0
 IsUnruled None fault = ⊥
 IsUnruled (Some name) fault = (text : List ℕ) × RulesFit text (Err fault)
 
--- the help or the version that was asked for was written, with 0; or a first part of it, with 3
-abbrev pub HelpEnds : (List ℕ → Type 0) → List ℕ → ℕ → Type 0
-HelpEnds written text status =
-    ((status ≡ 0) × written text) ⊎ ((status ≡ 3) × WritesFront written text)
-
 -- nothing was done: with that status, nothing written and no file touched
 abbrev pub IsUndone : {O U D : Type 0} → {g : Ghosts D} → ℕ → (List ℕ → Type 0) → ℕ
     → FilesLeft O U D g → Type 0
@@ -78,23 +71,25 @@ IsUndone own written status left = (status ≡ own) × written [] × IsUntouched
 -- ---- by what the program is asked
 
 -- Seen: what is seen of a desk in memory. Held: what the database file of a name and its log hold.
--- Answers: what comes from the desk at the socket of a name, where that is known. Is told: whether
--- it is told what files hold; before, after: what names hold. Written: these bytes were written.
+-- Answers: what comes from the desk at the socket of a name once it was sent a text, where that is
+-- known. Is told: whether it is told what files hold; before, after: what names hold. Written: these
+-- bytes were written.
 -- Told: what the input tells of its bytes
 module _ {M : Type 0} {k : DeskKind} (seen : M → View k) {O U D : Type 0} {g : Ghosts D}
-    (held : List ℕ → Image) (answers : List ℕ → Option (List ℕ)) (is_told : Bool)
+    (held : List ℕ → Image) (answers : List ℕ → List ℕ → Option (List ℕ)) (is_told : Bool)
     (before after : Holdings) (written : List ℕ → Type 0) (told : Option (List ℕ)) where
   -- how an action can end under those rules, with what it leaves of files
   abbrev pub ActionEnds : List Rule → Action → ℕ → FilesLeft O U D g → Type 0
   ActionEnds rules (InMemory task) status left =
-      IsUntouched left × NewDeskEnds seen rules written task told status
+      IsUntouched left × NewDeskEnds rules written task before told seen status
   ActionEnds rules (InFile db task) status left =
-      FileEnds (held db.name.now) rules written task told status left
+      FileEnds rules written task before told (held db.name.now) status left
   ActionEnds rules (Migrate db) status left = MigrateEnds (held db.name.now) written status left
   ActionEnds rules (Send socket) status left =
       IsUntouched left × SendEnds told (answers socket.now) written status
   ActionEnds rules (Convert c) status left =
       IsUntouched left × ConvertEnds is_told before after told written c status
+  ActionEnds rules (CheckRules file) status left = IsUntouched left × CheckEnds written status
 
   -- how the program can end by what a command line asks: under its rules, or, where these cannot be
   -- read, with nothing done
@@ -110,11 +105,9 @@ module _ {M : Type 0} {k : DeskKind} (seen : M → View k) {O U D : Type 0} {g :
   abbrev pub ReadingEnds : Reading → ℕ → FilesLeft O U D g → Type 0
   ReadingEnds (reading.Run invocation) status left = InvocationEnds invocation status left
   ReadingEnds (reading.Help text) status left =
-      HelpEnds written (string_bytes text) status × IsUntouched left
-  ReadingEnds (reading.Wrong text) status left = IsUndone 2 written status left
-  ReadingEnds reading.NoDatabase status left = IsUndone 2 written status left
-  ReadingEnds reading.NoBatch status left = IsUndone 2 written status left
+      PrintEnds 0 written (string_bytes text) status × IsUntouched left
   ReadingEnds reading.Memory status left = IsUndone 3 written status left
+  ReadingEnds _ status left = IsUndone 2 written status left
 
   -- how the program can end on these words, of which the first is its name: as they read
   abbrev pub RunEnds : List (List ℕ) → ℕ → FilesLeft O U D g → Type 0

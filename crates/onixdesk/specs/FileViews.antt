@@ -15,7 +15,6 @@ use Rattle.desk_tables.specs.Schema.{is_meta}
 use Rattle.series_rules.specs.Content.{SameContent, same_trans}
 use Rattle.series_rules.specs.Views.{View}
 use Rattle.series_rules.specs.declared.requests.Request.{Request}
-use Rattle.desk_store.specs.ContentLemmas.{rows_by_content}
 use Rattle.desk_store.specs.Desks.{AreRowsOf}
 use Rattle.desk_store.specs.Openings.{AreFilesOf, AreFoundAs, HoldRowsOf}
 use Rattle.desk_store.specs.Seen.{in_tables}
@@ -37,17 +36,13 @@ seen_image image = record {
   may_leave = λ d. (L : List Request) → AreFilesOf image L → AreRowsOf d L;
 }
 
-pub held_by_content : (image : Image) (L M : List Request) → SameContent L M → HoldRowsOf image L
-    → HoldRowsOf image M
-held_by_content image L M same held = (held.0, held.1, rows_by_content held.0 L M same held.2)
-
--- two files that were closed: they hold the rows of a list, and a crash leaves files in which the
--- next opening finds those
+-- two files that were closed: they hold the rows of what a list comes to, and a crash leaves files
+-- in which the next opening finds those
 abbrev pub seen_files : {D : Type 0} → (g : Ghosts D) → Files D → View in_tables
 seen_files g files = record {
   sound = AreClean g files.log files.db;
-  stands_for = HoldRowsOf (image_of g files);
-  by_content = held_by_content (image_of g files);
+  stands_for = λ M. (L : List Request) × HoldRowsOf (image_of g files) L × SameContent L M;
+  by_content = λ L M same rows. (rows.0, rows.1, same_trans rows.0 L M rows.2 same);
   holds = λ d. ∥ HoldsDatabase (image_of g files) d ∥₁;
   may_leave = λ d.
       (image : Image) × outcomes g files.log files.db image × AreFoundAs image d;

@@ -1,7 +1,9 @@
+pub mod Printing
 pub mod RulesFile
 pub mod Deliveries
 pub mod Unknown
 pub mod Databases
+pub mod Found
 pub mod Leftovers
 pub mod MigrationEnd
 pub mod Serving

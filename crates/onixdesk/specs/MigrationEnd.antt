@@ -1,5 +1,5 @@
 -- How the command `migrate` ends.
-use Rattle.std.specs.Prelude.{◌≡◌, ◌⊎◌, ℕ, List, [], codes}
+use Rattle.std.specs.Prelude.{◌≡◌, ℕ, List, [], codes}
 use Rattle.sqlite.specs.Files.{image_of}
 use Rattle.sqlite_disk.specs.declared.Disk.{Ghosts}
 use Rattle.sqlite_disk.specs.declared.Files.{Files}
@@ -11,10 +11,10 @@ use Rattle.desk_store.specs.Migrations.{AreFilesOfEither, AreMigrated, IsTrueAns
 use Rattle.desk_store.specs.Openings.{AreEmptyFiles, AreFilesWith, HoldRowsOf}
 use Rattle.desk_store.specs.declared.migrating.MigrateAnswer.{MigrateAnswer}
 use Rattle.desk_store.specs.declared.migrating.MigrateAnswer.TheVariants.{Migrated, AlreadyTwo}
-use Rattle.desk_http.specs.Writing.{WritesFront}
-use Rattle.onixdesk.specs.Leftovers.{SparesUnopened}
+use Rattle.onixdesk.specs.Leftovers.{LeavesUndone}
+use Rattle.onixdesk.specs.Printing.{PrintEnds}
 use Rattle.onixdesk.specs.declared.files.FilesLeft.{FilesLeft}
-use Rattle.onixdesk.specs.declared.files.FilesLeft.TheVariants.{Closed, NotOpened, Unclosed, Unopened, Untouched}
+use Rattle.onixdesk.specs.declared.files.FilesLeft.TheVariants.{Closed, Unclosed}
 
 -- the line that says what a migration did
 abbrev pub migration_line : MigrateAnswer → List ℕ
@@ -30,17 +30,14 @@ pub record IsMigrationDone {D : Type 0} (g : Ghosts D) (image : Image) (answer :
   pub holds : (L : List Request) → AreFilesOfEither image L → HoldRowsOf (image_of g files) L
   pub kept : HoldOneDatabase g files
 
--- How the command can end over files that held `image`. Where the files are left closed, a migration
--- was done, and its line is written with 0, or a first part of it with 3. Else the status is 3,
--- nothing is written, and no migration was done. Written: these bytes were written
+-- How the command can end over files that held `image`. Where the files are left closed, a
+-- migration was done, and its line is written with 0, or a first part of it with 3. Else nothing was
+-- done. Written: these bytes were written
 abbrev pub MigrateEnds : {O U D : Type 0} → {g : Ghosts D} → Image → (List ℕ → Type 0) → ℕ
     → FilesLeft O U D g → Type 0
 MigrateEnds {g = g} image written status (Closed files) =
-    (answer : MigrateAnswer) × (AreClean g files.log files.db → IsMigrationDone g image answer files)
-    × (((status ≡ 0) × written (migration_line answer))
-    ⊎ ((status ≡ 3) × WritesFront written (migration_line answer)))
-MigrateEnds image written status (Unopened left) =
-    (status ≡ 3) × written [] × SparesUnopened image MakesSecond left
+    (answer : MigrateAnswer)
+    × (AreClean g files.log files.db → IsMigrationDone g image answer files)
+    × PrintEnds 0 written (migration_line answer) status
 MigrateEnds image written status (Unclosed store) = ⊥
-MigrateEnds image written status (NotOpened none) = (status ≡ 3) × written []
-MigrateEnds image written status (Untouched databases) = (status ≡ 3) × written []
+MigrateEnds image written status left = LeavesUndone image MakesSecond written status left

@@ -1,5 +1,6 @@
 -- How the command `batch` ends that sends its batch to an open desk, whose answers it writes.
-use Rattle.std.specs.Prelude.{◌≡◌, ◌-◌, ◌++◌, ◌∷◌, ◌||◌, ◌⊎◌, ℕ, Bool, false, List, [], Option, Result, Ok, Err, ⊤, codes, length, if◌then◌else◌}
+use Rattle.std.specs.Prelude.{◌≡◌, ◌-◌, ◌++◌, ◌∷◌, ◌||◌, ◌⊎◌, ℕ, Bool, false, List, [], Option, Result, Ok, Err, codes, length, if◌then◌else◌}
+use Rattle.std.specs.List.{list_any}
 use Rattle.std.specs.Str.{bytes_eq}
 use Rattle.csv_records.specs.RecordTexts.{records_of}
 use Rattle.csv_records.specs.Streams.{IsTold}
@@ -41,16 +42,14 @@ unanswered asked (row ∷ rows) = unanswered (if begins_answer row then asked - 
 
 -- whether a record among these begins a refusal
 abbrev pub has_refusal : List (List (List ℕ)) → Bool
-has_refusal [] = false
-has_refusal (row ∷ rows) = begins_refusal row || has_refusal rows
+has_refusal rows = list_any begins_refusal rows
 
--- The batch of a text was sent, and each of its requests has an answer among those that came, which
--- were written. Came: what comes of the desk, where that is known; sent, written: these bytes were
--- sent, were written; refused: an answer is a refusal
-pub record IsAnsweredThere (text : List ℕ) (came : Option (List ℕ)) (sent written : List ℕ → Type 0)
+-- Each request of the batch of a text has an answer among those that came, which were written. Came:
+-- what comes of the desk, where that is known. Written: these bytes were written. Refused: an answer
+-- is a refusal
+pub record IsAnsweredThere (text : List ℕ) (came : Option (List ℕ)) (written : List ℕ → Type 0)
     (refused : Bool) : Type 0 where
   pub has_records : HasRecords text
-  pub all_sent : sent text
   pub answers : List ℕ
   pub are_told : IsTold came answers
   pub all_answered : unanswered (length (requests_of text)) (records_of answers) ≡ 0
@@ -63,10 +62,9 @@ WritesCame came written = (some rest : List ℕ) × IsTold came (some ++ rest) �
 
 -- how sending the batch of a text can end: with all answers written, and whether one is a refusal;
 -- or with a first part of what came
-abbrev pub SendFits : List ℕ → Option (List ℕ) → (List ℕ → Type 0) → (List ℕ → Type 0)
-    → Result Bool Fault → Type 0
-SendFits text came sent written (Ok refused) = IsAnsweredThere text came sent written refused
-SendFits text came sent written (Err f) = WritesCame came written
+abbrev pub SendFits : List ℕ → Option (List ℕ) → (List ℕ → Type 0) → Result Bool Fault → Type 0
+SendFits text came written (Ok refused) = IsAnsweredThere text came written refused
+SendFits text came written (Err f) = WritesCame came written
 
 -- how taking the answers to so many requests can end
 abbrev pub TakesAnswers : ℕ → Option (List ℕ) → (List ℕ → Type 0) → Result Bool Fault → Type 0
@@ -75,12 +73,13 @@ TakesAnswers asked came written (Ok refused) =
     × (refused ≡ has_refusal (records_of answers)) × written answers
 TakesAnswers asked came written (Err f) = WritesCame came written
 
--- how the command can end with this status: the batch of the input was sent and answered, with 0, or
--- 1 for a refusal; or a fault ended it, with 3, and a first part of the answers is written. Told:
--- what the input tells of its bytes. Came: what comes of the desk, where that is known
-abbrev pub SendEnds : Option (List ℕ) → Option (List ℕ) → (List ℕ → Type 0) → ℕ → Type 0
-SendEnds told came written status =
-    ((text : List ℕ) × IsTold told text × (refused : Bool)
-    × IsAnsweredThere text came (λ _. ⊤) written refused
+-- how the command can end with this status: of the text of the input, sent as a batch, all is
+-- answered, with 0, or 1 for a refusal; or a fault ended it, with 3, and a first part of the answers
+-- is written. Told: what the input tells of its bytes. Answers: what comes of the desk once it was
+-- sent a text, where that is known
+abbrev pub SendEnds : Option (List ℕ) → (List ℕ → Option (List ℕ)) → (List ℕ → Type 0) → ℕ → Type 0
+SendEnds told answers written status =
+    (text : List ℕ) × IsTold told text
+    × (((refused : Bool) × IsAnsweredThere text (answers text) written refused
     × (status ≡ (if refused then 1 else 0)))
-    ⊎ ((status ≡ 3) × WritesCame came written)
+    ⊎ ((status ≡ 3) × WritesCame (answers text) written))

@@ -11,9 +11,9 @@ use command_line::invocation::Database;
 use onix_message::StoreFault;
 use sqlite::{Files, Options};
 use sqlite_disk::Disk;
-use std::fs::metadata;
+use std::fs::{Metadata, canonicalize, metadata};
 use std::hash::{BuildHasher, RandomState};
-use std::io::Write;
+use std::io::{Error, ErrorKind, Write};
 use std::rt::HostRuntime;
 
 /// Database files that are opened by their names, one of them.
@@ -50,6 +50,15 @@ fn random_options(rt: &HostRuntime) -> Result<Options, Fault> {
     }
 }
 
+// What is found of the log that lies beside a database file, where a link leads.
+fn log_of(rt: &HostRuntime, name: &str) -> Result<Metadata, Error> {
+    let real = canonicalize(rt, name)?;
+    match format!(in rt.alloc(); "{}-wal", real.as_str()) {
+        Ok(log) => metadata(rt, log.as_str()),
+        Err(_) => Err(ErrorKind::OutOfMemory.into()),
+    }
+}
+
 /// Opens the database file that a command line names, once it was looked at. A fault comes with no
 /// files: none was touched, or those of that name could not be opened.
 pub fn open_database<O: Databases, E: Write>(
@@ -64,7 +73,9 @@ pub fn open_database<O: Databases, E: Write>(
         AreSettled O.File.Disk (O.held databases db.now.name.now) opened.0) }
     ensures none { IfErr result (λ e. HasNoFiles e.1) }
 {
-    if let Err(fault) = look_at(rt, db, &metadata(rt, db.name), errors) {
+    let found = metadata(rt, db.name);
+    let log = log_of(rt, db.name);
+    if let Err(fault) = look_at(rt, db, &found, &log, errors) {
         return Err((fault, FilesLeft::Untouched(databases)));
     }
     let options = match random_options(rt) {

@@ -93,9 +93,13 @@ fn watch(rt: &HostRuntime, port: &TcpListener, socket: &UnixListener) -> Result<
 }
 
 impl<'a> Doors<'a> {
-    /// Listens at a port of 127.0.0.1, and at a socket of the file system.
-    pub fn open(rt: &'a HostRuntime, number: u16, path: &str) -> Result<Doors<'a>, Fault> {
-        let port = Port::open(rt, number)?;
+    /// Listens at a port of 127.0.0.1 that was bound, and at a socket of the file system.
+    pub fn open(
+        rt: &'a HostRuntime,
+        port: Result<Port<'a>, Fault>,
+        path: &str,
+    ) -> Result<Doors<'a>, Fault> {
+        let port = port?;
         let socket = sockets::listen(rt, path)?;
         let Ok(poll) = watch(rt, &port.listener, &socket) else {
             return Err(Fault::Socket);

@@ -2,7 +2,7 @@
 
 ghost use Rattle.std.specs.Prelude.{◌≡◌};
 ghost use Rattle.std.specs.Io.KnownBytes.{Appends};
-ghost use Rattle.onixdesk.specs.FileEnds.{HelpEnds};
+ghost use Rattle.onixdesk.specs.Printing.{PrintEnds};
 
 use crate::fault::{Fault, report};
 use csv_records::streams::{WriteFault, write_whole};
@@ -11,7 +11,8 @@ use std::io::Write;
 /// Writes help or the version, which was asked for, and gives 0, or 3 where it cannot be written,
 /// which is reported.
 pub fn print_help<W: Write, E: Write>(text: &str, output: &mut W, errors: &mut E) -> u8
-    ensures { HelpEnds (Appends (W.contents output.old) (W.contents output.new)) text.now result }
+    ensures { PrintEnds 0 (Appends (W.contents output.old) (W.contents output.new))
+        text.now result }
 {
     match write_whole(output, text.as_bytes()) {
         Ok(()) => 0,

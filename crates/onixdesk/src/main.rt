@@ -1,15 +1,18 @@
 //! The program `onixdesk`: the intake of a bookshop's buying desk on the command line. The crate
 //! `command_line` reads its arguments; `rules` reads the precedence table, and `fault` has the texts of
 //! what can go wrong, `help` those of clap.
+//! `checking` reads a precedence table before a desk begins with it, whose faults `rules_faults`
+//! tells by their line.
 //! `database` looks at the database file, and `databases` opens it, by its path (`paths`). The commands
 //! are `batch`, `deliver`, `gaps` and `serve`, each over any desk; `program` gives them one in a
 //! database file, or in memory. `serve` is reached at a `port`, or at its `doors`; `sending` is a batch
 //! to a desk that is open (`open_desks`), at one of the `sockets`. `migrate` brings a database file of
-//! an earlier version to the one that is kept now. What each request is answered is proved in
-//! `series_rules`.
+//! an earlier version to the one that is kept now. `known_clients` shows that there are clients of whom
+//! it is known what they send. What each request is answered is proved in `series_rules`.
 #![tactic(auto)]
 
 mod batch;
+mod checking;
 mod clients;
 mod connection;
 mod database;
@@ -20,12 +23,14 @@ mod fault;
 mod files;
 mod gaps;
 mod help;
+mod known_clients;
 mod migrate;
 mod open_desks;
 mod paths;
 mod port;
 mod program;
 mod rules;
+mod rules_faults;
 mod sending;
 mod serve;
 mod sockets;

@@ -9,7 +9,7 @@ ghost use Rattle.onixdesk.specs.MigrationEnd.{MigrateEnds, migration_line};
 use crate::fault::{Fault, report};
 use crate::files::FilesLeft;
 use csv_records::streams::{WriteFault, write_whole};
-use desk_store::{MigrateAnswer, migrate_files};
+use desk_store::{MigrateAnswer, migrate_files_with};
 use sqlite::{Files, Options};
 use sqlite_disk::Disk;
 use std::alloc::Global;
@@ -43,7 +43,7 @@ pub fn run<O, U, D: Disk + Drop, W: Write, E: Write>(
         → MigrateEnds image (Appends (W.contents output.old) (W.contents output.new))
         result.0 result.1 }
 {
-    let (answer, files) = match migrate_files(alloc, files, options) {
+    let (answer, files) = match migrate_files_with(alloc, files, options) {
         Ok(migrated) => migrated,
         Err((fault, left)) => {
             return (

@@ -20,6 +20,10 @@ pub struct Port<'a> {
     pub limit: Duration,
 }
 
+/// The port of a command that serves at one, or why it could not be bound. A command that does not
+/// has none.
+pub type Bound<'a> = Option<Result<Port<'a>, Fault>>;
+
 /// A client was gone before its connection was accepted.
 pub fn is_lost(error: &io::Error) -> bool {
     matches!(

@@ -1,6 +1,6 @@
 //! The program run on its words: the command line, the rules file, the desk, and then the command.
 
-ghost use Rattle.std.specs.Prelude.{◌≤◌, IfErr, IfOk, IsTrue, map};
+ghost use Rattle.std.specs.Prelude.{◌≡◌, ◌≤◌, IfErr, IfOk, IsTrue, map};
 ghost use Rattle.std.specs.Io.KnownBytes.{Appends};
 ghost use Rattle.series_rules.specs.Steps.{Asked};
 ghost use Rattle.sqlite_wal.specs.Recovery.{Image};
@@ -14,8 +14,9 @@ use crate::databases::{Databases, open_database};
 use crate::fault::{Fault, report};
 use crate::files::FilesLeft;
 use crate::open_desks::OpenDesks;
+use crate::port::{Bound, Port};
 use crate::rules::{RulesFault, open_table, report_rules};
-use crate::{batch, deliver, gaps, help, migrate, sending, serve};
+use crate::{batch, checking, deliver, gaps, help, migrate, sending, serve};
 use command_line::invocation::{self, Action, Database, Invocation, Reading, Task};
 use desk_memory::MemoryDesk;
 use desk_store::DeskStore;
@@ -28,12 +29,23 @@ use sqlite_disk::Disk;
 use std::io::{Read, Write};
 use std::rt::HostRuntime;
 
+// The port at which a command serves. It is bound before the desk is opened, so that nobody else has
+// it meanwhile and clients wait; whether it could be is told behind the faults of the desk.
+fn port_of<'a>(rt: &'a HostRuntime, task: &Task<'_>) -> Bound<'a> {
+    match task {
+        Task::Serve { port, .. } => Some(Port::open(rt, *port)),
+        _ => None,
+    }
+}
+
 // Runs a command over a desk.
-fn run_task<D: Desk, R: Read, W: Write, E: Write>(
+fn run_task<D: Desk, F: NamedFiles, R: Read, W: Write, E: Write>(
     rt: &HostRuntime,
     desk: &mut D,
     precedence: &Precedence,
+    bound: Bound<'_>,
     task: &Task<'_>,
+    files: &F,
     input: &mut R,
     output: &mut W,
     errors: &mut E,
@@ -41,15 +53,16 @@ fn run_task<D: Desk, R: Read, W: Write, E: Write>(
     ensures status { result ≤ 3 }
     ensures end { TaskEnds (Asked D.seen precedence.now desk.old desk.new)
         (Appends (W.contents output.old) (W.contents output.new))
-        task.now (R.remaining input.old) result }
+        task.now (F.holds files.now) (R.remaining input.old) result }
 {
     match task {
         Task::Batch => batch::run(rt.alloc(), desk, precedence, input, output, errors),
         Task::Deliver(names) => {
             deliver::run(
-                rt,
+                rt.alloc(),
                 desk,
                 precedence,
+                files,
                 names.as_slice(),
                 input,
                 output,
@@ -62,37 +75,54 @@ fn run_task<D: Desk, R: Read, W: Write, E: Write>(
             requests,
             batches,
         } => serve::run(
-            rt, desk, precedence, *port, *batches, *requests, output, errors,
+            rt, desk, precedence, bound, *port, *batches, *requests, output, errors,
         ),
     }
 }
 
 // Runs a command over a new desk in memory.
-fn run_in_memory<R: Read, W: Write, E: Write>(
+fn run_in_memory<F: NamedFiles, R: Read, W: Write, E: Write>(
     rt: &HostRuntime,
     precedence: &Precedence,
     task: &Task<'_>,
+    files: &F,
     input: &mut R,
     output: &mut W,
     errors: &mut E,
 ) -> u8
     ensures status { result ≤ 3 }
-    ensures end { NewDeskEnds ⟦<MemoryDesk as Desk>⟧.seen precedence.now
-        (Appends (W.contents output.old) (W.contents output.new))
-        task.now (R.remaining input.old) result }
+    ensures end { NewDeskEnds precedence.now
+        (Appends (W.contents output.old) (W.contents output.new)) task.now (F.holds files.now)
+        (R.remaining input.old) ⟦<MemoryDesk as Desk>⟧.seen result }
 {
     let mut desk = MemoryDesk::new(rt.alloc());
-    let status = run_task(rt, &mut desk, precedence, task, input, output, errors);
+    let bound = port_of(rt, task);
+    let status = run_task(
+        rt, &mut desk, precedence, bound, task, files, input, output, errors,
+    );
     desk.is_always_sound();
     status
 }
 
+// Writes the line of files that could not be closed, unless the command ended by a fault, which has
+// its line.
+fn report_unclosed<E: Write>(status: u8, fault: &Fault, errors: &mut E) -> u8
+    ensures { result ≡ 3 }
+{
+    if status == 3 {
+        return 3;
+    }
+    report(fault, errors)
+}
+
 // Runs a command over a desk in two files, and closes them.
-fn run_and_close<O, U, D: Disk + Drop, R: Read, W: Write, E: Write>(
+fn run_and_close<O, U, D: Disk + Drop, F: NamedFiles, R: Read, W: Write, E: Write>(
     rt: &HostRuntime,
     mut desk: DeskStore<FileStore<D>>,
     precedence: &Precedence,
+    bound: Bound<'_>,
     task: &Task<'_>,
+    files: &F,
     input: &mut R,
     output: &mut W,
     errors: &mut E,
@@ -102,38 +132,44 @@ fn run_and_close<O, U, D: Disk + Drop, R: Read, W: Write, E: Write>(
     // could not be.
     ensures end { RunsAndCloses precedence.now (⟦<DeskStore<FileStore<D>> as Desk>⟧.seen desk)
         (Appends (W.contents output.old) (W.contents output.new))
-        task.now (R.remaining input.old) result.0 result.1 }
+        task.now (F.holds files.now) (R.remaining input.old) result.0 result.1 }
 {
-    let status = run_task(rt, &mut desk, precedence, task, input, output, errors);
+    let status = run_task(
+        rt, &mut desk, precedence, bound, task, files, input, output, errors,
+    );
     match desk.close_files() {
         Ok(files) => (status, FilesLeft::Closed(files)),
         Err((fault, store)) => {
-            let status = report(&Fault::from(fault), errors);
+            let status = report_unclosed(status, &Fault::from(fault), errors);
             (status, FilesLeft::Unclosed(store))
         }
     }
 }
 
 // Runs a command over the desk in two files that were opened.
-fn run_over_files<O, U, D: Disk + Drop, R: Read, W: Write, E: Write>(
+fn run_over_files<O, U, D: Disk + Drop, F: NamedFiles, R: Read, W: Write, E: Write>(
     rt: &HostRuntime,
-    files: Files<D>,
+    database: Files<D>,
     options: Options,
     precedence: &Precedence,
+    bound: Bound<'_>,
     task: &Task<'_>,
+    files: &F,
     input: &mut R,
     output: &mut W,
     errors: &mut E,
 ) -> (u8, FilesLeft<O, U, D>)
-    requires log { IsTrue (D.Disk.is_usable files.log) }
-    requires db { IsTrue (D.Disk.is_usable files.db) }
+    requires log { IsTrue (D.Disk.is_usable database.log) }
+    requires db { IsTrue (D.Disk.is_usable database.db) }
     ensures status { result.0 ≤ 3 }
-    ensures end { (image : Image) → AreSettled D.Disk image files → FileEnds image precedence.now
-        (Appends (W.contents output.old) (W.contents output.new))
-        task.now (R.remaining input.old) result.0 result.1 }
+    ensures end { (image : Image) → AreSettled D.Disk image database → FileEnds precedence.now
+        (Appends (W.contents output.old) (W.contents output.new)) task.now (F.holds files.now)
+        (R.remaining input.old) image result.0 result.1 }
 {
-    match DeskStore::open_files(rt.alloc(), files, options) {
-        Ok(desk) => run_and_close(rt, desk, precedence, task, input, output, errors),
+    match DeskStore::open_files_with(rt.alloc(), database, options) {
+        Ok(desk) => run_and_close(
+            rt, desk, precedence, bound, task, files, input, output, errors,
+        ),
         Err((fault, left)) => {
             let status = report(&Fault::from(fault), errors);
             (status, FilesLeft::Unopened(left))
@@ -142,24 +178,28 @@ fn run_over_files<O, U, D: Disk + Drop, R: Read, W: Write, E: Write>(
 }
 
 // Runs a command over the desk in the database file of a name.
-fn run_in_file<O: Databases, R: Read, W: Write, E: Write>(
+fn run_in_file<O: Databases, F: NamedFiles, R: Read, W: Write, E: Write>(
     rt: &HostRuntime,
     db: &Database<'_>,
     databases: O,
     precedence: &Precedence,
     task: &Task<'_>,
+    files: &F,
     input: &mut R,
     output: &mut W,
     errors: &mut E,
 ) -> (u8, FilesLeft<O, O::NotOpened, O::File>)
     ensures status { result.0 ≤ 3 }
-    ensures end { FileEnds (O.held databases db.now.name.now) precedence.now
-        (Appends (W.contents output.old) (W.contents output.new))
-        task.now (R.remaining input.old) result.0 result.1 }
+    ensures end { FileEnds precedence.now
+        (Appends (W.contents output.old) (W.contents output.new)) task.now (F.holds files.now)
+        (R.remaining input.old) (O.held databases db.now.name.now) result.0 result.1 }
 {
+    let bound = port_of(rt, task);
     match open_database(rt, db, databases, errors) {
-        Ok((files, options)) => {
-            run_over_files(rt, files, options, precedence, task, input, output, errors)
+        Ok((database, options)) => {
+            run_over_files(
+                rt, database, options, precedence, bound, task, files, input, output, errors,
+            )
         }
         Err((fault, none)) => (report(&fault, errors), none),
     }
@@ -203,11 +243,11 @@ fn run_action<O: Databases, K: OpenDesks, F: NamedFiles, R: Read, W: Write, E: W
 {
     match action {
         Action::InMemory(task) => {
-            let status = run_in_memory(rt, precedence, task, input, output, errors);
+            let status = run_in_memory(rt, precedence, task, files, input, output, errors);
             (status, FilesLeft::Untouched(databases))
         }
         Action::InFile { db, task } => run_in_file(
-            rt, db, databases, precedence, task, input, output, errors,
+            rt, db, databases, precedence, task, files, input, output, errors,
         ),
         Action::Migrate { db } => migrate_file(rt, db, databases, output, errors),
         Action::Send { socket } => {
@@ -217,6 +257,10 @@ fn run_action<O: Databases, K: OpenDesks, F: NamedFiles, R: Read, W: Write, E: W
         Action::Convert(conversion) => {
             let names = conversion.files.as_slice();
             let status = convert_files(rt, &conversion.run, names, files, input, output, errors);
+            (status, FilesLeft::Untouched(databases))
+        }
+        Action::CheckRules { file } => {
+            let status = checking::run(rt, file, output, errors);
             (status, FilesLeft::Untouched(databases))
         }
     }
@@ -234,7 +278,7 @@ fn rules_of(rt: &HostRuntime, name: Option<&str>) -> Result<Precedence, RulesFau
 }
 
 /// Does what a command line asks, under the rules of a file or under none. `databases` has the
-/// database file that it may name, `desks` the open desk, and `files` opens and makes those of
+/// database file that it may name, `desks` the open desk, and `files` opens FILEs and makes those of
 /// `convert`. Gives the exit status, and what is left of the two files of the database.
 ///
 /// Each list of requests that the files held, with those that took effect, is what they hold then;
@@ -282,8 +326,8 @@ pub fn run_invocation<O: Databases, K: OpenDesks, F: NamedFiles, R: Read, W: Wri
 /// 0, or 1 where an answer was a refusal, 2 for a bad command line or rules file, 3 for a fault of
 /// storage, a file, input, output, the port or the socket, or when out of memory. The command line
 /// is judged first, then the rules file, then what the command itself meets. `databases` has the
-/// database file that the words may name, `desks` the open desk, and `files` opens and makes those
-/// of `convert`; beside the status comes what is left of the database's files.
+/// database file that the words may name, `desks` the open desk, and `files` opens FILEs and makes
+/// those of `convert`; beside the status comes what is left of the database's files.
 pub fn run<O: Databases, K: OpenDesks, F: NamedFiles, R: Read, W: Write, E: Write>(
     rt: &HostRuntime,
     words: &[&str],

@@ -1,8 +1,8 @@
 //! The precedence table of the shop, from the file that `--rules` names.
 
-ghost use Rattle.std.specs.Prelude.{◌≡◌, ◌≤◌, ℕ, List, Err, length};
+ghost use Rattle.std.specs.Prelude.{◌≡◌, ◌≤◌, ℕ, List, Err, IfErr, IfOk, length};
 ghost use Rattle.csv_records.specs.RecordTexts.{limit};
-ghost use Rattle.csv_records.specs.Streams.{IsTold};
+ghost use Rattle.csv_records.specs.Streams.{InputFits, IsTold};
 ghost use Rattle.onixdesk.specs.RulesFile.{RulesFit, status_of};
 
 use crate::fault::{Fault, report, report_file};
@@ -12,6 +12,7 @@ use price_rules::precedence::{Precedence, PrecedenceFault};
 use std::alloc::Global;
 use std::fs::File;
 use std::io::{Error, ErrorKind, Read, Write};
+use std::rt::HostRuntime;
 
 /// Why a rules file gives no precedence table.
 #[derive(Drop)]
@@ -23,8 +24,8 @@ pub enum RulesFault {
     Table(PrecedenceFault),
 }
 
-// The table that these bytes are the text of.
-fn table_of(alloc: Global, bytes: &[u8]) -> Result<Precedence, RulesFault>
+/// The table that these bytes are the text of.
+pub fn table_of(alloc: Global, bytes: &[u8]) -> Result<Precedence, RulesFault>
     requires { length bytes.now ≤ limit }
     ensures { RulesFit bytes.now result }
 {
@@ -57,6 +58,20 @@ pub fn read_table<R: Read>(alloc: Global, reader: &mut R) -> Result<Precedence, 
         Err(InputFault::Read) => Err(RulesFault::Unreadable),
         Err(InputFault::TooLarge) => Err(RulesFault::Table(PrecedenceFault::NotToml)),
         Err(InputFault::Memory) => Err(RulesFault::Table(PrecedenceFault::Memory)),
+    }
+}
+
+/// The text of the file of this name. The fault is `Read` also where it cannot be opened.
+pub fn read_text(rt: &HostRuntime, name: &str) -> Result<Vec<u8>, InputFault>
+    ensures ok { IfOk result (λ bytes. length bytes.items ≤ limit) }
+    ensures err { IfErr result (λ f. (text : List ℕ) × InputFits limit text f) }
+{
+    match File::open(rt, name) {
+        Ok(mut file) => read_input(rt.alloc(), &mut file, LIMIT),
+        Err(error) => match error.kind() {
+            ErrorKind::OutOfMemory => Err(InputFault::Memory),
+            _ => Err(InputFault::Read),
+        },
     }
 }
 

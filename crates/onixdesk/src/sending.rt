@@ -1,7 +1,7 @@
 //! The command `batch` with `--batches`: the batch of standard input is sent to a desk that is open,
 //! and its answers come to standard output. Nothing of a desk is opened here.
 
-ghost use Rattle.std.specs.Prelude.{◌≡◌, ◌-◌, ◌||◌, ◌≤◌, if◌then◌else◌, IfOk, OnErr, OnOk, length, ⊤};
+ghost use Rattle.std.specs.Prelude.{◌≡◌, ◌-◌, ◌||◌, ◌≤◌, if◌then◌else◌, IfOk, OnErr, length};
 ghost use Rattle.std.specs.Io.KnownBytes.{Appends};
 ghost use Rattle.csv.specs.Records.{fields_of};
 ghost use Rattle.csv_records.specs.RecordTexts.{records_of};
@@ -148,19 +148,6 @@ fn take_answers<S: Read, W: Write>(
     }
 }
 
-// Sends a text, and that it is all.
-fn send_text<T: Write>(text: &[u8], to: &mut T) -> Result<(), Fault>
-    ensures { OnOk result (Appends (T.contents to.old) (T.contents to.new) text.now) }
-{
-    let Ok(()) = write_whole(to, text) else {
-        return Err(Fault::Socket);
-    };
-    match to.flush() {
-        Ok(()) => Ok(()),
-        Err(_) => Err(Fault::Socket),
-    }
-}
-
 // How many requests the batch of a text has. A text that is none is the fault that it is to a desk.
 fn count_requests(alloc: Global, text: &[u8]) -> Result<usize, Fault>
     ensures { IfOk result (λ count. HasRecords text.now × (count ≡ length (requests_of text.now))) }
@@ -175,37 +162,21 @@ fn count_requests(alloc: Global, text: &[u8]) -> Result<usize, Fault>
     }
 }
 
-// Sends the batch of a text over both ways of a connection, writes the answers, and says whether one
-// is a refusal.
-fn send_batch<T: Write, S: Read, W: Write>(
-    alloc: Global,
-    text: &[u8],
-    to: &mut T,
-    from: &mut S,
-    output: &mut W,
-) -> Result<bool, Fault>
-    ensures { SendFits text.now (S.remaining from.old)
-        (Appends (T.contents to.old) (T.contents to.new))
-        (Appends (W.contents output.old) (W.contents output.new)) result }
-{
-    let asked = count_requests(alloc, text)?;
-    send_text(text, to)?;
-    take_answers(alloc, asked, from, output)
-}
-
-// Sends a text to the desk at a socket.
-fn send_to<K: OpenDesks, W: Write>(
+// Sends the batch of a text to the desk at a socket, writes the answers, and says whether one is a
+// refusal.
+fn send_batch<K: OpenDesks, W: Write>(
     rt: &HostRuntime,
     desks: &mut K,
     socket: &str,
     text: &[u8],
     output: &mut W,
 ) -> Result<bool, Fault>
-    ensures { SendFits text.now (K.answers desks.old socket.now) (λ _. ⊤)
+    ensures { SendFits text.now (K.answers desks.old socket.now text.now)
         (Appends (W.contents output.old) (W.contents output.new)) result }
 {
-    let (mut from, mut to) = desks.connect(rt, socket)?;
-    send_batch(rt.alloc(), text, &mut to, &mut from, output)
+    let asked = count_requests(rt.alloc(), text)?;
+    let mut from = desks.send(rt, socket, text)?;
+    take_answers(rt.alloc(), asked, &mut from, output)
 }
 
 // The text of the input, up to the limit of a batch.
@@ -239,7 +210,7 @@ pub fn run<K: OpenDesks, R: Read, W: Write, E: Write>(
         Ok(text) => text,
         Err(fault) => return report(&fault, errors),
     };
-    match send_to(rt, desks, socket, text.as_slice(), output) {
+    match send_batch(rt, desks, socket, text.as_slice(), output) {
         Ok(false) => 0,
         Ok(true) => 1,
         Err(fault) => report(&fault, errors),

@@ -12,7 +12,7 @@ use crate::clients::Clients;
 use crate::connection::{print_line, print_number, serve_connection};
 use crate::doors::Doors;
 use crate::fault::{Fault, report};
-use crate::port::Port;
+use crate::port::{Bound, Port};
 use desk_http::{HttpFault, Routes};
 use price_rules::precedence::Precedence;
 use series_rules::desk::Desk;
@@ -147,12 +147,21 @@ fn serve_opened<D: Desk, C: Clients + Drop, O: Write, E: Write>(
     }
 }
 
+// The port that was bound, or that is bound now.
+fn bound_port<'a>(rt: &'a HostRuntime, bound: Bound<'a>, number: u16) -> Result<Port<'a>, Fault> {
+    match bound {
+        Some(opened) => opened,
+        None => Port::open(rt, number),
+    }
+}
+
 // Listens, and serves by these routes.
 fn listen<D: Desk, O: Write, E: Write>(
     rt: &HostRuntime,
     routes: &Routes,
     desk: &mut D,
     precedence: &Precedence,
+    port: Result<Port<'_>, Fault>,
     number: u16,
     batches: Option<&str>,
     requests: u64,
@@ -165,14 +174,11 @@ fn listen<D: Desk, O: Write, E: Write>(
         (is_some batches.entry) number requests result }
 {
     match batches {
-        None => {
-            let opened = Port::open(rt, number);
-            serve_opened(
-                rt, routes, desk, precedence, opened, number, requests, output, errors,
-            )
-        }
+        None => serve_opened(
+            rt, routes, desk, precedence, port, number, requests, output, errors,
+        ),
         Some(socket) => {
-            let opened = Doors::open(rt, number, socket);
+            let opened = Doors::open(rt, port, socket);
             serve_opened(
                 rt, routes, desk, precedence, opened, number, requests, output, errors,
             )
@@ -180,7 +186,8 @@ fn listen<D: Desk, O: Write, E: Write>(
     }
 }
 
-/// Listens at a port of 127.0.0.1, and at a socket of the file system where one is named, writes
+/// Listens at a port of 127.0.0.1, the one that was bound where there is one, and at a socket of the
+/// file system where one is named, writes
 /// `listening` and the number of the port, and serves so many connections: an exchange over HTTP at
 /// the port, a batch at the socket. Gives 0, or 3 after a fault of the port, of the socket or of the
 /// output, or when out of memory, which is reported. The routes of HTTP are made before.
@@ -188,6 +195,7 @@ pub fn run<D: Desk, O: Write, E: Write>(
     rt: &HostRuntime,
     desk: &mut D,
     precedence: &Precedence,
+    bound: Bound<'_>,
     number: u16,
     batches: Option<&str>,
     requests: u64,
@@ -201,9 +209,12 @@ pub fn run<D: Desk, O: Write, E: Write>(
         (is_some batches.entry) number requests result }
 {
     match Routes::new(rt.alloc()) {
-        Ok(routes) => listen(
-            rt, &routes, desk, precedence, number, batches, requests, output, errors,
-        ),
+        Ok(routes) => {
+            let port = bound_port(rt, bound, number);
+            listen(
+                rt, &routes, desk, precedence, port, number, batches, requests, output, errors,
+            )
+        }
         Err(_) => report(&Fault::Memory, errors),
     }
 }

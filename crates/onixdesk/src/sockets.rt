@@ -2,8 +2,9 @@
 
 use crate::fault::Fault;
 use crate::open_desks::OpenDesks;
+use csv_records::streams::write_whole;
 use std::fs::{Metadata, Permissions, remove_file, set_permissions, symlink_metadata};
-use std::io::{self, ErrorKind, Write};
+use std::io::ErrorKind;
 use std::net::Shutdown;
 use std::os::unix::fs::{FileTypeExt, PermissionsExt};
 use std::os::unix::net::{UnixListener, UnixStream};
@@ -43,19 +44,14 @@ pub fn listen(rt: &HostRuntime, path: &str) -> Result<UnixListener, Fault> {
     }
 }
 
-/// The way to a desk. To flush it says that all is sent, so that the desk begins to answer.
-#[derive(Drop)]
-pub struct Sender {
-    stream: UnixStream,
-}
-
-impl Write for Sender {
-    fn write(&mut self, bytes: &[u8]) -> io::Result<usize> {
-        self.stream.write(bytes)
-    }
-
-    fn flush(&mut self) -> io::Result<()> {
-        self.stream.shutdown(Shutdown::Write)
+// Sends a text, and that it is all, so that the desk begins to answer.
+fn send_whole(stream: &mut UnixStream, text: &[u8]) -> Result<(), Fault> {
+    let Ok(()) = write_whole(stream, text) else {
+        return Err(Fault::Socket);
+    };
+    match stream.shutdown(Shutdown::Write) {
+        Ok(()) => Ok(()),
+        Err(_) => Err(Fault::Socket),
     }
 }
 
@@ -66,20 +62,16 @@ pub struct Sockets;
 impl OpenDesks for Sockets {
     ghost use Rattle.std.specs.Prelude.{None};
 
-    // Of what comes over a socket no clause can say which bytes they are.
-    ghost answers = { λ sockets name. None };
+    // Of what goes and comes over a socket no clause can say which bytes they are.
+    ghost answers = { λ sockets name text. None };
 
     type Reader = UnixStream;
 
-    type Writer = Sender;
-
-    fn connect(&mut self, rt: &HostRuntime, name: &str) -> Result<(UnixStream, Sender), Fault> {
-        let Ok(stream) = UnixStream::connect(rt, name) else {
+    fn send(&mut self, rt: &HostRuntime, name: &str, text: &[u8]) -> Result<UnixStream, Fault> {
+        let Ok(mut stream) = UnixStream::connect(rt, name) else {
             return Err(Fault::Socket);
         };
-        match stream.try_clone() {
-            Ok(reader) => Ok((reader, Sender { stream })),
-            Err(_) => Err(Fault::Socket),
-        }
+        send_whole(&mut stream, text)?;
+        Ok(stream)
     }
 }

@@ -9,4 +9,5 @@ returns c =
     let three = with_ok_sub c.in_ok-program-2.program c.in_ok-program-3.program c.deliver.result _ _ two c.deliver.ensures c.in_ok-program-3.ensures in
     let four = with_ok_sub c.in_ok-program-3.program c.in_ok-program-4.program c.gaps.result _ _ three c.gaps.ensures c.in_ok-program-4.ensures in
     let five = with_sub c.in_ok-program-4.program c.in_ok-program-5.program c.migrate.result _ _ four c.migrate.ensures c.in_ok-program-5.ensures in
-    IfOk-weaker c.with_command-6.result _ _ (λ made adds. with_ok_sub c.in_ok-program-5.program made c.serve.result _ _ five c.serve.ensures adds) c.with_command-6.ensures
+    let six = with_ok_sub c.in_ok-program-5.program c.in_ok-program-6.program c.rules_check.result _ _ five c.rules_check.ensures c.in_ok-program-6.ensures in
+    IfOk-weaker c.with_command-7.result _ _ (λ made adds. with_ok_sub c.in_ok-program-6.program made c.serve.result _ _ six c.serve.ensures adds) c.with_command-7.ensures

@@ -16,5 +16,10 @@ returns-in-migrate c =
     subst (λ name. ReadsAs (words_in c.args.matches.now) name (words_in c.args.words.now) c.migrate_reading.result) (sym c.in-migrate.is)
     (c.migrate_reading.ensures (words_in c.args.words.now) (sym c.in_default.ensures))
 
+pub returns-in-rules : goal.returns-in-rules
+returns-in-rules c =
+    subst (λ name. ReadsAs (words_in c.args.matches.now) name (words_in c.args.words.now) c.rules_reading.result) (sym c.in-rules.is)
+    (c.rules_reading.ensures (words_in c.args.matches.now) (sym c.in_default.ensures))
+
 pub returns-in_default-name : goal.returns-in_default-name
 returns-in_default-name c = c.desk_reading.ensures (sym c.in_default.ensures)

@@ -4,7 +4,7 @@ use Rattle.std.specs.Borrow.{Bor}
 use Rattle.std.specs.Io.KnownBytes.{Appends}
 use Rattle.std.specs.String.{string_bytes}
 use Rattle.command_line.specs.Asked.{Reads}
-use Rattle.onixdesk.specs.FileEnds.{HelpEnds}
+use Rattle.onixdesk.specs.Printing.{PrintEnds}
 use Rattle.command_line.specs.declared.invocation.Reading.TheVariants as reading
 use Rattle.onixdesk.proofs.program.run.Goals as goal
 
@@ -19,7 +19,7 @@ returns-in-Help-clause-end g c =
     let same : c.as_str.result.now ≡ string_bytes c.in-Help.text = search rules in (
       reading.Help c.in-Help.text,
       subst (Reads (words_of c.args.words.now)) c.in-Help.is c.read.ensures,
-      (subst (λ text. HelpEnds (Appends (g.W.Write.contents c.args.output.now) (g.W.Write.contents c.print_help-status.new.output)) text c.print_help-status.result) same c.print_help-status.ensures, tt),
+      (subst (λ text. PrintEnds 0 (Appends (g.W.Write.contents c.args.output.now) (g.W.Write.contents c.print_help-status.new.output)) text c.print_help-status.result) same c.print_help-status.ensures, tt),
     )
 
 pub returns-in-Wrong-clause-end : goal.returns-in-Wrong-clause-end

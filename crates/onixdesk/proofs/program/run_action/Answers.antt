@@ -26,3 +26,6 @@ returns-in-Convert-clause-end g c =
           (Appends (g.W.Write.contents c.args.output.now) (g.W.Write.contents c.convert_files-status.new.output)) c.convert_files-status.result)
           c.as_slice-names.ensures.value c.convert_files-status.ensures.end,
     )
+
+pub returns-in-CheckRules-clause-end : goal.returns-in-CheckRules-clause-end
+returns-in-CheckRules-clause-end g c = rw c.in-CheckRules.is (tt, c.run-status-in-CheckRules.ensures.end)

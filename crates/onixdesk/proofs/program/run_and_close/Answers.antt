@@ -17,7 +17,7 @@ returns-in-Ok-clause-end g c =
       desk,
       (refl, λ clean. (c.in-Ok.ensures.copied clean, c.in-Ok.ensures.holds clean)),
       task_as _ (λ steps. Leads rules steps was (seen_in (file_state desk))) written (λ steps trace. traces_lead _ rules steps c.args.desk c.run_task-status.new.desk trace)
-          c.args.task.now (g.R.Read.remaining c.args.input.now) c.run_task-status.result c.run_task-status.ensures.end,
+          c.args.task.now (g.F.NamedFiles.holds c.args.files.now) (g.R.Read.remaining c.args.input.now) c.run_task-status.result c.run_task-status.ensures.end,
     )
 
 pub returns-in-Err-clause-end : goal.returns-in-Err-clause-end
@@ -28,7 +28,7 @@ returns-in-Err-clause-end g c =
     let written = Appends (g.W.Write.contents c.args.output.now) (g.W.Write.contents c.run_task-status.new.output) in (
       c.run_task-status.result,
       desk,
-      (c.report-status.ensures, c.in-Err.ensures.left),
+      (c.report_unclosed-status.ensures, c.in-Err.ensures.left),
       task_as _ (λ steps. Leads rules steps was (seen_in (file_state desk))) written (λ steps trace. traces_lead _ rules steps c.args.desk c.run_task-status.new.desk trace)
-          c.args.task.now (g.R.Read.remaining c.args.input.now) c.run_task-status.result c.run_task-status.ensures.end,
+          c.args.task.now (g.F.NamedFiles.holds c.args.files.now) (g.R.Read.remaining c.args.input.now) c.run_task-status.result c.run_task-status.ensures.end,
     )

@@ -15,5 +15,5 @@ returns-clause-end g c =
       c.new-desk.ensures,
       tt,
       task_as (Asked ghosts.seen rules new last) (λ steps. Leads rules steps (ghosts.seen new) (ghosts.seen last)) (Appends (g.W.Write.contents c.args.output.now) (g.W.Write.contents c.run_task-status.new.output))
-          (λ steps trace. traces_lead ghosts.seen rules steps new last trace) c.args.task.now (g.R.Read.remaining c.args.input.now) c.run_task-status.result c.run_task-status.ensures.end,
+          (λ steps trace. traces_lead ghosts.seen rules steps new last trace) c.args.task.now (g.F.NamedFiles.holds c.args.files.now) (g.R.Read.remaining c.args.input.now) c.run_task-status.result c.run_task-status.ensures.end,
     )

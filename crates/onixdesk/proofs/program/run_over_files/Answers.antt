@@ -14,12 +14,12 @@ returns-in-Ok-clause-end g c = λ image settled.
     let opened = c.in-Ok.ensures in
     let state = file_state c.in-Ok.desk.tables.connection in
     let written = Appends (g.W.Write.contents c.args.output.now) (g.W.Write.contents c.run_and_close.new.output) in
-    closed_ended g.D.Disk c.args.precedence.now image (seen_in state) written c.run_and_close.result.1 c.args.task.now (g.R.Read.remaining c.args.input.now) c.run_and_close.result.0
+    closed_ended g.D.Disk c.args.precedence.now image (seen_in state) written c.run_and_close.result.1 c.args.task.now (g.F.NamedFiles.holds c.args.files.now) (g.R.Read.remaining c.args.input.now) c.run_and_close.result.0
     (subst (λ i. ComesTo (seen_image i) (seen_in state)) settled.0 (opened_comes _ state opened.stands opened.alone opened.taken)) c.run_and_close.ensures.end
 
 pub returns-in-Err-clause-end : goal.returns-in-Err-clause-end
 returns-in-Err-clause-end g c = λ image settled. (
   c.report-status.ensures,
   Appends-nil (g.W.Write.contents c.args.output.now),
-  λ clean. spares_settled g.D.Disk MakesNothing image c.args.files c.in-Err.left settled (c.in-Err.ensures.left clean),
+  λ clean. spares_settled g.D.Disk MakesNothing image c.args.database c.in-Err.left settled (c.in-Err.ensures.left clean),
 )

@@ -7,14 +7,14 @@ use Rattle.onixdesk.proofs.sending.send_batch.Goals as goal
 
 pub returns-in_err-asked : goal.returns-in_err-asked
 returns-in_err-asked g c =
-    let came = g.S.Read.remaining c.args.from.now in
+    let came = g.K.OpenDesks.answers c.args.desks.now c.args.socket.now c.args.text.now in
     let held = g.W.Write.contents c.args.output.now in
     let given = err_from_is_err_and c.from_residual.result c.from_residual.ensures.1 in
     rw given.1 (wrote_came came came (Appends held held) [] (Consumes-nil came) (Appends-nil held))
 
-pub returns-in_err-send_text : goal.returns-in_err-send_text
-returns-in_err-send_text g c =
-    let came = g.S.Read.remaining c.args.from.now in
+pub returns-in_err-from : goal.returns-in_err-from
+returns-in_err-from g c =
+    let came = g.K.OpenDesks.answers c.args.desks.now c.args.socket.now c.args.text.now in
     let held = g.W.Write.contents c.args.output.now in
-    let given = err_from_is_err_and c.from_residual-in_err-send_text.result c.from_residual-in_err-send_text.ensures.1 in
+    let given = err_from_is_err_and c.from_residual-in_err-from.result c.from_residual-in_err-from.ensures.1 in
     rw given.1 (wrote_came came came (Appends held held) [] (Consumes-nil came) (Appends-nil held))

@@ -1,0 +1,18 @@
+-- What is found of a database file and of its log, before they are opened.
+use Rattle.std.specs.Prelude.{◌≡◌, ◌<◌, Result, IsErrAnd, IsOkAnd}
+use Rattle.std.specs.Fs.{metadata_len}
+use Rattle.std.specs.IoError.{error_kind}
+use Rattle.std.specs.declared.fs.attrs.Metadata.{Metadata}
+use Rattle.std.specs.declared.io.ErrorKind.TheVariants.{NotFound}
+use Rattle.std.specs.declared.io.Error.{Error}
+
+-- there is no such file
+abbrev pub IsMissing : Result Metadata Error → Type 0
+IsMissing found = IsErrAnd found (λ error. error_kind error ≡ NotFound)
+
+-- a file has one byte, and nothing of a log lies beside it. The making of a database, which begins
+-- with one byte, writes into the log before
+abbrev pub IsStray : Result Metadata Error → Result Metadata Error → Type 0
+IsStray found log =
+    IsOkAnd found (λ file. metadata_len file ≡ 1)
+    × ¬ (IsOkAnd log (λ beside. 0 < metadata_len beside))

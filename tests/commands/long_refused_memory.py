@@ -14,25 +14,26 @@ import argparse
 import subprocess
 import sys
 
+from tests.commands.refused_memory import FILES, MEMORY, TABLES
 from tests.memory.report import PROGRAM, report
 from tests.memory.sweep import Sweep
 from tools.root import ROOT
 
-# Beside those of tests/refused-memory. The longer ones by every so many requests, so that they end in
-# minutes.
+# Beside those of tests/refused-memory, each run to the end of its list. The longer ones by every so many
+# requests, so that they end in minutes.
 SWEEPS = [
-    Sweep("stores::desks::desk_in_memory", "questions"),
-    Sweep("stores::desks::desk_in_memory", "exchanges"),
-    Sweep("stores::desks::desk_in_memory", "drain"),
-    Sweep("stores::desks::tables_in_memory", "steps", step=3),
-    Sweep("stores::desks::tables_in_memory", "questions", step=3),
-    Sweep("stores::desks::tables_in_memory", "exchanges", step=7),
-    Sweep("stores::desks::tables_in_memory", "drain", step=31),
+    Sweep(MEMORY, "questions"),
+    Sweep(MEMORY, "exchanges"),
+    Sweep(MEMORY, "drain"),
+    Sweep(TABLES, "steps", step=3),
+    Sweep(TABLES, "questions", step=3),
+    Sweep(TABLES, "exchanges", step=7),
+    Sweep(TABLES, "drain", step=31),
     Sweep("stores::desks::desk_in_files", "steps", step=499),
     Sweep("stores::desks::desk_in_files", "drain", step=97),
-    Sweep("stores::desks::tables_in_files", "calls", step=29),
-    Sweep("stores::desks::tables_in_files", "refused", step=101),
-    Sweep("stores::desks::tables_in_files", "versions", step=101),
+    Sweep(FILES, "calls", step=29),
+    Sweep(FILES, "refused", step=101),
+    Sweep(FILES, "versions", step=101),
 ]
 
 
@@ -50,7 +51,8 @@ def named_sweeps() -> list[Sweep]:
     if len(words) not in (2, 4) or not all(word.isdecimal() and int(word) > 0 for word in words[2:]):
         parser.error("TEST CASES, or TEST CASES FIRST STEP with numbers from 1 on")
     test, cases, *numbers = words
-    return [Sweep(test, "" if cases == "-" else cases, *map(int, numbers))]
+    first, step = map(int, numbers or ["1", "1"])
+    return [Sweep(test, "" if cases == "-" else cases, first, step)]
 
 
 def main() -> int:

@@ -1,5 +1,6 @@
-"""Refuses memory, one request for it in each run, to the tests of fifteen requests over the desk in memory
-and of three over the desk in tables.
+"""Refuses memory, one request for it in each run, to the tests of the desks: to messages, questions, choices with
+calendars, exchanges and waivers over the desk in memory and over tables, to forty messages that are applied at once,
+over files with the rows of their tables, and to a migration.
 
     tests/refused-memory [PROGRAM]
 
@@ -16,9 +17,24 @@ from pathlib import Path
 from tests.memory.report import PROGRAM, is_stale, report
 from tests.memory.sweep import Sweep
 
+MEMORY = "stores::desks::desk_in_memory"
+TABLES = "stores::desks::tables_in_memory"
+FILES = "stores::desks::tables_in_files"
+
+# The first two go on to the end of their lists. Of the forty messages over files, where a run opens these four times,
+# every 29th request is refused; each one is over tables in memory, whose rows nothing reads.
 SWEEPS = [
-    Sweep("stores::desks::desk_in_memory", "steps"),
-    Sweep("stores::desks::tables_in_memory", "three"),
+    Sweep(MEMORY, "steps"),
+    Sweep(TABLES, "three"),
+    Sweep(MEMORY, "questions", ends=True),
+    Sweep(TABLES, "questions", ends=True),
+    Sweep(MEMORY, "exchanges", ends=True),
+    Sweep(TABLES, "exchanges", ends=True),
+    Sweep(TABLES, "waivers", ends=True),
+    Sweep(MEMORY, "drain", ends=True),
+    Sweep(TABLES, "drain", ends=True),
+    Sweep(FILES, "rows", step=29, ends=True),
+    Sweep(FILES, "migration", ends=True),
 ]
 
 

@@ -1,9 +1,9 @@
-/* Loaded before the C library into a program of tests. The program counts its requests for memory, each
-   `malloc` and `realloc`. At request START and each STEPth from there it forks: the copy is refused this
-   one request, and goes on to its end; the program waits for the copy, and goes on with the memory. A line
-   "REQUEST STATUS FROM TO" on the descriptor TOLD tells of each copy: how it ended, as `waitpid` says it,
-   and which bytes of the file of its standard error are its own. START, STEP and TOLD stand in the
-   environment. */
+/* Loaded before the C library into a program of tests. Once it has asked for REFUSED in its environment, the
+   program counts its requests for memory, each `malloc` and `realloc`. At request START and each STEPth from
+   there it forks: the copy is refused this one request, and goes on to its end; the program waits for the
+   copy, and goes on with the memory. A line "REQUEST STATUS FROM TO" on the descriptor TOLD tells of each
+   copy: how it ended, as `waitpid` says it, and which bytes of the file of its standard error are its own.
+   START, STEP and TOLD stand in the environment. */
 /* What is used of the C library on Linux of 64 bits, since the toolchain's compiler has no headers. */
 #define NULL ((void *)0)
 #define RTLD_NEXT ((void *)-1L)
@@ -13,7 +13,7 @@ typedef long off_t, ssize_t;
 typedef int pid_t;
 extern int snprintf(char *, size_t, const char *, ...);
 extern void perror(const char *);
-extern char *getenv(const char *);
+extern int strcmp(const char *, const char *);
 extern long atol(const char *);
 extern off_t lseek(int, off_t, int);
 extern ssize_t write(int, const void *, size_t);
@@ -25,23 +25,30 @@ extern void *dlsym(void *, const char *);
 /* A copy that runs for so many seconds is ended. */
 enum { SECONDS = 60 };
 
-static long requests, start = -1, step;
-static int told, is_copy;
+static long requests, start, step;
+static int told, is_begun, is_copy;
 
 static void give_up(const char *what) {
     perror(what);
     _exit(70);
 }
 
+static char *found(const char *name) {
+    static char *(*next)(const char *);
+    if (!next) next = dlsym(RTLD_NEXT, "getenv");
+    return next(name);
+}
+
 static long of_environment(const char *name) {
-    const char *word = getenv(name);
+    const char *word = found(name);
     return word ? atol(word) : 0;
 }
 
-static void read_environment(void) {
+static void begin(void) {
     start = of_environment("START");
     step = of_environment("STEP");
     told = (int)of_environment("TOLD");
+    is_begun = 1;
 }
 
 static void tell(int status, off_t from) {
@@ -53,8 +60,7 @@ static void tell(int status, off_t from) {
 
 /* Whether this process is a copy that is refused its request. */
 static int refuses(void) {
-    if (start < 0) read_environment();
-    if (is_copy || start == 0 || ++requests < start || (requests - start) % step) return 0;
+    if (!is_begun || is_copy || ++requests < start || (requests - start) % step) return 0;
     off_t from = lseek(2, 0, SEEK_END);
     pid_t copy = fork();
     if (copy < 0) give_up("fork");
@@ -67,6 +73,11 @@ static int refuses(void) {
     if (waitpid(copy, &status, 0) != copy) give_up("waitpid");
     tell(status, from);
     return 0;
+}
+
+char *getenv(const char *name) {
+    if (!is_begun && strcmp(name, "REFUSED") == 0) begin();
+    return found(name);
 }
 
 void *malloc(size_t size) {

@@ -34,13 +34,15 @@ class MemoryFault(Exception):
 
 
 class Sweep(NamedTuple):
-    """A test, the name of its cases, or nothing for all that it has, and which of its requests for memory
-    are refused: the first one, and each so many from there."""
+    """A test, the name of its cases, or nothing for all that it has, which of its requests for memory
+    are refused, the first one and each so many from there, and whether a run ends behind the case in which
+    a call lacked memory, or goes on."""
 
     test: str
     cases: str = ""
     first: int = 1
     step: int = 1
+    ends: bool = False
 
     def name(self) -> str:
         return f"{self.test}, {self.cases or 'all cases'}"
@@ -122,7 +124,7 @@ class Tests:
         with self.file() as told, self.file() as said:
             environment = {
                 "LD_PRELOAD": str(self.library),
-                "REFUSED": "1",
+                "REFUSED": "case" if sweep.ends else "list",
                 "START": str(sweep.first),
                 "STEP": str(sweep.step),
                 "TOLD": str(told.fileno()),

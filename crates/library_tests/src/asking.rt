@@ -4,7 +4,7 @@
 use crate::cases::{expect, expect_bytes};
 use csv_records::reading::RecordFault;
 use desk_batch::{BatchFault, run_batch};
-use desk_http::{HttpFault, Routes, serve_one};
+use desk_http::{HttpFault, serve_one};
 use desk_memory::MemoryDesk;
 use desk_store::DeskStore;
 use onix_message::StoreFault;
@@ -95,10 +95,7 @@ fn exchange<D: Desk>(
     text: &str,
     output: &mut Vec<u8>,
 ) -> End {
-    let Ok(routes) = Routes::new(alloc) else {
-        return End::Memory;
-    };
-    let served = serve_one(alloc, &routes, desk, rules, &mut text.as_bytes(), output);
+    let served = serve_one(alloc, desk, rules, &mut text.as_bytes(), output);
     match end_of_exchange(served, output.as_slice()) {
         End::Done if output.push(b'\n').is_err() => End::Memory,
         End::Done => End::Done,

@@ -25,3 +25,5 @@ mod streams;
 mod tables;
 #[cfg(test)]
 mod unasked;
+#[cfg(test)]
+mod values;

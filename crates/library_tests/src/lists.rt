@@ -12,6 +12,7 @@ pub mod drain;
 pub mod exchanges;
 pub mod late;
 pub mod minimums;
+pub mod order;
 pub mod questions;
 pub mod refused;
 pub mod steps;
@@ -124,6 +125,9 @@ fn expect_steps<'a, D: TestDesk>(
         expect_answers(alloc, stop, refusals, desk, between, *step, &mut output);
         if !step.after.is_empty() {
             expect_report(alloc, stop, refusals, desk, between, *step, &mut output);
+        }
+        if refusals.are_over() {
+            return;
         }
         between.before = step.after;
     }

@@ -11,21 +11,35 @@ use std::rt::Env;
 #[derive(Drop)]
 pub struct Refusals {
     left: u32,
+    // Whether a list ends behind the case in which a call lacked it.
+    ends: bool,
 }
 
 impl Refusals {
-    /// Once where `REFUSED` stands in the environment, else never.
+    /// Once where `REFUSED` stands in the environment, else never. No memory is refused before this call. A list
+    /// ends behind that one case where `case` stands there, and else goes on.
     pub fn of(rt: &impl Env) -> Refusals {
         let mut text = [0u8; 32];
-        let is_told = rt.var("REFUSED", &mut text).is_ok();
-        Refusals {
-            left: u32::from(is_told),
+        match rt.var("REFUSED", &mut text) {
+            Ok(_) => Refusals {
+                left: 1,
+                ends: text.starts_with("case".as_bytes()),
+            },
+            Err(_) => Refusals::none(),
         }
     }
 
     /// Never.
     pub fn none() -> Refusals {
-        Refusals { left: 0 }
+        Refusals {
+            left: 0,
+            ends: false,
+        }
+    }
+
+    /// Whether a list ends here.
+    pub fn are_over(&self) -> bool {
+        self.ends && self.left == 0
     }
 
     /// A call lacked memory.

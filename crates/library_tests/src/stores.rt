@@ -2,4 +2,5 @@
 //! refused, the calls of the tables, and what stands after a stop. `tests/run` has what the program shows.
 
 mod desks;
+mod paths;
 mod stops;

@@ -4,7 +4,7 @@
 use crate::cases::{expect, expect_bytes, made};
 use csv_records::reading::RecordFault;
 use desk_batch::{BatchFault, run_batch};
-use desk_http::{HttpFault, Routes, serve_one};
+use desk_http::{HttpFault, serve_one};
 use desk_memory::MemoryDesk;
 use price_rules::precedence::Precedence;
 use series_rules::desk::Desk;
@@ -114,8 +114,7 @@ fn expect_replied<D: Desk>(alloc: Global, stop: &impl Abort, desk: &mut D, input
         reads: 0,
     };
     let rules = Precedence::none(alloc);
-    let routes = made(stop, Routes::new(alloc));
-    let served = serve_one(alloc, &routes, desk, &rules, &mut reader, &mut written);
+    let served = serve_one(alloc, desk, &rules, &mut reader, &mut written);
     expect(stop, matches!(&served, Ok(422)), "the most of an input");
     expect_bytes(stop, written.as_slice(), MALFORMED.as_bytes(), "its reply");
     let are_few = reader.reads <= MOST_READS_OF_AN_EXCHANGE;
@@ -168,15 +167,7 @@ fn expect_reply_cut<D: Desk>(alloc: Global, stop: &impl Abort, desk: &mut D, tak
         written: Vec::new(alloc),
     };
     let rules = Precedence::none(alloc);
-    let routes = made(stop, Routes::new(alloc));
-    let served = serve_one(
-        alloc,
-        &routes,
-        desk,
-        &rules,
-        &mut QUESTION.as_bytes(),
-        &mut output,
-    );
+    let served = serve_one(alloc, desk, &rules, &mut QUESTION.as_bytes(), &mut output);
     let is_write = matches!(&served, Err(HttpFault::Write { status: 404 }));
     expect(stop, is_write, "a client that takes nothing");
     expect_bytes(stop, output.written.as_slice(), taken, "what it took");

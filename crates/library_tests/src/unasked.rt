@@ -16,7 +16,8 @@ use onix_terms::items::Items;
 use onix_terms::number::Number;
 use onix_terms::quantity::Quantity;
 use onix_terms::series_name::SeriesName;
-use price_rules::calendar::calendar;
+use price_rules::breaks::break_days;
+use price_rules::calendar::{CalendarFault, Span, calendar};
 use price_rules::day_by_day::calendar_day_by_day;
 use price_rules::offer::{CalendarQuery, Offer};
 use price_rules::precedence::Precedence;
@@ -99,10 +100,29 @@ fn question() -> Option<CalendarQuery> {
     })
 }
 
+// The spans of an offer by that question.
+fn spans_of(
+    alloc: Global,
+    offer: &Offer,
+    query: CalendarQuery,
+) -> Result<Items<Span>, CalendarFault> {
+    let CalendarQuery {
+        from,
+        to,
+        country,
+        currency,
+        price_type,
+        quantity,
+    } = query;
+    calendar(
+        alloc, offer, from, to, country, currency, price_type, quantity,
+    )
+}
+
 // The calendar of an offer is the same day by day. tests/batches/calendars.txt has what it is.
 fn expect_calendar(alloc: Global, stop: &impl Abort, offer: &Offer) {
     let query = found(stop, question(), "a question");
-    let spans = made(stop, calendar(alloc, offer, &query));
+    let spans = made(stop, spans_of(alloc, offer, query));
     let by_day = made(stop, calendar_day_by_day(alloc, offer, &query));
     let are_same = spans.as_slice() == by_day.as_slice();
     expect(
@@ -112,12 +132,28 @@ fn expect_calendar(alloc: Global, stop: &impl Abort, offer: &Offer) {
     );
 }
 
+const BREAK_DAYS: &str = "20250331 20250401 20250501 20250515 20250517 20250521 20250601";
+
+// The break days of an offer in the range of the question.
+fn expect_break_days(alloc: Global, stop: &impl Abort, offer: &Offer) {
+    let query = found(stop, question(), "a question");
+    let days = made(stop, break_days(alloc, offer, query.from, query.to));
+    expect(stop, days.len() == 7, "seven break days");
+    for (place, day) in days.iter().enumerate() {
+        let wanted = Day::read(word(BREAK_DAYS, place));
+        expect(stop, wanted == Some(*day), "a break day");
+    }
+}
+
 // The same of the offer that the desk then has.
 fn expect_offer<D: Desk>(alloc: Global, stop: &impl Abort, desk: &mut D) {
     let article = found(stop, Isbn13::read("9781234567897"), "an article");
     let offers = made(stop, desk.offers_of(&article));
     match offers.as_slice() {
-        [offer] => expect_calendar(alloc, stop, offer),
+        [offer] => {
+            expect_calendar(alloc, stop, offer);
+            expect_break_days(alloc, stop, offer);
+        }
         _ => stop.panic("one offer"),
     }
 }
@@ -165,7 +201,7 @@ fn answer_of(name: &str) -> Option<Answer> {
         "name-taken" => agreement(AgreeAnswer::NameTaken),
         "series-taken" => agreement(AgreeAnswer::SeriesTaken { name: north }),
         "waived" => waiver(WaiveAnswer::Waived),
-        "had" => waiver(WaiveAnswer::HasMessage),
+        "had" => waiver(WaiveAnswer::Had),
         "before-first" => waiver(WaiveAnswer::BeforeFirst { first: five }),
         "unknown-series" => waiver(WaiveAnswer::UnknownSeries),
         _ => None,

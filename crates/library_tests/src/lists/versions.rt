@@ -2,9 +2,9 @@
 //! one waits, and so does a waiver. They and those of another version are not opened, and stay as they are,
 //! until they are migrated; then the desk in them goes on.
 
-/// From version 1 to version 2, by calls of files. Its report is an empty transcript.
-pub const VERSIONS: &str = "
-== versions
+/// The files of version 1. The report is an empty transcript.
+pub const FIRST_FILES: &str = "
+== first
 tables
 -- wanted
 as told
@@ -45,6 +45,45 @@ INSERT INTO held VALUES ('north', 6, 'waived');
 COMMIT;
 -- wanted
 -- after
+as told
+";
+
+/// Their way to version 2, with a report on their rows: as they are before it, or after it.
+pub const MIGRATION: &str = "
+== migration
+tables
+version: 1
+series_rows: north 4012345000009 3;
+gap_rows: 4; 6;
+next_held 4: ''
+next_held 6: waived
+article_rows: R1 1 15; R2 1 15;
+offer_rows: R1 1; R2 1;
+or
+version: 2
+series_rows: north 4012345000009 3;
+gap_rows: 4; 6;
+next_held 4: ''
+next_held 6: waived
+article_rows: R1 1 15; R2 1 15;
+offer_rows: R1 1; R2 1;
+price_rows: 1 1 1; 1 1 1;
+-- wanted
+as told
+
+== migration
+migrate
+-- wanted
+version 2
+-- after
+as told otherwise
+";
+
+/// From version 1 to version 2, by calls of such files. Its report is an empty transcript.
+pub const VERSIONS: &str = "
+== versions
+tables
+-- wanted
 as told
 
 == they are not opened

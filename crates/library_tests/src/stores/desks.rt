@@ -5,14 +5,16 @@ use crate::cases::expect;
 use crate::desks::{TestDesk, opened};
 use crate::files::FileDesk;
 use crate::lists::calls::CALLS;
-use crate::lists::drain::DRAIN;
+use crate::lists::drain::{DRAIN, DRAINED_ROWS, FORTY};
 use crate::lists::exchanges::EXCHANGES;
 use crate::lists::expect_list;
+use crate::lists::order::ORDER;
 use crate::lists::questions::QUESTIONS;
 use crate::lists::refused::REFUSED;
 use crate::lists::steps::STEPS;
 use crate::lists::three::THREE;
-use crate::lists::versions::VERSIONS;
+use crate::lists::versions::{FIRST_FILES, MIGRATION, VERSIONS};
+use crate::lists::waivers::WAIVERS;
 use crate::refusals::{Refusals, are_chosen};
 use desk_memory::MemoryDesk;
 use desk_store::DeskStore;
@@ -37,14 +39,32 @@ fn ask_list<D: TestDesk + Drop, R: Abort + Env>(
     true
 }
 
+// The same of a list behind another one, in which no memory is refused.
+fn ask_behind<D: TestDesk + Drop, R: Abort + Env>(
+    alloc: Global,
+    rt: &R,
+    first: &str,
+    name: &str,
+    list: &str,
+) -> bool {
+    if !are_chosen(rt, name) {
+        return false;
+    }
+    let mut desk: D = opened(alloc, rt, &mut Refusals::none());
+    expect_list(alloc, rt, &mut Refusals::none(), &mut desk, first);
+    expect_list(alloc, rt, &mut Refusals::of(rt), &mut desk, list);
+    true
+}
+
 // Asks new desks of a kind the lists that are chosen.
 fn ask_lists<D: TestDesk + Drop, R: Abort + Env>(alloc: Global, rt: &R) {
     let steps = ask_list::<D, R>(alloc, rt, "steps", STEPS);
     let three = ask_list::<D, R>(alloc, rt, "three", THREE);
     let questions = ask_list::<D, R>(alloc, rt, "questions", QUESTIONS);
     let exchanges = ask_list::<D, R>(alloc, rt, "exchanges", EXCHANGES);
-    let drain = ask_list::<D, R>(alloc, rt, "drain", DRAIN);
-    let is_one = steps || three || questions || exchanges || drain;
+    let waivers = ask_list::<D, R>(alloc, rt, "waivers", WAIVERS);
+    let drain = ask_behind::<D, R>(alloc, rt, FORTY, "drain", DRAIN);
+    let is_one = steps || three || questions || exchanges || waivers || drain;
     expect(rt, is_one, "no cases of this name");
 }
 
@@ -52,8 +72,12 @@ fn ask_lists<D: TestDesk + Drop, R: Abort + Env>(alloc: Global, rt: &R) {
 fn make_calls<D: TestDesk + Drop, R: Abort + Env>(alloc: Global, rt: &R) {
     let calls = ask_list::<D, R>(alloc, rt, "calls", CALLS);
     let refused = ask_list::<D, R>(alloc, rt, "refused", REFUSED);
-    let versions = ask_list::<D, R>(alloc, rt, "versions", VERSIONS);
-    expect(rt, calls || refused || versions, "no cases of this name");
+    let versions = ask_behind::<D, R>(alloc, rt, FIRST_FILES, "versions", VERSIONS);
+    let migration = ask_behind::<D, R>(alloc, rt, FIRST_FILES, "migration", MIGRATION);
+    let rows = ask_behind::<D, R>(alloc, rt, FORTY, "rows", DRAINED_ROWS);
+    let order = ask_list::<D, R>(alloc, rt, "order", ORDER);
+    let is_one = calls || refused || versions || migration || rows || order;
+    expect(rt, is_one, "no cases of this name");
 }
 
 #[test]

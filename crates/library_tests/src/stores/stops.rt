@@ -11,7 +11,7 @@ use crate::lists::expect_list;
 use crate::lists::late::LATE;
 use crate::lists::minimums::MINIMUMS;
 use crate::lists::steps::STEPS;
-use crate::lists::versions::{MIGRATED, VERSIONS};
+use crate::lists::versions::{FIRST_FILES, MIGRATED};
 use crate::lists::waivers::WAIVERS;
 use crate::refusals::Refusals;
 use price_rules::precedence::Precedence;
@@ -276,5 +276,5 @@ fn expect_migrations_of<D: StoppedDesk + Drop, R: Abort>(alloc: Global, stop: &R
 
 #[test]
 fn migrations(rt: HostRuntime) {
-    expect_migrations_of::<FileDesk, HostRuntime>(rt.alloc(), &rt, VERSIONS);
+    expect_migrations_of::<FileDesk, HostRuntime>(rt.alloc(), &rt, FIRST_FILES);
 }

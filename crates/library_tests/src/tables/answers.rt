@@ -1,13 +1,14 @@
 //! What a query gives, beside what the words of a transcript name. What is compared takes no memory.
 
-use crate::tables::words::{is_whole, word};
+use crate::tables::words::{contents, is_whole, word};
+use desk_tables::EffectRow;
 use desk_tables::articles::ArticleRow;
 use desk_tables::offers::OfferRow;
 use desk_tables::prices::PriceRow;
 use desk_tables::records::RecordRow;
 use desk_tables::series::SeriesRow;
 use onix_message::parts::{Price, Supplier};
-use onix_message::{Agreement, Effect, StoreFault};
+use onix_message::{Agreement, StoreFault};
 use onix_terms::items::Items;
 use onix_terms::number::Number;
 use onix_terms::party::Party;
@@ -95,10 +96,8 @@ impl Answer for SeriesRow {
     }
 }
 
-// Whether a word is this text. Two apostrophes are the empty one.
 fn is_text(text: &Text, word: &str) -> bool {
-    let wanted = if word == "''" { "" } else { word };
-    text.as_str() == wanted
+    text.as_str() == contents(word)
 }
 
 impl Answer for Text {
@@ -107,7 +106,7 @@ impl Answer for Text {
     }
 }
 
-impl Answer for (Text, Effect) {
+impl Answer for (Text, EffectRow) {
     fn is(&self, line: &str) -> bool {
         let (contents, counts) = self;
         is_text(contents, word(line, 0))

@@ -1,7 +1,7 @@
 //! The calls that change rows, each by its name and what its line gives it.
 
 use crate::tables::sample::{agreement, article, effect, offer, price_row};
-use crate::tables::words::{name, number, whole, word};
+use crate::tables::words::{contents, name, number, whole, word};
 use desk_tables::work::Work;
 use onix_message::StoreFault;
 use sqlite::Alter;
@@ -56,13 +56,13 @@ fn put_price<S: Alter>(
 
 fn put_held<S: Alter>(work: &mut Work<'_, S>, line: &str) -> Result<(), StoreFault> {
     let series = name(word(line, 1))?;
-    work.put_held(&series, number(word(line, 2))?, word(line, 3))
+    work.put_held(&series, number(word(line, 2))?, contents(word(line, 3)))
 }
 
 fn put_applied<S: Alter>(work: &mut Work<'_, S>, line: &str) -> Result<(), StoreFault> {
     let counts = effect(line)?;
     let series = name(word(line, 1))?;
-    work.put_applied(&series, number(word(line, 2))?, "first", &counts)
+    work.put_applied(&series, number(word(line, 2))?, contents("first"), &counts)
 }
 
 fn set_next<S: Alter>(work: &mut Work<'_, S>, line: &str) -> Result<(), StoreFault> {

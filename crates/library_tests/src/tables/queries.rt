@@ -24,9 +24,9 @@ fn series_by_parties<S: Alter>(
     line: &str,
     wanted: &str,
 ) -> Result<bool, StoreFault> {
-    let addressee = Some(party(alloc, "5012345678900")?);
+    let addressee = party(alloc, "5012345678900")?;
     match party(alloc, word(line, 1)) {
-        Ok(sender) => is_found(work.series_by_parties(&sender, &addressee), wanted),
+        Ok(sender) => is_found(work.series_by_parties(&sender, Some(&addressee)), wanted),
         Err(fault) => Err(fault),
     }
 }

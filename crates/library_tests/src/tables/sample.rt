@@ -2,12 +2,13 @@
 //! market GB and IE, the supplier North Books, the price 12.99 GBP of the world.
 
 use crate::tables::words::{code, name, number, term, whole, word};
+use desk_tables::EffectRow;
 use desk_tables::articles::ArticleRow;
 use desk_tables::offers::OfferRow;
 use desk_tables::prices::PriceRow;
 use desk_tables::records::RecordRow;
 use onix_message::parts::{Price, Supplier};
-use onix_message::{Agreement, Effect, StoreFault};
+use onix_message::{Agreement, StoreFault};
 use onix_terms::amount::Amount;
 use onix_terms::code::Currency;
 use onix_terms::party::Party;
@@ -59,8 +60,8 @@ pub fn agreement(alloc: Global, series: &str, sender: &str) -> Result<Agreement,
 }
 
 /// The five counts of an effect, behind the name of the call, the series and the number.
-pub fn effect(line: &str) -> Result<Effect, StoreFault> {
-    Ok(Effect {
+pub fn effect(line: &str) -> Result<EffectRow, StoreFault> {
+    Ok(EffectRow {
         replaced: whole(word(line, 3))?,
         updated: whole(word(line, 4))?,
         deleted: whole(word(line, 5))?,

@@ -11,8 +11,10 @@ use onix_message::StoreFault;
 use sqlite::Alter;
 use std::alloc::Global;
 
-// Where each line is answered as it says.
+// Where each line is answered as it says, and where each of a second transcript is.
 const TOLD: &str = "as told";
+
+const TOLD_OTHERWISE: &str = "as told otherwise";
 
 // Whether a call is answered so; one that changes rows answers nothing.
 fn has_answer<S: Alter>(
@@ -54,6 +56,22 @@ fn first_wrong<'a, S: Alter>(
     Ok(TOLD)
 }
 
+// The same of two transcripts with a line `or` between them: of the second, where the first does not hold.
+fn first_wrong_of_either<'a, S: Alter>(
+    alloc: Global,
+    work: &mut Work<'_, S>,
+    transcript: &'a str,
+) -> Result<&'a str, StoreFault> {
+    let Some((first, second)) = transcript.split_once("\nor\n") else {
+        return first_wrong(alloc, work, transcript);
+    };
+    if first_wrong(alloc, work, first)? == TOLD {
+        return Ok(TOLD);
+    }
+    let wrong = first_wrong(alloc, work, second)?;
+    Ok(if wrong == TOLD { TOLD_OTHERWISE } else { wrong })
+}
+
 // Ends a transaction with `commit`, and tells where that is unusable.
 fn kept<'a, S: Alter>(work: Work<'_, S>, told: &'a str) -> Result<&'a str, StoreFault> {
     match work.commit() {
@@ -71,13 +89,14 @@ fn told<'a, S: Alter>(
     is_kept: bool,
 ) -> Result<&'a str, StoreFault> {
     let mut work = tables.work()?;
-    let told = first_wrong(alloc, &mut work, transcript)?;
+    let told = first_wrong_of_either(alloc, &mut work, transcript)?;
     if is_kept { kept(work, told) } else { Ok(told) }
 }
 
 /// Makes the calls of a transcript in one transaction, which ends with `commit` or is let go, and writes
 /// `as told`, the first line that is not answered as it says, or where all are and `commit` is not, that it
-/// is `unusable`.
+/// is `unusable`. Of two, with a line `or` between them, one has to hold; of the second it writes `as told
+/// otherwise`.
 pub fn answer_of<S: Alter>(
     alloc: Global,
     tables: &mut Tables<S>,

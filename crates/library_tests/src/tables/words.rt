@@ -49,3 +49,20 @@ pub fn is_whole(text: &str, wanted: u32) -> bool {
         Err(_) => false,
     }
 }
+
+// The text of the contents that bring the record R1.
+const FIRST: &str = "Product,R1,03,15,9781234567897
+ProductSupply,GB IE,,
+SupplyDetail,04,06,4012345000009,North Books,21,
+Price,02,12.990,GBP,,WORLD,,,
+";
+
+/// The text that a word stands for: `first` for that of a message with the record R1, two apostrophes for
+/// the empty one, and any other word for itself.
+pub fn contents(word: &str) -> &str {
+    match word {
+        "first" => FIRST,
+        "''" => "",
+        _ => word,
+    }
+}

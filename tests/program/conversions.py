@@ -44,7 +44,7 @@ SHORT_TAGS = dict(
     PriceConstraintType=x529 MinimumOrderQuantity=j263 PriceCoded=pricecoded PriceAmount=j151
     CurrencyCode=j152 CurrencyZone=x475 EpubLicense=epublicense PriceTypeCode=j148 PriceEffectiveFrom=j161
     PriceEffectiveUntil=j162 CountryCode=b251 OrderQuantityMinimum=x532 PriceDate=pricedate PriceDateRole=x476
-    DateFormat=j260 Date=b306
+    DateFormat=j260 Date=b306 Discount=discount DiscountCoded=discountcoded
     """.split()
 )
 

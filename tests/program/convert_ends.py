@@ -25,6 +25,9 @@ OLD = "; this looks like ONIX 2.1, ask its sender for 3.0 or 3.1"
 ROOTS = "is neither ONIXMessage nor ONIXmessage"
 CUT = "the file ends before </ONIXMessage>"
 NO_XML = "no well-formed XML"
+NO_TEXT = (
+    "a byte that its encoding has not, or a character that no XML has; another encoding may be meant, as windows-1252"
+)
 
 DTD = '<!DOCTYPE ONIXMessage SYSTEM "http://www.editeur.org/onix/{}/reference/onix-international.dtd">\n'
 THIRD = ' xmlns="http://ns.editeur.org/onix/3.0/reference"'
@@ -68,8 +71,15 @@ ROOT_CASES = [
     root(f"{DTD.format('3.0')}<ONIXMessage/>", "no release, not 3.0 or 3.1"),
     root(f"<ONIXMessage{THIRD}/>", "no release, not 3.0 or 3.1"),
     root(f"<o:ONIXMessage{THIRD.replace('xmlns', 'xmlns:o')}/>", "no release, not 3.0 or 3.1"),
-    root(f"{LONG}<ONIXMessage release='2.1'/>", "its release is not 3.0 or 3.1"),
-    root(f"{LONG}<Feed/>", f"its root {ROOTS}"),
+    Case(
+        "an encoding that is not read",
+        b'<?xml version="1.0" encoding="EBCDIC-CP-FI"?><ONIXMessage release="3.0"/>',
+        'encoding "EBCDIC-CP-FI" is not read; '
+        "read are UTF-8, UTF-16, US-ASCII, ISO-8859-1, ISO-8859-15 and windows-1252",
+    ),
+    root('<ONIXMessage release="3.0"><Note>&foo;&bar;</Note></ONIXMessage>', "&foo; stands for nothing"),
+    root(f"{LONG}<ONIXMessage release='2.1'/>", f"release 2.1, not 3.0 or 3.1{OLD}"),
+    root(f"{LONG}<Feed/>", f"root Feed {ROOTS}"),
     Case(
         "a root in UTF-16",
         in_utf16('<ONIXMessage release="2.1"/>'),
@@ -94,6 +104,8 @@ KINDS = [
         for name in ("html", "HTML", "Head", "body")
     ),
     Case("words", b"Message,1,06,S,,,1,,,,\n", NO_XML),
+    Case("a byte that UTF-8 has not", b'<ONIXMessage release="3.0">\xe9</ONIXMessage>', NO_TEXT),
+    Case("a character that XML has not", b'<ONIXMessage release="3.0">\x0b</ONIXMessage>', NO_TEXT),
     Case("a root whose name begins as that of a web page", b"<htmlx><y></htmlx>", f"root htmlx {ROOTS}"),
     Case("a tag whose name begins as that of a web page", b"<htmlx y=1>", NO_XML),
 ]
@@ -115,7 +127,7 @@ ENDS = [
     Case("white space", b" \n", "the file ends before its root element"),
     Case("short tags", in_short_tags(BEGUN).encode(), "the file ends before </ONIXmessage>"),
     Case("UTF-16", in_utf16(BEGUN), CUT),
-    Case("a prolog that is long", f"{LONG}<!--".encode(), NO_XML),
+    Case("a prolog that is long", f"{LONG}<!--".encode(), "the file ends before its root element"),
     *(
         Case(f"{size} bytes and {behind!r}", f"{begun(size)}{behind}".encode(), why)
         for size in SIZES
@@ -130,7 +142,7 @@ ENDS = [
     ),
 ]
 
-NUMBER = "is not a number of 1 to 9 digits, not all zero"
+NUMBER = "is not a number of 1 to 9 digits, not all zero; --number N gives one"
 
 NUMBERS = [
     numbered("0", f"MessageNumber 0 {NUMBER}"),
@@ -164,9 +176,9 @@ NUMBERS = [
 NUMBERS += [
     Case("a Header in short tags", in_short_tags(NUMBERS[0].feed.decode()).encode(), NUMBERS[0].why),
     Case(
-        "a Header behind what is kept",
+        "a Header behind a long comment",
         NUMBERS[0].feed.replace(b"<Header>", f"{LONG}<Header>".encode()),
-        f"MessageNumber {NUMBER}",
+        NUMBERS[0].why,
     ),
 ]
 

@@ -59,6 +59,12 @@ def with_supplier(name: str) -> str:
     return element("Supplier", element("SupplierRole", "04") + name) + element("ProductAvailability", "21")
 
 
+def behind_a_right_one(name: str) -> str:
+    """A product of two SupplyDetails, of which the second, on a line of its own, has this name or identifier."""
+    second = element("SupplyDetail", with_supplier(name))
+    return product(element("ProductSupply", element("SupplyDetail", SUPPLIER) + "\n" + second))
+
+
 CASES = [
     Case(
         "a long reference",
@@ -83,10 +89,25 @@ CASES = [
     ),
     Case(
         "a long name of a supplier",
-        product(element("ProductSupply", element("SupplyDetail", SUPPLIER) + "\n"
-                        + element("SupplyDetail", with_supplier(element("SupplierName", LONG))))),
+        behind_a_right_one(element("SupplierName", LONG)),
         "\n<SupplyDetail>",
-        f"R1: SupplyDetail left out: a text of its Supplier {TOO_LONG} or a control character",
+        f"R1: SupplyDetail left out: SupplierName {TOO_LONG}",
+        WHOLE,
+    ),
+    Case(
+        "a name of a supplier with a control character",
+        behind_a_right_one(element("SupplierName", "North\x7f")),
+        "\n<SupplyDetail>",
+        "R1: SupplyDetail left out: SupplierName has the control character U+007F",
+        WHOLE,
+    ),
+    Case(
+        "a long identifier of a supplier",
+        behind_a_right_one(
+            element("SupplierIdentifier", element("SupplierIDType", "06") + element("IDValue", LONG))
+        ),
+        "\n<SupplyDetail>",
+        f"R1: SupplyDetail left out: IDValue of SupplierIdentifier {TOO_LONG}",
         WHOLE,
     ),
     Case(
@@ -169,17 +190,36 @@ def few(wrong: int, products: int, few_go: bool, none_go: bool, room: Room) -> I
         yield Outcome(name, found, (1, b"", said(notes), True))
 
 
-def others_notes(room: Room) -> Iterator[Outcome]:
-    """Before the refusal stand all notes on wrong products, and none on others."""
-    price = "<Price><PriceQualifier>05</PriceQualifier><PriceAmount>1</PriceAmount></Price>"
-    right = product(supply(SUPPLIER + price))
-    wrong = product(supply(SUPPLIER + price + "\n<Price><PriceAmount>1,00</PriceAmount></Price>"), reference="W")
-    room.write(FEED, "\n".join([FRAME.before, right, wrong, FRAME.behind]).encode())
+# A Price that is left out since it is foreign, and one that is wrong.
+FOREIGN_PRICE = "<Price><PriceQualifier>05</PriceQualifier><PriceAmount>1</PriceAmount></Price>"
+WRONG_PRICE = "<Price><PriceAmount>1,00</PriceAmount></Price>"
+
+
+def before_refusal(products: list[str], room: Room) -> tuple[int, bytes, list[str]]:
+    """What comes of these products, each on a line of its own, where none may be wrong: the status, what is written,
+    and of each line on standard error the place and what follows it, up to the reason."""
+    room.write(FEED, "\n".join([FRAME.before, *products, FRAME.behind]).encode())
     came = convert(room, "--wrong", "none", FEED)
     lines = [line.removeprefix(f"onixdesk: {FEED}:") for line in came.errors.decode().splitlines()]
-    begins = f"3:{wrong.index('<Price>') + 1}: W: Price left out: ", "4:1: W: Price left out: ", "3:1: refused: "
-    found = came.status, came.output, [line.startswith(begin) for line, begin in zip(lines, begins, strict=True)]
-    yield Outcome("convert: the notes before a refusal", found, (1, b"", [True] * 3))
+    return came.status, came.output, [":".join(line.split(":")[:-1]) for line in lines]
+
+
+def others_notes(room: Room) -> Iterator[Outcome]:
+    """Before the refusal stand all notes on wrong products, and none on others: also where those have the reference of
+    a wrong one, or more notes than lines are written."""
+    right = product(supply(SUPPLIER + FOREIGN_PRICE))
+    wrong = product(supply(SUPPLIER + FOREIGN_PRICE + "\n" + WRONG_PRICE), reference="W")
+    namesake = product(supply(SUPPLIER + FOREIGN_PRICE), reference="W")
+    column = wrong.index("<Price>") + 1
+    cases = {
+        "one behind a right one": [right, wrong],
+        "one behind and before one of its name": [namesake, wrong, namesake],
+        "one behind one of 1001 notes": [product(supply(SUPPLIER + FOREIGN_PRICE * 1001)), wrong],
+    }
+    for name, products in cases.items():
+        line = 2 + products.index(wrong)
+        said_lines = [f"{line}:{column}: W: Price left out", f"{line + 1}:1: W: Price left out", f"{line}:1: refused"]
+        yield Outcome(f"convert: the notes before a refusal, of {name}", before_refusal(products, room), (1, b"", said_lines))
 
 
 def before_parts(room: Room) -> Iterator[Outcome]:

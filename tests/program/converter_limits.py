@@ -144,6 +144,39 @@ def large_product(room: Room) -> Iterator[Outcome]:
         yield Outcome(f"a product of 19,998 supply details {option}", came, Ran(1, b"", said_of))
 
 
+def declared(prefixes: range) -> str:
+    """Declarations by which these stand for the namespace of the root."""
+    return "".join(f' xmlns:p{number}="urn:root"' for number in prefixes)
+
+
+def prefixes_of(root: range, product: range, name: range) -> bytes:
+    """A feed whose root, Product and RecordReference declare these, beside the name without a prefix."""
+    before = FRAME.before.replace("<ONIXMessage ", f'<ONIXMessage xmlns="urn:root"{declared(root)} ')
+    within = PRODUCT.format("R1").replace("<Product>", f"<Product{declared(product)}>")
+    within = within.replace("<RecordReference>", f"<RecordReference{declared(name)}>")
+    return f"{before}\n{within}{FRAME.behind}".encode()
+
+
+def prefixes(room: Room) -> Iterator[Outcome]:
+    """At most 64 prefixes, the empty one among them, stand for the namespace of the root at one place."""
+    why = "refused: more than 64 prefixes stand for the namespace of the root here"
+    room.write(FEED, prefixes_of(range(40), range(40, 63), range(0)))
+    yield Outcome("as many prefixes as may stand for the root's namespace", convert(room, FEED), Ran(0, message_of("R1")))
+
+    room.write(FEED, prefixes_of(range(40), range(20, 63), range(63)))
+    yield Outcome("as many prefixes, declared again", convert(room, FEED), Ran(0, message_of("R1")))
+
+    room.write(FEED, prefixes_of(range(40), range(40, 64), range(0)))
+    came = convert(room, FEED)
+    yield Outcome("one prefix more, at a Product", came, Ran(1, b"", said([f"{FEED}:2:1: {why}"])))
+
+    feed = prefixes_of(range(40), range(40, 63), range(63, 64))
+    column = feed.splitlines()[1].index(b"<RecordReference") + 1
+    room.write(FEED, feed)
+    came = convert(room, FEED)
+    yield Outcome("one prefix more, within a Product", came, Ran(1, b"", said([f"{FEED}:2:{column}: {why}"])))
+
+
 def a_whole_product_in_the_next_part(room: Room) -> Iterator[Outcome]:
     """A product that does not fit into what is left of a part begins the next."""
     names = references(MOST - 1)
@@ -166,5 +199,6 @@ GROUPS = [
     Group("the records of a product", one_product),
     Group("the identifiers of a product", many_identifiers),
     Group("the bytes of a product", large_product),
+    Group("the prefixes of the root's namespace", prefixes),
     Group("a whole product in the next part", a_whole_product_in_the_next_part),
 ]

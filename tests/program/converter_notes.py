@@ -150,8 +150,20 @@ def long_prices(room: Room) -> Iterator[Outcome]:
     yield Outcome("a Price with a long field", found, (1, message_of("price"), True, last_line))
 
 
+def old_elements(room: Room) -> Iterator[Outcome]:
+    """The summary names the elements of ONIX 2.1, which are no texts of a feed."""
+    names = ["CountryCode", "PriceEffectiveFrom", "PriceEffectiveUntil", "PriceTypeCode"]
+    price = "<Price><{0}>GB</{0}><PriceAmount>1</PriceAmount></Price>"
+    room.write(FEED, feed_of("prices", "\n".join(price.format(name) for name in [*names, names[0]])))
+    came = convert(room, FEED)
+    counts = [f"Price left out: {name} of ONIX 2.1: {1 + (name == names[0])}" for name in names]
+    summary = said([*counts, "5 notes, 1 product wrong"]).decode().splitlines()
+    yield Outcome("elements of ONIX 2.1 in the summary", (came.status, came.errors.decode().splitlines()[5:]), (1, summary))
+
+
 GROUPS = [
     Group("many notes", bounded),
+    Group("elements of ONIX 2.1 in the summary", old_elements),
     Group("notes on products besides others", products_besides),
     Group("notes on a refused file", refused),
     Group("long lists of regions", regions),

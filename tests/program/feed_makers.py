@@ -4,6 +4,7 @@ from collections.abc import Callable
 from random import Random
 from typing import TypeVar
 
+from tests.program.feed_prices import DISCOUNTS
 from tests.program.feed_trees import (
     Detail,
     Identifier,
@@ -281,6 +282,8 @@ class Maker:
         )
         if self.is_one_of(8):
             price.passed_over = [self.random.choice(PASSED_OVER)]
+        if self.is_one_of(6):
+            price.discounts = [self.random.choice(DISCOUNTS) for _ in range(self.random.randint(1, 3))]
         if self.is_one_of(4):
             self.make_odd(price)
         return price

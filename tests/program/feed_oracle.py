@@ -94,6 +94,7 @@ class Verdict:
     parts: list[Part] = field(default_factory=list)
     notes: list[Note] = field(default_factory=list)
     wrong_products: int = 0
+    discounts: list[str] = field(default_factory=list)
     refusal: Refused | None = None
 
 
@@ -213,6 +214,8 @@ class Judge:
         self.words = words
         self.product = product
         self.notes: list[Note] = []
+        # What is counted without a note: the discounts of the prices that are written.
+        self.discounts: list[str] = []
         # What is written of it where it is emptied.
         self.emptied: list[Record] = []
         self.is_emptied = False
@@ -270,7 +273,7 @@ class Judge:
         """What is written of it where no message has room for all of it."""
         of_identifiers = [note for note in self.notes if isinstance(note.about, Identifier)]
         if not self.is_emptied:
-            self.notes = of_identifiers
+            self.notes, self.discounts = of_identifiers, []
             self.empty("large")
         if parts.have_room(self.emptied):
             return self.emptied
@@ -364,6 +367,7 @@ class Judge:
             self.note(price, *wrong, is_wrong=True)
             return []
         self.note_territory(price.territory)
+        self.discounts += price.discounts
         return [price_record(price, detail)]
 
 
@@ -424,10 +428,12 @@ class Filling:
 
 @dataclass
 class Judged:
-    """What was found of the products of a message: those that are wrong, and the notes on each."""
+    """What was found of the products of a message: those that are wrong, the notes on each, and the discounts that are
+    counted."""
 
     wrong: list[Product] = field(default_factory=list)
     notes: dict[Product, list[Note]] = field(default_factory=dict)
+    discounts: list[str] = field(default_factory=list)
 
     def put(self, one: Judge, filling: Filling) -> None:
         """Adds a product to the messages."""
@@ -435,6 +441,7 @@ class Judged:
         if records is not None:
             filling.add(records if filling.have_room(records) else one.records_too_large(filling))
         self.notes[one.product] = one.notes
+        self.discounts += one.discounts
         if any(note.is_wrong for note in one.notes):
             self.wrong.append(one.product)
 
@@ -465,7 +472,8 @@ def judge(message: Message, words: Words) -> Verdict:
         parts = filling.end(words.parts)
     except Refused as refusal:
         return Verdict(refusal=refusal)
-    return Verdict(parts, [note for notes in judged.notes.values() for note in notes], len(judged.wrong))
+    notes = [note for found in judged.notes.values() for note in found]
+    return Verdict(parts, notes, len(judged.wrong), judged.discounts)
 
 
 def effect(products: list[tuple[str, str]], catalogue: set[str]) -> str:

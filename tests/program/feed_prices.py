@@ -10,6 +10,9 @@ from tests.program.feed_trees import Detail, Message, Price, PriceDate
 # The reason where a region is in the way.
 REGION = "Region"
 
+# What of a Price is not read and would make another one.
+DISCOUNTS = ["Discount", "DiscountCoded"]
+
 FIRST, LAST, BOTH = "14", "15", "24"
 
 # The formats of a day, with a time behind it or without, of a month and of a year.

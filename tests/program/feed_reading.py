@@ -13,6 +13,7 @@ from typing import NamedTuple, TypeVar
 from xml.parsers import expat
 
 from tests.program.conversions import SHORT_TAGS
+from tests.program.feed_prices import DISCOUNTS
 from tests.program.feed_trees import (
     Detail,
     Identifier,
@@ -219,6 +220,7 @@ class Trees:
         price.constraints = [each.text("PriceConstraintType") for each in of.all("PriceConstraint")]
         price.is_coded, price.is_licensed = bool(of.all("PriceCoded")), bool(of.all("EpubLicense"))
         price.old = {name: of.text(name) for name in OLD if of.text(name)}
+        price.discounts = [name for name in DISCOUNTS for _ in of.all(name)]
         return self.at(of, price)
 
     def detail(self, of: Element) -> Detail:

@@ -43,8 +43,8 @@ class PriceDate:
 @dataclass(eq=False)
 class Price:
     """A price. `conditions` and `constraints` have the type of each PriceCondition and PriceConstraint,
-    which may be empty; `old` has the texts of elements of ONIX 2.1 by their names; `passed_over` names elements that
-    are not looked at."""
+    which may be empty; `old` has the texts of elements of ONIX 2.1 by their names; `discounts` names the elements that
+    are counted, and `passed_over` those that are not looked at."""
 
     price_type: str
     amount: str
@@ -61,6 +61,7 @@ class Price:
     is_licensed: bool = False
     zone: str = ""
     old: dict[str, str] = field(default_factory=dict)
+    discounts: list[str] = field(default_factory=list)
     passed_over: list[str] = field(default_factory=list)
 
 

@@ -91,7 +91,7 @@ COUNTED = {
     "SupplierIdentifier": "SupplierIDType IDValue",
     "Price": "PriceType PriceQualifier PricePer PriceCondition PriceConstraint MinimumOrderQuantity PriceCoded"
     " PriceAmount UnpricedItemType CurrencyCode CurrencyZone EpubLicense PriceTypeCode PriceEffectiveFrom"
-    " PriceEffectiveUntil CountryCode Territory PriceDate",
+    " PriceEffectiveUntil CountryCode Territory PriceDate Discount DiscountCoded",
     "PriceCondition": "PriceConditionType",
     "PriceConstraint": "PriceConstraintType",
     "PriceDate": "PriceDateRole DateFormat Date",
@@ -99,6 +99,9 @@ COUNTED = {
 
 # Elements that count somewhere.
 COUNTING = ["Price", "Market", "IDValue", "RecordReference", "PriceAmount", "Territory", "EpubLicense", "Date"]
+
+# So many bytes an element that counts is for the bound of a Product, beside its text.
+ELEMENT_BYTES = 64
 
 # What writes a part of a feed.
 Write = Callable[[], object]
@@ -114,11 +117,13 @@ class Place(NamedTuple):
 
 
 class Written(NamedTuple):
-    """A feed, the places where the start tags of its composites begin, and the places behind their ends."""
+    """A feed, the places where the start tags of its composites begin, the places behind their ends, and the size of
+    each composite, by which a Product is bounded."""
 
     feed: bytes
     starts: dict[object, Place]
     ends: dict[object, Place]
+    sizes: dict[object, int]
 
 
 class Writer:
@@ -134,8 +139,10 @@ class Writer:
         self.stranger: Stranger | None = None
         self.parts: list[str] = []
         self.length = 0
+        self.size = 0
         self.starts: dict[object, int] = {}
         self.ends: dict[object, int] = {}
+        self.sizes: dict[object, int] = {}
 
     def is_one_of(self, count: int) -> bool:
         return self.random.randrange(count) == 0
@@ -226,24 +233,35 @@ class Writer:
             elif self.is_one_of(4):
                 self.append(self.random.choice([*SPACES, "<!-- x -->"]))
 
+    def weigh(self, name: str, text: str = "") -> None:
+        """Adds the size of an element of that name and text, where it counts below what is written."""
+        if name in COUNTED.get(self.around[-1], "").split():
+            self.size += ELEMENT_BYTES + len(text.encode())
+
     def element(self, name: str, text: str, attributes: str = "") -> None:
         """An element with that text; one without a text may be there or not. One that is empty may stand
         before it, and another behind it does not count."""
         tag = self.name(name)
         if text and self.is_one_of(30):
+            self.weigh(name)
             self.put(f"<{tag}/>")
         if text:
+            self.weigh(name, text)
             with self.names.declared(self.local(name), 40) as (own, declarations):
                 written = f"<{own}{declarations}{attributes}>{self.text(text)}</{own}>"
             self.put(written)
             if self.is_one_of(20):
+                self.weigh(name, "7")
                 self.put(f"<{tag}>7</{tag}>")
         elif self.is_one_of(8):
+            self.weigh(name)
             self.put(self.random.choice([f"<{tag}/>", f"<{tag}> \n</{tag}>", f"<{tag}><!-- 5 --></{tag}>"]))
 
     def composite(self, name: str, *writes: Write, of: object = None) -> None:
         """A composite with what is written within it, `of` the one of the tree that it is."""
+        self.weigh(name)
         with self.names.declared(self.local(name), 15) as (tag, declarations):
+            before = self.size
             self.around.append(name)
             self.starts[of] = self.length
             stamp = " datestamp='20250301'" if self.is_one_of(9) else ""
@@ -252,6 +270,7 @@ class Writer:
             self.append(f"</{tag}>")
             self.around.pop()
             self.ends[of] = self.length
+            self.sizes[of] = self.size - before
         self.put("")
 
     def in_order_with_stranger(self, *writes: Write) -> None:
@@ -314,6 +333,10 @@ class Writer:
             if price.is_licensed:
                 self.composite("EpubLicense", lambda: self.element("EpubLicenseName", "x"))
 
+        def discounts() -> None:
+            for name in price.discounts:
+                self.composite(name, lambda: self.put("<DiscountType>02</DiscountType>"))
+
         def old() -> None:
             for name, text in price.old.items():
                 self.element(name, text)
@@ -335,6 +358,7 @@ class Writer:
                 lambda: self.each(self.price_date, price.dates),
                 passed_over,
                 licence,
+                discounts,
                 old,
             )
 
@@ -478,4 +502,4 @@ class Writer:
 
         starts = {of: place(offset) for of, offset in self.starts.items()}
         ends = {of: place(offset) for of, offset in self.ends.items()}
-        return Written(self.encoding.mark + text.encode(self.encoding.codec), starts, ends)
+        return Written(self.encoding.mark + text.encode(self.encoding.codec), starts, ends, self.sizes)

@@ -52,6 +52,17 @@ CASES = [
         taken=["R1"],
     ),
     Case(
+        "one prefix more of the root's namespace",
+        lambda: feed(AS_MANY, "\n", element(declared(range(60, MOST + 1), ROOT)), PRODUCT.format("R1")),
+    ),
+    Case(
+        "one prefix more in what is passed over",
+        lambda: feed(
+            AS_MANY, element(declared(range(60, MOST), ROOT), element(' xmlns:more="urn:root"')), PRODUCT.format("R1")
+        ),
+        taken=["R1"],
+    ),
+    Case(
         "more prefixes, of which some stand for something else there",
         lambda: feed(
             AS_MANY, element(declared(range(1, 9), OTHER) + declared(range(60, MOST + 8), ROOT)), PRODUCT.format("R1")

@@ -23,7 +23,8 @@ PLACES = {
 
 NOT_SHOWN = {"Market": ["SupplyDetail,04,,,North,21,"]}
 
-NOTE = re.compile(r"onixdesk: [^ ]+:[0-9]+:[0-9]+: (.*)")
+# A note, without its place, or what the summary counts without one.
+NOTE = re.compile(r"onixdesk: (?:[^ ]+:[0-9]+:[0-9]+: (.*)|(.*, not read: [0-9]+))")
 
 
 class Example(NamedTuple):
@@ -51,7 +52,7 @@ def shown(example: Example, room: Room) -> list[str]:
     frame = example.frame()
     room.write(FEED, f"{frame.before}\n{example.xml}{frame.behind}".encode())
     came = convert(room, FEED)
-    notes = [found[1] for found in map(NOTE.fullmatch, came.errors.decode().splitlines()) if found]
+    notes = [found[1] or found[2] for found in map(NOTE.fullmatch, came.errors.decode().splitlines()) if found]
     records = came.output.decode().splitlines()[frame.records.count("\n") : -1]
     behind = NOT_SHOWN.get(example.first, [])
     return notes + records[: len(records) - len(behind)] if records[len(records) - len(behind) :] == behind else records

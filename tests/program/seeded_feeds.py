@@ -5,6 +5,8 @@ Each message has a seed of its own, 0 to 1,999: `tests/seeded-feed SEED` writes 
 follow each other and are converted in one run.
 """
 
+import re
+from collections import Counter
 from collections.abc import Iterator
 from functools import partial
 from random import Random
@@ -22,9 +24,10 @@ from tests.program.feed_notes import (
     read_errors,
     read_summary,
 )
+from tests.program.feed_prices import DISCOUNTS
 from tests.program.feed_territories import WORLD
-from tests.program.feed_oracle import Refused, Verdict, effect, judge, records_text
-from tests.program.feed_trees import Identifier, Words
+from tests.program.feed_oracle import MOST_BYTES, Refused, Verdict, effect, judge, records_text
+from tests.program.feed_trees import Identifier, Message, Words
 from tests.program.feed_writing import Writer, Written
 from tests.program.room import Group, Ran, Room
 from tests.running import Outcome
@@ -35,6 +38,9 @@ MESSAGES = 250
 ENDINGS = [".xml", ".XML", ".onix"]
 
 SHOP = ("06", "5012345678900")
+
+# What a reason says in words of its own of a country that is read as another.
+READ_AS = re.compile(" read as (GB|GR)$")
 
 # What stands in feeds and is no part of a reason.
 FEED_TEXTS = {*REGIONS, *PARTS, *NO_PARTS, *BAD_CODES, "12,99", "gbp", "EURO"} - {WORLD, "3"}
@@ -104,7 +110,15 @@ def made(seed: int) -> Case:
     message = maker.message(sender, series.addressees, number)
     file = f"{number}{random.choice(ENDINGS)}"
     written = Writer(random).write(message)
-    return Case(f"seed {seed}", number, file, written, judge(message, series.words))
+    return Case(f"seed {seed}", number, file, written, verdict_of(message, series.words, written))
+
+
+def verdict_of(message: Message, words: Words, written: Written) -> Verdict:
+    """What is to become of a message that is written so: it is refused where a product of it is beyond the bound."""
+    for product in message.products:
+        if written.sizes[product] > MOST_BYTES:
+            return Verdict(refusal=Refused(product, ("4,194,304",)))
+    return judge(message, words)
 
 
 def part_names(number: int, words: Words) -> list[str]:
@@ -179,10 +193,14 @@ def summaries(name: str, cases: list[Case], errors: Errors) -> Iterator[Outcome]
     """What the last lines count: all notes, and those of each reason."""
     notes = [note for case in cases for note in case.verdict.notes]
     summary = read_summary(errors.summary)
+    discounts = Counter(name for case in cases for name in case.verdict.discounts)
+    found_discounts = {each: summary.reasons.pop(f"{each} of a Price, not read", 0) for each in DISCOUNTS}
+    yield Outcome(f"{name}: the discounts", found_discounts, {each: discounts[each] for each in DISCOUNTS})
     wrong_products = sum(case.verdict.wrong_products for case in cases)
     found = summary.last, sum(summary.reasons.values()), miscounted(notes, summary.reasons)
     yield Outcome(f"{name}: the summary", found, (count_line(len(notes), wrong_products), len(notes), []))
-    texts = [text for text in FEED_TEXTS for line in errors.summary if is_named(text, line)]
+    reasons = [READ_AS.sub("", reason) for reason in summary.reasons]
+    texts = [text for text in FEED_TEXTS for reason in reasons if is_named(text, reason)]
     yield Outcome(f"{name}: texts of feeds in the summary", texts, [])
 
 
@@ -208,6 +226,4 @@ def delivered(name: str, cases: list[Case], words: Words, room: Room) -> Iterato
     yield Outcome(f"{name}, delivered", came, wanted)
 
 
-# Not among the groups that are run: the program and this reading still differ on the notes before a refusal, on
-# the causes that the summary counts, and on the words for too long a text of a Supplier.
-DIFFERING = [Group(f"series {place}", partial(check, place)) for place in range(len(SERIES))]
+GROUPS = [Group(f"series {place}", partial(check, place)) for place in range(len(SERIES))]

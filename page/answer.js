@@ -1,11 +1,12 @@
 // The answer of a day: the sentence that says what to do, what speaks against it, and the table of offers.
 
 import { money } from "./amounts.js";
+import { catalogueLink } from "./catalogue.js";
+import { inWords, timeInWords } from "./days.js";
 import {
   betterInWords, conditionsOf, copiesInWords, detailsOf, kindOfAnswer, onlyMoreInWords, otherRules, sentenceOf,
   sumInWords,
 } from "./decision.js";
-import { inWords, timeInWords } from "./days.js";
 import { element } from "./elements.js";
 import { areUnpriced, keyOf, ORDERS } from "./offers.js";
 import { offersInWords, offersTable, referencesTable } from "./offers-table.js";
@@ -141,6 +142,15 @@ export class Answer {
       .join(" ");
   }
 
+  /** What stands below the sentence, and where the book itself is to be seen. */
+  #details() {
+    const { settings } = this.#place;
+    const { isbn } = this.#shown.question;
+    const link = catalogueLink(isbn, say("article.inCatalogue"), settings);
+    const parts = [...detailsOf(this.#shown, settings), ...link];
+    return element("p", { class: "details" }, ...parts.flatMap((part) => [" · ", part]).slice(1));
+  }
+
   #drawSentence() {
     const { settings } = this.#place;
     const conditions = conditionsOf(this.#shown.question, settings);
@@ -153,7 +163,7 @@ export class Answer {
     if (sum !== "") sentence.push(" ", element("strong", { class: "sum" }, sum));
     const status = [
       element("p", { class: "decision" }, ...sentence),
-      element("p", { class: "details" }, detailsOf(this.#shown, settings).join(" · ")),
+      this.#details(),
     ];
     const words = status.map(({ textContent }) => textContent).join("");
     // A screen reader reads what is put there anew, even if it is the same.

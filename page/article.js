@@ -221,15 +221,17 @@ export class Article {
   /** Does what asks the desk, unless nobody waits for it any longer. */
   async #whileWanted(questions) {
     this.#asking.abort();
-    this.#asking = new AbortController();
-    const { signal } = this.#asking;
+    const asking = new AbortController();
+    this.#asking = asking;
     this.#isAsking = true;
     try {
-      await questions(signal);
+      await questions(asking.signal);
     } catch (fault) {
       if (!isAbandoned(fault)) throw fault;
     } finally {
-      if (!signal.aborted) this.#isAsking = false;
+      if (!asking.signal.aborted) this.#isAsking = false;
+      // What was not waited for is asked no longer.
+      asking.abort();
     }
   }
 

@@ -20,16 +20,34 @@ function isOfOneMoment(offers, choice) {
 const askOfDay = (what, question, signal, watch) =>
   ask(`articles/${question.isbn}/${what}`, dayKeys(question), signal, watch);
 
+/** The answers about a day that are asked for at once, or, as soon as one of them is refused, that `refusal`. */
+async function answersOf(whats, question, signal, watch) {
+  const own = new AbortController();
+  const both = AbortSignal.any([signal, own.signal]);
+  let refusal;
+  const askFor = async (what) => {
+    const outcome = await askOfDay(what, question, both, watch);
+    if (outcome.kind === "answer") return outcome.body;
+    refusal ??= outcome;
+    own.abort();
+    return undefined;
+  };
+  try {
+    const answers = await Promise.all(whats.map(askFor));
+    return { answers, refusal };
+  } catch (fault) {
+    if (refusal === undefined) throw fault;
+    return { refusal };
+  }
+}
+
 /** The offers and the choice of a day, with the `time` of the answer, or a `refusal` that is no answer. */
 export async function askDay(question, signal, watch) {
   for (let tries = 1; ; tries += 1) {
-    const [price, choice] = await Promise.all(
-      ["price", "choice"].map((what) => askOfDay(what, question, signal, watch)),
-    );
-    const refusal = [price, choice].find(({ kind }) => kind !== "answer");
+    const { answers, refusal } = await answersOf(["price", "choice"], question, signal, watch);
     if (refusal !== undefined) return { refusal };
-    const { offers } = price.body;
-    const answer = { question, offers, choice: choice.body.choice, time: new Date() };
+    const [{ offers }, { choice }] = answers;
+    const answer = { question, offers, choice, time: new Date() };
     // A message that came between the two may have changed the price.
     if (tries === TRIES || isOfOneMoment(offers, answer.choice)) return answer;
   }

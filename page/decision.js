@@ -103,6 +103,7 @@ export function sumInWords(answer) {
 /** What stands below the sentence: the book, how it can be had, and by which rule it is chosen. */
 export function detailsOf({ offers, choice, question }, settings) {
   const book = say("article.answerFor", question);
+  if (offers.length === 0) return [book, say("article.askPublisher")];
   if (choice === null || areUnpriced(offers)) return [book];
   const availability = wordsOfCode("availabilities", choice.availability) ?? choice.availability;
   const priced = offers.filter(({ amount }) => amount !== null);

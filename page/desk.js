@@ -9,8 +9,14 @@ const AGAIN_SECONDS = 5;
 // The desk or the web server cannot answer just now; 429 is the web server's, asked too often.
 const DOWN = [429, 502, 503, 504];
 
+// Of these, that no reply of the desk came.
+const LOST = [502, 504];
+
 // Faults of the desk's storage that asking again makes no better, or worse.
 const LASTING = ["memory", "size"];
+
+// A question that any desk answers at once: about a series that none has.
+const IS_THERE = "series/is-the-desk-there/gaps";
 
 function urlOf(path, keys) {
   const url = urlBeside(`desk/${path}`);
@@ -32,8 +38,8 @@ async function bodyOf(reply) {
 function downOutcome(status, body) {
   const reason = wordsOfCode("down.reasons", body?.reason) ?? "";
   const words = [say(`down.${status}`), reason].join(" ").trim();
-  if (status !== 503 || !LASTING.includes(body?.reason)) return { kind: "down", words };
-  return { kind: "fault", words: `${words} ${say("down.notAgain")}` };
+  const isLasting = status === 503 && LASTING.includes(body?.reason);
+  return { kind: isLasting ? "fault" : "down", words, isOfDesk: status === 503, isLost: LOST.includes(status) };
 }
 
 /** A reply as an answer, a refusal in the desk's word, a desk that is down, or something else. */
@@ -59,7 +65,7 @@ async function askOnce(path, keys, signal) {
     signal.throwIfAborted();
     if (fault.name !== "AbortError" && fault.name !== "TypeError") throw fault;
     const why = fault.name === "AbortError" ? "late" : "unreached";
-    return { kind: "down", words: say(`down.${why}`) };
+    return { kind: "down", words: say(`down.${why}`), isLost: true };
   } finally {
     clearTimeout(timer);
     signal.removeEventListener("abort", stop);
@@ -76,20 +82,48 @@ function pause(signal) {
   });
 }
 
-/**
- * Asks until the desk answers or refuses, or says that it lacks memory. While it is down, `watch.down` has the
- * words for it; `watch.up` is called where it replies.
- */
-export async function ask(path, keys, signal, watch) {
+function tellDown(watch, { words }) {
+  watch.down(`${words} ${say("down.again", { seconds: AGAIN_SECONDS })}`);
+}
+
+// What is done one after the other.
+let turn = Promise.resolve();
+
+function inTurn(act) {
+  const done = turn.then(act);
+  turn = done.catch(() => {});
+  return done;
+}
+
+/** Asks once more what had no reply, as soon as the desk answers another question. */
+async function askOnceThere(path, keys, signal, watch) {
   for (;;) {
-    const outcome = await askOnce(path, keys, signal);
-    if (outcome.kind !== "down") {
-      watch.up();
-      return outcome;
-    }
-    watch.down(`${outcome.words} ${say("down.again", { seconds: AGAIN_SECONDS })}`);
+    signal.throwIfAborted();
+    const there = await askOnce(IS_THERE, {}, signal);
+    if (there.kind !== "down" || there.isOfDesk) return askOnce(path, keys, signal);
+    tellDown(watch, there);
     await pause(signal);
   }
+}
+
+/**
+ * Asks until the desk answers or refuses, or until asking again by itself would be no good: where the desk lacks
+ * memory, and where a question has had no reply twice although the desk is there, since it may end by it. Of
+ * several questions without a reply one is asked again after the other, so that such a one takes no other with it.
+ * While the desk is down, `watch.down` has the words for it; `watch.up` is called where it replies.
+ */
+export async function ask(path, keys, signal, watch) {
+  let outcome = await askOnce(path, keys, signal);
+  while (outcome.kind === "down") {
+    const { isLost } = outcome;
+    tellDown(watch, outcome);
+    await pause(signal);
+    if (isLost) outcome = await inTurn(() => askOnceThere(path, keys, signal, watch));
+    else outcome = await askOnce(path, keys, signal);
+    if (isLost && outcome.isLost) outcome = { kind: "fault", words: say("down.lost") };
+  }
+  watch.up();
+  return outcome;
 }
 
 /** Whether a fault says that nobody waits for an answer any longer. */

@@ -188,7 +188,8 @@ export class Form {
 
 /** Says in words what the desk refused, or that it was not the desk that replied. */
 export function refuse({ kind, reason, words }) {
-  if (kind === "strange" || kind === "fault") found("question-wrong").textContent = words;
+  if (kind === "strange") found("question-wrong").textContent = words;
+  else if (kind === "fault") found("question-wrong").textContent = `${words} ${say("article.notAgain")}`;
   else if (reason === "bad-range") {
     found("calendar").open = true;
     markAll(["until"], { until: say("wrong.range") });

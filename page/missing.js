@@ -110,8 +110,8 @@ function sinceInWords(seen, series, { days, isSilent }) {
 
 function refusalPart({ kind, reason, words }, { name }) {
   const told = { "unknown-series": say("wrong.series", { name }) };
-  const isTold = kind === "strange" || kind === "fault";
-  const text = isTold ? words : (told[reason] ?? say("wrong.refused", { reason }));
+  const others = { strange: words, fault: `${words} ${say("missing.notAgain")}` };
+  const text = others[kind] ?? told[reason] ?? say("wrong.refused", { reason });
   return [element("p", { class: "wrong" }, text)];
 }
 

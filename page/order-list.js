@@ -57,6 +57,16 @@ export class OrderList {
     return this.askable().filter(({ answer }) => answer === undefined);
   }
 
+  /** The books that the desk has a fault with, so that they are asked for again where a buyer wants it alone. */
+  unanswered() {
+    return this.askable().filter(({ answer }) => answer?.refusal?.kind === "fault");
+  }
+
+  /** Takes these for books that are not asked for yet. */
+  reopen() {
+    for (const book of this.unanswered()) book.answer = undefined;
+  }
+
   /** Whether the answer of a book says less than its order needs, as where a hand chose another offer later. */
   isShort(book) {
     const { answer } = book;

@@ -1,13 +1,18 @@
 // The day, country, currency and price type of an order list: the shop's own, until a buyer sets others.
 
-import { inWords, today } from "./days.js";
+import { inFullWords, today } from "./days.js";
 import { element } from "./elements.js";
 import { readAll } from "./fields.js";
-import { codeInWords, codesOf, say } from "./wording.js";
+import { codeInWords, codesOf, say, wordsOfCode } from "./wording.js";
 
 const NAMES = ["day", "country", "currency", "type"];
 
 const found = (name) => document.getElementById(`list-${name}`);
+
+function typeInWords(code) {
+  const words = wordsOfCode("priceTypes", code);
+  return words === undefined ? code : say("article.wordsOfCode", { words, code });
+}
 
 export class OrderQuestion {
   #usual;
@@ -67,8 +72,8 @@ export class OrderQuestion {
     const usual = { day: today(), ...this.#usual };
     const texts = {
       ...values,
-      day: day === usual.day ? say("article.today", { day: inWords(day) }) : day && inWords(day),
-      type: type && codeInWords("priceTypes", type),
+      day: day && say(day === usual.day ? "article.today" : "article.notToday", { day: inFullWords(day) }),
+      type: type && typeInWords(type),
     };
     const parts = NAMES.filter((name) => texts[name] !== undefined).flatMap((name) => {
       const isUsual = values[name] === usual[name];

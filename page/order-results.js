@@ -31,8 +31,9 @@ export function showProgress(list) {
   found("list-progress").value = all - open;
   found("list-count").textContent = progressInWords(list);
   found("list-running").hidden = !list.isAsking;
-  found("go-on").hidden = list.isAsking || open === 0;
-  found("go-on").textContent = sayCount("order.goOn", open);
+  const again = list.unanswered().length;
+  found("go-on").hidden = list.isAsking || open + again === 0;
+  found("go-on").textContent = open > 0 ? sayCount("order.goOn", open) : sayCount("order.askAgain", again);
   const [from, until] = (list.times() ?? []).map(clock);
   const path = from === until ? "order.asOf" : "order.asOfTimes";
   found("list-as-of").textContent = from === undefined ? "" : say(path, { from, until });

@@ -1,7 +1,8 @@
 // The table of an order list: a row for each book, with the wholesaler that it is ordered from.
 
 import { difference, money, signedMoney, times } from "./amounts.js";
-import { inWords } from "./days.js";
+import { catalogueLink } from "./catalogue.js";
+import { dayInShort } from "./days.js";
 import { betterInWords, onlyMoreInWords } from "./decision.js";
 import { element, table, tableRow } from "./elements.js";
 import { keyOf } from "./offers.js";
@@ -45,7 +46,13 @@ function offerInWords(offer, chosen, { settings, currency }) {
   return say("order.otherOffer", { ...words, more });
 }
 
-/** The field by which a hand chooses another wholesaler, or leaves the book out. */
+/** Whether an offer's wholesaler has none of the others. */
+const isAlone = ({ series }, offers) => offers.filter((offer) => offer.series === series).length === 1;
+
+/**
+ * The field by which a hand chooses another wholesaler, or leaves the book out. What is ordered has its name there
+ * alone, since its price stands beside it.
+ */
 function handField(book, state, hand, context) {
   const { choice, offers } = book.answer;
   const priced = offers.filter(({ amount }) => amount !== null);
@@ -53,7 +60,10 @@ function handField(book, state, hand, context) {
   const first = chosen === undefined ? [element("option", { value: RULES }, say("order.pleaseChoose"))] : [];
   const options = priced.map((offer) => {
     const value = offer === chosen ? RULES : keyOf(offer);
-    return element("option", { value }, offerInWords(offer, chosen, context));
+    const isOrdered = state.offer !== undefined && keyOf(state.offer) === keyOf(offer);
+    const isShort = isOrdered && isAlone(offer, priced);
+    const words = isShort ? wholesalerOf(context.settings, offer.series) : offerInWords(offer, chosen, context);
+    return element("option", { value }, words);
   });
   const none = element("option", { value: LEFT_OUT }, say("order.leftOut"));
   const label = say("order.wholesalerOf", { isbn: book.isbn });
@@ -73,6 +83,7 @@ export function needInWords(need, { answer, written, note, change }, { settings,
   if (need === "onlyMore") return onlyMoreInWords(answer.offers, answer.copies, currency, settings).join(" ");
   if (need === "refused") {
     const { kind, words, reason } = answer.refusal;
+    if (kind === "fault") return `${words} ${say("order.notAgain")}`;
     return kind === "refused" ? say("wrong.refused", { reason }) : words;
   }
   if (need !== "changed") return say(`order.needs.${need}`, { written, note, type });
@@ -84,7 +95,7 @@ export function needInWords(need, { answer, written, note, change }, { settings,
 }
 
 function changeAhead({ last, amount }, currency) {
-  const day = inWords(last);
+  const day = dayInShort(last);
   if (amount === null) return say("order.untilThenNone", { day });
   return say("order.untilThen", { day, price: money(amount, currency) });
 }
@@ -119,7 +130,11 @@ function noteCell(book, state, context) {
 
 /** What stands in place of a wholesaler: why there is none, or that the desk has not answered yet. */
 function withoutOffer(book, state, context) {
-  if (state.need !== undefined) return [element("strong", { class: "need" }, needInWords(state.need, book, context))];
+  if (state.need !== undefined) {
+    const need = element("strong", { class: "need" }, needInWords(state.need, book, context));
+    if (state.need !== "noOffers") return [need];
+    return [need, " ", ...catalogueLink(book.isbn, say("order.inCatalogue"), context.settings)];
+  }
   return [book.answer === undefined ? say(context.isAsking ? "order.waiting" : "order.notAsked") : say("order.leftOut")];
 }
 

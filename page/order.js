@@ -60,6 +60,7 @@ export class Order {
       found(found("go-on").hidden ? "look-up" : "go-on").focus();
     });
     found("go-on").addEventListener("click", () => {
+      if (this.#list.open().length === 0) this.#list.reopen();
       this.#goOn();
       found("stop").focus();
     });

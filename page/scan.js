@@ -67,6 +67,9 @@ export class Scanner {
   #field = document.body;
   #restore = () => {};
   #timer;
+  // When the last digit came, and when that of the bar code came that was asked for last.
+  #digitAt = -Infinity;
+  #askedAt = -Infinity;
 
   /**
    * `place` has `field`, where ISBNs are typed, `begin`, which is called at a digit that no field waits for,
@@ -84,6 +87,9 @@ export class Scanner {
     else if (isEnd && this.#isWhole(event)) {
       event.preventDefault();
       this.#finish();
+    } else if (isEnd && event.timeStamp - this.#askedAt <= BEHIND) {
+      // The page had so much to do that it came behind the end of the wait for it.
+      event.preventDefault();
     } else if (isEnd || event.key.length === 1) {
       clearTimeout(this.#timer);
       this.#burst.end();
@@ -102,6 +108,7 @@ export class Scanner {
     }
     if (!field.matches(FIELDS)) this.#place.begin();
     this.#burst.add(key, timeStamp);
+    this.#digitAt = timeStamp;
     clearTimeout(this.#timer);
     if (this.#burst.code !== undefined) this.#timer = setTimeout(() => this.#finish(), BEHIND);
   }
@@ -110,6 +117,7 @@ export class Scanner {
     clearTimeout(this.#timer);
     const { code } = this.#burst;
     this.#burst.end();
+    this.#askedAt = this.#digitAt;
     if (isText(this.#field)) {
       endLine(this.#field);
       return;

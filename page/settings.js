@@ -3,6 +3,7 @@
 // it, and `values`.
 
 import { urlBeside } from "./address.js";
+import { isCatalogue } from "./catalogue.js";
 import { isChecked } from "./isbn.js";
 import { withOwnWords } from "./own-words.js";
 import { rulesOf } from "./rules.js";
@@ -13,7 +14,7 @@ const WORDS = "words.json";
 const RULES = "rules.toml";
 
 const NEEDED = ["series", "country", "currency", "price_type"];
-const KEYS = [...NEEDED, "shop", "language", "quantities", "minutes_to_usual"];
+const KEYS = [...NEEDED, "shop", "language", "quantities", "minutes_to_usual", "catalogue"];
 const SERIES_KEYS = [
   "name", "words", "days_without_message", "parts", "number_offset", "sender", "addressee", "mail",
   "free_from",
@@ -150,6 +151,7 @@ function settingsOf(given, problems) {
     minutesToUsual: read(
       given, "minutes_to_usual", isMinutes, MINUTES_TO_USUAL, problems, "minutesToUsual",
     ),
+    catalogue: read(given, "catalogue", isCatalogue, "", problems, "catalogue"),
   };
 }
 
@@ -199,10 +201,11 @@ export async function loadWords(language) {
   return { texts: shipped, problems: problem === undefined ? [] : [problem] };
 }
 
-/** The name of a series with its words, where it has some. */
+/** The words of a series, with its name behind them where another one has the same words. */
 export function seriesInWords(settings, name) {
-  const found = settings.series.find((series) => series.name === name);
-  return found === undefined ? name : say("page.seriesInWords", { words: found.words, name });
+  const words = wholesalerOf(settings, name);
+  const isAlone = settings.series.filter((series) => series.words === words).length < 2;
+  return isAlone ? words : say("page.seriesInWords", { words, name });
 }
 
 /** The words of a series, or its name where it has none. */

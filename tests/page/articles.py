@@ -109,6 +109,34 @@ def no_offer(site: Site, browser: Browser) -> Iterator[Outcome]:
     yield Outcome("no offer: it is said", said(browser, "No wholesaler offers this book"), True)
     shown = [browser.one(part).is_displayed() for part in ("#answer", "#calendar")]
     yield Outcome("no offer: no table and no calendar", shown, [False, False])
+    details = browser.text("#article-status .details")
+    yield Outcome("no offer: who else may have it", details, "ISBN 9780000000002 · its publisher may sell it")
+
+
+CATALOGUE = "https://catalogue.example.org/find?book={isbn}&from=desk"
+
+
+def catalogue(site: Site, browser: Browser) -> Iterator[Outcome]:
+    """The shop's catalogue, which has the titles, is a link away: it opens in a window of its own and is not told by
+    whom it was asked."""
+    links = """return [...document.querySelectorAll(arguments[0] + ' a')].map((link) =>
+      [link.textContent, link.href, link.rel, link.target])"""
+    site.write_settings(catalogue=CATALOGUE)
+    for isbn in (ISBN, "9780000000002"):
+        browser.open(article(isbn))
+        said(browser, isbn)
+        address = CATALOGUE.replace("{isbn}", isbn)
+        wanted = [["look it up in the catalogue", address, "noreferrer", "_blank"]]
+        yield Outcome(f"the catalogue: {isbn}", browser.run(links, "#article-status"), wanted)
+        height = browser.one("#article-status a").size["height"]
+        yield Outcome(f"the catalogue: {isbn}: {height} pixels high", height >= 24, True)
+    site.write_settings(catalogue="javascript:alert('{isbn}')")
+    browser.open(article())
+    answered(browser)
+    yield Outcome("a catalogue that is none: no link", browser.run(links, "#article-status"), [])
+    told = browser.texts("#settings-wrong li")
+    yield Outcome("a catalogue that is none: it is told", ["“catalogue” is" in words for words in told], [True])
+    site.write_settings()
 
 
 def typed_question(site: Site, browser: Browser) -> Iterator[Outcome]:
@@ -215,6 +243,7 @@ CASES = [
     another_country,
     no_rule,
     no_offer,
+    catalogue,
     typed_question,
     own_type,
     one_moment,

@@ -22,9 +22,10 @@ from tests.running import Outcome
 KEYS = {"\n": ("Enter", 13, "\r"), "\t": ("Tab", 9, "")}
 
 
-def scan(browser: Browser, text: str) -> None:
-    """Types a text as a scanner does, five milliseconds a key, whatever else the machine does meanwhile."""
-    begun = time.time()
+def scan(browser: Browser, text: str, begun: float | None = None) -> None:
+    """Types a text as a scanner does, five milliseconds a key from a time on, whatever else the machine does
+    meanwhile."""
+    begun = begun or time.time()
     for at, sign in enumerate(text):
         key, code, typed = KEYS.get(sign, (sign, ord(sign), sign))
         pressed = {"key": key, "windowsVirtualKeyCode": code, "timestamp": begun + at * 0.005}
@@ -99,6 +100,16 @@ def scanned_lines(site: Site, browser: Browser) -> Iterator[Outcome]:
         yield Outcome(f"scanned into lines, {behind!r}", lines, True)
     yield Outcome("scanned into lines", browser.run("return document.getElementById('lines').value"), f"{ISBN}\n" * 3)
     yield Outcome("scanned into lines: they are counted", browser.text("#look-up"), "Look up 3 lines")
+    # A page that has much to do hears the key behind the digits when it has already waited for it.
+    for behind in ("\n", "\t"):
+        begun = time.time()
+        scan(browser, ISBN, begun)
+        browser.wait(lambda: browser.run("return document.getElementById('lines').value").endswith("\n"))
+        scan(browser, behind, begun + 0.005 * len(ISBN))
+        focus = browser.run("return document.activeElement.id")
+        yield Outcome(f"scanned into lines, {behind!r} that is heard late: the focus", focus, "lines")
+    lines = browser.run("return document.getElementById('lines').value")
+    yield Outcome("scanned into lines, what is heard late is no line", lines, f"{ISBN}\n" * 5)
     focus = browser.run("return [document.activeElement.id, location.hash]")
     yield Outcome("scanned into lines: the focus", focus, ["lines", "#order"])
     browser.run(

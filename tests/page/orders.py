@@ -2,6 +2,7 @@
 
 import csv
 import io
+import os
 import re
 import time
 from collections.abc import Iterator
@@ -252,7 +253,9 @@ def by_hand(site: Site, browser: Browser) -> Iterator[Outcome]:
     dear = offers_of(1)[0].amount
     field = Select(browser.one(f"select[aria-label='Wholesaler of {isbn_of(1)}']"))
     option = f"Alpha Books, {money(dear)} (+£0.305), in stock"
-    yield Outcome("the wholesalers of a book", [found.text for found in field.options][::2], [option, "not ordered"])
+    wanted = [option, "Beta & Sons", "not ordered"]
+    yield Outcome("the wholesalers of a book", [found.text for found in field.options], wanted)
+    yield Outcome("what is ordered has its name alone", field.first_selected_option.text, "Beta & Sons")
     field.select_by_visible_text(option)
     row = row_of(browser, isbn_of(1))
     yield Outcome("a wholesaler by hand", [*row[5:7], row[-1]], [money(dear), money(2 * dear), "chosen by hand"])
@@ -451,10 +454,81 @@ def from_a_file(site: Site, browser: Browser) -> Iterator[Outcome]:
     yield Outcome("what is no text", told, words)
 
 
+# No reply comes to what is asked about a book, as where the desk ends by it.
+LOSING = """
+const [isbn] = arguments;
+const real = window.fetch;
+window.isLosing = true;
+window.lost = 0;
+window.fetch = async (url, ...rest) => {
+  if (!window.isLosing || !String(url).includes(isbn)) return real(url, ...rest);
+  window.lost += 1;
+  return new Response('', { status: 502 });
+};
+"""
+
+
+def without_reply(site: Site, browser: Browser) -> Iterator[Outcome]:
+    """A book that the desk gives no reply about is asked for twice, and then where the buyer wants it; others are
+    answered."""
+    open_list(browser)
+    browser.run(LOSING, isbn_of(1))
+    look_up(browser, lines_of(range(6)))
+    yield Outcome("no reply: asked for twice", browser.run("return window.lost"), 2)
+    yield Outcome("no reply: the others", browser.text("#list-status"), "6 of 6 looked up. 1 book needs you.")
+    yield Outcome("no reply: it needs a person", browser.texts("#list-needs li"), ["Not answered (1): line 2"])
+    told = (
+        "The desk has left this question without an answer twice, though it answers others. "
+        "The page does not ask for it again by itself."
+    )
+    yield Outcome("no reply: it is told", row_of(browser, isbn_of(1))[3].strip(), told)
+    yield Outcome("no reply: the others are ordered", sums(browser)[-1][1], "5")
+    yield Outcome("no reply: a button asks again", browser.text("#go-on"), "Ask again for 1 book")
+    browser.run("window.isLosing = false")
+    browser.one("#go-on").click()
+    told = status(browser, "No book needs you")
+    yield Outcome("no reply: answered then", told, "6 of 6 looked up. No book needs you.")
+    yield Outcome("no reply: no button then", browser.one("#go-on").is_displayed(), False)
+
+
 WHOLE = range(order_desk.BOOKS)
 
-# The seconds after which a list is given up, on a machine that has much else to do.
+# The seconds after which a list is given up, and those that it may take, on a machine that has much else to do. With
+# nothing else to do it takes less than ten.
 PATIENCE = 600
+MOST_SECONDS = 120
+
+# Notes when a list is looked up, and when the last of its books is answered, by the page's own clock.
+TIMED = """
+const status = document.getElementById('list-status');
+performance.setResourceTimingBufferSize(20000);
+performance.clearResourceTimings();
+document.getElementById('look-up').addEventListener(
+  'click', () => { window.pressedAt = performance.now(); }, { capture: true, once: true });
+new MutationObserver(() => {
+  if (status.textContent.startsWith('500 of 500')) window.lookedUpAt ??= performance.now();
+}).observe(status, { childList: true, characterData: true, subtree: true });
+"""
+# The seconds between the two, how many questions were answered meanwhile, and the milliseconds of one.
+TIMES = """
+const asked = performance.getEntriesByType('resource').filter(({ name, responseEnd }) =>
+  name.includes('/desk/articles/') && responseEnd <= window.lookedUpAt);
+const each = asked.reduce((sum, { duration }) => sum + duration, 0) / asked.length;
+return [(window.lookedUpAt - window.pressedAt) / 1000, asked.length, each];
+"""
+
+
+def timed(browser: Browser) -> Iterator[Outcome]:
+    """What five hundred lines took, which is printed, since a busy machine takes longer than a shop's."""
+    seconds, count, each = browser.run(TIMES)
+    load = os.getloadavg()[0] / (os.cpu_count() or 1)
+    print(
+        f"page: 500 lines took {seconds:.1f} s, {count} questions of {each:.1f} ms, on a machine with {load:.1f} "
+        "processes a core",
+        flush=True,
+    )
+    yield Outcome("a choice and an offer for each line", count, 1000)
+    yield Outcome(f"{seconds:.1f} seconds are {MOST_SECONDS} at most", seconds <= MOST_SECONDS, True)
 
 
 def whole_list(site: Site, browser: Browser) -> Iterator[Outcome]:
@@ -469,6 +543,7 @@ def whole_list(site: Site, browser: Browser) -> Iterator[Outcome]:
     yield Outcome("one line too many", browser.wait_for_text("#lines-wrong", "501"), words)
     browser.run(PUT, lines_of(WHOLE))
     asked = len(site.requests())
+    browser.run(TIMED)
     begun = time.monotonic()
     browser.one("#look-up").click()
     colleague = []
@@ -476,6 +551,7 @@ def whole_list(site: Site, browser: Browser) -> Iterator[Outcome]:
         colleague.append(site.fetch("/desk/series/alpha/gaps")[0])
         time.sleep(0.2)
     yield Outcome("five hundred lines", browser.text("#list-status"), "500 of 500 looked up. No book needs you.")
+    yield from timed(browser)
     yield Outcome("a colleague is answered", set(colleague), {200})
     came = {line.split(" ")[0] for line in site.requests()[asked:]}
     yield Outcome("nobody has asked too often", came, {"200"})
@@ -560,6 +636,6 @@ def missing_marks(site: Site, browser: Browser) -> Iterator[Outcome]:
 
 
 CASES = [
-    begins, thirty_books, needs, by_hand, other_copies, as_of, changed, older, in_german, copied, printed, from_a_file, missing_marks, kept,
-    refused, stopped, whole_list,
+    begins, thirty_books, needs, by_hand, other_copies, as_of, changed, older, in_german, copied, printed, from_a_file,
+    missing_marks, kept, refused, without_reply, stopped, whole_list,
 ]

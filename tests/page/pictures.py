@@ -105,6 +105,7 @@ def order_list(site: Site, browser: Browser) -> Iterator[Outcome]:
     with on_the_day(browser):
         open_list(browser)
         look_up(browser, "\n".join(LINES))
+        browser.wait(lambda: browser.text("#list-copies") == "")
         browser.run("document.activeElement.blur()")
         yield shot(browser, "page-order.png", "#list-part", WIDE)
     site.write_settings()

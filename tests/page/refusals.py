@@ -176,6 +176,13 @@ SETTINGS = [
         f'{{{SERIES}, {REST}, "language": "Klingon?"}}',
         ["“language” is \"Klingon?\"; it should be a language in quotation marks, such as \"en-GB\" or \"de\"."],
     ),
+    (
+        f'{{{SERIES}, {REST}, "catalogue": "http://catalogue.example.org/{{isbn}}"}}',
+        [
+            '“catalogue” is "http://catalogue.example.org/{isbn}"; it should be an address that begins with https:// '
+            "and has {isbn} once, behind the name of the site."
+        ],
+    ),
     *[
         (
             f'{{{SERIES}, {REST}, "quantities": {wrong}}}',

@@ -51,7 +51,7 @@ def reported(site: Site, browser: Browser) -> Iterator[Outcome]:
     open_missing(browser)
     said = "5 messages missing from 1 wholesaler: North Books."
     yield Outcome("missing: in all", browser.text("#missing-status"), said)
-    heads = ["North Books (north)", "South Books (south)", "Western Wholesale (west)"]
+    heads = ["North Books", "South Books", "Western Wholesale"]
     yield Outcome("missing: the series of desk.json", browser.texts("#series h2"), heads)
     north = "Messages 1 to 2 are applied; the next one is 3. 2 later messages wait for what is missing."
     yield Outcome("missing: where north stands", browser.text(f"{NORTH} p"), north)

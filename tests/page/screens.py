@@ -188,13 +188,21 @@ def widths(browser: Browser, name: str) -> Iterator[Outcome]:
 
 
 def first_sight(site: Site, browser: Browser) -> Iterator[Outcome]:
-    """The answer begins within 200 pixels: on a screen, at 200 % zoom of it, and on a phone."""
-    for width, height in ((1280, 720), (640, 360), (360, 740)):
-        browser.size(width, height)
-        browser.open(article(day=date.today().isoformat()))
-        answered(browser)
-        top = browser.run("return document.getElementById('verdict').getBoundingClientRect().top")
-        yield Outcome(f"{width} x {height}: the answer begins at {top}", top <= 200, True)
+    """The answer begins within 200 pixels: on a screen, at 200 % zoom of it, and on a phone, where the labels of the
+    fields take one line."""
+    for language in ("de", "en-GB"):
+        site.write_settings(language=language)
+        for width, height in ((1280, 720), (640, 360), (360, 740)):
+            browser.size(width, height)
+            browser.open(article(day=date.today().isoformat()))
+            answered(browser)
+            top = browser.run("return document.getElementById('verdict').getBoundingClientRect().top")
+            name = f"{width} x {height}, {language}"
+            yield Outcome(f"{name}: the answer begins at {top}", top <= 200, True)
+            heights = browser.run(
+                "return [...document.querySelectorAll('.ask-line label')].map((label) => label.clientHeight)"
+            )
+            yield Outcome(f"{name}: labels of {heights} pixels", max(heights) < 30, True)
     browser.size(1100, 900)
 
 

@@ -3,13 +3,16 @@
 import contextlib
 import functools
 import sqlite3
+import time
 from collections.abc import Callable, Iterator
+from typing import NamedTuple
 
 from tests.page.articles import ONE_COPY, answered, has_calendar
 from tests.page.browser import Browser
 from tests.page.calendars import unfold
-from tests.page.days import hurrying
+from tests.page.days import hurrying, with_clock
 from tests.page.site import DATABASE, Site
+from tests.page.stand_in import Reply, standing_in
 from tests.page.week import ISBN, article
 from tests.running import Outcome
 
@@ -130,36 +133,89 @@ def missing_view(site: Site, browser: Browser) -> Iterator[Outcome]:
     yield Outcome("missing messages: the note is gone", gone, True)
 
 
-# A desk that lacks memory for a question, in the place of the desk's reply.
-LACKING = """
-const real = window.fetch;
-window.asked = 0;
-window.fetch = async (url, ...rest) => {
-  if (!String(url).includes('/desk/articles/')) return real(url, ...rest);
-  window.asked += 1;
-  return new Response('{"answer":"fault","reason":"memory"}', { status: 503 });
-};
-location.hash = arguments[0];
-"""
+MEMORY = 503, '{"answer":"fault","reason":"memory"}'
+LACKING = (
+    "The desk has a fault of its storage. It has too little memory at the moment. The page does not ask "
+    "again by itself: “Ask” does."
+)
+LOST = (
+    "The desk has left this question without an answer twice, though it answers others. The page does not ask "
+    "again by itself: “Ask” does."
+)
 
 
-def lacking_memory(site: Site, browser: Browser) -> Iterator[Outcome]:
-    """After a want of memory the page does not ask again by itself, which would bring the desk down once more."""
-    browser.open("")
-    browser.run(LACKING, article())
-    words = (
-        "The desk has a fault of its storage. It has too little memory at the moment. The page does not ask "
-        "again by itself: “Ask” does."
-    )
-    told = browser.wait_for_text("#question-wrong", "memory")
-    yield Outcome("a want of memory is told", told, words)
-    asked = browser.run("return window.asked")
-    again = browser.wait(lambda: browser.run("return window.asked") > asked, 8 / PACE)
-    yield Outcome("after a want of memory it is not asked again", again, False)
-    yield Outcome("a want of memory: no note that it is", browser.one("#down").is_displayed(), False)
-    browser.one("#question button.main").click()
-    came = browser.wait(lambda: browser.run("return window.asked") > asked)
-    yield Outcome("the buyer asks again", came, True)
+class Unanswered(NamedTuple):
+    """What a desk replies to questions about an article, how often it is asked for each, and what is told."""
+
+    name: str
+    reply: Reply
+    most: int
+    told: str
+
+
+UNANSWERED = [
+    Unanswered("a want of memory", MEMORY, 1, LACKING),
+    Unanswered("no reply", None, 2, LOST),
+]
+
+
+def counts(asked: list[str]) -> dict[str, int]:
+    """How often each question about an article has been asked."""
+    return {path: asked.count(path) for path in asked if path.startswith("/articles/")}
+
+
+# How long the page may take to see that a minute has gone by: it looks every five seconds.
+TWO_LOOKS = 11 / PACE
+
+
+def left_alone(asked: list[str], name: str, browser: Browser) -> Iterator[Outcome]:
+    """The desk is not asked again while the page is open, until the buyer wants it."""
+    before = counts(asked)
+    for minutes in (2, 30):
+        browser.run("window.daysAhead = arguments[0] / 1440", minutes)
+        time.sleep(TWO_LOOKS)
+    yield Outcome(f"{name}: not asked again in half an hour", counts(asked), before)
+    yield Outcome(f"{name}: no note that it is", browser.one("#down").is_displayed(), False)
+
+
+def unanswered(site: Site, browser: Browser) -> Iterator[Outcome]:
+    """A question that the desk lacks memory for, or ends by, is not asked on, which would bring the desk down again."""
+    stop = with_clock(browser)
+    for name, reply, most, words in UNANSWERED:
+        browser.open("")
+        with standing_in(site, lambda: reply) as asked:
+            browser.run("location.hash = arguments[0]", article())
+            told = browser.wait_for_text("#question-wrong", words)
+            yield Outcome(f"{name}: it is told", told, words)
+            found = counts(asked)
+            yield Outcome(f"{name}: asked {most} times at most, {found}", max(found.values()), most)
+            yield from left_alone(asked, name, browser)
+            before = len(asked)
+            browser.one("#question button.main").click()
+            again = browser.wait(lambda: len(asked) > before)
+            yield Outcome(f"{name}: the buyer asks again", again, True)
+            browser.wait_for_text("#question-wrong", words)
+        browser.one("#question button.main").click()
+        yield Outcome(f"{name}: a desk that answers", answered(browser), ONE_COPY)
+    stop()
+
+
+def unanswered_later(site: Site, browser: Browser) -> Iterator[Outcome]:
+    """So too where the page has been open for a while, and asks each minute; what was answered stays, with its time."""
+    stop = with_clock(browser)
+    for name, reply, most, words in UNANSWERED:
+        browser.open(article())
+        answered(browser)
+        time_of = browser.text("#answer-time")
+        with standing_in(site, lambda: reply) as asked:
+            browser.run("window.daysAhead = 61 / 86400")
+            told = browser.wait_for_text("#question-wrong", words)
+            yield Outcome(f"{name} after a minute: it is told", told, words)
+            found = counts(asked)
+            yield Outcome(f"{name} after a minute: asked {most} times at most, {found}", max(found.values()), most)
+            yield from left_alone(asked, f"{name} after a minute", browser)
+            yield Outcome(f"{name} after a minute: the answer stays", browser.text("#answer-time"), time_of)
+    stop()
 
 
 def hurried(check: Check) -> Check:
@@ -173,4 +229,4 @@ def hurried(check: Check) -> Check:
     return outcomes
 
 
-CASES = [*map(hurried, [stopped, silent, faulty, unreached, lacking_memory, missing_view])]
+CASES = [*map(hurried, [stopped, silent, faulty, unreached, unanswered, unanswered_later, missing_view])]

@@ -2,6 +2,7 @@
 
 import signal
 import sys
+import traceback
 from collections.abc import Callable
 from pathlib import Path
 from types import FrameType
@@ -17,8 +18,8 @@ class Fault(Exception):
 
 
 def status_of(work: Callable[[], int], tell: Callable[[str], None], place: Path) -> int:
-    """The status of a program's work; a fault that ends it is told. `place` stands for the file where the system names
-    none."""
+    """The status of a program's work; what ends it is told, a fault in a line, a mistake of the program itself with its
+    traceback. `place` stands for the file where the system names none."""
     try:
         return work()
     except Fault as fault:
@@ -29,6 +30,11 @@ def status_of(work: Callable[[], int], tell: Callable[[str], None], place: Path)
         return FAULT
     except KeyboardInterrupt:
         return INTERRUPTED
+    except Exception:
+        # Python's own status for it is 1, which says something else of each of these programs.
+        for line in traceback.format_exc().splitlines():
+            tell(line)
+        return FAULT
 
 
 def teller(program: str) -> Callable[[str], None]:

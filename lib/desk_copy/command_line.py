@@ -79,7 +79,7 @@ def copy_beside_others(folder: Path, file: Path, seconds: int, kept: int) -> str
         copied = copy_into(new, file, seconds)
         place = named(folder, copied.moment)
         put(new, place)
-        keep_latest(folder, kept)
+        keep_latest(folder, kept, place)
     return told(place / file.name, copied)
 
 

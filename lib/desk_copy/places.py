@@ -77,8 +77,9 @@ def since_of(copy: Path) -> str:
     return copy.name if is_name(copy.name) else "all"
 
 
-def keep_latest(folder: Path, count: int) -> None:
-    """Removes all but the latest copies."""
-    kept = sorted(each for each in folder.iterdir() if is_name(each.name))
-    for old in kept[:-count]:
+def keep_latest(folder: Path, count: int, newest: Path) -> None:
+    """Removes all but the latest copies. The newest stays, also where a clock that was ahead has given others later
+    names."""
+    others = sorted(each for each in folder.iterdir() if is_name(each.name) and each != newest)
+    for old in others[: max(0, len(others) + 1 - count)]:
         shutil.rmtree(old)

@@ -60,5 +60,5 @@ def report(desk: Address, series: str, seconds: int) -> Report:
         missing = sum(int(last) - int(first) + 1 for first, last in members["missing"])
         greatest = None if members["greatest"] is None else int(members["greatest"])
         return Report(int(members["next"]), greatest, int(members["held"]), missing)
-    except (KeyError, TypeError, ValueError):
+    except (KeyError, TypeError, ValueError, OverflowError):
         raise Fault(f"{series}: what answers at {desk} is no desk") from None

@@ -23,14 +23,25 @@ class Places:
 
 
 def names_in(folder: Path, tell: Callable[[str], None]) -> list[str]:
-    """The series whose settings are in the folder. A file whose name is not that of a series is told."""
+    """The series whose settings are in the folder. A file whose name is not that of a series is told, and a folder that
+    cannot be read."""
     names = []
-    for settings in sorted(folder.glob("*.conf")):
+    for settings in sorted(settings_in(folder, tell)):
         if is_series(settings.stem):
             names.append(settings.stem)
         else:
             tell(f"{settings}: its name is not that of a series")
     return [name for name in names if name != EXAMPLE]
+
+
+def settings_in(folder: Path, tell: Callable[[str], None]) -> list[Path]:
+    try:
+        return [entry for entry in folder.iterdir() if entry.suffix == ".conf"]
+    except FileNotFoundError:
+        return []
+    except OSError as error:
+        tell(f"{folder}: {error.strerror}")
+        return []
 
 
 def by_desk(folder: Path, names: list[str], tell: Callable[[str], None]) -> dict[Address, list[str]]:

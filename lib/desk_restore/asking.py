@@ -10,15 +10,19 @@ from desk_copy.trying import Unsound, opened
 from desk_restore.users import Owner, run_as
 
 
-def gaps_of(database: Path, owner: Owner, programs: Path) -> str:
-    """The desk's reports on the gaps of all series of a database, which it opens as that user. Unsound where it does
-    not."""
+def series_in(database: Path) -> list[str]:
+    """The names of the series that a database has. Unsound where it has no such table."""
     with closing(opened(database)) as connection:
         try:
-            names = [name for (name,) in connection.execute("SELECT name FROM series ORDER BY name")]
+            return [name for (name,) in connection.execute("SELECT name FROM series ORDER BY name")]
         except sqlite3.Error as error:
             raise Unsound(f"{database.name}: {error}") from None
-    batch = "".join(f"AskGaps,{name}\n" for name in names)
+
+
+def gaps_of(database: Path, series: list[str], owner: Owner, programs: Path) -> str:
+    """The desk's reports on the gaps of these series of a database, which it opens as that user. Unsound where it does
+    not."""
+    batch = "".join(f"AskGaps,{name}\n" for name in series)
     words: list[str | Path] = [programs / "onixdesk", "--db", database, "--existing", "batch"]
     try:
         ran = run_as(owner, words, input=batch, stdout=subprocess.PIPE, stderr=subprocess.PIPE, cwd="/")

@@ -9,11 +9,11 @@ from command_lines.ending import DONE, FAILED, end_orderly, status_of, teller
 from command_lines.parsing import parser_of
 from desk_copy.places import since_of, unfinished
 from desk_copy.trying import try_copy
-from desk_restore.asking import gaps_of
+from desk_restore.asking import gaps_of, series_in
 from desk_restore.inboxes import Inbox, inboxes_in
-from desk_restore.placing import exchange, is_open, lay_out
-from desk_restore.users import owner_of
+from desk_restore.placing import exchange, files_of, is_open, lay_out
 from desk_restore.units import Units
+from desk_restore.users import acting_as, now, owner_of
 
 PROGRAM = "desk-restore"
 
@@ -28,8 +28,9 @@ takes again what it has taken since, before it goes on."""
 
 STATUSES = """\
 Status 0; 1 where the copy is no sound database of a desk, or an inbox could not take all again and stays stopped; 2
-for a bad command line; 3 where a file cannot be read or written, or another program has the desk open. Where a line
-does not say that the copy is in place, the desk is as it was. docs/RELIABILITY.md says what comes after."""
+for a bad command line; 3 where a file cannot be read or written, another program has the desk open, or a unit does not
+start. Where a line does not say that the copy is in place, the desk is as it was. The last line names what was stopped
+and does not run. docs/RELIABILITY.md says what comes after."""
 
 tell = teller(PROGRAM)
 
@@ -46,13 +47,15 @@ def command_line() -> argparse.ArgumentParser:
 
 def put_back(options: argparse.Namespace, programs: Path, units: Units) -> None:
     """Tries the copy, and puts it into the place of the desk, which nobody has open by then."""
-    database, owner = options.db, owner_of(options.db.parent)
-    with unfinished(database.parent) as new:
-        lay_out(options.copy, new, database.name, owner)
+    database, owner, oneself = options.db, owner_of(options.db.parent), now()
+    with files_of(options.copy, database.name) as files, acting_as(owner), unfinished(database.parent) as new:
+        lay_out(files, new, owner)
         try_copy(new / database.name, options.copy / database.name)
-        reports = gaps_of(new / database.name, owner, programs)
-        units.stop()
-        is_open(database)
+        series = series_in(new / database.name)
+        with acting_as(oneself):
+            reports = gaps_of(new / database.name, series, owner, programs)
+            units.stop()
+            is_open(database)
         before = exchange(new, database)
     tell(f"{options.copy} is in place as {database}; what stood there is {before}")
     print(reports, end="", flush=True)
@@ -67,26 +70,33 @@ def take_again(inboxes: list[Inbox], since: str, programs: Path, units: Units) -
             units.start_inbox(inbox.series)
         else:
             all_could = False
-            tell(f"the inbox of {inbox.series} has not taken all again; then start it: {inbox.units}")
+            tell(f"the inbox of {inbox.series} has not taken all again; then: {inbox.by_hand(since, programs)}")
     return all_could
+
+
+def go_on(options: argparse.Namespace, programs: Path, units: Units, inboxes: list[Inbox]) -> int:
+    """Starts the desk that is in place now, and all else."""
+    if not units.start_desk():
+        tell("start the desk; then each inbox with the word --again, before it takes anything else")
+        return DONE
+    all_could = take_again(inboxes, since_of(options.copy), programs, units)
+    units.start_rest([inbox.series for inbox in inboxes])
+    return DONE if all_could else FAILED
 
 
 def restore(options: argparse.Namespace, programs: Path) -> int:
     units = Units()
     inboxes = inboxes_in(options.inboxes)
     try:
-        put_back(options, programs, units)
-    except BaseException:
-        units.start_all()
-        raise
-    if not units.start_desk():
-        tell("start the desk; then each inbox with the word --again, before it takes anything else")
+        try:
+            put_back(options, programs, units)
+        except BaseException:
+            units.start_all(tell)
+            raise
+        return go_on(options, programs, units, inboxes)
+    finally:
         if units.left:
-            tell(f"and then what was stopped: systemctl start {' '.join(units.left)}")
-        return DONE
-    all_could = take_again(inboxes, since_of(options.copy), programs, units)
-    units.start_rest([inbox.series for inbox in inboxes])
-    return DONE if all_could else FAILED
+            tell(f"what was stopped and is to be started then: systemctl start {' '.join(units.left)}")
 
 
 def main(programs: Path) -> int:

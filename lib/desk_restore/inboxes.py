@@ -1,9 +1,9 @@
 """The inboxes, which have kept what they took."""
 
+import shlex
 from dataclasses import dataclass
 from pathlib import Path
 
-from desk_restore.units import units_of
 from desk_restore.users import owner_of, run_as
 
 
@@ -17,15 +17,17 @@ class Inbox:
     def series(self) -> str:
         return self.folder.name
 
-    @property
-    def units(self) -> str:
-        """How its units are started."""
-        return f"systemctl start {' '.join(units_of(self.series))}"
+    def words(self, since: str, programs: Path) -> list[str | Path]:
+        """The words of a run that takes again what was taken since."""
+        return [programs / "onixdesk-inbox", "--again", since, "--state", self.folder, "--", self.series]
+
+    def by_hand(self, since: str, programs: Path) -> str:
+        """How root has it take again what it took since."""
+        return f"runuser -u {self.folder.owner()} -- {shlex.join(map(str, self.words(since, programs)))}"
 
     def take_again(self, since: str, programs: Path) -> bool:
         """Has it take again what it took since, as its own user. Whether it could."""
-        words: list[str | Path] = [programs / "onixdesk-inbox", "--again", since]
-        ran = run_as(owner_of(self.folder), [*words, "--state", self.folder, "--", self.series], cwd="/")
+        ran = run_as(owner_of(self.folder), self.words(since, programs), cwd="/")
         # With 1 a file was refused again, or something is amiss with one, and the line was written.
         return ran.returncode in (0, 1)
 

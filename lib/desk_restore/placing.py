@@ -1,10 +1,13 @@
 """The two files of a desk, brought into their place."""
 
+import contextlib
 import fcntl
 import os
 import shutil
 import time
+from collections.abc import Iterator
 from pathlib import Path
+from typing import BinaryIO
 
 from command_lines.ending import Fault
 from desk_copy.copying import PIECE, log_of
@@ -15,20 +18,26 @@ from desk_restore.users import Owner
 LOCKED, LENGTH = 1 << 30, 512
 
 
-def lay_out(copy: Path, folder: Path, name: str, owner: Owner) -> None:
-    """Copies the files of a copy into a folder, both of that owner alone. Fault where they are not the files of one
-    desk of that name."""
+@contextlib.contextmanager
+def files_of(copy: Path, name: str) -> Iterator[dict[str, BinaryIO]]:
+    """The files of a copy, open, by their names. Fault where they are not those of one desk of that name."""
     # SQLite leaves the third where somebody has looked at a copy.
     found = {each.name for each in copy.iterdir()} - {f"{name}-shm"}
     if name not in found or found - {name, f"{name}-wal"}:
         raise Fault(f"{copy}: it has not {name} and its log alone")
-    for each in found:
-        with open(os.open(copy / each, os.O_RDONLY | os.O_NOFOLLOW), "rb") as old, open(folder / each, "xb") as new:
+    with contextlib.ExitStack() as opened:
+        files = {each: os.open(copy / each, os.O_RDONLY | os.O_NOFOLLOW) for each in sorted(found)}
+        yield {each: opened.enter_context(open(file, "rb")) for each, file in files.items()}
+
+
+def lay_out(files: dict[str, BinaryIO], folder: Path, owner: Owner) -> None:
+    """Copies files into a folder, for that owner alone."""
+    for name, old in files.items():
+        with open(folder / name, "xb") as new:
             shutil.copyfileobj(old, new, PIECE)
             os.fchown(new.fileno(), *owner)
             new.flush()
             os.fsync(new.fileno())
-    os.chown(folder, *owner)
 
 
 def is_open(database: Path) -> None:
@@ -54,9 +63,9 @@ def exchange(new: Path, database: Path) -> Path:
             if old.exists():
                 os.rename(old, to)
                 made.append((old, to))
+        settle(database.parent)
     except OSError:
         for old, to in reversed(made):
             os.rename(to, old)
         raise
-    settle(database.parent)
     return before

@@ -1,6 +1,7 @@
 """The units of systemd that are of onixdesk."""
 
 import subprocess
+from collections.abc import Callable
 
 from command_lines.ending import Fault
 
@@ -61,8 +62,12 @@ class Units:
         of_inboxes = [unit for each in series for unit in units_of(each)]
         self.start([unit for unit in self.left if unit not in of_inboxes])
 
-    def start_all(self) -> None:
-        self.start(self.left)
+    def start_all(self, tell: Callable[[str], None]) -> None:
+        """Starts what was stopped; that it could not be started is told, and hides no other fault."""
+        try:
+            self.start(self.left)
+        except Fault as fault:
+            tell(str(fault))
 
 
 def units_of(series: str) -> list[str]:

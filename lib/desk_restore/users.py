@@ -1,8 +1,10 @@
-"""As whom a program is run, and whose a file is."""
+"""As whom something is done, and whose a file is."""
 
+import contextlib
 import os
 import pwd
 import subprocess
+from collections.abc import Iterator
 from pathlib import Path
 from typing import Any, NamedTuple
 
@@ -17,6 +19,34 @@ class Owner(NamedTuple):
 def owner_of(path: Path) -> Owner:
     found = path.stat()
     return Owner(found.st_uid, found.st_gid)
+
+
+def now() -> Owner:
+    """Whose rights this program has at the moment."""
+    return Owner(os.geteuid(), os.getegid())
+
+
+def become(owner: Owner, groups: list[int]) -> None:
+    """Has the rights of that user from now on. Those of whoever began it come first, who may change them."""
+    os.seteuid(os.getuid())
+    os.setgroups(groups)
+    os.setegid(owner.group)
+    os.seteuid(owner.user)
+
+
+@contextlib.contextmanager
+def acting_as(owner: Owner) -> Iterator[None]:
+    """What is done within is done by that user's rights. In a folder of the user's a program of root could be led
+    elsewhere, by a link in the place of what it has just made."""
+    before, groups = now(), os.getgroups()
+    if owner.user == before.user:
+        yield
+        return
+    become(owner, [owner.group])
+    try:
+        yield
+    finally:
+        become(before, groups)
 
 
 def run_as(owner: Owner, words: list[str | Path], **more: Any) -> subprocess.CompletedProcess[str]:

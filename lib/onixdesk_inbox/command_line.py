@@ -30,7 +30,7 @@ in NAME.answer. Of each file a line is written to standard error."""
 
 STATUSES = """\
 Status 0, also where files wait; 1 where a file was refused, or has lain there for an hour; 2 for a bad command
-line or bad settings; 3 where a folder cannot be used. docs/INBOX.md has the settings."""
+line or bad settings; 3 where a folder cannot be used, or the inbox itself fails. docs/INBOX.md has the settings."""
 
 
 is_series = re.compile("[a-z0-9-]{1,32}").fullmatch

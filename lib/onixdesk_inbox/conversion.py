@@ -6,9 +6,11 @@ import re
 import signal
 import subprocess
 import time
+from collections import deque
 from collections.abc import Iterator
 from dataclasses import dataclass
 from pathlib import Path
+from typing import Any
 
 from command_lines.ending import BAD_CALL, Fault
 from onixdesk_inbox import telling
@@ -23,6 +25,9 @@ STANDARD_INPUT = "-"
 
 # How many lines of the converter's summary are told; a reason is one line.
 TOLD = 20
+
+# How the lines are read and written.
+TEXT: dict[str, Any] = {"encoding": "utf-8", "errors": "backslashreplace"}
 
 PROGRAM = "onixdesk: "
 REFUSED_WORD = re.compile(r"\brefused: ")
@@ -50,23 +55,25 @@ NOTHING_SAID = Said("", "", ())
 
 def said(answer: Path, file: str, name: str) -> Said:
     """Reads it, without the names of the program and of the file, by which it was given, and puts the name that the
-    file came in by there."""
-    found: list[str] = []
-    summary: list[str] = []
-    named: list[str] = []
+    file came in by there. It may have millions of lines, so it is read line by line."""
+    first = last = ""
+    summary: deque[str] = deque(maxlen=TOLD)
     before = f"{PROGRAM}{file}:"
-    for line in answer.read_text(encoding="utf-8", errors="backslashreplace").split("\n"):
-        text = line.removeprefix(before)
-        if text != line:
-            named.append(f"{PROGRAM}{shown(name)}:{text}")
-        else:
-            text = line.removeprefix(PROGRAM)
-            named.append(line)
-            summary += [text] if text else []
-        found += [text.strip()] if text.strip() else []
-    answer.write_text("\n".join(named), encoding="utf-8", errors="backslashreplace")
-    first, last = (found[0], found[-1]) if found else ("", "")
-    return Said(shown(first), shown(REFUSED_WORD.sub("", last, count=1)), tuple(map(shown, summary[-TOLD:])))
+    named = answer.with_name("answer.new")
+    with answer.open(**TEXT) as lines, named.open("w", **TEXT) as to:
+        for line in lines:
+            text = line.removeprefix(before)
+            if text != line:
+                to.write(f"{PROGRAM}{shown(name)}:{text}")
+            else:
+                to.write(line)
+                text = line.removeprefix(PROGRAM)
+                if text.strip("\n"):
+                    summary.append(shown(text.removesuffix("\n")))
+            if text := text.strip():
+                first, last = first or shown(text), text
+    os.replace(named, answer)
+    return Said(first, shown(REFUSED_WORD.sub("", last, count=1)), tuple(summary))
 
 
 @dataclass(frozen=True)

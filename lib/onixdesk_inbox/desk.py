@@ -48,7 +48,7 @@ class Reply:
         """The members of its object, none where it is no reply of a desk."""
         try:
             members = json.loads(self.body)
-        except ValueError:
+        except (ValueError, RecursionError):
             return {}
         return members if isinstance(members, dict) else {}
 
@@ -100,7 +100,7 @@ def accepted(reply: Reply) -> Accepted:
     """What a reply to a message says. Refusal, where the message is refused; Fault, where it has to be posted
     again."""
     members = reply.members()
-    with contextlib.suppress(KeyError):
+    with contextlib.suppress(KeyError, TypeError):
         match (reply.status, members["answer"]):
             case (200, "applied") | (202, "held"):
                 return Accepted(members["series"], members["number"], members.get("waiting_for"))

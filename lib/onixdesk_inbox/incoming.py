@@ -156,7 +156,8 @@ class Incoming:
         return os.stat(name, dir_fd=self.folder, follow_symlinks=False)
 
     def put_back(self, own: str, name: str) -> None:
-        """Gives a file a name back, with a number where another one has it. What is no file stays."""
+        """Gives a file a name back, with a number where another one has it. What may have no second name gets one that
+        nobody else has: the system refuses it to a folder, and to a file that this user may not write."""
         for number in range(1, NAMES):
             with contextlib.suppress(FileExistsError):
                 try:
@@ -164,7 +165,8 @@ class Incoming:
                         follow_symlinks=False)
                     os.unlink(own, dir_fd=self.folder)
                 except PermissionError:
-                    pass
+                    new = f"{TAKEN.removeprefix('.')}{secrets.token_hex(8)}{ending(name) or ''}"
+                    os.rename(own, new, src_dir_fd=self.folder, dst_dir_fd=self.folder)
                 return
 
     def recover(self) -> None:

@@ -1,88 +1,67 @@
-"""Programs and tests of the crates run by `rt try`, which proves nothing: a program is built once for all its cases."""
+"""Programs that `rt try` builds, which proves nothing."""
 
+import os
 import re
+import shutil
 import subprocess
-import tempfile
+import time
 from pathlib import Path
-from typing import NamedTuple
+from typing import BinaryIO
 
 from tools.root import ROOT
 
-# The line of `rt try` before what a case wrote on standard output, that behind what it wrote on standard error, and the
-# last one. An output without a line end gets one.
-OUTPUT = re.compile(rb"^== (\d+)\n", re.MULTILINE)
-CASE = re.compile(rb"case=(\d+) (.*) proved=no\n")
-ALL = re.compile(rb"^cases=\d+ .*\n\Z", re.MULTILINE)
+# The last line of `rt try` if the program ended.
+ENDED = re.compile(rb"^run=ended status=\d+ .*\n\Z", re.MULTILINE)
+
+# How long to wait before a program that is being built is looked for again, in seconds.
+PAUSE = 0.1
 
 
-class Given(NamedTuple):
-    """What a case is given, and files by the names under which the program finds them."""
-
-    words: list[str]
-    input: bytes
-    files: dict[str, bytes] = {}
-
-
-class Tried(NamedTuple):
-    """How a case ended, its status or how it did not end, and what it wrote."""
-
-    status: int | str
-    output: bytes
-    errors: bytes
-
-
-def lay_out(folder: Path, cases: list[Given]) -> list[str]:
-    """Puts cases into a new folder as `rt try` takes them, each named by its number, and gives the words for their
-    files."""
-    words = []
-    # Without the outputs that are wanted: with them `rt try` keeps what a case writes on standard error to itself.
-    (folder / "cases").mkdir()
-    for number, case in enumerate(cases):
-        base = folder / f"cases/{number}"
-        base.write_bytes(case.input)
-        if case.words:
-            base.with_suffix(".args").write_text("".join(f"{word}\n" for word in case.words))
-        for name, data in case.files.items():
-            (folder / name).write_bytes(data)
-            words += ["--data", f"{name}={folder / name}"]
-    return words
-
-
-def status_of(line: bytes) -> int | str:
-    """How a case ended, as a line of `rt try` says it."""
-    said = dict(word.partition("=")[::2] for word in line.decode().split(" "))
-    return int(said["status"]) if said["run"] == "ended" else said["run"]
-
-
-def run_try(crate: str, *words: str) -> subprocess.CompletedProcess[bytes]:
+def run_try(crate: str, *words: str, given: BinaryIO | None = None) -> subprocess.CompletedProcess[bytes]:
     return subprocess.run(
         ["rt", "try", *words],
         cwd=ROOT / "crates" / crate,
-        stdin=subprocess.DEVNULL,
+        stdin=given or subprocess.DEVNULL,
         stdout=subprocess.PIPE,
         stderr=subprocess.PIPE,
     )
 
 
-def read_cases(output: bytes, said: bytes) -> dict[int, Tried]:
-    """The cases by their numbers, of both streams of `rt try`."""
-    outputs = OUTPUT.split(output)
-    written = dict(zip(map(int, outputs[1::2]), outputs[2::2]))
-    found, begin = {}, 0
-    for line in CASE.finditer(said):
-        number = int(line[1])
-        found[number] = Tried(status_of(line[2]), written.get(number, b""), said[begin : line.start()])
-        begin = line.end()
-    return found
+def open_when_read(pipe: Path, tried: subprocess.Popen[bytes]) -> int | None:
+    """Opens a named pipe as soon as the program that is tried reads it; none if the program is not built."""
+    while tried.poll() is None:
+        try:
+            return os.open(pipe, os.O_WRONLY | os.O_NONBLOCK)
+        except OSError:
+            time.sleep(PAUSE)
+    return None
 
 
-def try_cases(crate: str, cases: list[Given]) -> list[Tried]:
-    """Runs the program of a crate on each case. RuntimeError where it could not be built."""
-    with tempfile.TemporaryDirectory(prefix="onixdesk-") as folder:
-        words = lay_out(Path(folder), cases)
-        # The compiled program alone: an interpreter cannot run one that has arguments, but tries it in each case.
-        done = run_try(crate, "--steps", "1", "--cases", f"{folder}/cases", *words)
-    if not ALL.search(done.stderr):
-        raise RuntimeError(done.stderr.decode(errors="replace"))
-    found = read_cases(done.stdout, done.stderr)
-    return [found[number] for number in range(len(cases))]
+def build(crate: str, words: list[str], to: Path, room: Path) -> None:
+    """Builds the program of a crate, without any proof, as the file `to`. RuntimeError if it cannot be built.
+
+    `rt try` keeps no program, and takes some seconds to run one on each input. So the program is copied while it
+    waits: with these words and the name of a file it reads that file, here a pipe in the folder `room`.
+    """
+    pipe, said = room / "pipe", room / "said"
+    os.mkfifo(pipe)
+    with open(said, "wb") as errors:
+        tried = subprocess.Popen(
+            ["rt", "try", "--steps", "1", "--", *words, str(pipe)],
+            cwd=ROOT / "crates" / crate,
+            env={**os.environ, "TMPDIR": str(room)},
+            stdin=subprocess.DEVNULL,
+            stdout=subprocess.DEVNULL,
+            stderr=errors,
+        )
+    try:
+        opened = open_when_read(pipe, tried)
+        if opened is None:
+            raise RuntimeError(said.read_text(encoding="utf-8", errors="replace").strip())
+        # `rt try` runs a program in a folder of its own, where it is the file `program`.
+        (built,) = room.glob("*/*/program")
+        shutil.copy2(built, to)
+        os.close(opened)
+    finally:
+        tried.terminate()
+        tried.wait()

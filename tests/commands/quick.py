@@ -1,28 +1,34 @@
 """Tries what needs no proof, from nothing and in minutes: the lints; each batch of tests/batches, each conversion of
-tests/conversions, in reference names, and of tests/feeds, by one build of the program without any proof; and the tests
-of the crates that stand on no database.
+tests/conversions and the samples of tests/feeds, by one build of the program without any proof; and the tests of the
+crates that stand on no database.
 
     tests/quick
 
 For each part a line says how long it took, and for each case that failed there is one. The last line is
 `quick: N cases, M failed`. Status 0; 1 where a case failed; 2 where there is no toolchain.
+
+The program that it built is left as crates/onixdesk/out/onixdesk.unproved, which tests/run takes as PROGRAM.
 """
 
 import shutil
 import subprocess
 import sys
+import tempfile
 import time
 from collections.abc import Callable, Iterator
 from functools import partial
+from pathlib import Path
 
 from tests.program import batches, convert_cases, sample_feeds
-from tests.program.batches import Case
-from tests.program.conversions import Feed
-from tests.running import Cases, Counted, Outcome, count_all, run_side_by_side
-from tests.unproved import Given, Tried, run_try, try_cases
+from tests.program.room import Group
+from tests.running import PROGRAM, Cases, Counted, Outcome, count_all, run_side_by_side
+from tests.unproved import ENDED, build, run_try
 from tools.root import ROOT
 
-PROGRAM = "onixdesk"
+CRATE = "onixdesk"
+
+# With the name of a file the program reads it, and needs nothing else.
+READING = ["convert"]
 
 # A program that tests crates by the parts of the file beside it.
 TESTS_OF_FEEDS = "feed_tests"
@@ -32,65 +38,55 @@ DATABASE = "sqlite"
 
 
 class Part(Cases):
-    """Cases that are tried one behind the other. How long they took is told."""
+    """Cases that are tried one after the other."""
 
     def __init__(self, name: str, check: Callable[[], Iterator[Outcome]]) -> None:
         super().__init__(name, __name__)
         self.check = check
 
     def outcomes(self) -> Iterator[Outcome]:
-        begun = time.monotonic()
         yield from self.check()
-        print(f"quick: {self.name}: {time.monotonic() - begun:.0f} s", flush=True)
+
+
+def timed(name: str, outcomes: Iterator[Outcome]) -> Iterator[Outcome]:
+    """These cases, after which a line says how long they took."""
+    begun = time.monotonic()
+    yield from outcomes
+    print(f"quick: {name}: {time.monotonic() - begun:.0f} s", flush=True)
 
 
 def lints() -> Iterator[Outcome]:
     yield Outcome("tools/lint", subprocess.run([ROOT / "tools/lint"]).returncode, 0)
 
 
-def of_batch(number: int, case: Case) -> Given:
-    if case.rules is None:
-        return Given(["batch"], case.batch)
-    name = f"rules-{number}.toml"
-    return Given(["--rules", name, "batch"], case.batch, {name: case.rules})
+def build_program() -> Iterator[Outcome]:
+    """Builds the program, without any proof, which the groups of tests/program run from then on."""
+    to = PROGRAM.with_name(f"{PROGRAM.name}.unproved")
+    to.parent.mkdir(exist_ok=True)
+    with tempfile.TemporaryDirectory(prefix="onixdesk-") as folder:
+        build(CRATE, READING, to, Path(folder))
+    Group.program = to
+    yield Outcome("the program is built", to.is_file(), True)
 
 
-def batch_outcome(case: Case, came: Tried) -> Outcome:
-    return Outcome(f"in memory: {case.name}", came, Tried(case.status, case.answers, b""))
-
-
-def feed_outcomes(feed: Feed, came: Tried) -> Iterator[Outcome]:
-    yield Outcome(f"{feed.name}: the status", came.status, feed.wanted.status())
-    # The converter names its standard input by a hyphen, where a case of several files has its number.
-    lines, summary = convert_cases.read_lines(came.errors.replace(b"onixdesk: -:", b"onixdesk: 0.xml:"))
-    # Of a feed that is refused nothing is written.
-    records = came.output if feed.wanted.records is not None else came.output or None
-    found = convert_cases.came_as(lines.get(0, []), records, feed)
-    yield Outcome(feed.name, found, convert_cases.wanted(feed))
-    yield from convert_cases.summed(feed.name, [feed], summary)
+def cases_of(groups: list[Group]) -> Iterator[Outcome]:
+    for group in groups:
+        yield from group.outcomes()
 
 
 def program() -> Iterator[Outcome]:
-    """The batches, the conversions and the samples, by one build."""
-    # `rt try` copies the program for each case: those in short tags are left to tests/run.
-    feeds = [(case.feeds()[0], case.words) for case in convert_cases.CASES]
-    samples = sorted(sample_feeds.FOLDER.glob("*.xml"))
-    given = [of_batch(number, case) for number, case in enumerate(batches.CASES)]
-    given += [Given(["convert", *words], feed.data) for feed, words in feeds]
-    given += [Given(["convert"], path.read_bytes()) for path in samples]
-    came = iter(try_cases(PROGRAM, given))
-    for case in batches.CASES:
-        yield batch_outcome(case, next(came))
-    for feed, _ in feeds:
-        yield from feed_outcomes(feed, next(came))
-    for path in samples:
-        yield Outcome(f"the sample {path.stem}", next(came).output, path.with_suffix(".csv").read_bytes())
+    """One build, and what it answers. If there is no program, nothing is run."""
+    yield from timed("the build of the program", build_program())
+    yield from timed("the batches", cases_of(batches.GROUPS))
+    yield from timed("the conversions", cases_of([*convert_cases.GROUPS, *sample_feeds.GROUPS]))
 
 
 def tests_of_feeds() -> Iterator[Outcome]:
     folder = ROOT / "crates" / TESTS_OF_FEEDS
-    (came,) = try_cases(TESTS_OF_FEEDS, [Given([], (folder / "stdin").read_bytes())])
-    yield Outcome(TESTS_OF_FEEDS, came, Tried(0, (folder / "stdout").read_bytes(), b""))
+    with open(folder / "stdin", "rb") as given:
+        done = run_try(TESTS_OF_FEEDS, given=given)
+    came = (done.returncode, bool(ENDED.search(done.stderr)), done.stdout)
+    yield Outcome(TESTS_OF_FEEDS, came, (0, True, (folder / "stdout").read_bytes()))
 
 
 def without_database() -> list[str]:
@@ -116,15 +112,17 @@ def tests_of_crates() -> Iterator[Outcome]:
         yield Outcome(f"the tests of {crate}", (done.returncode, done.stderr if done.returncode else b""), (0, b""))
 
 
+def sources() -> Iterator[Outcome]:
+    yield from timed("the lints", lints())
+    yield from timed("the tests of crates", tests_of_crates())
+
+
 def main() -> int:
     if not shutil.which("rt"):
         print("tests/quick: the Rattle toolchain's command 'rt' is not on the PATH", file=sys.stderr)
         return 2
-    parts = [Part("the lints", lints), Part("the tests of crates", tests_of_crates)]
-    lanes: list[Callable[[], Counted]] = [
-        partial(count_all, [Part("the batches and the conversions", program)]),
-        partial(count_all, parts),
-    ]
+    parts = [Part("the program", program), Part("the sources", sources)]
+    lanes: list[Callable[[], Counted]] = [partial(count_all, [part]) for part in parts]
     return run_side_by_side("quick", lanes)
 
 

@@ -20,12 +20,8 @@ def words() -> argparse.Namespace:
     parser.add_argument("folder", type=Path, metavar="FOLDER", help="keeps the desk's file")
     parser.add_argument("--desk", type=Path, metavar="PROGRAM", help="measure this one, not the proved one")
     parser.add_argument("--articles", type=int, default=1_000_000, metavar="N", help="those of the desk")
-    parser.add_argument(
-        "--changed", type=int, default=1_000, metavar="N", help="those that a message changes"
-    )
-    parser.add_argument(
-        "--seconds", type=int, default=20, metavar="N", help="how long readers ask, each time"
-    )
+    parser.add_argument("--changed", type=int, default=1_000, metavar="N", help="those that a message changes")
+    parser.add_argument("--seconds", type=int, default=20, metavar="N", help="how long readers ask, each time")
     parser.add_argument("--readers", type=int, default=4, metavar="N", help="how many ask at once")
     return parser.parse_args()
 

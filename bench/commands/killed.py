@@ -11,17 +11,16 @@ This shows a program that is killed. What a disk does where power is lost is the
 """
 
 import argparse
-import subprocess
 import sys
 import tempfile
 from collections import Counter
 from pathlib import Path
 from random import Random
 
+from bench.figures.program import proved_program
 from bench.kills.desk import Desk, KillFault
 from bench.kills.portions import portion
 from bench.kills.requests import RULES, Maker
-from tools.root import ROOT
 
 # The first fields of answers, each of which the requests must have met.
 ANSWERS = ["agreed", "applied", "held", "waived", "refused", "gaps", "catalogue", "price", "choice", "calendar"]
@@ -47,12 +46,6 @@ def arguments() -> argparse.Namespace:
     parser.add_argument("--seed", type=int, default=1, metavar="S")
     parser.add_argument("--desk", type=Path, metavar="PROGRAM", help="this one, not the proved one")
     return parser.parse_args()
-
-
-def proved_program() -> Path:
-    """The proved program, built where it must be."""
-    subprocess.run([ROOT / "tools/build"], check=True)
-    return ROOT / "crates/onixdesk/out/onixdesk"
 
 
 def kinds(answers: list[bytes]) -> Counter[str]:

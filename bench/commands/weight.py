@@ -2,30 +2,120 @@
 
     bench/weight [--file FILE] [COMMAND..]
 
-It runs COMMAND ('make test') and looks at the processes below it twice a second. At the end it prints the
-processor time of each part, as a multiple of what the proofs of csv_records and onix_terms took in the same
-run: the proof of each crate, that of its tests with their build, its must-fail edits, what the two compilers
-make of the program, and all else. Machines differ, and so do runs beside other work: multiples of one run compare.
-With --file the table so far is written there every half minute. The status is that of COMMAND.
+It runs COMMAND ('make test') and looks at the processes below it twice a second. At the end it prints their processor
+time, as a multiple of what the proofs of csv_records and onix_terms took in the same run: a line for each kind of part
+(the proofs of crates, their must-fail edits, their tests with the builds, what the two compilers make of programs, and
+all else), and all together. Machines differ, and so do runs beside other work: multiples of one run compare.
+With --file what there is so far is written there every half minute. The status is that of COMMAND.
 """
 
+import argparse
+import os
+import subprocess
 import sys
+import time
+from collections import defaultdict
 from pathlib import Path
 
-from bench.figures.weighing import weigh
+from tools.root import ROOT
+
+# A kind of part of the gate, and what it is of.
+Part = tuple[str, str]
+
+# What all weights are a multiple of.
+BASE = [("proofs", "csv_records"), ("proofs", "onix_terms")]
+
+ELSE = ("others", "all else")
+
+
+def part_named(words: list[str], folder: str) -> Part:
+    """Which part of the gate a process is, by its words and the folder that it works in."""
+    tool = os.path.basename(words[0])
+    if tool in {"clang", "ld", "lld", "ld.lld", "rattle-link"}:
+        return "others", "linking"
+    if tool != "rattle" or "--crate-name" not in words:
+        return ELSE
+    crate = words[words.index("--crate-name") + 1]
+    if os.path.basename(folder).startswith("rt-edit-"):
+        return "edits", crate
+    if "--crate-checked" in words:
+        return "compiling", crate
+    # A program that tests other crates is no part of what ships.
+    return "tests" if "--test" in words or crate.endswith("_tests") else "proofs", crate
+
+
+class Sampler:
+    """The processor seconds of all processes below one, each as it was last seen."""
+
+    def __init__(self, root: int) -> None:
+        self.root = str(root)
+        self.found: dict[tuple[str, str], tuple[Part, float]] = {}
+
+    def look(self) -> None:
+        """Takes down what the processes have used so far."""
+        parents, taken = {}, {}
+        for pid in filter(str.isdigit, os.listdir("/proc")):
+            try:
+                fields = Path("/proc", pid, "stat").read_text().rpartition(")")[2].split()
+            except OSError:
+                continue
+            parents[pid] = fields[1]
+            taken[pid, fields[19]] = (int(fields[11]) + int(fields[12])) / os.sysconf("SC_CLK_TCK")
+        for (pid, began), seconds in taken.items():
+            above = pid
+            while above in parents and above != self.root:
+                above = parents[above]
+            if above == self.root:
+                self.take((pid, began), seconds)
+
+    def take(self, process: tuple[str, str], seconds: float) -> None:
+        try:
+            folder = Path("/proc", process[0])
+            words = (folder / "cmdline").read_bytes().decode(errors="replace").split("\0")
+            part = part_named(words, os.readlink(folder / "cwd"))
+        except OSError:
+            part = ELSE
+        # A process that has begun as another, or that is about to end, has no words of its own.
+        self.found[process] = (self.found[process][0] if part == ELSE and process in self.found else part), seconds
+
+    def report(self, passed: float) -> str:
+        """The lines, of which those of a kind have what weighs most first."""
+        sums: dict[Part, float] = defaultdict(float)
+        for part, seconds in self.found.values():
+            sums[part] += seconds
+        base = sum(sums.get(part, 0.0) for part in BASE)
+
+        def weight(seconds: float) -> str:
+            return f"{seconds / base:.2f}" if base else "-"
+
+        lines = []
+        for kind in sorted({kind for kind, _ in sums}):
+            parts = sorted(((seconds, crate) for (each, crate), seconds in sums.items() if each == kind), reverse=True)
+            told = ", ".join(f"{crate} {weight(seconds)}" for seconds, crate in parts)
+            lines.append(f"{kind}: {weight(sum(seconds for seconds, _ in parts))} = {told}")
+        lines.append(f"all: {weight(sum(sums.values()))} times the proofs of csv_records and onix_terms")
+        return "\n".join([*lines, f"these took {base / 60:.1f} min, and all {passed / 60:.1f} min on the clock"]) + "\n"
 
 
 def main() -> int:
-    words = sys.argv[1:]
-    if words[:1] in (["-h"], ["--help"]):
-        print(__doc__)
-        return 0
-    kept = Path(words[1]) if words[:1] == ["--file"] and len(words) > 1 else None
-    status, table = weigh((words[2:] if kept else words) or ["make", "test"], kept)
-    if kept:
-        kept.write_text(table)
-    print(table, end="")
-    return status
+    parser = argparse.ArgumentParser("bench/weight", description=__doc__, formatter_class=argparse.RawDescriptionHelpFormatter)
+    parser.add_argument("--file", type=Path, metavar="FILE")
+    parser.add_argument("command", metavar="COMMAND", nargs=argparse.REMAINDER)
+    given = parser.parse_args()
+    began = told = time.monotonic()
+    run = subprocess.Popen(given.command or ["make", "test"], cwd=ROOT)
+    sampler = Sampler(run.pid)
+    while run.poll() is None:
+        sampler.look()
+        if given.file and time.monotonic() >= told + 30:
+            told = time.monotonic()
+            given.file.write_text(sampler.report(told - began))
+        time.sleep(0.5)
+    report = sampler.report(time.monotonic() - began)
+    if given.file:
+        given.file.write_text(report)
+    print(report, end="")
+    return run.returncode
 
 
 if __name__ == "__main__":

@@ -2,5 +2,5 @@
 on the same bytes.
 
 `texts` makes the batches, `runs` runs programs and says what a run took, `tools` builds the other programs.
-`in_memory`, `in_files` and `counted` have the figures, and `printing` their words.
+`in_memory`, `in_files` and `counted` have the figures, and `figure` their words.
 """

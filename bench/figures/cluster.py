@@ -40,18 +40,7 @@ class Cluster:
             raise RuntimeError(f"{name}: {done.stdout.decode()}")
 
     def start(self) -> None:
-        self.run(
-            "initdb",
-            "--pgdata",
-            "data",
-            "--auth",
-            "trust",
-            "--encoding",
-            "UTF8",
-            "--no-locale",
-            "--username",
-            USER,
-        )
+        self.run("initdb", *"--pgdata data --auth trust --encoding UTF8 --no-locale --username".split(), USER)
         # Nothing of it is to outlast the machine.
         options = f"-c listen_addresses= -c unix_socket_directories={self.folder} -c fsync=off"
         self.run("pg_ctl", "--pgdata", "data", "--log", "server.log", "--wait", "--options", options, "start")
@@ -77,24 +66,10 @@ class Cluster:
     @contextlib.contextmanager
     def replica(self) -> Iterator[str]:
         """A streaming replica of the cluster, and the words that lead to it in place of the cluster."""
-        self.run(
-            "pg_basebackup",
-            "--host",
-            self.folder,
-            "--username",
-            USER,
-            "--pgdata",
-            "replica",
-            "--checkpoint",
-            "fast",
-            "--write-recovery-conf",
-        )
-        options = (
-            f"-c listen_addresses= -c unix_socket_directories={self.folder} -c port={REPLICA} -c fsync=off"
-        )
-        self.run(
-            "pg_ctl", "--pgdata", "replica", "--log", "replica.log", "--wait", "--options", options, "start"
-        )
+        words = "--pgdata replica --checkpoint fast --write-recovery-conf".split()
+        self.run("pg_basebackup", "--host", self.folder, "--username", USER, *words)
+        options = f"-c listen_addresses= -c unix_socket_directories={self.folder} -c port={REPLICA} -c fsync=off"
+        self.run("pg_ctl", "--pgdata", "replica", "--log", "replica.log", "--wait", "--options", options, "start")
         try:
             yield f"port={REPLICA}"
         finally:

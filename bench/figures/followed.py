@@ -70,10 +70,8 @@ def change(file: Path, count: int) -> None:
     contents = "".join("".join(texts.offered(at, [price])) for at in chosen)
     connection.execute("BEGIN")
     for at in chosen:
-        connection.execute(
-            "UPDATE price SET amount = ? WHERE series = ? AND reference = ?",
-            [number * 1000, articles.SERIES, f"R{at}"],
-        )
+        query = "UPDATE price SET amount = ? WHERE series = ? AND reference = ?"
+        connection.execute(query, [number * 1000, articles.SERIES, f"R{at}"])
     twin.put("applied", [(articles.SERIES, number, contents, len(chosen), 0, 0, 0, 0)])
     connection.execute("UPDATE series SET next_number = ?", [number + 1])
     connection.execute("COMMIT")
@@ -108,31 +106,12 @@ def following(file: Path, folder: Path, database: str, is_compared: bool = False
     return of_copy, time.perf_counter() - began - of_copy, told
 
 
-def pgbench(
-    database: str, folder: Path, name: str, records: int, readers: int, seconds: int
-) -> tuple[float, float]:
+def pgbench(database: str, folder: Path, name: str, records: int, readers: int, seconds: int) -> tuple[float, float]:
     """Questions a second and milliseconds for each, by so many readers."""
     script = folder / f"{name}.sql"
     script.write_text(f"\\set n random(1, {records})\nSELECT * FROM {FUNCTIONS[name]};\n", encoding="ascii")
-    done = subprocess.run(
-        [
-            PROGRAMS / "pgbench",
-            "--no-vacuum",
-            "--protocol",
-            "prepared",
-            "--client",
-            str(readers),
-            "--jobs",
-            str(min(readers, 2)),
-            "--time",
-            str(seconds),
-            "--file",
-            script,
-            database,
-        ],
-        capture_output=True,
-        text=True,
-    )
+    words = f"--no-vacuum --protocol prepared --client {readers} --jobs {min(readers, 2)} --time {seconds} --file".split()
+    done = subprocess.run([PROGRAMS / "pgbench", *words, script, database], capture_output=True, text=True)
     if done.returncode or "number of failed transactions: 0 " not in done.stdout:
         sys.exit(done.stdout + done.stderr)
     rate = float(sought(r"tps = ([0-9.]+)", done.stdout))
@@ -141,13 +120,8 @@ def pgbench(
 
 def over_http(port: int, records: int, readers: int, seconds: int) -> float:
     """Questions a second that the desk answers to so many readers."""
-    running = [
-        subprocess.Popen(
-            [sys.executable, "-c", READER, str(port), str(records), str(seconds), str(seed)],
-            stdout=subprocess.PIPE,
-        )
-        for seed in range(readers)
-    ]
+    words = [sys.executable, "-c", READER, str(port), str(records), str(seconds)]
+    running = [subprocess.Popen([*words, str(seed)], stdout=subprocess.PIPE) for seed in range(readers)]
     return sum(int(process.communicate()[0]) for process in running) / seconds
 
 
@@ -174,20 +148,8 @@ def readers_of(program: Path, file: Path, cluster: Cluster, database: str, given
         each = (of_backends(cluster) - before) / (rate * seconds) * 1000
         yield f"desk.{name}, one reader: {latency:.3f} ms each, {each:.3f} ms of the processor"
     port = free_port()
-    served = Served(
-        [
-            program,
-            "--db",
-            file,
-            "--existing",
-            "--rules",
-            given.folder / "rules.toml",
-            "serve",
-            "--port",
-            str(port),
-        ],
-        port,
-    )
+    rules = given.folder / "rules.toml"
+    served = Served([program, "--db", file, "--existing", "--rules", rules, "serve", "--port", str(port)], port)
     yield f"the desk opened the file in {served.opening.clock / 1e9:.1f} s"
     drained(served)
     try:

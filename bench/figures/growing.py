@@ -1,7 +1,7 @@
 """A desk that `serve` keeps open and that grows by messages, beside the same rows put by SQLite alone.
 
 Both stand in a folder, and each message is given to the one and then to the other, so that other work on the
-machine meets both alike. What was measured stands there too: a run that was stopped is continued.
+machine meets both alike.
 """
 
 import json
@@ -13,9 +13,9 @@ from typing import NamedTuple
 
 from bench.figures import articles, tables, texts
 from bench.figures.desk import Desk
-from bench.figures.kept import Kept, Message, Size
 from bench.figures.runs import BenchmarkFault
 from bench.figures.served import Served, free_port
+from bench.figures.sizes import Size
 from bench.figures.taken import Taken
 from bench.figures.tools import SOURCES
 from bench.figures.twin import Twin, tests_of
@@ -58,37 +58,29 @@ def planned(each: int, start: int, step: float, end: int, questions: int) -> Pla
 
 
 class Growing:
-    """A desk and its twin in a folder, as they grow by a plan."""
+    """A desk and its twin in a new folder, as they grow by a plan."""
 
     def __init__(self, desk: Desk, plan: Plan) -> None:
         self.desk = desk
         self.plan = plan
         self.twin_file = desk.folder / "sqlite.db"
-        self.messages = Kept(desk.folder / "messages.csv", Message, Message._fields)
-        self.sizes = Kept(desk.folder / "sizes.csv", Size, Size._fields)
         self.open_desk: Served | None = None
 
     def measured(self) -> Iterator[Size]:
-        """Each size of the plan, as it was kept or is measured now."""
-        known = {size.articles: size for size in self.sizes.items()}
-        if not self.desk.file.exists():
-            self.desk.answer([texts.AGREEMENT])
+        """Each size of the plan."""
+        self.desk.answer([texts.AGREEMENT])
         before = 0
         try:
             for count in self.plan.messages:
-                size = known.get(count * self.plan.articles)
-                if size is None:
-                    size = self.measure(before, count)
-                    self.sizes.add(size)
+                yield self.measure(before, count)
                 before = count
-                yield size
         finally:
             if self.open_desk:
                 self.open_desk.kill()
 
     def measure(self, before: int, count: int) -> Size:
-        """Measures a desk of so many messages, which has got those `before` or more of them."""
-        log, greatest = self.grow(count)
+        """Measures a desk of so many messages, which has got those `before`."""
+        messages, log, greatest = self.grow(before, count)
         asked = self.ask(count * self.plan.articles)
         tables.compare(self.desk.file, self.twin_file)
         self.open_desk = self.serve()
@@ -96,7 +88,7 @@ class Growing:
         numbers = [
             count * self.plan.articles,
             round(os.getloadavg()[0] * 100),
-            *self.article_times(before, count),
+            *(round(time / self.plan.articles) for time in of_both(messages, mean, mean)),
             *asked.prices,
             self.desk.file.stat().st_size,
             self.twin_file.stat().st_size,
@@ -117,27 +109,17 @@ class Growing:
         words: list[Word] = [self.desk.program, "--db", self.desk.file, "--existing"]
         return Served([*words, "serve", "--port", str(port), *ending], port)
 
-    def grow(self, count: int) -> tuple[int, int]:
-        """Gives both the messages up to `count`, and kills the desk. The bytes of its log and its greatest
-        memory."""
+    def grow(self, before: int, count: int) -> tuple[list[tuple[Taken, Taken]], int, int]:
+        """Gives both the messages behind `before` up to `count`, and kills the desk: what each message took of the
+        desk and of SQLite, the bytes of the desk's log and its greatest memory."""
         served, self.open_desk = self.open_desk or self.serve(), None
         twin = Twin(self.twin_file, self.plan.articles)
         try:
-            self.deliver(served, twin, count)
-            return self.desk.log().stat().st_size, served.greatest_memory()
+            taken = [(self.post(served, number), twin.apply(number)) for number in range(before + 1, count + 1)]
+            return taken, self.desk.log().stat().st_size, served.greatest_memory()
         finally:
             served.kill()
             twin.close()
-
-    def deliver(self, served: Served, twin: Twin, count: int) -> None:
-        """A message that the one has got and not the other, after a stop, is not measured."""
-        body, _ = served.ask(GAPS)
-        has = json.loads(body)["next"] - 1, twin.applied()
-        for number in range(min(has) + 1, count + 1):
-            desk = self.post(served, number) if number > has[0] else None
-            sqlite = twin.apply(number) if number > has[1] else None
-            if desk and sqlite:
-                self.messages.add(Message(number, *desk, *sqlite))
 
     def post(self, served: Served, number: int) -> Taken:
         body, taken = served.post("/messages", articles.message(number, self.plan.articles))
@@ -145,14 +127,6 @@ class Growing:
         if (answer["answer"], answer["number"], answer["replaced"]) != ("applied", number, self.plan.articles):
             raise BenchmarkFault(f"message {number} was answered {body!r}")
         return taken
-
-    def article_times(self, before: int, count: int) -> list[int]:
-        """What an article took of the messages behind `before`: of the desk and of SQLite, and by the clock."""
-        rows = [row for row in self.messages.items() if before < row.number <= count]
-        if not rows:
-            raise BenchmarkFault(f"no message up to {count} was measured since {before}")
-        pairs = [row.pair() for row in rows]
-        return [round(time / self.plan.articles) for time in of_both(pairs, mean, mean)]
 
     def ask(self, stored: int) -> Asked:
         """Opens the desk after the kill, and asks it and SQLite for prices in turn, and then the desk for its

@@ -1,12 +1,50 @@
 """The figures of a desk that grows, at one size of it."""
 
 from collections.abc import Iterator
+from typing import NamedTuple
 
 from bench.figures.figure import Figure
-from bench.figures.kept import Size
 
 PROCESSOR = "nanoseconds of the processor"
 CLOCK = "nanoseconds by the clock"
+
+
+class Size(NamedTuple):
+    """A desk with so many articles in its file, and SQLite alone with the same rows, in nanoseconds of the
+    processor, by the clock where a name says so, and in bytes.
+
+    An article is the mean of those since the size before. A price is the median of the questions of the
+    processor, and their least by the clock. The log and the greatest memory are those of the desk that took the
+    messages, the memories those after the questions. An opening is that of a file that was closed, a reopening
+    that of one whose desk was killed, and the tests are SQLite's own of the file and its foreign keys. What
+    the series' catalogue took of the processor, the bytes of its answer and the desk's greatest memory are 0
+    where it was not asked for."""
+
+    articles: int
+    load_hundredths: int
+    desk_article: int
+    sqlite_article: int
+    desk_article_clock: int
+    sqlite_article_clock: int
+    desk_price: int
+    sqlite_price: int
+    desk_price_clock: int
+    sqlite_price_clock: int
+    desk_file_bytes: int
+    sqlite_file_bytes: int
+    desk_log_bytes: int
+    desk_greatest_bytes: int
+    desk_memory_bytes: int
+    sqlite_memory_bytes: int
+    desk_opening: int
+    desk_opening_clock: int
+    desk_reopening: int
+    desk_reopening_clock: int
+    sqlite_tests: int
+    sqlite_tests_clock: int
+    catalogue: int
+    catalogue_bytes: int
+    catalogue_greatest_bytes: int
 
 
 def figures(size: Size) -> Iterator[Figure]:

@@ -7,8 +7,9 @@ from functools import partial
 
 from bench.figures.cluster import Cluster
 from tests.postgres.follower import ask, execute, follow, in_postgres, kind, state_of
-from tests.postgres.steps import AGREEMENT, ASKED, deliver
+from tests.postgres.steps import ASKED, deliver
 from tests.program.databases import DATABASE, execute as execute_in_file
+from tests.program.messages import AGREEMENT
 from tests.program.room import Ran, Room
 from tests.running import Outcome
 from tools.words import sought

@@ -14,30 +14,23 @@ import psycopg2
 from bench.figures.cluster import Cluster
 from tests.postgres.follower import Tables, execute, follow, in_file, in_postgres, kind, words_of
 from tests.program.databases import DATABASE
+from tests.program.messages import AGREEMENT, priced_by_number
 from tests.program.room import SECONDS, Room
 from tests.running import Outcome
 from tools.words import Row
 
 HERE = Path(__file__).resolve().parent
 
-AGREEMENT = "Agree,north,06,4012345000009,06,5012345678900,1\n"
 PRODUCTS = 30
 
 
-def message(number: int) -> str:
-    """A message that gives each product the number as its price."""
-    products = [
-        f"Product,R{place},03,15,97800000000{place:02}\nProductSupply,GB IE,,\n"
-        f"SupplyDetail,04,06,4012345000009,North Books,21,\nPrice,02,{number},GBP,,,,,\n"
-        for place in range(PRODUCTS)
-    ]
-    opening = f"Message,1,06,4012345000009,06,5012345678900,{number},1,20250301,,\n"
-    return f"{opening}{''.join(products)}EndMessage,{4 * PRODUCTS + 1}\n"
+def message(number: int) -> bytes:
+    return priced_by_number(number, PRODUCTS)
 
 
-def deliver(room: Room, *numbers: int, agreement: str = "") -> None:
-    text = agreement + "".join(map(message, numbers))
-    assert room.run("--db", DATABASE, "batch", given=text.encode()).status == 0
+def deliver(room: Room, *numbers: int, agreement: bytes = b"") -> None:
+    text = agreement + b"".join(map(message, numbers))
+    assert room.run("--db", DATABASE, "batch", given=text).status == 0
 
 
 def killed_at(room: Room, database: str, at: int) -> bool:
@@ -177,9 +170,9 @@ def several_series(cluster: Cluster, room: Room) -> Iterator[Outcome]:
     """Held messages come and go, waivers, new series, deleted records: the rows are the file's each time."""
     database = cluster.make_database("series")
     for name, text in [
-        ("agreed", AGREEMENT),
-        ("held", message(3) + message(4)),
-        ("drained", message(1) + message(2)),
+        ("agreed", AGREEMENT.decode()),
+        ("held", (message(3) + message(4)).decode()),
+        ("drained", (message(1) + message(2)).decode()),
         ("another series", "Agree,south,06,S,,,5\nWaive,south,5\nWaive,south,7\n"),
         (
             "deleted",

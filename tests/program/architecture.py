@@ -3,10 +3,11 @@
 import re
 from collections.abc import Iterator
 from functools import cache
+from itertools import groupby
 
 from tests.running import Outcome
 from tools.drawing import picture
-from tools.drawing.crates import LAYERS, direct, families, read_crates, read_lines, upward
+from tools.drawing.crates import LAYERS, read_crates, upward
 from tests.program.room import Group, Room
 from tools.root import ROOT
 
@@ -14,14 +15,6 @@ PAGE = ROOT / "docs/ARCHITECTURE.md"
 
 # A call: how deep it is, the function, and the file, where it is another one than that of the call above.
 CALL = re.compile(r"^    ((?:  )*)(\w+)(?: +(\w+)/(src/\S+\.rt))?$")
-
-LINES = """\
-# A comment.
-low: csv
-other: sqlite sqlite_disk
-middle: low csv
-high: middle other low
-"""
 
 
 def current(room: Room) -> Iterator[Outcome]:
@@ -37,13 +30,6 @@ def layers(room: Room) -> Iterator[Outcome]:
     told = [name for _, names in LAYERS.values() for name in names]
     yield Outcome("each crate is in a layer", sorted(told), sorted(crate.name for crate in crates))
     yield Outcome("no crate stands on one of a higher layer", upward(crates), [])
-
-
-def lines(room: Room) -> Iterator[Outcome]:
-    stands_on = read_lines(LINES)
-    yield Outcome("crates.txt: its crates", list(stands_on), ["low", "other", "middle", "high"])
-    yield Outcome("crates.txt: what is reached through another crate", direct(stands_on, "high"), ["middle", "other"])
-    yield Outcome("crates.txt: parts of a library", families(stands_on["other"]), ["sqlite"])
 
 
 @cache
@@ -94,48 +80,29 @@ def walks(room: Room) -> Iterator[Outcome]:
     yield Outcome("docs/ARCHITECTURE.md tells of calls", len(found) > 0, True)
 
 
-# How many calls, and in how many files, the page says of a way: of a second one those that the first has not.
+# How many calls, and in how many files, a page says of a way: of a second one those that the first has not.
 COUNT = re.compile(r"(\d+)(?: further)? calls in (\d+)(?: further)? files")
 
 
-def counted(text: str) -> list[tuple[int, int]]:
-    """Of each way that the page tells of the calls and the files that no way before it has."""
-    ways: list[list[Function]] = []
-    for above, function in calls(text):
-        if above is None:
-            ways.append([])
-        ways[-1].append(function)
-    known: set[Function] = set()
-    counts = []
-    for way in ways:
-        new = set(way) - known
-        counts.append((len(new), len({file for _, file in new} - {file for _, file in known})))
-        known |= new
-    return counts
-
-
 def counts(room: Room) -> Iterator[Outcome]:
-    text = PAGE.read_text(encoding="utf-8")
-    found = counted(text)
-    told = [(int(calls), int(files)) for calls, files in COUNT.findall(text)]
-    yield Outcome("docs/ARCHITECTURE.md: the calls and files of each way", told, found)
-    decisions = (ROOT / "docs/DECISIONS.md").read_text(encoding="utf-8")
-    told = [(int(calls), int(files)) for calls, files in COUNT.findall(decisions)]
-    whole = (sum(calls for calls, _ in found), sum(files for _, files in found))
-    yield Outcome("docs/DECISIONS.md: the calls and files of all ways", told, [whole])
-
-
-def without_a_file(room: Room) -> Iterator[Outcome]:
-    """A page whose calls name no file, or one that is not there, has wrong calls."""
-    for text in ("    answer\n", "    answer    series_rules/src/nowhere.rt\n"):
-        yield Outcome(f"calls: {text.strip()}", list(judged(text)), [("answer", (False, True))])
+    """Each way of the page counts what no way before it has; another page has the sums of the way of a message, which
+    is the first two."""
+    known: set[Function] = set()
+    found: list[tuple[int, int]] = []
+    ways = [[*way] for begins, way in groupby(calls(PAGE.read_text(encoding="utf-8")), lambda call: call[0] is None)]
+    for (first, *_), behind in zip(ways[::2], ways[1::2]):
+        new = {first[1], *(function for _, function in behind)} - known
+        found.append((len(new), len({file for _, file in new} - {file for _, file in known})))
+        known |= new
+    sums = (sum(calls for calls, _ in found[:2]), sum(files for _, files in found[:2]))
+    for name, wanted in (("ARCHITECTURE", found), ("DECISIONS", [sums])):
+        told = COUNT.findall((ROOT / f"docs/{name}.md").read_text(encoding="utf-8"))
+        yield Outcome(f"docs/{name}.md: how many calls and files", [(int(c), int(f)) for c, f in told], wanted)
 
 
 GROUPS = [
     Group("the picture of the crates", current),
     Group("the layers of the crates", layers),
-    Group("the lines of crates.txt", lines),
     Group("the calls that docs/ARCHITECTURE.md names", walks),
     Group("how many calls docs/ARCHITECTURE.md tells of", counts),
-    Group("calls without a file", without_a_file),
 ]

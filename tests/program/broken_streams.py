@@ -153,6 +153,10 @@ def unread_deliveries(room: Room) -> Iterator[Outcome]:
 
 # A message with so many records takes more than so many blocks, and a new desk does not.
 RECORDS, FULL = 10_000, 1024
+
+# How many of them another message changes.
+CHANGED = 20
+
 PRODUCTS = "".join(f"Product,R{number},03,15,9781234567897\n" for number in range(RECORDS))
 LARGE = f"Message,1,06,4012345000009,06,5012345678900,1,,,,\n{PRODUCTS}EndMessage,{RECORDS + 1}\n"
 
@@ -175,6 +179,34 @@ def full_disks(room: Room) -> Iterator[Outcome]:
     found = batch(room, LARGE.encode()), complaints(room)
     yield Outcome("the batch once there is room", found, (Ran(0, applied(1, RECORDS)), []))
     yield Outcome("the desk then", batch(room, ASK_GAPS), ONE_APPLIED)
+
+
+def large(number: int) -> bytes:
+    """A message that takes more than so many blocks, and whose records no other has."""
+    return LARGE.replace("78900,1,", f"78900,{number},").replace("Product,R", f"Product,R{number}-").encode()
+
+
+def changed(number: int, article: str) -> bytes:
+    """A message that gives records from all parts of such a file another article."""
+    products = "".join(f"Product,R1-{each},03,15,{article}\n" for each in range(0, RECORDS, RECORDS // CHANGED))
+    return f"Message,1,06,4012345000009,06,5012345678900,{number},1,,,\n{products}EndMessage,{CHANGED + 1}\n".encode()
+
+
+def a_file_that_cannot_be_closed(room: Room) -> Iterator[Outcome]:
+    """The log cannot be copied into the file, which is longer than it may be: one line tells it, also where a request
+    before that met the full disk. What was answered is in the log."""
+    yield Outcome("a large file", batch(room, AGREEMENT + large(1)), Ran(0, AGREED + applied(1, RECORDS)))
+    size = room.path(DATABASE).stat().st_size
+    yield Outcome("a large file: it is longer than it may be", size > FULL * 512, True)
+    requests = [
+        ("a file that cannot be closed", changed(2, "9789999999999"), 2),
+        ("a fault, and a file that cannot be closed", changed(3, "9788888888888") + large(4), 3),
+    ]
+    for name, text, number in requests:
+        wanted = Ran(3, applied(number, CHANGED), b"onixdesk: storage: disk\n")
+        yield Outcome(name, batch(Limited(room, FULL), text), wanted)
+        report = b"gaps,north,first=1,next=%d,greatest=%d,held=0,missing=0\n" % (number + 1, number)
+        yield Outcome(f"{name}: what is kept", batch(room, ASK_GAPS), Ran(0, report))
 
 
 def a_fault_within_a_batch(room: Room) -> Iterator[Outcome]:
@@ -200,5 +232,6 @@ GROUPS = [
     Group("answers that are taken in part", written_in_parts),
     Group("deliveries that cannot be read to their ends", unread_deliveries),
     Group("full disks", full_disks),
+    Group("a file that cannot be closed", a_file_that_cannot_be_closed),
     Group("a fault within a batch at an open desk", a_fault_within_a_batch),
 ]

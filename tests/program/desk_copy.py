@@ -15,7 +15,7 @@ from pathlib import Path
 
 from desk_copy import copying
 from tests.program.databases import DATABASE, batch, execute
-from tests.program.messages import AGREEMENT
+from tests.program.messages import AGREEMENT, priced_by_number
 from tests.program.room import Group, Ran, Room
 from tests.program.serving import HOST, Serving, posted, serving
 from tests.running import Outcome
@@ -40,16 +40,6 @@ def copy(room: Room, *words: Word) -> Ran:
     return room.call([PROGRAM, *words])
 
 
-def message(number: int) -> str:
-    products = [
-        f"Product,R{place},03,15,9781234567897\nProductSupply,GB IE,,\n"
-        f"SupplyDetail,04,06,4012345000009,North Books,21,\nPrice,02,{number},GBP,,,,,\n"
-        for place in range(PRODUCTS)
-    ]
-    opening = f"Message,1,06,4012345000009,06,5012345678900,{number},1,20250301,,\n"
-    return f"{opening}{''.join(products)}EndMessage,{4 * PRODUCTS + 1}\n"
-
-
 class Sender:
     """Sends messages to a desk, one after the other, and counts those that it has answered."""
 
@@ -64,7 +54,7 @@ class Sender:
         seeded = random.Random(20250301)
         while not self.is_to_end.is_set():
             self.sent += 1
-            reply = self.desk.reply([posted(message(self.sent).encode())])
+            reply = self.desk.reply([posted(priced_by_number(self.sent, PRODUCTS))])
             if not reply.startswith(b"HTTP/1.1 200 "):
                 self.unexpected.append(reply)
                 return
@@ -183,6 +173,13 @@ def kept(room: Room) -> Iterator[Outcome]:
     )
     new = room.path("copies") / found[1]
     yield Outcome("the new one", sorted(each.name for each in new.iterdir()), [DATABASE, f"{DATABASE}-wal"])
+    ahead = ["2999-01-01T00-00-00Z", "2999-01-02T00-00-00Z"]
+    for name in ahead:
+        room.path(f"copies/{name}").mkdir()
+    time.sleep(1)
+    copy(room, "--keep", "2", DATABASE, "copies")
+    found = sorted(each.name for each in room.path("copies").iterdir())
+    yield Outcome("the new one stays where others have later names", (len(found), found[0] > new.name, found[1]), (3, True, ahead[1]))
 
 
 def refused(room: Room) -> Iterator[Outcome]:

@@ -1,5 +1,6 @@
 """What bin/desk-metrics writes of a desk, its series and its inboxes, and the rules for alerts beside it."""
 
+import http.server
 import json
 import os
 import re
@@ -250,6 +251,41 @@ def left_out(room: Room) -> Iterator[Outcome]:
         yield Outcome("left out: a folder that is none", came, Ran(1, b"", line % b"refused" + line % b"done"))
 
 
+class Strange(http.server.BaseHTTPRequestHandler):
+    """Another program that refuses a path as a desk does, and has numbers that are none."""
+
+    def do_GET(self) -> None:
+        none = b'{"answer":"refused","reason":"not-found"}'
+        status, body = (404, none) if self.path == "/" else (200, b'{"next":1e999,"greatest":1,"held":0,"missing":[]}')
+        self.send_response(status)
+        self.send_header("Content-Length", str(len(body)))
+        self.end_headers()
+        self.wfile.write(body)
+
+    def log_message(self, *_: object) -> None:
+        pass
+
+
+def strange_reports(room: Room) -> Iterator[Outcome]:
+    with http.server.HTTPServer((HOST, 0), Strange) as server:
+        threading.Thread(target=server.serve_forever, daemon=True).start()
+        came = write(room, "--desk", at(server.server_port), "north")
+        server.shutdown()
+    line = f"desk-metrics: north: what answers at {at(server.server_port)} is no desk\n"
+    yield Outcome("left out: a report without numbers", came, Ran(1, b"", line.encode()))
+
+
+def unread_settings(room: Room) -> Iterator[Outcome]:
+    """Without a folder of settings no series is watched; one that cannot be read is told, and the desk is asked."""
+    room.write("file", b"")
+    came = write(room, "--seconds", "1", "--settings", "missing")
+    yield Outcome("left out: no folder of settings", came, Ran(0))
+    came = write(room, "--seconds", "1", "--settings", "file")
+    wanted = Ran(1, b"", b"desk-metrics: file: Not a directory\n")
+    yield Outcome("left out: a folder of settings that is none", came, wanted)
+    yield Outcome("left out: the desk", [name for name, _ in read(room)], ["onixdesk_up"])
+
+
 def replaced_whole(room: Room) -> Iterator[Outcome]:
     """Who has the file of before open reads it to its end; under the name of a collector's file nothing is written."""
     port = free_port()
@@ -437,6 +473,8 @@ GROUPS = [
     Group("metrics: since when", since_when),
     Group("metrics: no desk", no_desk),
     Group("metrics: left out", left_out),
+    Group("metrics: strange reports", strange_reports),
+    Group("metrics: unread settings", unread_settings),
     Group("metrics: replaced whole", replaced_whole),
     Group("metrics: two runs", alone),
     Group("metrics: refused", refused),

@@ -39,24 +39,25 @@ onixdesk-inbox@north.timer   loaded active waiting Looks
 NAMES = [line.split()[0] for line in UNITS.splitlines()]
 
 
-def make_programs(room: Room, units: str) -> Path:
-    """What stands beside the program, and a systemctl."""
+def make_programs(room: Room, units: str, failing: str) -> Path:
+    """What stands beside the program, and a systemctl. A call of one of them with that text in its words fails."""
     folder = room.path("programs")
     folder.mkdir(exist_ok=True)
-    script(room, "programs/onixdesk", f'exec "{room.program}" "$@"')
-    script(room, "programs/onixdesk-inbox", f'echo "onixdesk-inbox $*" >>"{room.path("calls")}"')
     room.write("units", units.encode())
-    script(room, "programs/systemctl", f'echo "$*" >>"{room.path("calls")}"; [ "$1" != list-units ] || cat "{room.path("units")}"')
+    begun = f'echo "$name$*" >>"{room.path("calls")}"; case "$*" in *"{failing}"*) exit 3 ;; esac'
+    script(room, "programs/onixdesk", f'exec "{room.program}" "$@"')
+    script(room, "programs/onixdesk-inbox", f'name="onixdesk-inbox "; {begun}')
+    script(room, "programs/systemctl", f'name=; {begun}; [ "$1" != list-units ] || cat "{room.path("units")}"')
     return folder
 
 
-def restore(room: Room, *words: Word, units: str = UNITS) -> Ran:
+def restore(room: Room, *words: Word, units: str = UNITS, failing: str = "nothing", running: str = RUNNING) -> Ran:
     """Runs it, and forgets what systemctl was told before."""
-    programs = make_programs(room, units)
+    programs = make_programs(room, units, failing)
     room.path("calls").unlink(missing_ok=True)
     environment = {**os.environ, "PATH": f"{programs}:{os.environ['PATH']}"}
     options: list[Word] = ["--db", DATABASE, "--inboxes", "state"]
-    return room.call(within(RUNNING, programs, *options, *words), environment=environment)
+    return room.call(within(running, programs, *options, *words), environment=environment)
 
 
 def calls(room: Room) -> list[str]:
@@ -144,6 +145,66 @@ def a_desk_that_is_open(room: Room) -> Iterator[Outcome]:
         yield Outcome("an open desk goes on", report["next"], 1)
 
 
+def what_does_not_start(room: Room) -> Iterator[Outcome]:
+    """Whatever was stopped and does not run again is told, with the command that starts it."""
+    batch(room, AGREEMENT)
+    room.path("state/north/done").mkdir(parents=True)
+    name = taken_copy(room)
+    left = "desk-restore: what was stopped and is to be started then: systemctl start"
+    of_inbox = "onixdesk-inbox@north.path onixdesk-inbox@north.timer"
+    came = restore(room, f"copies/{name}", failing="start onixdesk.service")
+    *_, fault, last = ["", *came.errors.decode().splitlines()]
+    wanted = 3, [f"{left} onixdesk.service onixdesk-copy.timer {of_inbox}", "desk-restore: systemctl start onixdesk.service: "]
+    yield Outcome("a desk that does not start", (came.status, [fault, last]), wanted)
+    came = restore(room, f"copies/{name}", failing="--again")
+    *_, fault, last = came.errors.decode().splitlines()
+    words = f"{room.path('programs/onixdesk-inbox')} --again {name} --state {room.path('state/north')} -- north"
+    user = room.path("state/north").owner()
+    told = f"desk-restore: the inbox of north has not taken all again; then: runuser -u {user} -- {words}"
+    wanted = 1, [told, f"{left} {of_inbox}"]
+    yield Outcome("an inbox that cannot take all again", (came.status, [fault, last]), wanted)
+    yield Outcome("an inbox that cannot take all again: the rest runs", calls(room)[-1], "start onixdesk-copy.timer")
+    came = restore(room, "copies", failing="list-units")
+    yield Outcome("a copy that is none", came.status, 3)
+
+
+# As the user whose folder it is could, before the first file is laid out: the new folder becomes a link to another.
+LED_ELSEWHERE = """
+import os, sys
+from pathlib import Path
+from desk_restore.command_line import main
+left = [Path("secret").absolute()]
+def before(event, arguments):
+    if left and event == "open" and "/.desk-copy-" in str(arguments[0]):
+        folder = Path(arguments[0]).parent
+        os.rename(folder, f"{folder}-before")
+        os.symlink(left.pop(), folder)
+sys.addaudithook(before)
+sys.exit(main(Path(sys.argv.pop(1))))
+"""
+
+
+def of_another_user(room: Room) -> Iterator[Outcome]:
+    """By root, of a desk of another user: its files are that user's, and root is led nowhere. Nothing is tried where
+    the tests are run by another user, or their folders cannot be reached by one."""
+    readable = all(path.stat().st_mode & 0o001 for path in [*room.program.parents, *Path(__file__).resolve().parents])
+    if os.geteuid() != 0 or not readable:
+        return
+    batch(room, AGREEMENT)
+    name = taken_copy(room)
+    room.folder.chmod(0o755)
+    os.chown(room.folder, 65534, 65534)
+    room.path("secret").mkdir(mode=0o700)
+    came = restore(room, f"copies/{name}", units="", running=LED_ELSEWHERE)
+    found = came.status, "Permission denied" in came.errors.decode(), [*room.path("secret").iterdir()]
+    yield Outcome("a folder that becomes a link", found, (3, True, []))
+    yield Outcome("the files of before are root's", room.path(DATABASE).stat().st_uid, os.geteuid())
+    came = restore(room, f"copies/{name}", units="")
+    files = [room.path(each).stat() for each in (DATABASE, f"{DATABASE}-wal")]
+    found = came.status, [(file.st_uid, file.st_gid, file.st_mode & 0o777) for file in files]
+    yield Outcome("files of another user", found, (0, [(65534, 65534, 0o600)] * 2))
+
+
 def without_systemd(room: Room) -> Iterator[Outcome]:
     batch(room, AGREEMENT)
     name = taken_copy(room)
@@ -211,6 +272,8 @@ GROUPS = [
     Group("restores: in its place", in_its_place),
     Group("restores: refused", copies_that_are_refused),
     Group("restores: a desk that is open", a_desk_that_is_open),
+    Group("restores: what does not start", what_does_not_start),
+    Group("restores: of another user", of_another_user),
     Group("restores: without systemd", without_systemd),
     Group("restores: what came since", what_came_since),
     Group("restores: bad words", bad_words),

@@ -320,6 +320,30 @@ def conversions_that_do_not_end(room: Room) -> Iterator[Outcome]:
     yield Outcome("inbox: a conversion without a message", inbox.run("--converter", program), wanted)
 
 
+# The lines of a converter that notes much, and a bound of memory, in kB, that is less than they take.
+NOTES, LITTLE = 500_000, 100_000
+
+
+def very_many_notes(room: Room) -> Iterator[Outcome]:
+    """They are kept with the names that the feed came in by, and take no memory."""
+    batch(room, AGREEMENT)
+    room.write("a.csv", message_of("R1"))
+    line = f"onixdesk: feed.xml:3:1: {'x' * 80}"
+    program = script(room, "converter", f'yes "{line}" | head -n {NOTES} >&2; cp {room.path("a.csv")} "$2"'
+                     '; echo "onixdesk: 500000 notes" >&2')
+    with serving(room, WORDS, 1) as desk:
+        inbox = Inbox(room, desk.port)
+        inbox.put({"a.xml": b"x"})
+        before = ["sh", "-c", f'ulimit -d {LITTLE}; exec "$@"', "sh"]
+        came = ended(inbox.start("--converter", program, before=before))
+        yield Outcome("inbox: very many notes", came, said("a.xml: done: number 1 applied; notes: 500000 notes"))
+    lines = inbox.kept().get("done/a.xml.answer", b"").decode().splitlines()
+    named = line.replace("feed.xml", "a.xml")
+    found = len(lines), set(lines[:NOTES]), lines[NOTES:]
+    wanted = NOTES + 2, {named}, ["onixdesk: 500000 notes", of_series(1, replaced=1)]
+    yield Outcome("inbox: very many notes are kept", found, wanted)
+
+
 class Stranger(http.server.BaseHTTPRequestHandler):
     """Another server than a desk."""
 
@@ -344,6 +368,8 @@ STRANGE = [
     (400, b'{"answer":"refused","reason":"short-body"}'),
     (404, b'{"answer":"refused","reason":"not-found"}'),
     (422, b"\x1b[2J\xff"),
+    (422, b'{"answer":"refused","reason":[]}'),
+    (200, b"[" * 100_000),
 ]
 
 
@@ -356,10 +382,11 @@ def other_servers(room: Room) -> Iterator[Outcome]:
             threading.Thread(target=server.serve_forever, daemon=True).start()
             inbox = Inbox(room, server.server_port)
             inbox.put(files)
-            shown = body.decode(errors="backslashreplace").replace("\x1b", r"\x1b")
-            wanted = said(f"b.csv: waiting: the desk answers {status} {shown}")
+            text = f"{status} {body.decode(errors='backslashreplace')}".replace("\x1b", r"\x1b")
+            shown = text if len(text) <= 300 else f"{text[:300]}.."
+            wanted = said(f"b.csv: waiting: the desk answers {shown}")
             found = inbox.run(), inbox.lying()
-            yield Outcome(f"inbox: a server that answers {status} {body!r}", found, (wanted, files))
+            yield Outcome(f"inbox: a server that answers {text[:80]}", found, (wanted, files))
             server.shutdown()
 
 
@@ -508,6 +535,7 @@ GROUPS = [
         for change in CHANGING
     ),
     Group("inbox: conversions that do not end", conversions_that_do_not_end),
+    Group("inbox: very many notes", very_many_notes),
     Group("inbox: other servers", other_servers),
     Group("inbox: senders", senders),
     Group("inbox: too large a message", too_large),

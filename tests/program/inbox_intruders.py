@@ -2,6 +2,7 @@
 followed, run or waited for, and none of its bytes reaches a terminal as it is."""
 
 import os
+import re
 import socket
 import subprocess
 import sys
@@ -11,6 +12,7 @@ from pathlib import Path
 
 from tests.program.converter_runs import feed_of, message_of
 from tests.program.databases import batch
+from tests.program.inbox import NOBODY
 from tests.program.inboxes import AGREEMENT, CONNECTIONS, WORDS, Inbox, ended, of_series, said, taken, within
 from tests.program.room import Group, Room
 from tests.program.serving import serving
@@ -252,6 +254,13 @@ def as_another_user(room: Room) -> Iterator[Outcome]:
     yield Outcome("inbox: a run by root", (inbox.run(), inbox.kept(), [*inbox.state.iterdir()]), (theirs, {}, []))
     wanted = said("a.csv: not taken: it cannot be read: Permission denied")
     yield Outcome("inbox: a file that cannot be read", ended(inbox.start(before=before)), wanted)
+    # As a run leaves it that was killed, when another file had come in its place.
+    inbox.put({".onixdesk-taken-0123456789abcdef.csv": message_of("R1")})
+    inbox.incoming.joinpath(".onixdesk-taken-0123456789abcdef.csv").chmod(0o644)
+    line = ended(inbox.start(before=before)).errors.decode().splitlines()[-1]
+    named = re.sub("[0-9a-f]{16}", "DIGITS", line)
+    wanted_line = f"onixdesk-inbox: onixdesk-taken-DIGITS.csv: {NOBODY.format(1)}"
+    yield Outcome("inbox: a file that may have no second name", named, wanted_line)
     inbox.incoming.chmod(0o1777)
     os.chown(inbox.incoming, 0, 0)
     wanted = said(f"{inbox.incoming}: this user cannot take files out of it", status=3)

@@ -108,6 +108,7 @@ def places(_room: Room) -> Iterator[Outcome]:
         f"StateDirectory={state.removeprefix('/var/lib/')}%i",
         "StateDirectoryMode=0700",
         f"ReadWritePaths=-{incoming}%i",
+        "SyslogLevel=err",
     ]
     yield Outcome("units: the places of the service", [line for line in wanted if line not in service], [])
     watched = [line for line in lines_of("onixdesk-inbox@.path") if line.startswith("Path")]

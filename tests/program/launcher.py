@@ -1,209 +1,287 @@
-"""What `bin/onixdesk` does with a built program and without one, with a toolchain that stands in for `rt`."""
+"""What `bin/onixdesk` and `tools/build` do in a repository of four crates, with a toolchain that stands in for `rt`."""
 
 import os
 import shutil
+import subprocess
 import time
 from collections.abc import Iterator
 
 from tests.program.room import SECONDS, UNREADABLE, Group, Ran, Room
-from tests.program.stand_in import FAILS, WAITS, begun, calls, change_source, command, environment, make_repository, tries
 from tests.running import Outcome
+from tools.root import ROOT
+
+PROGRAM = "crates/onixdesk/out/onixdesk"
+SOURCE = "crates/onixdesk/src/main.rt"
+
+# The program stands on two of the three others.
+FILES = {
+    "crates.txt": "# A remark.\nlow: csv\nhigh: low toml\nbeside: low\nonixdesk: high low clap # and another\n",
+    "HANDLES": "Handles allowed: none.\n",
+    SOURCE: "fn main() {}\n",
+    "crates/low/src/lib.rt": "",
+    "crates/low/out/old.rt": "",
+    "crates/low/must-fail/wrong.edit": "",
+    "crates/low/mutants/more.edit": "",
+    "crates/high/specs/High.antt": "",
+    "crates/beside/src/lib.rt": "",
+}
+
+# What is proved: the program's crates, without their wrong bodies and without what was built of them.
+PROVED = ["HANDLES", "crates.txt", "crates/high/specs/High.antt", "crates/low/src/lib.rt", SOURCE]
+
+# `rt ci` ends as the file `fails` says, waits for the file `go` where there is one `waits`, and makes a program that
+# writes its words and its input and ends with status 1. `rt try` writes its words, the rules and its input, and then
+# what the file `said` has.
+RT = """\
+#!/bin/sh
+echo "rt $*" >>"$ROOM/calls"
+case $1 in
+    version) echo "a toolchain" ;;
+    ci)
+        find * -type f | LC_ALL=C sort >"$ROOM/proved"
+        echo "rt: low proved"
+        [ -e "$ROOM/fails" ] && { echo "$PWD/crates/low/src/lib.rt: a goal is left"; exit 1; }
+        while [ -e "$ROOM/waits" ]; do sleep 0.1; done
+        mkdir crates/onixdesk/out
+        printf '#!/bin/sh\\necho "ran $*"\\ncat\\nexit 1\\n' >crates/onixdesk/out/onixdesk
+        chmod +x crates/onixdesk/out/onixdesk ;;
+    try)
+        [ "$2" = --data ] && cat "${3#rules.toml=}" && shift 3 && set -- try "$@"
+        echo "in ${PWD#"$ROOM/"}: $*"
+        cat
+        cat "$ROOM/said" >&2
+        exit "$(cat "$ROOM/status")" ;;
+esac
+"""
+
+# What `rt try` says of a program that has ended: the program's line, and two of its own.
+SAID = "onixdesk: a line of the program\ninterpreter: no-answer: a call\nrun=ended status=0 runners=1 proved=no\n"
 
 TO_BUILD = "'make build' proves and builds it, in half an hour or more the first time"
-TO_WAIT = "'make build' waits for it"
-UNBUILT = "the program is not built"
-CHANGED = "a source has changed since the program was built"
-BEING_BUILT = "the program is being built"
+UNBUILT = f"the program is not built{{}}; {TO_BUILD}"
+CHANGED = f"a source has changed since the program was built{{}}; {TO_BUILD}"
+BEING_BUILT = "the program is being built{}; 'make build' waits for it"
+NO_RT = "the Rattle toolchain's command 'rt' is not on the PATH"
+NOT_OF_THESE = "no program is built of these sources; 'make build' builds it"
 
 BATCH = b"AskGaps,north\nAskGaps,south\n"
 
 # What wants the built program.
 WANTING: list[list[str]] = [
-    [],
-    ["--help"],
-    ["gaps", "north"],
-    ["serve", "--port", "8080"],
-    ["--db", "shop.db", "batch"],
-    ["--rules", "rules.toml", "--db", "shop.db", "batch"],
-    ["batch", "--db", "shop.db"],
-    ["batch", "--"],
-    ["--", "batch"],
-    ["deliver", "batch"],
-    ["--rules", "batch"],
-]
+    [], ["--help"], ["gaps", "north"], ["--db", "shop.db", "batch"], ["--rules", "rules.toml", "--db", "shop.db", "batch"],
+    ["batch", "--db", "shop.db"], ["--", "batch"], ["deliver", "batch"], ["--rules", "batch"], ["serve", "--port", "8080"],
+]  # fmt: skip
 
 
-def line(text: str) -> bytes:
-    return f"onixdesk: {text}\n".encode()
+def told(*lines: str) -> bytes:
+    return "".join(f"onixdesk: {line}\n" for line in lines).encode()
 
 
-def unproved(why: str, remedy: str = TO_BUILD) -> bytes:
-    return line(f"{why}, so this batch is answered without any proof, in about three minutes; {remedy}")
+def unproved(why: str = UNBUILT) -> bytes:
+    return told(why.format(", so this batch is answered without any proof, in about three minutes"))
 
 
-def wanting(why: str, remedy: str = TO_BUILD) -> Ran:
-    return Ran(3, b"", line(f"{why}, and this wants it; {remedy}"))
+def wanting(why: str = UNBUILT) -> Ran:
+    return Ran(3, b"", told(why.format(", and this wants it")))
 
 
-def launch(room: Room, *words: str, given: bytes | None = b"", folder: str = ".", **others: str) -> Ran:
-    return command(room, "bin/onixdesk", *words, given=given, folder=folder, **others)
-
-
-def by_shell(room: Room, text: str) -> Ran:
-    return room.call(["sh", "-c", text], environment=environment(room))
-
-
-def answered(words: str, given: bytes = BATCH, status: int = 0, why: str = UNBUILT, remedy: str = TO_BUILD) -> Ran:
+def answered(why: str = UNBUILT, given: bytes = BATCH, status: int = 0) -> Ran:
     """A batch that the stand-in has tried."""
-    said = unproved(why, remedy) + line("a line of the program")
-    return Ran(status, f"in crates/onixdesk: {words}\n".encode() + given, said)
+    said = unproved(why) + told("a line of the program")
+    return Ran(status, b"in crates/onixdesk: try -- batch\n" + given, said)
+
+
+def lay_out(room: Room) -> None:
+    """Makes the repository in the room."""
+    for name in ("tools", "bin"):
+        shutil.copytree(ROOT / name, room.path(name))
+    files = {**FILES, "tools/rt": RT, "said": SAID, "status": "0"}
+    for name, text in files.items():
+        room.path(name).parent.mkdir(parents=True, exist_ok=True)
+        room.path(name).write_text(text)
+    room.path("tools/rt").chmod(0o755)
+    room.path("tmp").mkdir()
+
+
+def environment(room: Room) -> dict[str, str]:
+    """That of a command: the toolchain is on the PATH, and temporary files stand in the room."""
+    path = f"{room.path('tools')}{os.pathsep}{os.environ['PATH']}"
+    return {**os.environ, "ROOM": str(room.folder), "PATH": path, "TMPDIR": str(room.path("tmp"))}
+
+
+def command(room: Room, *words: str, given: bytes | None = b"", folder: str = ".") -> Ran:
+    return room.call([room.path(words[0]), *words[1:]], given, environment=environment(room), folder=folder)
+
+
+def launch(room: Room, *words: str, given: bytes | None = BATCH, folder: str = ".") -> Ran:
+    return command(room, "bin/onixdesk", *words, given=given, folder=folder)
+
+
+def building(room: Room) -> subprocess.Popen[bytes]:
+    """A build that has begun and waits in `rt ci`."""
+    room.path("waits").touch()
+    room.path("proved").unlink(missing_ok=True)
+    build = subprocess.Popen([room.path("tools/build")], env=environment(room), stderr=subprocess.PIPE)
+    until = time.monotonic() + SECONDS
+    while not room.path("proved").exists() and time.monotonic() < until:
+        time.sleep(0.05)
+    return build
+
+
+def calls(room: Room, verb: str = "") -> list[str]:
+    """How `rt` was called with that verb."""
+    lines = room.path("calls").read_text().splitlines() if room.path("calls").exists() else []
+    return [line for line in lines if line.startswith(f"rt {verb}")]
+
+
+def digest(room: Room) -> bytes:
+    """The digest of the sources, by other means."""
+    names = f"crates.txt crates/beside/src/lib.rt crates/high/specs/High.antt crates/low/src/lib.rt {SOURCE}"
+    return room.call(["sh", "-c", f"sha256sum {names} | sha256sum | cut -d ' ' -f 1"]).output
 
 
 def a_batch_without_a_program(room: Room) -> Iterator[Outcome]:
     """Standard output has the answers alone, and the status is that of the batch."""
+    lay_out(room)
     for status in (0, 1, 2, 3):
-        make_repository(room, unproved=tries(status))
-        came = launch(room, "batch", given=BATCH)
-        yield Outcome(f"launcher: a batch of status {status}", came, answered("try -- batch", status=status))
-        yield Outcome("launcher: its temporary files", os.listdir(room.path("tmp")), [])
-        for name in ("crates", "tools", "bin", "tmp"):
-            shutil.rmtree(room.path(name))
-    yield Outcome("launcher: it builds nothing", calls(room, "ci"), [])
-
-
-def a_slow_batch(room: Room) -> Iterator[Outcome]:
-    """An input that pauses is whole, since `rt try` is given it as a file."""
-    make_repository(room, unproved=tries(0))
-    words = "(echo first; sleep 2.5; echo second) | bin/onixdesk batch"
-    yield Outcome("launcher: an input that pauses", by_shell(room, words), answered("try -- batch", b"first\nsecond\n"))
-
-
-def a_batch_by_rules(room: Room) -> Iterator[Outcome]:
-    """The rules file is that of the caller's folder, and a copy of it is handed on."""
-    make_repository(room, unproved='cat "${3#rules.toml=}"\n' + tries(1))
+        room.path("status").write_text(f"{status}\n")
+        yield Outcome(f"launcher: a batch of status {status}", launch(room, "batch"), answered(status=status))
+    room.path("status").write_text("0")
     room.path("elsewhere").mkdir()
     room.write("elsewhere/some rules", b"the rules\n")
+    by_rules = b"the rules\nin crates/onixdesk: try -- --rules rules.toml batch\n" + BATCH
     for words in (["--rules", "some rules"], ["--rules=some rules"]):
-        came = launch(room, *words, "batch", given=BATCH, folder="elsewhere")
-        rules, told, batch = came.output.partition(b"in crates/onixdesk: try --data rules.toml=")
-        wanted = (1, b"the rules\n", b" -- --rules rules.toml batch\n" + BATCH)
-        yield Outcome(f"launcher: {words}", (came.status, rules, batch[batch.find(b" -- ") :]), wanted)
-    came = launch(room, "--rules", "none", "batch", folder="elsewhere")
-    wanted = Ran(2, b"", unproved(UNBUILT) + line("file: none"))
-    yield Outcome("launcher: a rules file that is missing", came, wanted)
-
-
-def streams_that_fail(room: Room) -> Iterator[Outcome]:
-    make_repository(room, unproved=tries(0))
+        came = launch(room, *words, "batch", folder="elsewhere")
+        yield Outcome(f"launcher: {words}", (came.status, came.output), (0, by_rules))
+    came = launch(room, "--rules", "none", "batch")
+    yield Outcome("launcher: no rules file", came, Ran(2, b"", unproved() + told("file: none")))
+    for words in WANTING:
+        yield Outcome(f"launcher: unbuilt, {words}", launch(room, *words), wanting())
     came = launch(room, "batch", given=UNREADABLE)
-    yield Outcome("launcher: an input that fails", came, Ran(3, b"", line("input: read")))
-    for words, last in (("<&-", "input: read"), ("</dev/null >/dev/full", "output")):
-        came = by_shell(room, f"bin/onixdesk batch {words}")
+    yield Outcome("launcher: an input that fails", came, Ran(3, b"", unproved() + told("input: read")))
+    for stream, line in (("<&-", "input: read"), ("</dev/null >/dev/full", "output")):
+        came = room.call(["sh", "-c", f"bin/onixdesk batch {stream}"], environment=environment(room))
         found = came.status, came.output, came.errors.splitlines(keepends=True)[-1]
-        yield Outcome(f"launcher: a batch {words}", found, (3, b"", line(last)))
+        yield Outcome(f"launcher: a batch {stream}", found, (3, b"", told(line)))
+    slow = "(echo first; sleep 2.5; echo second) | bin/onixdesk batch"
+    came = room.call(["sh", "-c", slow], environment=environment(room))
+    yield Outcome("launcher: an input that pauses", came, answered(given=b"first\nsecond\n"))
+    yield Outcome("launcher: its temporary files", os.listdir(room.path("tmp")), [])
+    yield Outcome("launcher: it builds nothing", calls(room, "ci"), [])
 
 
 def without_an_answer(room: Room) -> Iterator[Outcome]:
     """Where `rt try` gives no answer, what it says is shown."""
-    ends = [
-        (6, "checked: no-answer: the program wrote too much", "run=no-answer proved=no"),
-        (1, "error: a name is not there", "run=none proved=no"),
-        (4, "checked: fault: an index", "run=fault proved=no"),
-    ]
-    for status, said, last in ends:
-        unproved_text = f'echo part\necho "| shown" >&2\necho "{said}" >&2\necho "{last}" >&2\nexit {status}\n'
-        make_repository(room, unproved=unproved_text)
-        came = launch(room, "batch", given=BATCH)
-        told = line(f"only the proved program can answer this batch; {TO_BUILD}")
-        wanted = Ran(3, b"", unproved(UNBUILT) + f"{said}\n{last}\n".encode() + told)
-        yield Outcome(f"launcher: no answer, {last}", came, wanted)
-        for name in ("crates", "tools", "bin", "tmp"):
-            shutil.rmtree(room.path(name))
-
-
-def anything_else_without_a_program(room: Room) -> Iterator[Outcome]:
-    make_repository(room, unproved=tries(0))
-    for words in WANTING:
-        yield Outcome(f"launcher: unbuilt, {words}", launch(room, *words), wanting(UNBUILT))
-    yield Outcome("launcher: it runs no toolchain", calls(room, ""), [])
-
-
-def no_toolchain(room: Room) -> Iterator[Outcome]:
-    make_repository(room, unproved=tries(0))
+    lay_out(room)
+    for status, said in ((6, "run=no-answer proved=no"), (1, "run=none proved=no"), (4, "run=fault proved=no")):
+        room.path("status").write_text(f"{status}\n")
+        room.path("said").write_text(f"| shown\nchecked: why\n{said}\n")
+        last = told(f"only the proved program can answer this batch; {TO_BUILD}")
+        wanted = Ran(3, b"", unproved() + f"checked: why\n{said}\n".encode() + last)
+        yield Outcome(f"launcher: no answer, {said}", launch(room, "batch"), wanted)
     room.path("tools/rt").unlink()
-    room.path("commands").mkdir()
-    for name in ("bash", "python3", "dirname", "readlink", "env"):
-        room.path(f"commands/{name}").symlink_to(shutil.which(name) or name)
-    missing = line("the Rattle toolchain's command 'rt' is not on the PATH")
-    path = str(room.path("commands"))
-    yield Outcome("launcher: no rt, a batch", launch(room, "batch", given=BATCH, PATH=path), Ran(3, b"", missing))
-    yield Outcome("launcher: no rt, a question", launch(room, "gaps", "north", PATH=path), wanting(UNBUILT))
-    yield Outcome("tools/build: no rt", command(room, "tools/build", PATH=path), Ran(1, b"", missing))
+    kept = [shutil.which(name) or name for name in ("bash", "dirname", "readlink", "flock", "env", "sed")]
+    room.path("kept").mkdir()
+    for path in kept:
+        room.path(f"kept/{os.path.basename(path)}").symlink_to(path)
+    for words, status in (("bin/onixdesk batch", 3), ("tools/build", 1)):
+        came = room.call(["sh", "-c", f"PATH=$PWD/kept {words}"])
+        yield Outcome(f"{words}: no rt", came, Ran(status, b"", told(NO_RT)))
 
 
 def a_built_program(room: Room) -> Iterator[Outcome]:
-    """It is run, from the caller's folder, on the words and the input that it is given."""
-    make_repository(room, unproved=tries(0))
-    command(room, "tools/build")
-    tried = calls(room, "")
-    calls_of_it: list[list[str]] = [["batch"], ["--db", "shop.db", "batch"], []]
-    for words in calls_of_it:
-        came = launch(room, *words, given=BATCH)
+    """It is run, from the caller's folder, on the words and the input that it is given, until a source changes."""
+    lay_out(room)
+    came = command(room, "tools/build")
+    first, *between, last = came.errors.decode().splitlines()
+    yield Outcome("tools/build: it builds", (came.status, came.output, between), (0, b"", ["rt: low proved"]))
+    yield Outcome("tools/build: what is proved", room.path("proved").read_text().split(), PROVED)
+    yield Outcome("tools/build: by which toolchain", room.path(f"{PROGRAM}.toolchain").read_text(), "a toolchain\n")
+    yield Outcome("tools/build: its temporary files", os.listdir(room.path("tmp")), [])
+    yield Outcome("tools/build sources", command(room, "tools/build", "sources"), Ran(0, digest(room)))
+    is_built = Ran(0, b"", told(f"{PROGRAM} is built of these sources"))
+    yield Outcome("tools/build: once more", command(room, "tools/build"), is_built)
+    tried = calls(room)
+    for words in (["batch"], ["--db", "shop.db", "batch"], ["gaps", "north"]):
         wanted = Ran(1, f"ran {' '.join(words)}\n".encode() + BATCH)
-        yield Outcome(f"launcher: built, {words}", came, wanted)
-    came = launch(room, "batch", given=UNREADABLE)
-    yield Outcome("launcher: built, an input that fails", (came.status, came.output), (1, b"ran batch\n"))
-    yield Outcome("launcher: it runs no toolchain then", calls(room, ""), tried)
-
-
-def an_old_program(room: Room) -> Iterator[Outcome]:
-    """One whose sources have changed is not run; nor is one that is not the one that was built."""
-    make_repository(room, unproved=tries(1))
-    command(room, "tools/build")
-    change_source(room)
-    came = launch(room, "batch", given=BATCH)
-    yield Outcome("launcher: an old program, a batch", came, answered("try -- batch", status=1, why=CHANGED))
+        yield Outcome(f"launcher: built, {words}", launch(room, *words, folder="tmp"), wanted)
+    yield Outcome("launcher: it runs no toolchain then", calls(room), tried)
+    room.path(SOURCE).write_text("fn main() { }\n")
+    yield Outcome("tools/build sources: of others", command(room, "tools/build", "sources"), Ran(1, b"", told(NOT_OF_THESE)))
+    yield Outcome("launcher: an old program, a batch", launch(room, "batch"), answered(CHANGED))
     yield Outcome("launcher: an old program, a question", launch(room, "gaps", "north"), wanting(CHANGED))
-    command(room, "tools/build")
-    came = launch(room, "gaps", "north")
-    yield Outcome("launcher: the program of today", came, Ran(1, b"ran gaps north\n"))
-    room.path("crates/onixdesk/out/onixdesk").write_text("#!/bin/sh\n")
-    yield Outcome("launcher: another program", launch(room, "gaps", "north").status, 3)
+    for name in ("tests", "bench", "lib"):
+        room.path(name).symlink_to(ROOT / name)
+    yield Outcome("tests/run: an old program", refused(room), (2, True))
+    yield Outcome("tools/build: it proves once", calls(room, "ci"), ["rt ci"])
+    yield Outcome("tools/build anew", command(room, "tools/build", "anew").status, 0)
+    yield Outcome("tools/build anew: it proves all", calls(room, "ci"), ["rt ci", "rt ci --anew"])
+    yield Outcome("launcher: the program of today", launch(room, "batch").status, 1)
+    room.path(PROGRAM).write_text("#!/bin/sh\n")
+    yield Outcome("launcher: another program", launch(room, "gaps", "north"), wanting(CHANGED))
+
+
+def refused(room: Room) -> tuple[int, bool]:
+    """How the tests end, and whether they refuse the program since a source has changed."""
+    came = command(room, "tools/python", "-m", "tests.commands.run", "-k", "no such group")
+    return came.status, b"a source has changed since" in came.errors
 
 
 def a_program_that_is_being_built(room: Room) -> Iterator[Outcome]:
-    make_repository(room, ci=WAITS, unproved=tries(0))
-    build = begun(room, "tools/build")
-    until = time.monotonic() + SECONDS
-    while not room.path("copied").exists() and time.monotonic() < until:
-        time.sleep(0.05)
-    came = launch(room, "batch", given=BATCH)
-    wanted = answered("try -- batch", why=BEING_BUILT, remedy=TO_WAIT)
-    yield Outcome("launcher: being built, a batch", came, wanted)
-    came = launch(room, "gaps", "north")
-    yield Outcome("launcher: being built, a question", came, wanting(BEING_BUILT, TO_WAIT))
-    room.path("go").touch()
+    """A second build waits for the first; a source that changes meanwhile is noticed; a build that is ended ends the
+    toolchain."""
+    lay_out(room)
+    build = building(room)
+    yield Outcome("launcher: being built, a batch", launch(room, "batch"), answered(BEING_BUILT))
+    yield Outcome("launcher: being built, a question", launch(room, "gaps", "north"), wanting(BEING_BUILT))
+    second = subprocess.Popen([room.path("tools/build")], env=environment(room), stderr=subprocess.PIPE)
+    assert second.stderr
+    waits = told("the program is being built here already; waiting for that build")
+    yield Outcome("tools/build: a second one waits", second.stderr.readline(), waits)
+    room.path("waits").unlink()
+    ended = [process.communicate(timeout=SECONDS) and process.returncode for process in (build, second)]
+    yield Outcome("tools/build: both prove once", (ended, calls(room, "ci")), ([0, 0], ["rt ci"]))
+    room.path(SOURCE).write_text("fn main() { }\n")
+    build = building(room)
+    room.path(SOURCE).write_text("fn main() {  }\n")
+    room.path("waits").unlink()
     build.communicate(timeout=SECONDS)
-    came = launch(room, "gaps", "north")
-    yield Outcome("launcher: then it is run", came, Ran(1, b"ran gaps north\n"))
+    came = command(room, "tools/build", "sources").status
+    yield Outcome("tools/build: a source changed meanwhile", (build.returncode, came), (0, 1))
+    build = building(room)
+    build.terminate()
+    build.communicate(timeout=SECONDS)
+    yield Outcome("tools/build: ended", (build.returncode, os.listdir(room.path("tmp"))), (143, []))
+    room.path("waits").unlink()
+    room.path("fails").touch()
+    came = command(room, "tools/build")
+    goal = f"{room.path('crates/low/src/lib.rt')}: a goal is left"
+    last = f"onixdesk: the build failed; all of its output is in {room.path(PROGRAM)}.log"
+    yield Outcome("tools/build: it fails", (came.status, came.errors.decode().splitlines()[-2:]), (1, [goal, last]))
+    yield Outcome("launcher: after a build that fails", launch(room, "gaps", "north"), wanting(CHANGED))
 
 
-def after_a_build_that_fails(room: Room) -> Iterator[Outcome]:
-    make_repository(room, ci=FAILS, unproved=tries(0))
-    command(room, "tools/build")
-    yield Outcome("launcher: after a build that fails", launch(room, "gaps", "north"), wanting(UNBUILT))
+def the_program_of_the_gate(room: Room) -> Iterator[Outcome]:
+    """It is taken where no source is newer."""
+    lay_out(room)
+    program = room.path(PROGRAM)
+    program.parent.mkdir()
+    program.write_text("#!/bin/sh\necho the program of the gate\n")
+    program.chmod(0o755)
+    now = room.path(SOURCE).stat().st_mtime
+    for age, wanted in ((10, Ran(1, b"", told(NOT_OF_THESE))), (-10, Ran(0, digest(room)))):
+        os.utime(program, (now - age, now - age))
+        yield Outcome(f"tools/build adopt: {age} s old", command(room, "tools/build", "adopt"), Ran(0))
+        yield Outcome(f"tools/build adopt: {age} s old, taken", command(room, "tools/build", "sources"), wanted)
+    yield Outcome("launcher: the program of the gate", launch(room, "help"), Ran(0, b"the program of the gate\n"))
+    came = command(room, "tools/build", "onixdesk")
+    yield Outcome("tools/build: other words", (came.status, b"tools/build adopt" in came.errors), (2, True))
 
 
 GROUPS = [
     Group("a batch without a program", a_batch_without_a_program),
-    Group("a slow batch without a program", a_slow_batch),
-    Group("a batch by rules without a program", a_batch_by_rules),
-    Group("streams that fail without a program", streams_that_fail),
     Group("a batch without an answer", without_an_answer),
-    Group("anything else without a program", anything_else_without_a_program),
-    Group("no toolchain", no_toolchain),
     Group("a built program", a_built_program),
-    Group("an old program", an_old_program),
     Group("a program that is being built", a_program_that_is_being_built),
-    Group("after a build that fails", after_a_build_that_fails),
+    Group("the program of the gate", the_program_of_the_gate),
 ]

@@ -38,26 +38,11 @@ def promises(room: Room) -> Iterator[Outcome]:
             yield Outcome(f"the promise that {edit.relative_to(ROOT)} breaks", why_wrong(line, words_of(crate)), [])
 
 
-def planted(room: Room) -> Iterator[Outcome]:
-    words = {"ok", "push"}
-    for line, wanted in [
-        ("# Breaks `ok` of `push`.", []),
-        ("file: src/buffer.rt", ["it says no promise"]),
-        ("# Breaks `err` of `push`.", ["err is not in the crate"]),
-    ]:
-        yield Outcome(f"the promise of {line!r}", why_wrong(line, words), wanted)
-
-
 def places(room: Room) -> Iterator[Outcome]:
-    """A crate keeps its own edits, under names that no other folder has."""
-    yield Outcome("wrong-bodies/ is no more", (ROOT / "wrong-bodies").exists(), False)
+    """No name stands in both folders of a crate: a mutant is tried beside its edits."""
     mutants = (ROOT / "crates").glob("*/mutants/*")
     both = [path for path in mutants if path.parents[1].joinpath("must-fail", path.name).exists()]
     yield Outcome("edits that stand in both folders of a crate", both, [])
 
 
-GROUPS = [
-    Group("the promises that edits break", promises),
-    Group("a promise that is not there", planted),
-    Group("where edits stand", places),
-]
+GROUPS = [Group("the promises that edits break", promises), Group("where edits stand", places)]

@@ -1,5 +1,5 @@
 """Rules files that are read or refused. With each the program answers no requests, and writes the
-line of a fault or nothing."""
+line of a fault or nothing; the command `rules` says which line is wrong, and why."""
 
 from collections.abc import Iterator
 
@@ -77,6 +77,101 @@ def texts(room: Room) -> Iterator[Outcome]:
         yield Outcome(f"a rules file: {name}", came, Ran(2 if errors else 0, b"", errors))
 
 
+# Name, text, what the command `rules` writes of it: how many rules, or behind `rules: ` what is wrong.
+TRIED = [
+    ("no rules", b"", b"rules 0\n"),
+    ("an array without rules", b"rule = []\n", b"rules 0\n"),
+    ("4,194,304 bytes", b"#" * 4_194_303 + b"\n", b"rules 0\n"),
+    ("4,194,305 bytes", b"#" * 4_194_304 + b"\n", b"more than 4,194,304 bytes\n"),
+    ("1,000 rules", RULE * 1_000, b"rules 1000\n"),
+    ("1,001 rules", RULE * 1_001, b"line 3001: rule 1001 is past number 1000\n"),
+    ("a rule with all its keys", b'[[rule]]\nseries="north"\ncodes=["20"]\nmax="12.99"\n', b"rules 1\n"),
+    ("another key", b'# The shop\n\nshop = "north"\n', b"line 3: another key than rule\n"),
+    ("another key behind a rule", RULE + b"[shop]\n", b"line 4: another key than rule\n"),
+    ("a key that is no array", b"\nrule = 1\n", b"line 2: rule is no array\n"),
+    ("a table", b"[rule]\n", b"line 1: rule is no array\n"),
+    ("no table", b"rule = [1]\n", b"line 1: rule 1 is no table\n"),
+    (
+        "no table in several lines",
+        b'# All\nrule = [\n  { series = "*", codes = ["20"] },\n  1,\n]\n',
+        b"line 2: rule 2 is no table\n",
+    ),
+    ("no series", RULE + b'[[rule]]\ncodes = ["20"]\n', b"line 4: rule 2 has no series\n"),
+    (
+        "a series outside its grammar",
+        RULE + b'\n[[rule]]\nseries = "North"\ncodes = ["20"]\n' + RULE,
+        b'line 5: rule 2 has a series that is neither the name of one nor "*"\n',
+    ),
+    ("no codes", RULE + RULE + b'[[rule]]\nseries = "*"', b"line 7: rule 3 has no codes\n"),
+    ("an array of no codes", b'[[rule]]\nseries = "*"\ncodes = []\n', b"line 1: rule 1 has no code in codes\n"),
+    (
+        "a code that is a number",
+        b'[[rule]]\nseries = "*"\ncodes = ["20", 21]\n',
+        b"line 1: rule 1 has a code that is no text of two digits\n",
+    ),
+    ("a code alone", b'[[rule]]\nseries="*"\ncodes="20"\n', b"line 1: rule 1 has codes that are no array\n"),
+    (
+        "a greatest amount that is a number",
+        RULE + b"max = 12.99\n",
+        b"line 1: rule 1 has a max that is no amount in quotation marks\n",
+    ),
+    (
+        "a rule with another key",
+        RULE + b'min = "1"\n',
+        b"line 1: rule 1 has another key than series, codes and max\n",
+    ),
+    (
+        "a text of several lines before",
+        b'[[rule]]\nseries = """*"""\ncodes = ["""\\\n  20"""]\n[[rule]]\n',
+        b"line 5: rule 2 has no series\n",
+    ),
+]
+
+# Name, text that is no TOML, and the line that is wrong.
+UNREAD = [
+    ("no value", b"rule = ", 1),
+    ("a text that is not closed", b'[[rule]]\n\nseries = "north\n', 3),
+    ("a key twice", RULE + b'series = "north"\n', 4),
+    ("not UTF-8", b"# The shop\n# \xff\n", 2),
+]
+
+
+def tried(room: Room) -> Iterator[Outcome]:
+    """By the command `rules`, which reads a file as a desk does that is started with it."""
+    for name, text, line in TRIED:
+        room.write("rules.toml", text)
+        wanted = Ran(0, line) if line.startswith(b"rules ") else Ran(2, b"", b"onixdesk: rules: " + line)
+        yield Outcome(f"rules: {name}", room.run("rules", "rules.toml", given=UNREADABLE), wanted)
+        status = room.run("--rules", "rules.toml", "batch").status
+        yield Outcome(f"rules: {name}: as a desk reads it", status, wanted.status)
+
+
+def is_no_toml(room: Room) -> Iterator[Outcome]:
+    """The cause is the parser's own words."""
+    for name, text, line in UNREAD:
+        room.write("rules.toml", text)
+        came = room.run("rules", "rules.toml", given=UNREADABLE)
+        place, _, cause = came.errors.removesuffix(b"\n").rpartition(b": ")
+        wanted = 2, b"", b"onixdesk: rules: line %d" % line
+        yield Outcome(f"rules: {name}", (came.status, came.output, place), wanted)
+        yield Outcome(f"rules: {name}: the cause", (cause != b"", b"\n" in cause), (True, False))
+
+
+def cannot_be_tried(room: Room) -> Iterator[Outcome]:
+    for file in "absent.toml", ".":
+        wanted = Ran(2, b"", f"onixdesk: file: {file}\n".encode())
+        yield Outcome(f"rules: {file}", room.run("rules", file), wanted)
+    room.write("rules.toml", RULE)
+    wanted = Ran(3, b"", b"onixdesk: output\n")
+    yield Outcome("rules: a full output", room.run("rules", "rules.toml", is_full=True), wanted)
+    came = room.run("--db", "shop.db", "--rules", "absent.toml", "rules", "rules.toml")
+    yield Outcome("rules: behind other options", came, Ran(0, b"rules 1\n"))
+    wanted = Ran(2, b"", b"onixdesk: --batches goes with batch\n")
+    yield Outcome("rules: at a socket", room.run("--batches", "socket", "rules", "rules.toml"), wanted)
+    names = [path.name for path in room.folder.iterdir()]
+    yield Outcome("rules: no desk is opened", names, ["rules.toml"])
+
+
 def come_before_the_input(room: Room) -> Iterator[Outcome]:
     """After a fault of the rules file nothing is read from the input and nothing is written."""
     room.write("bad.toml", b"rule = ")
@@ -91,5 +186,8 @@ def come_before_the_input(room: Room) -> Iterator[Outcome]:
 
 GROUPS = [
     Group("rules files", texts),
+    Group("rules files that are tried", tried),
+    Group("rules files that are no TOML", is_no_toml),
+    Group("rules files that cannot be tried", cannot_be_tried),
     Group("rules come before the input", come_before_the_input),
 ]

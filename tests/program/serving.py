@@ -6,9 +6,8 @@ import subprocess
 from collections.abc import Iterator, Sequence
 from typing import NamedTuple
 
+from bench.figures.served import HOST as HOST, free_port as free_port
 from tests.program.room import SECONDS, Ran, Room
-
-HOST = "127.0.0.1"
 
 # How often a port is looked for that no other program takes in the meantime.
 TRIES = 20
@@ -102,13 +101,6 @@ class Serving:
         """How it is to end after connections with these lines."""
         text = "".join(f"{line}\n" for line in [f"listening {self.port}", *lines])
         return Ran(status, text.encode())
-
-
-def free_port() -> int:
-    with socket.socket() as listener:
-        listener.bind((HOST, 0))
-        port: int = listener.getsockname()[1]
-    return port
 
 
 def started(room: Room, words: list[str], connections: int | None, more: Sequence[str] = ()) -> Serving:

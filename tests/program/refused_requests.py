@@ -3,6 +3,7 @@
 import os
 import shutil
 import subprocess
+import sys
 from collections.abc import Iterator
 from pathlib import Path
 
@@ -13,16 +14,22 @@ from tools.words import Word
 
 ENDED = 3
 
-# What stands in for a program of tests.
-SHELL: list[Word] = ["/bin/sh", "-c", f"exit {ENDED}"]
+# What stands in for a program of tests: it asks for REFUSED by the C library, then for memory three times and more.
+STAND_IN = f"""\
+import ctypes, sys
+ctypes.CDLL(None).getenv(b"REFUSED")
+found = [bytearray(1000) for _ in range(3)]
+sys.exit({ENDED})
+"""
 
 
 def refused(library: Path) -> tuple[int, dict[str, int]]:
-    """How the shell ends of which a copy is refused each request for memory, and by the number of the request how the
-    copy ended."""
+    """How the stand-in ends of which a copy is refused each request for memory, and by the number of the request how
+    the copy ended."""
     reading, writing = os.pipe()
     told = {"LD_PRELOAD": str(library), "START": "1", "STEP": "1", "TOLD": str(writing)}
-    done = subprocess.run(SHELL, env=told, pass_fds=[writing], stderr=subprocess.DEVNULL, timeout=SECONDS)
+    words: list[Word] = [sys.executable, "-I", "-c", STAND_IN]
+    done = subprocess.run(words, env=told, pass_fds=[writing], stderr=subprocess.DEVNULL, timeout=SECONDS)
     os.close(writing)
     with open(reading, encoding="ascii") as lines:
         ends = (line.split()[:2] for line in lines)
@@ -30,7 +37,7 @@ def refused(library: Path) -> tuple[int, dict[str, int]]:
 
 
 def by_each_compiler(room: Room) -> Iterator[Outcome]:
-    """The shell goes on to its own end, each of its requests is refused to a copy, and some copies end for it."""
+    """The stand-in goes on to its own end, each of its requests is refused to a copy, and some copies end for it."""
     here = [each for each in sweep.compilers() if shutil.which(each[0])]
     yield Outcome("refused memory: a compiler of C is here", bool(here), True)
     for number, compiler in enumerate(here):

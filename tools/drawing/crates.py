@@ -10,7 +10,7 @@ from tools.root import ROOT
 LAYERS = {
     "Ways in": (
         "batches, HTTP, program",
-        ["desk_batch", "http_requests", "desk_http", "command_line", "onixdesk", "library_tests"],
+        ["desk_texts", "desk_batch", "http_requests", "desk_http", "command_line", "onixdesk", "library_tests"],
     ),
     "Feeds": (
         "from XML to messages",

@@ -4,8 +4,8 @@
 use crate::cases::{expect, expect_bytes, found, made};
 use crate::tables::words::{is_whole, word};
 use csv_records::reading::RecordReader;
-use desk_batch::answer_text::write_answer;
-use desk_batch::request_rows::read_requests;
+use desk_texts::answer_text::write_answer;
+use desk_texts::request_rows::read_requests;
 use desk_http::reply_of;
 use desk_memory::MemoryDesk;
 use onix_message::StoreFault;

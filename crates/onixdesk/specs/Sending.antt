@@ -4,7 +4,7 @@ use Rattle.std.specs.List.{list_any}
 use Rattle.std.specs.Str.{bytes_eq}
 use Rattle.csv_records.specs.RecordTexts.{records_of}
 use Rattle.csv_records.specs.Streams.{IsTold}
-use Rattle.desk_batch.specs.Batch.{HasRecords, requests_of}
+use Rattle.desk_texts.specs.Requests.{HasRecords, requests_of}
 use Rattle.onixdesk.specs.declared.fault.Fault.{Fault}
 
 -- the names that begin the answer to a request that changes something, and a refusal

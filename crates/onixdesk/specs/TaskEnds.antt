@@ -7,8 +7,9 @@ use Rattle.onix_terms.specs.SeriesName.{series_name_of}
 use Rattle.series_rules.specs.Steps.{Step}
 use Rattle.series_rules.specs.declared.answers.Answer.TheVariants.{UnknownSeries}
 use Rattle.series_rules.specs.declared.requests.Request.TheVariants.{AskGaps}
-use Rattle.desk_batch.specs.AnswerText.{text_of}
-use Rattle.desk_batch.specs.Batch.{HasRecords, RunsBatch}
+use Rattle.desk_texts.specs.AnswerText.{text_of}
+use Rattle.desk_batch.specs.Batch.{RunsBatch}
+use Rattle.desk_texts.specs.Requests.{HasRecords}
 use Rattle.desk_batch.specs.Talks.{Stop, Talks, ended, refusals_in}
 use Rattle.desk_batch.specs.declared.batch.BatchFault.{BatchFault}
 use Rattle.onixdesk.specs.Clients.{AreFirst, IsOf}

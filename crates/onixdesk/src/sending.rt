@@ -6,8 +6,7 @@ ghost use Rattle.std.specs.Io.KnownBytes.{Appends};
 ghost use Rattle.csv.specs.Records.{fields_of};
 ghost use Rattle.csv_records.specs.RecordTexts.{records_of};
 ghost use Rattle.csv_records.specs.Streams.{IsTold};
-ghost use Rattle.desk_batch.specs.Batch.{requests_of};
-ghost use Rattle.desk_batch.specs.Batch.{HasRecords};
+ghost use Rattle.desk_texts.specs.Requests.{HasRecords, requests_of};
 ghost use Rattle.onixdesk.specs.Sending.{SendEnds, SendFits, TakesAnswers, WritesCame, begins_answer, begins_refusal, has_refusal, is_name_of_change, is_name_of_report, unanswered};
 
 use crate::fault::{Fault, report};
@@ -15,7 +14,7 @@ use crate::open_desks::OpenDesks;
 use csv::StringRecord;
 use csv_records::reading::{LIMIT, RecordReader};
 use csv_records::streams::{InputFault, WriteFault, read_input, write_whole};
-use desk_batch::request_rows::read_requests;
+use desk_texts::request_rows::requests_in;
 use std::alloc::{AllocError, Global};
 use std::io::{Read, Write};
 use std::rt::HostRuntime;
@@ -152,13 +151,9 @@ fn take_answers<S: Read, W: Write>(
 fn count_requests(alloc: Global, text: &[u8]) -> Result<usize, Fault>
     ensures { IfOk result (λ count. HasRecords text.now × (count ≡ length (requests_of text.now))) }
 {
-    let mut reader = match RecordReader::new(alloc, text) {
-        Ok(reader) => reader,
-        Err(fault) => return Err(Fault::from(fault)),
-    };
-    match read_requests(alloc, &mut reader) {
+    match requests_in(alloc, text) {
         Ok(requests) => Ok(requests.len()),
-        Err(_) => Err(Fault::Memory),
+        Err(fault) => Err(Fault::from(fault)),
     }
 }
 

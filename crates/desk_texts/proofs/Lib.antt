@@ -1,0 +1,2 @@
+pub mod PieceLists
+pub mod RecordLists

@@ -10,7 +10,20 @@ from tools.root import ROOT
 LAYERS = {
     "Ways in": (
         "batches, HTTP, program",
-        ["desk_texts", "desk_batch", "http_requests", "desk_http", "command_line", "onixdesk", "library_tests"],
+        [
+            "desk_texts",
+            "desk_batch",
+            "http_requests",
+            "desk_http",
+            "command_line",
+            "program_lines",
+            "desk_clients",
+            "desk_commands",
+            "rules_file",
+            "database_files",
+            "onixdesk",
+            "library_tests",
+        ],
     ),
     "Feeds": (
         "from XML to messages",

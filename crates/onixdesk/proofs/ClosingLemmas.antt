@@ -30,15 +30,15 @@ use Rattle.desk_store.specs.Openings.{AreFilesOf, AreFoundAs, HoldRowsOf, KeepsF
 use Rattle.desk_store.specs.Seen.{in_tables, seen_in}
 use Rattle.onixdesk.proofs.EndLemmas.{ComesOf, ComesTo, leads_between, same_refl, task_as}
 use Rattle.onixdesk.specs.Closings.{Closes, RunsAndCloses}
-use Rattle.onixdesk.specs.Databases.{AreSettled}
+use Rattle.database_files.specs.Databases.{AreSettled}
 use Rattle.onixdesk.specs.FileEnds.{FileEnds}
 use Rattle.onixdesk.specs.FileViews.{HoldMeta, seen_files, seen_image, seen_store}
-use Rattle.onixdesk.specs.Leftovers.{HasNoFiles}
+use Rattle.database_files.specs.Leftovers.{HasNoFiles}
 use Rattle.onixdesk.specs.MigrationEnd.{MigrateEnds}
-use Rattle.onixdesk.specs.TaskEnds.{TaskEnds}
+use Rattle.desk_commands.specs.TaskEnds.{TaskEnds}
 use Rattle.command_line.specs.declared.invocation.Task.{Task}
-use Rattle.onixdesk.specs.declared.files.FilesLeft.{FilesLeft}
-use Rattle.onixdesk.specs.declared.files.FilesLeft.TheVariants.{Closed, NotOpened, Unclosed, Unopened, Untouched}
+use Rattle.database_files.specs.declared.files.FilesLeft.{FilesLeft}
+use Rattle.database_files.specs.declared.files.FilesLeft.TheVariants.{Closed, NotOpened, Unclosed, Unopened, Untouched}
 
 -- ---- opened
 

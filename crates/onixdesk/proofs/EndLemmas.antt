@@ -11,8 +11,8 @@ use Rattle.series_rules.specs.Content.{SameContent}
 use Rattle.series_rules.specs.Steps.{AreQuestions, Follows, HasAll, Leads, Step, has_change, in_doubt, with_answered}
 use Rattle.series_rules.specs.Views.{DeskKind, LeavesOnly, View}
 use Rattle.series_rules.specs.declared.requests.Request.{Request}
-use Rattle.onixdesk.proofs.TalkEnds.{batch_as, talks_as}
-use Rattle.onixdesk.specs.TaskEnds.{GapsEnds, TaskEnds}
+use Rattle.desk_commands.proofs.TalkEnds.{batch_as, talks_as}
+use Rattle.desk_commands.specs.TaskEnds.{GapsEnds, TaskEnds}
 use Rattle.command_line.specs.declared.invocation.Task.{Task}
 use Rattle.command_line.specs.declared.invocation.Task.TheVariants as task
 

@@ -3,8 +3,8 @@ use Rattle.std.proofs.Common.{◌≡◌, ℕ, List, Option, Some, Result, Ok, Er
 use Rattle.std.specs.Prelude.{IfErr, IfOk}
 use Rattle.price_rules.specs.declared.precedence.Rule.{Rule}
 use Rattle.onixdesk.specs.FileEnds.{AreRulesOf, IsUnruled}
-use Rattle.onixdesk.specs.RulesFile.{RulesFit}
-use Rattle.onixdesk.specs.declared.rules.RulesFault.{RulesFault}
+use Rattle.rules_file.specs.RulesFile.{RulesFit}
+use Rattle.rules_file.specs.declared.rules.RulesFault.{RulesFault}
 
 module _ {N : Type 0} (named : Option N) (name : N) (is : named ≡ Some name) where
   pub ruled : (result : Result (List Rule) RulesFault) → (text : List ℕ) × RulesFit text result → IfOk result (AreRulesOf named)

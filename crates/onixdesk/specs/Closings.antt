@@ -14,13 +14,13 @@ use Rattle.desk_store.specs.Desks.{KeepsRequests}
 use Rattle.desk_store.specs.Openings.{HoldRowsOf}
 use Rattle.desk_store.specs.Seen.{in_tables, seen_in}
 use Rattle.named_files.specs.Holdings.{Holdings}
-use Rattle.onixdesk.specs.TaskEnds.{TaskEnds}
+use Rattle.desk_commands.specs.TaskEnds.{TaskEnds}
 use Rattle.command_line.specs.declared.invocation.Task.{Task}
-use Rattle.onixdesk.specs.declared.files.FilesLeft.{FilesLeft}
-use Rattle.onixdesk.specs.declared.files.FilesLeft.TheVariants.{Closed, NotOpened, Unclosed, Unopened, Untouched}
+use Rattle.database_files.specs.declared.files.FilesLeft.{FilesLeft}
+use Rattle.database_files.specs.declared.files.FilesLeft.TheVariants.{Closed, NotOpened, Unclosed, Unopened, Untouched}
 
--- The desk of a connection was closed behind a command that ended with `own`: its files hold what it
--- stood for, and the last commit alone is left by a crash; or they could not be closed
+-- The desk of a connection was closed behind a command that ended with `own`: its files hold what
+-- it stood for, and the last commit alone is left by a crash; or they could not be closed
 abbrev pub Closes : {O U D : Type 0} → {g : Ghosts D} → ℕ → Held (FileStore D g) → ℕ
     → FilesLeft O U D g → Type 0
 Closes {g = g} own c status (Closed files) =

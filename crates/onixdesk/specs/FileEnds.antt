@@ -12,30 +12,30 @@ use Rattle.named_files.specs.Holdings.{Holdings}
 use Rattle.command_line.specs.Asked.{Reads}
 use Rattle.onixdesk.specs.ConvertEnds.{ConvertEnds}
 use Rattle.onixdesk.specs.FileViews.{seen_files, seen_image, seen_store}
-use Rattle.onixdesk.specs.Leftovers.{IsUntouched, LeavesUndone}
+use Rattle.database_files.specs.Leftovers.{IsUntouched, LeavesUndone}
 use Rattle.onixdesk.specs.MigrationEnd.{MigrateEnds}
-use Rattle.onixdesk.specs.Printing.{PrintEnds}
-use Rattle.onixdesk.specs.RulesFile.{CheckEnds, RulesFit, status_of}
-use Rattle.onixdesk.specs.Sending.{SendEnds}
-use Rattle.onixdesk.specs.TaskEnds.{TaskEnds}
+use Rattle.program_lines.specs.Printing.{PrintEnds}
+use Rattle.rules_file.specs.RulesFile.{CheckEnds, RulesFit, status_of}
+use Rattle.desk_commands.specs.Sending.{SendEnds}
+use Rattle.desk_commands.specs.TaskEnds.{TaskEnds}
 use Rattle.command_line.specs.declared.invocation.Action.{Action}
 use Rattle.command_line.specs.declared.invocation.Action.TheVariants.{CheckRules, Convert, InMemory, InFile, Migrate, Send}
 use Rattle.command_line.specs.declared.invocation.Invocation.{Invocation}
 use Rattle.command_line.specs.declared.invocation.Reading.{Reading}
 use Rattle.command_line.specs.declared.invocation.Reading.TheVariants as reading
 use Rattle.command_line.specs.declared.invocation.Task.{Task}
-use Rattle.onixdesk.specs.declared.files.FilesLeft.{FilesLeft}
-use Rattle.onixdesk.specs.declared.files.FilesLeft.TheVariants.{Closed, Unclosed}
-use Rattle.onixdesk.specs.declared.rules.RulesFault.{RulesFault}
+use Rattle.database_files.specs.declared.files.FilesLeft.{FilesLeft}
+use Rattle.database_files.specs.declared.files.FilesLeft.TheVariants.{Closed, Unclosed}
+use Rattle.rules_file.specs.declared.rules.RulesFault.{RulesFault}
 
--- Of a command under these rules. Written: these bytes were written. Holds: what names hold. Told: what
--- the input tells of its bytes
+-- Of a command under these rules. Written: these bytes were written. Holds: what names hold. Told:
+-- what the input tells of its bytes
 module _ (rules : List Rule) (written : List ℕ → Type 0) (task : Task) (holds : Holdings)
     (told : Option (List ℕ)) where
   -- How it can end over the desk in two files that held `image`. It ended, and what it asked of the
   -- desk led from what the files held to what they hold: closed, they hold one database, and so a
-  -- crash leaves them; where they could not be closed, the status is 3 in the place of its own. Else
-  -- the desk was not opened: the status is 3, and nothing is written
+  -- crash leaves them; where they could not be closed, the status is 3 in the place of its own.
+  -- Else the desk was not opened: the status is 3, and nothing is written
   abbrev pub FileEnds : {O U D : Type 0} → {g : Ghosts D} → Image → ℕ → FilesLeft O U D g → Type 0
   FileEnds {g = g} image status (Closed files) =
       TaskEnds (λ steps. Leads rules steps (seen_image image) (seen_files g files)) written task
@@ -72,9 +72,8 @@ IsUndone own written status left = (status ≡ own) × written [] × IsUntouched
 
 -- Seen: what is seen of a desk in memory. Held: what the database file of a name and its log hold.
 -- Answers: what comes from the desk at the socket of a name once it was sent a text, where that is
--- known. Is told: whether it is told what files hold; before, after: what names hold. Written: these
--- bytes were written.
--- Told: what the input tells of its bytes
+-- known. Is told: whether it is told what files hold; before, after: what names hold. Written:
+-- these bytes were written. Told: what the input tells of its bytes
 module _ {M : Type 0} {k : DeskKind} (seen : M → View k) {O U D : Type 0} {g : Ghosts D}
     (held : List ℕ → Image) (answers : List ℕ → List ℕ → Option (List ℕ)) (is_told : Bool)
     (before after : Holdings) (written : List ℕ → Type 0) (told : Option (List ℕ)) where

@@ -1,17 +1,4 @@
-pub mod Printing
-pub mod RulesFile
-pub mod Deliveries
-pub mod Unknown
-pub mod Databases
-pub mod Found
-pub mod Leftovers
 pub mod MigrationEnd
-pub mod Serving
-pub mod Connections
-pub mod Clients
-pub mod Streams
-pub mod Sending
-pub mod TaskEnds
 pub mod FileViews
 pub mod ConvertEnds
 pub mod FileEnds

@@ -11,10 +11,10 @@ use Rattle.desk_store.specs.Migrations.{AreFilesOfEither, AreMigrated, IsTrueAns
 use Rattle.desk_store.specs.Openings.{AreEmptyFiles, AreFilesWith, HoldRowsOf}
 use Rattle.desk_store.specs.declared.migrating.MigrateAnswer.{MigrateAnswer}
 use Rattle.desk_store.specs.declared.migrating.MigrateAnswer.TheVariants.{Migrated, AlreadyTwo}
-use Rattle.onixdesk.specs.Leftovers.{LeavesUndone}
-use Rattle.onixdesk.specs.Printing.{PrintEnds}
-use Rattle.onixdesk.specs.declared.files.FilesLeft.{FilesLeft}
-use Rattle.onixdesk.specs.declared.files.FilesLeft.TheVariants.{Closed, Unclosed}
+use Rattle.database_files.specs.Leftovers.{LeavesUndone}
+use Rattle.program_lines.specs.Printing.{PrintEnds}
+use Rattle.database_files.specs.declared.files.FilesLeft.{FilesLeft}
+use Rattle.database_files.specs.declared.files.FilesLeft.TheVariants.{Closed, Unclosed}
 
 -- the line that says what a migration did
 abbrev pub migration_line : MigrateAnswer → List ℕ
@@ -31,8 +31,8 @@ pub record IsMigrationDone {D : Type 0} (g : Ghosts D) (image : Image) (answer :
   pub kept : HoldOneDatabase g files
 
 -- How the command can end over files that held `image`. Where the files are left closed, a
--- migration was done, and its line is written with 0, or a first part of it with 3. Else nothing was
--- done. Written: these bytes were written
+-- migration was done, and its line is written with 0, or a first part of it with 3. Else nothing
+-- was done. Written: these bytes were written
 abbrev pub MigrateEnds : {O U D : Type 0} → {g : Ghosts D} → Image → (List ℕ → Type 0) → ℕ
     → FilesLeft O U D g → Type 0
 MigrateEnds {g = g} image written status (Closed files) =

@@ -3,13 +3,13 @@
 ghost use Rattle.std.specs.Prelude.{◌≡◌, ◌≤◌, IsTrue};
 ghost use Rattle.std.specs.Io.KnownBytes.{Appends};
 ghost use Rattle.sqlite_wal.specs.Recovery.{Image};
-ghost use Rattle.onixdesk.specs.Databases.{AreSettled};
+ghost use Rattle.database_files.specs.Databases.{AreSettled};
 ghost use Rattle.onixdesk.specs.MigrationEnd.{MigrateEnds, migration_line};
 
-use crate::fault::{Fault, report};
-use crate::files::FilesLeft;
 use csv_records::streams::{WriteFault, write_whole};
+use database_files::files::{FilesLeft, fault_of};
 use desk_store::{MigrateAnswer, migrate_files_with};
+use program_lines::fault::{Fault, report};
 use sqlite::{Files, Options};
 use sqlite_disk::Disk;
 use std::alloc::Global;
@@ -46,10 +46,7 @@ pub fn run<O, U, D: Disk + Drop, W: Write, E: Write>(
     let (answer, files) = match migrate_files_with(alloc, files, options) {
         Ok(migrated) => migrated,
         Err((fault, left)) => {
-            return (
-                report(&Fault::from(fault), errors),
-                FilesLeft::Unopened(left),
-            );
+            return (report(&fault_of(fault), errors), FilesLeft::Unopened(left));
         }
     };
     match write_whole(output, line(answer).as_bytes()) {

@@ -2,83 +2,33 @@
 
 ghost use Rattle.std.specs.Prelude.{◌≡◌, ◌≤◌, IfErr, IfOk, IsTrue, map};
 ghost use Rattle.std.specs.Io.KnownBytes.{Appends};
-ghost use Rattle.series_rules.specs.Steps.{Asked};
 ghost use Rattle.sqlite_wal.specs.Recovery.{Image};
 ghost use Rattle.onixdesk.specs.Closings.{RunsAndCloses};
-ghost use Rattle.onixdesk.specs.Databases.{AreSettled};
+ghost use Rattle.database_files.specs.Databases.{AreSettled};
 ghost use Rattle.onixdesk.specs.FileEnds.{ActionEnds, AreRulesOf, FileEnds, InvocationEnds, IsUnruled, NewDeskEnds, RunEnds};
 ghost use Rattle.onixdesk.specs.MigrationEnd.{MigrateEnds};
-ghost use Rattle.onixdesk.specs.TaskEnds.{TaskEnds};
 
-use crate::databases::{Databases, open_database};
-use crate::fault::{Fault, report};
-use crate::files::FilesLeft;
-use crate::open_desks::OpenDesks;
-use crate::port::{Bound, Port};
-use crate::rules::{RulesFault, open_table, report_rules};
-use crate::{batch, checking, deliver, gaps, help, migrate, sending, serve};
+use crate::{help, migrate};
 use command_line::invocation::{self, Action, Database, Invocation, Reading, Task};
+use database_files::databases::{Databases, open_database};
+use database_files::files::{FilesLeft, fault_of};
+use desk_clients::open_desks::OpenDesks;
+use desk_clients::port::Bound;
+use desk_commands::sending;
+use desk_commands::task::{port_of, run_task};
 use desk_memory::MemoryDesk;
 use desk_store::DeskStore;
 use named_files::NamedFiles;
 use onix_files::convert_files;
 use price_rules::precedence::Precedence;
+use program_lines::fault::{Fault, report};
+use rules_file::checking;
+use rules_file::rules::{RulesFault, open_table, report_rules};
 use series_rules::desk::Desk;
 use sqlite::{FileStore, Files, Options};
 use sqlite_disk::Disk;
 use std::io::{Read, Write};
 use std::rt::HostRuntime;
-
-// The port at which a command serves. It is bound before the desk is opened, so that nobody else has
-// it meanwhile and clients wait; whether it could be is told behind the faults of the desk.
-fn port_of<'a>(rt: &'a HostRuntime, task: &Task<'_>) -> Bound<'a> {
-    match task {
-        Task::Serve { port, .. } => Some(Port::open(rt, *port)),
-        _ => None,
-    }
-}
-
-// Runs a command over a desk.
-fn run_task<D: Desk, F: NamedFiles, R: Read, W: Write, E: Write>(
-    rt: &HostRuntime,
-    desk: &mut D,
-    precedence: &Precedence,
-    bound: Bound<'_>,
-    task: &Task<'_>,
-    files: &F,
-    input: &mut R,
-    output: &mut W,
-    errors: &mut E,
-) -> u8
-    ensures status { result ≤ 3 }
-    ensures end { TaskEnds (Asked D.seen precedence.now desk.old desk.new)
-        (Appends (W.contents output.old) (W.contents output.new))
-        task.now (F.holds files.now) (R.remaining input.old) result }
-{
-    match task {
-        Task::Batch => batch::run(rt.alloc(), desk, precedence, input, output, errors),
-        Task::Deliver(names) => {
-            deliver::run(
-                rt.alloc(),
-                desk,
-                precedence,
-                files,
-                names.as_slice(),
-                input,
-                output,
-                errors,
-            )
-        }
-        Task::Gaps(name) => gaps::run(rt.alloc(), desk, precedence, name, output, errors),
-        Task::Serve {
-            port,
-            requests,
-            batches,
-        } => serve::run(
-            rt, desk, precedence, bound, *port, *batches, *requests, output, errors,
-        ),
-    }
-}
 
 // Runs a command over a new desk in memory.
 fn run_in_memory<F: NamedFiles, R: Read, W: Write, E: Write>(
@@ -171,7 +121,7 @@ fn run_over_files<O, U, D: Disk + Drop, F: NamedFiles, R: Read, W: Write, E: Wri
             rt, desk, precedence, bound, task, files, input, output, errors,
         ),
         Err((fault, left)) => {
-            let status = report(&Fault::from(fault), errors);
+            let status = report(&fault_of(fault), errors);
             (status, FilesLeft::Unopened(left))
         }
     }
@@ -278,8 +228,8 @@ fn rules_of(rt: &HostRuntime, name: Option<&str>) -> Result<Precedence, RulesFau
 }
 
 /// Does what a command line asks, under the rules of a file or under none. `databases` has the
-/// database file that it may name, `desks` the open desk, and `files` opens FILEs and makes those of
-/// `convert`. Gives the exit status, and what is left of the two files of the database.
+/// database file that it may name, `desks` the open desk, and `files` opens FILEs and makes those
+/// of `convert`. Gives the exit status, and what is left of the two files of the database.
 ///
 /// Each list of requests that the files held, with those that took effect, is what they hold then;
 /// what is written is of their answers; and a crash leaves just that.
@@ -340,7 +290,8 @@ pub fn run<O: Databases, K: OpenDesks, F: NamedFiles, R: Read, W: Write, E: Writ
 ) -> (u8, FilesLeft<O, O::NotOpened, O::File>)
     ensures status { result.0 ≤ 3 }
     ensures end { RunEnds ⟦<MemoryDesk as Desk>⟧.seen (O.held databases) (K.answers desks.old)
-        F.is_told (F.holds files.old) (F.holds files.new) (Appends (W.contents output.old) (W.contents output.new))
+        F.is_told (F.holds files.old) (F.holds files.new)
+        (Appends (W.contents output.old) (W.contents output.new))
         (R.remaining input.old) (map (λ word. word.now) words.now) result.0 result.1 }
 {
     let alloc = rt.alloc();

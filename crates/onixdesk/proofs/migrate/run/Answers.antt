@@ -8,7 +8,7 @@ use Rattle.sqlite_wal.specs.Recovery.{Image}
 use Rattle.desk_store.specs.Migrations.{MakesSecond}
 use Rattle.desk_store.specs.declared.migrating.MigrateAnswer.{MigrateAnswer}
 use Rattle.onixdesk.proofs.ClosingLemmas.{spares_settled}
-use Rattle.onixdesk.specs.Databases.{AreSettled}
+use Rattle.database_files.specs.Databases.{AreSettled}
 use Rattle.onixdesk.specs.MigrationEnd.{IsMigrationDone, migration_line}
 use Rattle.onixdesk.proofs.migrate.run.Goals as goal
 

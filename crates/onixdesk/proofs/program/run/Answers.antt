@@ -4,7 +4,7 @@ use Rattle.std.specs.Borrow.{Bor}
 use Rattle.std.specs.Io.KnownBytes.{Appends}
 use Rattle.std.specs.String.{string_bytes}
 use Rattle.command_line.specs.Asked.{Reads}
-use Rattle.onixdesk.specs.Printing.{PrintEnds}
+use Rattle.program_lines.specs.Printing.{PrintEnds}
 use Rattle.command_line.specs.declared.invocation.Reading.TheVariants as reading
 use Rattle.onixdesk.proofs.program.run.Goals as goal
 

@@ -1,0 +1,77 @@
+//! The sockets of the file system at which open desks take batches.
+
+use crate::open_desks::OpenDesks;
+use csv_records::streams::write_whole;
+use program_lines::fault::Fault;
+use std::fs::{Metadata, Permissions, remove_file, set_permissions, symlink_metadata};
+use std::io::ErrorKind;
+use std::net::Shutdown;
+use std::os::unix::fs::{FileTypeExt, PermissionsExt};
+use std::os::unix::net::{UnixListener, UnixStream};
+use std::rt::HostRuntime;
+
+/// Who may connect: the program's user and group.
+const MODE: u32 = 0o660;
+
+// Takes away a socket file at which nobody listens, as a desk that was stopped leaves it. One that
+// answers belongs to a desk that is open, and any other file is not the program's.
+fn take_away(rt: &HostRuntime, path: &str, found: &Metadata) -> Result<(), Fault> {
+    if !found.file_type().is_socket() {
+        return Err(Fault::Socket);
+    }
+    match UnixStream::connect(rt, path) {
+        Err(error) if error.kind() == ErrorKind::ConnectionRefused => {}
+        _ => return Err(Fault::Socket),
+    }
+    match remove_file(rt, path) {
+        Ok(()) => Ok(()),
+        Err(_) => Err(Fault::Socket),
+    }
+}
+
+/// Listens at a socket of the file system that the program's user and group alone may use. A socket
+/// file that is left over is replaced; one that answers, or a file of another kind, is a fault.
+pub fn listen(rt: &HostRuntime, path: &str) -> Result<UnixListener, Fault> {
+    if let Ok(found) = symlink_metadata(rt, path) {
+        take_away(rt, path, &found)?;
+    }
+    let Ok(listener) = UnixListener::bind(rt, path) else {
+        return Err(Fault::Socket);
+    };
+    match set_permissions(rt, path, Permissions::from_mode(MODE)) {
+        Ok(()) => Ok(listener),
+        Err(_) => Err(Fault::Socket),
+    }
+}
+
+// Sends a text, and that it is all, so that the desk begins to answer.
+fn send_whole(stream: &mut UnixStream, text: &[u8]) -> Result<(), Fault> {
+    let Ok(()) = write_whole(stream, text) else {
+        return Err(Fault::Socket);
+    };
+    match stream.shutdown(Shutdown::Write) {
+        Ok(()) => Ok(()),
+        Err(_) => Err(Fault::Socket),
+    }
+}
+
+/// The sockets of the file system.
+#[derive(Drop)]
+pub struct Sockets;
+
+impl OpenDesks for Sockets {
+    ghost use Rattle.std.specs.Prelude.{None};
+
+    // Of what goes and comes over a socket no clause can say which bytes they are.
+    ghost answers = { λ sockets name text. None };
+
+    type Reader = UnixStream;
+
+    fn send(&mut self, rt: &HostRuntime, name: &str, text: &[u8]) -> Result<UnixStream, Fault> {
+        let Ok(mut stream) = UnixStream::connect(rt, name) else {
+            return Err(Fault::Socket);
+        };
+        send_whole(&mut stream, text)?;
+        Ok(stream)
+    }
+}

@@ -1,0 +1,7 @@
+pub mod Deliveries
+pub mod Unknown
+pub mod Serving
+pub mod Connections
+pub mod ServedClients
+pub mod Sending
+pub mod TaskEnds

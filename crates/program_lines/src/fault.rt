@@ -1,0 +1,72 @@
+//! What can go wrong while the program runs, and the line that says so.
+
+ghost use Rattle.std.specs.Prelude.{◌≡◌};
+
+use csv_records::reading::RecordFault;
+use onix_message::StoreFault;
+use std::io::Write;
+use thiserror::Error;
+
+/// A fault that ends the program with status 3.
+#[derive(Debug, Drop, Error)]
+pub enum Fault {
+    #[error("onixdesk: input: too large\n")]
+    InputTooLarge,
+    #[error("onixdesk: input: not UTF-8\n")]
+    InputNotUtf8,
+    #[error("onixdesk: input: read\n")]
+    InputRead,
+    #[error("onixdesk: output\n")]
+    Output,
+    #[error("onixdesk: port {0}\n")]
+    Port(u16),
+    #[error("onixdesk: socket\n")]
+    Socket,
+    #[error("onixdesk: memory\n")]
+    Memory,
+    #[error("onixdesk: storage: memory\n")]
+    StorageMemory,
+    #[error("onixdesk: storage: size\n")]
+    StorageSize,
+    #[error("onixdesk: storage: disk\n")]
+    StorageDisk,
+    #[error("onixdesk: storage: unusable\n")]
+    StorageUnusable,
+    #[error("onixdesk: storage: other version {0}\n")]
+    StorageOtherVersion(u32),
+}
+
+impl From<RecordFault> for Fault {
+    fn from(fault: RecordFault) -> Fault {
+        match fault {
+            RecordFault::TooLarge => Fault::InputTooLarge,
+            RecordFault::NotUtf8 => Fault::InputNotUtf8,
+            RecordFault::Memory => Fault::Memory,
+        }
+    }
+}
+
+impl From<StoreFault> for Fault {
+    fn from(fault: StoreFault) -> Fault {
+        match fault {
+            StoreFault::Memory => Fault::StorageMemory,
+            StoreFault::Size => Fault::StorageSize,
+            StoreFault::Disk => Fault::StorageDisk,
+            StoreFault::Unusable => Fault::StorageUnusable,
+        }
+    }
+}
+
+/// Writes the line of a fault, and gives the status of a program that ends by it. A line that
+/// cannot be written is lost: there is nowhere left to say so.
+pub fn report<E: Write>(fault: &Fault, errors: &mut E) -> u8
+    ensures { result ≡ 3 }
+{
+    let _ = write!(errors, "{fault}");
+    3
+}
+
+/// Writes the line of a file that cannot be read. As with `report`, it may be lost.
+pub fn report_file<E: Write>(name: &str, errors: &mut E) {
+    let _ = write!(errors, "onixdesk: file: {name}\n");
+}

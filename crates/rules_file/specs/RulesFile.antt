@@ -1,0 +1,41 @@
+-- How a rules file reads.
+use Rattle.std.specs.Prelude.{◌≡◌, ◌<◌, ◌≤◌, ◌⊎◌, ◌++◌, ◌∷◌, ℕ, List, [], Result, Ok, Err, IsUtf8, codes, length, ⊤}
+use Rattle.std.specs.Fmt.{decimal}
+use Rattle.price_rules.specs.RulesFile.{precedence_of}
+use Rattle.price_rules.specs.declared.precedence.PrecedenceFault.TheVariants as fault
+use Rattle.price_rules.specs.declared.precedence.Rule.{Rule}
+use Rattle.csv_records.specs.RecordTexts.{limit}
+use Rattle.program_lines.specs.Printing.{PrintEnds}
+use Rattle.rules_file.specs.declared.rules.RulesFault.{RulesFault}
+use Rattle.rules_file.specs.declared.rules.RulesFault.TheVariants as rules_fault
+
+-- how reading the rules of a text can end
+abbrev pub RulesFit : List ℕ → Result (List Rule) RulesFault → Type 0
+RulesFit text (Ok rules) = (length text ≤ limit) × IsUtf8 text × (precedence_of text ≡ Ok rules)
+RulesFit text (Err (rules_fault.Table fault.NotToml)) =
+    (limit < length text) ⊎ ((¬ (IsUtf8 text)) ⊎ (precedence_of text ≡ Err fault.NotToml))
+RulesFit text (Err (rules_fault.Table (fault.BadRule number))) =
+    (length text ≤ limit) × IsUtf8 text × (precedence_of text ≡ Err (fault.BadRule number))
+RulesFit text (Err (rules_fault.Table fault.Memory)) = ⊤
+RulesFit text (Err rules_fault.Unreadable) = ⊤
+
+-- the exit status after a fault of reading the rules: 3 when out of memory, else 2
+abbrev pub status_of : RulesFault → ℕ
+status_of (rules_fault.Table fault.Memory) = 3
+status_of _ = 2
+
+-- the line that says how many rules there are
+abbrev pub rules_line : ℕ → List ℕ
+rules_line count = codes "rules " ++ decimal count ++ 10 ∷ []
+
+-- how the command `rules` can end by how its file reads: with the line of its rules; or with the
+-- status of the fault, and nothing is written
+abbrev pub EndsReading : (List ℕ → Type 0) → Result (List Rule) RulesFault → ℕ → Type 0
+EndsReading written (Ok rules) status = PrintEnds 0 written (rules_line (length rules)) status
+EndsReading written (Err fault) status = (status ≡ status_of fault) × written []
+
+-- how the command `rules` can end: as its file reads. No clause can say what a file of a name holds
+abbrev pub CheckEnds : (List ℕ → Type 0) → ℕ → Type 0
+CheckEnds written status =
+    (text : List ℕ) × (read : Result (List Rule) RulesFault) × RulesFit text read
+    × EndsReading written read status

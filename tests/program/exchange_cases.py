@@ -1,18 +1,15 @@
 """What is sent to a desk over HTTP, and what is replied. See `exchanges`.
 
-The cases stand in tests/exchanges. Behind a heading each file has them: a line `== ` with the name; what is sent; a line
-`-- ` with the status line of the reply behind its version; and its body. What is sent is a message, which is posted; or
-targets, one a line, which are got; or, in the files that say so, whole inputs with the escapes of Python, one a line, in
-which `(TEXT){N}` is N times the text. Several targets or inputs of a case have the same reply.
+The cases stand in tests/exchanges (`written_cases`). The text of a case is what is sent, and it has one part: the status
+line of the reply behind its version, and the body. What is sent is a message, which is posted; or targets, one a line,
+which are got; or, in the files that say so, whole inputs with escapes, one a line. Several targets or inputs of a case
+have the same reply.
 """
 
-import re
 from collections.abc import Iterator
-from pathlib import Path
 
 from tests.program.serving import Exchange, got, posted
-
-FOLDER = Path(__file__).resolve().parent.parent / "exchanges"
+from tests.program.written_cases import TESTS, read_file, unescaped
 
 # The agreements of the desk: `north` from number 1 on, and `south` from number 5 on, of which 7 is waived.
 AGREEMENTS = b"""\
@@ -23,42 +20,27 @@ Waive,south,7
 
 RULES = b'[[rule]]\nseries = "*"\ncodes = ["20", "21"]\n'
 
-REPEATED = re.compile(rb"\(([^()]*)\)\{([0-9]+)\}")
-
 
 def refusal(reason: str) -> str:
     return f'{{"answer":"refused","reason":"{reason}"}}'
 
 
-def read(name: str) -> Iterator[tuple[str, str, str, str]]:
-    """The cases of a file: the name, what is sent, the status line and the body."""
-    _heading, *cases = FOLDER.joinpath(f"{name}.txt").read_text(encoding="utf-8").split("\n== ")
-    for case in cases:
-        sent, _, reply = case.partition("\n-- ")
-        title, _, text = sent.partition("\n")
-        line, _, body = reply.rstrip("\n").partition("\n")
-        yield title, text, line, body
-
-
 def exchanges(name: str) -> Iterator[Exchange]:
     """Messages that are posted, and targets that are got."""
-    for title, text, line, body in read(name):
-        if text.startswith("/"):
-            yield from (got(target, line, body) for target in text.split("\n"))
+    for case in read_file(TESTS / f"exchanges/{name}.txt"):
+        [(line, body)] = case.parts
+        if case.text.startswith("/"):
+            yield from (got(target, line, body.strip()) for target in case.text.splitlines())
         else:
-            yield Exchange(title, posted(f"{text}\n".encode() if text else b""), line, body)
-
-
-def unescaped(text: str) -> bytes:
-    return text.encode().decode("unicode_escape").encode("latin-1")
+            yield Exchange(case.name, posted(case.text.encode()), line, body.strip())
 
 
 def inputs(name: str) -> Iterator[Exchange]:
     """Whole inputs."""
-    for _, text, line, body in read(name):
-        for written in text.split("\n"):
-            sent = REPEATED.sub(lambda found: found[1] * int(found[2]), unescaped(written))
-            yield Exchange(f"input: {written}", sent, unescaped(line).decode(), body)
+    for case in read_file(TESTS / f"exchanges/{name}.txt"):
+        [(line, body)] = case.parts
+        for text in case.text.splitlines():
+            yield Exchange(f"input: {text}", unescaped(text), unescaped(line).decode(), body.strip())
 
 
 # A delivery without products, its reply, and the whole text of that.

@@ -221,9 +221,7 @@ def strangers_site(text: str) -> Iterator[str]:
 
 def another_site(site: Site, browser: Browser) -> Iterator[Outcome]:
     """A page of another origin posts a message and asks for prices; nothing arrives."""
-    text = STRANGERS_PAGE.format(
-        site=site.address(""), message=empty_message(3), price=PRICE, view=article()
-    )
+    text = STRANGERS_PAGE.format(site=site.address(""), message=empty_message(3), price=PRICE, view=article())
     gaps = site.ask_desk("/series/north/gaps")
     before = site.mark()
     asked = len(site.requests())

@@ -178,9 +178,7 @@ def days_ago(count: int) -> str:
 def since_words(count: int) -> str:
     day = date.today() - timedelta(days=count)
     days = "1 day" if count == 1 else f"{count} days"
-    return (
-        f"No new message for {days}, as far as this browser has seen (since {day.day} {day:%B} {day.year})."
-    )
+    return (f"No new message for {days}, as far as this browser has seen (since {day.day} {day:%B} {day.year}).")
 
 
 REMEMBER = "localStorage.setItem('onixdesk-seen', JSON.stringify(arguments[0]))"

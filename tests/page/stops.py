@@ -153,10 +153,7 @@ class Unanswered(NamedTuple):
     told: str
 
 
-UNANSWERED = [
-    Unanswered("a want of memory", MEMORY, 1, LACKING),
-    Unanswered("no reply", None, 2, LOST),
-]
+UNANSWERED = [Unanswered("a want of memory", MEMORY, 1, LACKING), Unanswered("no reply", None, 2, LOST)]
 
 
 def counts(asked: list[str]) -> dict[str, int]:

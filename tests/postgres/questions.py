@@ -80,9 +80,7 @@ def written(name: str, fields: list[str], rows: list[Row]) -> list[list[str]]:
             if offer not in offers:
                 offers.append(offer)
                 records.append(["offer", *texts(offer)])
-            records.append(
-                ["span", *(f"{day:%Y%m%d}".rjust(8, "0") for day in (first, last)), *texts([amount])]
-            )
+            records.append(["span", *(f"{day:%Y%m%d}".rjust(8, "0") for day in (first, last)), *texts([amount])])
         return [["calendar", article, str(len(offers))], *records]
     if not rows:
         return [["refused", "unknown-series"]]

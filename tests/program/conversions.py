@@ -100,16 +100,9 @@ FRAMES = {
     "supply": SUPPLY,
     "details": DETAILS,
     "detail": within(DETAILS, "<SupplyDetail>", "</SupplyDetail>"),
-    "prices": within(
-        DETAILS,
-        f"<SupplyDetail>{SUPPLIER}",
-        "</SupplyDetail>",
-        "SupplyDetail,04,,,North,21,\n",
-    ),
+    "prices": within(DETAILS, f"<SupplyDetail>{SUPPLIER}", "</SupplyDetail>", "SupplyDetail,04,,,North,21,\n"),
 }
-FRAMES["price"] = within(
-    FRAMES["prices"], "<Price><PriceAmount>12.99</PriceAmount>", "</Price>"
-)
+FRAMES["price"] = within(FRAMES["prices"], "<Price><PriceAmount>12.99</PriceAmount>", "</Price>")
 
 
 PLACE = re.compile("([0-9]+):(?:([0-9]+)|(<[A-Za-z]+))>?(.*)", re.DOTALL)

@@ -80,11 +80,7 @@ ROOT_CASES = [
     root('<ONIXMessage release="3.0"><Note>&foo;&bar;</Note></ONIXMessage>', "&foo; stands for nothing"),
     root(f"{LONG}<ONIXMessage release='2.1'/>", f"release 2.1, not 3.0 or 3.1{OLD}"),
     root(f"{LONG}<Feed/>", f"root Feed {ROOTS}"),
-    Case(
-        "a root in UTF-16",
-        in_utf16('<ONIXMessage release="2.1"/>'),
-        f"release 2.1, not 3.0 or 3.1{OLD}",
-    ),
+    Case("a root in UTF-16", in_utf16('<ONIXMessage release="2.1"/>'), f"release 2.1, not 3.0 or 3.1{OLD}"),
 ]
 
 KINDS = [

@@ -94,9 +94,7 @@ def size(room: Room) -> Iterator[Outcome]:
 def product_of(details: int, prices: int) -> str:
     """A product of 2 records, one for each supply detail, and so many prices of the first."""
     supply = DETAIL.format(PRICE * prices) + DETAIL.format("") * (details - 1)
-    return PRODUCT.format("R1").replace(
-        "</Product>", f"<ProductSupply>{supply}</ProductSupply></Product>"
-    )
+    return PRODUCT.format("R1").replace("</Product>", f"<ProductSupply>{supply}</ProductSupply></Product>")
 
 
 def between_others(product: str) -> bytes:
@@ -180,9 +178,7 @@ def prefixes(room: Room) -> Iterator[Outcome]:
 def a_whole_product_in_the_next_part(room: Room) -> Iterator[Outcome]:
     """A product that does not fit into what is left of a part begins the next."""
     names = references(MOST - 1)
-    feed = feed_of(*names).replace(
-        FRAME.behind.encode(), (product_of(1, 0) + FRAME.behind).encode()
-    )
+    feed = feed_of(*names).replace(FRAME.behind.encode(), (product_of(1, 0) + FRAME.behind).encode())
     room.write(FEED, feed)
     came = convert(room, "--parts", "2", FEED)
     second = (

@@ -63,39 +63,20 @@ class Case(NamedTuple):
 CASES = [
     Case("standard input", {}, [], Ran(0, message_of("R1")), given=ONE),
     Case("standard input by its name", {}, ["-"], Ran(0, message_of("R1")), given=ONE),
-    Case(
-        "standard input, refused",
-        {},
-        ["-"],
-        Ran(1, b"", said([f"-:{BAD_SAID}"])),
-        given=BAD,
-    ),
-    Case(
-        "standard input into a folder",
-        {},
-        ["-o", "."],
-        Ran(0),
-        {"message.csv": message_of("R1")},
-        given=ONE,
-    ),
+    Case("standard input, refused", {}, ["-"], Ran(1, b"", said([f"-:{BAD_SAID}"])), given=BAD),
+    Case("standard input into a folder", {}, ["-o", "."], Ran(0), {"message.csv": message_of("R1")}, given=ONE),
     Case(
         "parts on standard output follow each other",
         {FEED: TWO},
         ["--parts", "3", "--number", "5", FEED],
-        Ran(
-            0,
-            message_of("R1", "R2", number=13) + message_of(number=14) + message_of(number=15),
-        ),
+        Ran(0, message_of("R1", "R2", number=13) + message_of(number=14) + message_of(number=15)),
     ),
     Case(
         "parts in files",
         {FEED: TWO},
         ["--parts", "2", "-o", ".", FEED],
         Ran(0),
-        {
-            "feed.part-01.csv": message_of("R1", "R2", number=1),
-            "feed.part-02.csv": message_of(number=2),
-        },
+        {"feed.part-01.csv": message_of("R1", "R2", number=1), "feed.part-02.csv": message_of(number=2)},
     ),
     Case(
         "a hundred parts have three digits",
@@ -118,17 +99,7 @@ CASES = [
         "a file that is not there outweighs one that is refused",
         {"b.xml": BAD, "c.xml": TWO},
         ["-o", ".", "absent.xml", "b.xml", ".", "c.xml"],
-        Ran(
-            3,
-            b"",
-            said(
-                [
-                    "absent.xml: No such file or directory",
-                    f"b.xml:{BAD_SAID}",
-                    ".: Is a directory",
-                ]
-            ),
-        ),
+        Ran(3, b"", said(["absent.xml: No such file or directory", f"b.xml:{BAD_SAID}", ".: Is a directory"])),
         {"c.csv": message_of("R1", "R2")},
     ),
     Case(

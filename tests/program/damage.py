@@ -75,66 +75,22 @@ CASES = [
         "UPDATE held SET contents = '' WHERE number = 3",
         SECOND,
     ),
-    (
-        "UPDATE series SET next_number = -1",
-        "UPDATE series SET next_number = 2",
-        GAPS,
-    ),
-    (
-        "UPDATE series SET first_number = 0",
-        "UPDATE series SET first_number = 1",
-        GAPS,
-    ),
+    ("UPDATE series SET next_number = -1", "UPDATE series SET next_number = 2", GAPS),
+    ("UPDATE series SET first_number = 0", "UPDATE series SET first_number = 1", GAPS),
     (
         "UPDATE held SET number = 1000000000 WHERE number = 4",
         "UPDATE held SET number = 4 WHERE number = 1000000000",
         GAPS,
     ),
-    (
-        "UPDATE article SET id_type = '153'",
-        "UPDATE article SET id_type = '15'",
-        CATALOGUE,
-    ),
-    (
-        "UPDATE offer SET availability = '2'",
-        "UPDATE offer SET availability = '21'",
-        CATALOGUE,
-    ),
-    (
-        "UPDATE offer SET included = 'gb'",
-        "UPDATE offer SET included = 'GB IE'",
-        CATALOGUE,
-    ),
-    (
-        "UPDATE offer SET world = 2",
-        "UPDATE offer SET world = 0",
-        CATALOGUE,
-    ),
-    (
-        "UPDATE offer SET place = -1",
-        "UPDATE offer SET place = 1",
-        CATALOGUE,
-    ),
-    (
-        "UPDATE price SET currency = 'gbp'",
-        "UPDATE price SET currency = 'GBP'",
-        PRICE,
-    ),
-    (
-        "UPDATE price SET amount = -1",
-        "UPDATE price SET amount = 12990",
-        PRICE,
-    ),
-    (
-        "UPDATE price SET from_day = 3000000",
-        "UPDATE price SET from_day = NULL",
-        PRICE,
-    ),
-    (
-        "UPDATE applied SET replaced = -1",
-        "UPDATE applied SET replaced = 1",
-        REPEAT,
-    ),
+    ("UPDATE article SET id_type = '153'", "UPDATE article SET id_type = '15'", CATALOGUE),
+    ("UPDATE offer SET availability = '2'", "UPDATE offer SET availability = '21'", CATALOGUE),
+    ("UPDATE offer SET included = 'gb'", "UPDATE offer SET included = 'GB IE'", CATALOGUE),
+    ("UPDATE offer SET world = 2", "UPDATE offer SET world = 0", CATALOGUE),
+    ("UPDATE offer SET place = -1", "UPDATE offer SET place = 1", CATALOGUE),
+    ("UPDATE price SET currency = 'gbp'", "UPDATE price SET currency = 'GBP'", PRICE),
+    ("UPDATE price SET amount = -1", "UPDATE price SET amount = 12990", PRICE),
+    ("UPDATE price SET from_day = 3000000", "UPDATE price SET from_day = NULL", PRICE),
+    ("UPDATE applied SET replaced = -1", "UPDATE applied SET replaced = 1", REPEAT),
 ]
 
 FAULT = Ran(3, b"", b"onixdesk: storage: unusable\n")

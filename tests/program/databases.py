@@ -199,13 +199,7 @@ def tables(room: Room) -> dict[str, list[Row] | list[int]]:
 
 def tables_after_a_batch(case: Kept, room: Room) -> Iterator[Outcome]:
     """They stay so where the file is opened again and asked for its gaps."""
-    wanted = {
-        "applied": case.applied,
-        "held": case.held,
-        "next": [case.next],
-        "version": [2],
-        "complaints": [],
-    }
+    wanted = {"applied": case.applied, "held": case.held, "next": [case.next], "version": [2], "complaints": []}
     came = batch(room, case.batch), tables(room)
     name = f"tables after a batch: {case.name}"
     yield Outcome(name, came, (Ran(case.status, case.answers), wanted))
@@ -298,10 +292,7 @@ SupplyDetail,04,06,5000000000005,,40,
         ("south", 6, "waived", 0, 0, 0, 0, 0),
     ],
     "record": [("south", "S1")],
-    "article": [
-        ("south", "S1", 1, "03", "9780000000019"),
-        ("south", "S1", 2, "15", "9780000000019"),
-    ],
+    "article": [("south", "S1", 1, "03", "9780000000019"), ("south", "S1", 2, "15", "9780000000019")],
     "offer": [
         ("south", "S1", 1, 1, "FR", 1, "FR IE", "01", "", "", 'Süd "Books"', "20", "01"),
         ("south", "S1", 2, 2, "", 1, "", "04", "06", "5000000000005", "", "40", ""),
@@ -378,14 +369,8 @@ META = "CREATE TABLE meta (item TEXT PRIMARY KEY, amount INTEGER);"
 
 # Statements that make a database, and what the program says of it.
 REFUSED = [
-    (
-        f"{META} INSERT INTO meta VALUES ('version', 7);",
-        b"onixdesk: storage: other version 7\n",
-    ),
-    (
-        f"{META} INSERT INTO meta VALUES ('version', 1);",
-        b"onixdesk: storage: other version 1\n",
-    ),
+    (f"{META} INSERT INTO meta VALUES ('version', 7);", b"onixdesk: storage: other version 7\n"),
+    (f"{META} INSERT INTO meta VALUES ('version', 1);", b"onixdesk: storage: other version 1\n"),
     (META, b"onixdesk: storage: unusable\n"),
     (
         "CREATE TABLE meta (item TEXT, amount TEXT); INSERT INTO meta VALUES ('version', 'two');",

@@ -84,30 +84,17 @@ BOMBS = [
         lambda: typed(nested("<Product/><Product/>"), "&e11;"),
         ["--wrong", "all"],
     ),
-    Case(
-        "nested entities of declarations",
-        lambda: typed(nested("<!ENTITY x 'y'>", "%") + "%e11;", ""),
-        taken=[],
-    ),
+    Case("nested entities of declarations", lambda: typed(nested("<!ENTITY x 'y'>", "%") + "%e11;", ""), taken=[]),
     Case(
         "one long entity many times",
         lambda: typed(f'<!ENTITY e "{"x" * 100_000}">', PRODUCT.format("&e;" * 10_000)),
     ),
-    Case(
-        "an entity within itself",
-        lambda: typed('<!ENTITY e "&f;"><!ENTITY f "&e;">', "<x>&e;</x>"),
-    ),
+    Case("an entity within itself", lambda: typed('<!ENTITY e "&f;"><!ENTITY f "&e;">', "<x>&e;</x>")),
 ]
 
 LARGE = [
-    Case(
-        "a depth of 100,000 elements",
-        lambda: repeated("<x>" * 100_000, "", 0, "</x>" * 100_000),
-    ),
-    Case(
-        "a depth of 100,000 products",
-        lambda: repeated("<Product>" * 100_000, "", 0, "</Product>" * 100_000),
-    ),
+    Case("a depth of 100,000 elements", lambda: repeated("<x>" * 100_000, "", 0, "</x>" * 100_000)),
+    Case("a depth of 100,000 products", lambda: repeated("<Product>" * 100_000, "", 0, "</Product>" * 100_000)),
     Case(
         "a text of 100 MB that counts",
         lambda: repeated("<Product><RecordReference>", MEGABYTE, 100, "</RecordReference></Product>"),
@@ -173,10 +160,7 @@ LARGE = [
 
 CUT = [
     Case("a cut file", lambda: iter([FRAME.before.encode()])),
-    Case(
-        "a file that is cut in a tag",
-        lambda: iter([f"{FRAME.before}\n<Product".encode()]),
-    ),
+    Case("a file that is cut in a tag", lambda: iter([f"{FRAME.before}\n<Product".encode()])),
     Case(
         "bytes that are not UTF-8",
         lambda: iter([f"{FRAME.before}\n<x>".encode(), b"\xe9</x>", FRAME.behind.encode()]),
@@ -198,10 +182,7 @@ CUT = [
         lambda: iter([f"{FRAME.before}<x>".encode("utf-16"), b"\x00\xdc"]),
     ),
     *(
-        Case(
-            f"the encoding {encoding}",
-            partial(encoded, encoding),
-        )
+        Case(f"the encoding {encoding}", partial(encoded, encoding))
         for encoding in [
             *("shift_jis", "gbk", "iso2022_jp", "utf-7", "utf_8", "utf_8_sig", "utf-32", "unicode_escape"),
             *("punycode", "hex", "nonsense", "undefined"),

@@ -41,14 +41,8 @@ def behind_much(within: str) -> Iterator[bytes]:
 
 
 START_TAGS = [
-    Case(
-        "a start tag of 537,021 attributes",
-        lambda: feed("<x ", attributes(537_021), "/>"),
-    ),
-    Case(
-        "a start tag of 10,001 attributes",
-        lambda: feed("<x ", attributes(10_001), "/>"),
-    ),
+    Case("a start tag of 537,021 attributes", lambda: feed("<x ", attributes(537_021), "/>")),
+    Case("a start tag of 10,001 attributes", lambda: feed("<x ", attributes(10_001), "/>")),
     # The bytes of this letter hold that of a `<`.
     Case(
         "a start tag of 300,000 attributes in UTF-16",
@@ -85,11 +79,7 @@ DECLARED = [
         "entities in a text that counts, behind much",
         lambda: behind_much(f"<Product><RecordReference>{'&f;' * 50}</RecordReference></Product>"),
     ),
-    Case(
-        "entities in an attribute, behind much",
-        lambda: behind_much(f'<x y="{"&f;" * 50}"/>'),
-        taken=[],
-    ),
+    Case("entities in an attribute, behind much", lambda: behind_much(f'<x y="{"&f;" * 50}"/>'), taken=[]),
     Case("entities without end, behind much", lambda: behind_much(f"<x>{'&f;' * 200}</x>")),
 ]
 
@@ -99,15 +89,9 @@ LATE = [
         lambda: feed(f"<!--{MEGABYTE * 2}-->", attributes(200_000, "<x{}/>")),
         taken=[],
     ),
-    Case(
-        "elements of a long name within one another",
-        lambda: feed(f"<{MEGABYTE[:130_000]}>" * 30),
-    ),
+    Case("elements of a long name within one another", lambda: feed(f"<{MEGABYTE[:130_000]}>" * 30)),
     Case("an attribute of 4,194,305 characters", lambda: feed(f'<x y="{MEGABYTE * 4}{"x" * 194_305}"/>')),
-    Case(
-        "a comment of 4.4 MB",
-        lambda: feed(f"<!--{MEGABYTE * 4}{MEGABYTE[:400_000]}-->", PRODUCT.format("R1")),
-    ),
+    Case("a comment of 4.4 MB", lambda: feed(f"<!--{MEGABYTE * 4}{MEGABYTE[:400_000]}-->", PRODUCT.format("R1"))),
 ]
 
 # Elements as dense as they can be, far more than entities may give.

@@ -13,7 +13,7 @@ The cases stand in tests/conversions (`written_cases`), and have these parts:
     -- summary    the lines behind the notes, where they are not only added up
     -- refused    the place in the file, or `anywhere`, and perhaps a part of the line that says why
 
-A place is a line and a column, as `2:7`, or a line and the first start tag of an element there, as
+In each `(PIECE){N}` is N times the piece. A place is a line and a column, as `2:7`, or a line and the first start tag of an element there, as
 `2:<Price>`. Notes stand in the order of their places. Each case is converted in reference names without a namespace
 and, but for whole files, in short tags in their namespace, in which columns are others.
 """
@@ -22,7 +22,7 @@ import re
 from pathlib import Path
 from typing import NamedTuple
 
-from tests.program.written_cases import TESTS, Written, read_file
+from tests.program.written_cases import TESTS, Written, read_file, repeated
 
 FOLDER = TESTS / "conversions"
 
@@ -212,7 +212,7 @@ def case_of(written: Written) -> Case:
     parts = {}
     for head, body in written.parts:
         key, _, value = head.partition(" ")
-        parts[key] = value or (body.rstrip("\n") + "\n" if body.strip() else "")
+        parts[key] = repeated(value or (body.rstrip("\n") + "\n" if body.strip() else ""))
     place = next(key for key in parts if key in FRAMES or key == WHOLE_FILE)
     words = parts.get("words", "").split()
     records = None

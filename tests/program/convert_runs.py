@@ -7,9 +7,11 @@ from collections.abc import Iterator
 from functools import partial
 
 from tests.program import converter_runs, converter_words
-from tests.program.conversions import SUPPLIER, in_short_tags
+from tests.program.conversions import in_short_tags
 from tests.program.converter import FEED
-from tests.program.converter_runs import BAD, FRAME, ISBN, ONE, PRODUCT, TWO, WRONG, Case, encoded, message_of
+from tests.program.converter_runs import (
+    BAD, DETAIL, FRAME, ISBN, ONE, PRICE, TWO, WRONG, Case, encoded, message_of, supplied,
+)
 from tests.program.converter_words import HEADER, SENDER
 from tests.program.room import Group, Ran, Room
 from tests.running import Outcome
@@ -18,19 +20,8 @@ NAMES = {"a.xml": "a", "b.c.onix": "b.c", "d": "d", "j.gz.xml": "j.gz"}
 
 # Two products that have together more records than a message may have.
 PRICES = 10_000
-LARGE = in_short_tags(
-    "\n".join(
-        [
-            FRAME.before,
-            *(
-                f"{PRODUCT.format(reference).removesuffix('</Product>')}<ProductSupply><SupplyDetail>{SUPPLIER}"
-                f"{'<Price><PriceAmount>1</PriceAmount></Price>' * PRICES}</SupplyDetail></ProductSupply></Product>"
-                for reference in ("R1", "R2")
-            ),
-            FRAME.behind,
-        ]
-    )
-).encode()
+PRODUCTS = [supplied(reference, DETAIL.format(PRICE * PRICES)) for reference in ("R1", "R2")]
+LARGE = in_short_tags("\n".join([FRAME.before, *PRODUCTS, FRAME.behind])).encode()
 
 
 def large_part(number: int, *references: str) -> bytes:

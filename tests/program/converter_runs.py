@@ -4,7 +4,7 @@ import io
 import zipfile
 from typing import NamedTuple
 
-from tests.program.conversions import FRAMES, said
+from tests.program.conversions import FRAMES, SUPPLIER, said
 from tests.program.converter import FEED
 from tests.program.room import Ran
 
@@ -16,6 +16,16 @@ PRODUCT = (
     "<Product><RecordReference>{}</RecordReference><NotificationType>03</NotificationType>"
     f"<ProductIdentifier><ProductIDType>15</ProductIDType><IDValue>{ISBN}</IDValue></ProductIdentifier></Product>"
 )
+
+
+# A SupplyDetail without its Prices, and a Price.
+DETAIL = f"<SupplyDetail>{SUPPLIER}{{}}</SupplyDetail>"
+PRICE = "<Price><PriceAmount>1</PriceAmount></Price>"
+
+
+def supplied(reference: str, details: str) -> str:
+    """A product with these SupplyDetails."""
+    return PRODUCT.format(reference).replace("</Product>", f"<ProductSupply>{details}</ProductSupply></Product>")
 
 
 def feed_of(*references: str) -> bytes:

@@ -9,7 +9,7 @@ from typing import NamedTuple
 # The folders of such files.
 TESTS = Path(__file__).resolve().parent.parent
 
-REPEATED = re.compile(rb"\(([^()]*)\)\{([0-9]+)\}")
+REPEATED = re.compile(r"\(([^()]*)\)\{([0-9]+)\}")
 
 
 class Written(NamedTuple):
@@ -37,7 +37,11 @@ def read_file(path: Path) -> list[Written]:
     return [read_case(text) for text in texts]
 
 
+def repeated(text: str) -> str:
+    """The text in which `(PIECE){N}` is N times the piece."""
+    return REPEATED.sub(lambda found: found[1] * int(found[2]), text)
+
+
 def unescaped(text: str) -> bytes:
-    """The bytes of a text with the escapes of Python, in which `(TEXT){N}` is N times the text."""
-    escaped = text.encode().decode("unicode_escape").encode("latin-1")
-    return REPEATED.sub(lambda found: found[1] * int(found[2]), escaped)
+    """The bytes of a text with the escapes of Python, and with pieces that are repeated."""
+    return repeated(text.encode().decode("unicode_escape")).encode("latin-1")

@@ -6,62 +6,35 @@ from collections.abc import Iterator
 from functools import partial
 from typing import NamedTuple
 
-from tests.program.databases import DATABASE, all_rows, batch, complaints, execute, rows, table_names
+from tests.program.databases import (
+    DATABASE, FOLDER, MINIMUM, TABLES, all_rows, batch, complaints, execute, made, rows, table_names,
+)
 from tests.program.room import Group, Ran, Room
-from tests.program.written_cases import TESTS, Written, read_file
+from tests.program.written_cases import Written, read_file
 from tests.running import Outcome
 from tools.words import Row
 
-FOLDER = TESTS / "migrations"
-
-# The tables of version 1, without a series, and the table that version 2 has beside them.
-TABLES, MINIMUM = (FOLDER.joinpath(f"version-{number}.sql").read_text(encoding="utf-8") for number in (1, 2))
-
-
 class Case(NamedTuple):
-    """Rows, how many messages with one record each were applied besides, what the desk is asked once it is of version 2,
-    with which status and what it answers."""
+    """The statements that make the file, what the desk is asked once it is of version 2, with which status and what it
+    answers."""
 
     name: str
-    rows: str
-    messages: int
+    made: str
     asked: bytes
     status: int
     answers: bytes
 
 
 def case_of(written: Written) -> Case:
-    (messages, _), (_, asked), (status, answers) = written.parts
-    count, number = (int(head.partition(" ")[2]) for head in (messages, status))
-    return Case(written.name, written.text, count, asked.encode(), number, answers.encode())
+    (_, asked), (head, answers) = written.parts
+    return Case(written.name, made(written.text), asked.encode(), int(head.removeprefix("status ")), answers.encode())
 
 
-CASES = [case_of(written) for written in read_file(FOLDER / "cases.txt")]
-
-
-def message(number: int) -> str:
-    """The rows of the message of that number, which was applied: it put a record at a price of as many
-    pounds."""
-    return f"""\
-INSERT INTO applied VALUES ('north', {number}, 'Product,R{number},03,15,9781234567897
-ProductSupply,GB IE,,
-SupplyDetail,04,06,4012345000009,North Books,21,
-Price,02,{number}.000,GBP,,WORLD,,,
-', 1, 0, 0, 0, 0);
-INSERT INTO record VALUES ('north', 'R{number}');
-INSERT INTO article VALUES ('north', 'R{number}', 1, '15', '9781234567897');
-INSERT INTO offer VALUES ('north', 'R{number}', 1, 1, 'GB IE', 0, '', '04', '06', '4012345000009', 'North Books', '21', '');
-INSERT INTO price VALUES ('north', 'R{number}', 1, 1, '02', {number}000, 'GBP', '', 1, '', NULL, NULL);
-"""
-
-
-def made(case: Case) -> str:
-    """The statements that make the file of a case."""
-    return TABLES + case.rows + "".join(message(number + 1) for number in range(case.messages))
+CASES = [case_of(written) for written in read_file(FOLDER / "migrations.txt")]
 
 
 def check(case: Case, room: Room) -> Iterator[Outcome]:
-    execute(room, made(case))
+    execute(room, case.made)
     refused = Ran(3, b"", b"onixdesk: storage: other version 1\n")
     yield Outcome(f"not opened: {case.name}", batch(room, b""), refused)
 
@@ -78,7 +51,7 @@ def check(case: Case, room: Room) -> Iterator[Outcome]:
 
 def without_index(case: Case, room: Room) -> Iterator[Outcome]:
     """The tables of version 2 with the same rows."""
-    execute(room, f"{made(case)} {MINIMUM} UPDATE meta SET amount = 2;")
+    execute(room, f"{case.made} {MINIMUM} UPDATE meta SET amount = 2;")
     indexes = rows(room, "SELECT name FROM sqlite_schema WHERE type = 'index' AND sql IS NOT NULL")
     came = indexes, batch(room, case.asked), complaints(room)
     wanted: list[Row] = []

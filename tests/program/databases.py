@@ -49,8 +49,8 @@ def all_rows(room: Room, file: str = DATABASE) -> dict[str, list[Row]]:
 
 
 def made(statements: str, tables: str = TABLES) -> str:
-    """The statements that make tables, of version 1 without others, with rows: those of statements, and those of the messages of the
-    series `north` that the statements put into `priced`, each of which puts a record at a price of so many pounds."""
+    """The statements that make tables, of version 1 if no others are given, with rows: those of statements, and those of
+    messages of the series `north` that these put into `priced`, each of which puts a record at a price of some pounds."""
     return f"{tables} CREATE TEMP TABLE priced (number INTEGER, amount INTEGER); {statements} {PRICED}"
 
 
@@ -79,7 +79,7 @@ def gaps(room: Room) -> Ran:
 
 
 def after_batches(case: Written, room: Room) -> Iterator[Outcome]:
-    """The parts of a case are answers, rows, a report on gaps, behind which the rows are the same, and a further batch."""
+    """The parts of a case are answers, rows, a report on gaps, which leaves the rows, and a further batch."""
     asked = wanted_rows = None
     for number, (head, text) in enumerate([("batch", case.text), *case.parts]):
         name = f"tables after a batch: {case.name}, {number}"

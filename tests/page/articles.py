@@ -29,11 +29,6 @@ TEN_COPIES = [
     [*WEST, "£8.00", "-£1.95 rule 1 does not take it", SAME_FOR_TEN, ON],
 ]
 
-# The cells of each offer: of the first one the wholesaler, without the marks behind it.
-ROWS = """
-return [...document.querySelectorAll('#offers tbody tr')].map((row) => [...row.children].map((cell) =>
-  (cell.querySelector('.name') ?? cell).textContent));
-"""
 # What is still asked for: other quantities, other types, the calendar.
 WAITING = ("…", "or before")
 
@@ -47,7 +42,7 @@ def answered(browser: Browser) -> list[list[str]]:
     """The rows of the offers, once all that is asked beside their prices is answered too."""
 
     def rows() -> list[list[str]]:
-        found: list[list[str]] = browser.run(ROWS)
+        found: list[list[str]] = browser.call("offerCells")
         waits = any(word in cell for row in found for cell in row for word in WAITING)
         return found if has_calendar(browser) and not waits else []
 
@@ -209,32 +204,14 @@ def one_moment(site: Site, browser: Browser) -> Iterator[Outcome]:
     yield Outcome("they are asked for again", asked, 2)
 
 
-# Sixty offers of one book, of which the last one is chosen, in the place of the desk's replies.
-MANY = """
-const real = window.fetch;
-const offers = Array.from({ length: 60 }, (_, at) => (
-  { amount: '5.000', availability: '21', place: 1, reference: `R${at}`, series: 'odd' }));
-const bodies = {
-  price: { answer: 'price', offers },
-  choice: { answer: 'choice', choice: { ...offers[59], rule: 1 } },
-  calendar: { answer: 'calendar', offers: [] },
-};
-window.fetch = async (url, ...rest) => {
-  const what = /\\/desk\\/articles\\/\\d+\\/(\\w+)/.exec(url)?.[1];
-  return what === undefined ? real(url, ...rest) : new Response(JSON.stringify(bodies[what]), { status: 200 });
-};
-location.hash = arguments[0];
-"""
-
-
 def many_offers(site: Site, browser: Browser) -> Iterator[Outcome]:
     """Of very many offers fifty are shown at first, with the chosen one before all others."""
     browser.open("")
-    browser.run(MANY, article(type="05"))
+    browser.call("answerWithManyOffers", article(type="05"))
     rows = answered(browser)
     yield Outcome("many offers: the first of them", (len(rows), rows[0][0]), (50, "odd R59"))
     browser.one("#show-all").click()
-    yield Outcome("many offers: all of them", len(browser.run(ROWS)), 60)
+    yield Outcome("many offers: all of them", len(browser.call("offerCells")), 60)
 
 
 CASES = [

@@ -8,7 +8,7 @@ from datetime import date
 from typing import Any
 from urllib.parse import unquote
 
-from tests.page.articles import ROWS, answered, has_calendar, noted, said
+from tests.page.articles import answered, has_calendar, noted, said
 from tests.page.browser import Browser
 from tests.page.days import with_clock
 from tests.page.prices import NET, settings
@@ -260,14 +260,14 @@ def breaks(site: Site, browser: Browser) -> Iterator[Outcome]:
         browser.open(article(BREAKS_ISBN, quantity="12", type="05"))
         answered(browser)
         cell = "1: £4.3610: £4.1412: £4.1450: £3.76"
-        yield Outcome("the asked number among them, and one beyond", browser.run(ROWS)[0][4], cell)
+        yield Outcome("the asked number among them, and one beyond", browser.call("offerCells")[0][4], cell)
         yield Outcome("the asked number is marked", browser.text("#offers .copies strong"), "12: £4.14")
         browser.open(article(FIVE_ISBN, type="05"))
         answered(browser)
         sentence = "No wholesaler has a price for 1 copy of type 05 – supplier's net price, without tax"
         yield Outcome("from five on only: the sentence", said(browser, sentence), True)
         yield Outcome("from five on only: who sells it", noted(browser, "net sells it from 5 copies on, at £5.00 each."), True)
-        yield Outcome("from five on only: the row", browser.run(ROWS)[0][3], "1: no price5: £5.00")
+        yield Outcome("from five on only: the row", browser.call("offerCells")[0][3], "1: no price5: £5.00")
         browser.open(article(DEARER_ISBN, quantity="10", type="05"))
         answered(browser)
         told = "Fewer copies cost less each: 9 copies at £8.66 each, £77.94 in all."

@@ -55,18 +55,11 @@ WIDE = 1040
 MARGIN = 24
 MOST_BYTES = 150_000
 
-# What changes from run to run has no place in a picture that is kept.
-FIXED = """
-document.getElementById('as-of').textContent = 'As of 09:30:00; asked again each minute.';
-document.getElementById('answer-time').textContent = 'as of 09:30:00';
-document.getElementById('list-as-of').textContent = 'As of 09:30:00 to 09:30:01.';
-"""
-
 
 def shot(browser: Browser, name: str, last: str, width: int = WIDTH) -> Outcome:
     """Takes what is shown, down to a last part, as a picture of the documents."""
     browser.size(width, 700)
-    browser.run(FIXED)
+    browser.call("standStill")
     bottom = browser.run("return Math.ceil(arguments[0].getBoundingClientRect().bottom + scrollY)", browser.one(last))
     browser.size(width, bottom + MARGIN)
     browser.run("scrollTo(0, 0)")

@@ -5,7 +5,7 @@ import json
 import re
 from collections.abc import Iterator
 
-from tests.page.articles import ROWS, SAME, answered, chosen_rows, noted, said
+from tests.page.articles import SAME, answered, chosen_rows, noted, said
 from tests.page.browser import Browser
 from tests.page.calendars import unfold
 from tests.page.site import Site
@@ -84,7 +84,7 @@ def quantities(site: Site, browser: Browser) -> Iterator[Outcome]:
     with settings(site, quantities=[1, 24]):
         browser.open(article(NET_ISBN, **NET))
         answered(browser)
-        came = browser.run(ROWS)[0][4]
+        came = browser.call("offerCells")[0][4]
     yield Outcome("a change beyond those of desk.json is found", came, wanted[0])
 
 
@@ -96,7 +96,7 @@ def order(site: Site, browser: Browser) -> Iterator[Outcome]:
     yield Outcome("offers in the desk's order", by.get_attribute("value"), "series")
     choose(browser, "price")
     wanted = ["net K-2", "net K-1", "net K-3"]
-    yield Outcome("offers by price", [row[0] for row in browser.run(ROWS)], wanted)
+    yield Outcome("offers by price", [row[0] for row in browser.call("offerCells")], wanted)
     lanes = [name.split(", ")[0] for name in browser.texts("#picture .lane-name")]
     yield Outcome("the calendar by price", lanes, wanted)
     table = [row[0].split(", ")[0] for row in browser.rows("#spans")]
@@ -106,7 +106,7 @@ def order(site: Site, browser: Browser) -> Iterator[Outcome]:
     wanted = ["Western Wholesale", "North Books", "South Books"]
     yield Outcome("another article is by price too", names, wanted)
     choose(browser, "series")
-    back = [row[0] for row in browser.run(ROWS)]
+    back = [row[0] for row in browser.call("offerCells")]
     yield Outcome("and back", back, ["North Books", "South Books", "Western Wholesale"])
 
 

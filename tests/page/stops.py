@@ -47,21 +47,11 @@ def stopped(site: Site, browser: Browser) -> Iterator[Outcome]:
     yield from back(browser, "a stopped desk")
 
 
-# Asks, and notes when, and when the page says that the desk is down.
-TIMED = """
-const note = document.getElementById('down');
-new MutationObserver(() => { if (!note.hidden) window.toldAt ??= performance.now(); })
-  .observe(note, { attributes: true });
-window.askedAt = performance.now();
-location.hash = arguments[0];
-"""
-
-
 def silent(site: Site, browser: Browser) -> Iterator[Outcome]:
     browser.open(article(quantity="10"))
     unfold(browser)
     site.freeze_desk()
-    browser.run(TIMED, article())
+    browser.call("askAndNote", article())
     browser.wait(lambda: "Asking" in browser.text("#article-status"))
     stale = browser.all("#offers tr, #picture svg, #spans tr")
     yield Outcome("a new question leaves nothing of the one before", stale, [])

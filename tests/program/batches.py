@@ -11,7 +11,7 @@ from typing import NamedTuple
 
 from tests.program.databases import DATABASE, complaints
 from tests.program.room import Group, Ran, Room
-from tests.program.written_cases import TESTS, Written, read_file, unescaped
+from tests.program.written_cases import TESTS, Written, read_file, repeated, unescaped
 from tests.running import Outcome
 
 FOLDER = TESTS / "batches"
@@ -28,7 +28,7 @@ class Case(NamedTuple):
 def case_of(path: Path, written: Written) -> Case:
     head, answers = written.parts[-1]
     texts = [written.text, *(text for _, text in written.parts[:-1])]
-    *rules, batch = [unescaped(text) if path.stem == "escaped" else text.encode() for text in texts]
+    *rules, batch = [unescaped(repeated(text)) if path.stem == "escaped" else text.encode() for text in texts]
     status = int(head.removeprefix("status "))
     return Case(written.name, batch, status, answers.encode(), *rules)
 

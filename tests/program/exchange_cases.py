@@ -9,7 +9,7 @@ have the same reply.
 from collections.abc import Iterator
 
 from tests.program.serving import Exchange, got, posted
-from tests.program.written_cases import TESTS, read_file, unescaped
+from tests.program.written_cases import TESTS, read_file, repeated, unescaped
 
 # The agreements of the desk: `north` from number 1 on, and `south` from number 5 on, of which 7 is waived.
 AGREEMENTS = b"""\
@@ -40,7 +40,7 @@ def inputs(name: str) -> Iterator[Exchange]:
     for case in read_file(TESTS / f"exchanges/{name}.txt"):
         [(line, body)] = case.parts
         for text in case.text.splitlines():
-            yield Exchange(f"input: {text}", unescaped(text), unescaped(line).decode(), body.strip())
+            yield Exchange(f"input: {text}", unescaped(repeated(text)), unescaped(line).decode(), body.strip())
 
 
 # A delivery without products, its reply, and the whole text of that.

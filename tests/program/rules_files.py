@@ -4,7 +4,7 @@ line of a fault or nothing; the command `rules` says which line is wrong, and wh
 from collections.abc import Iterator
 
 from tests.program.room import UNREADABLE, Group, Ran, Room
-from tests.program.written_cases import TESTS, read_file, unescaped
+from tests.program.written_cases import TESTS, read_file, repeated, unescaped
 from tests.running import Outcome
 
 RULE = b'[[rule]]\nseries="*"\ncodes=["20"]\n'
@@ -16,7 +16,7 @@ def files(part: str) -> Iterator[tuple[str, bytes, str]]:
     for case in read_file(TESTS / "rules/files.txt"):
         parts = dict(head.partition(" ")[::2] for head, _ in case.parts)
         if part in parts:
-            yield case.name, unescaped(case.text), parts[part]
+            yield case.name, unescaped(repeated(case.text)), parts[part]
 
 
 def said_by_desk(fault: str) -> bytes:

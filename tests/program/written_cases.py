@@ -9,6 +9,7 @@ from typing import NamedTuple
 # The folders of such files.
 TESTS = Path(__file__).resolve().parent.parent
 
+# A piece of a text that is repeated, and how often.
 REPEATED = re.compile(r"\(([^()]*)\)\{([0-9]+)\}")
 
 
@@ -43,5 +44,5 @@ def repeated(text: str) -> str:
 
 
 def unescaped(text: str) -> bytes:
-    """The bytes of a text with the escapes of Python, and with pieces that are repeated."""
-    return repeated(text.encode().decode("unicode_escape")).encode("latin-1")
+    """The bytes of a text with the escapes of Python."""
+    return text.encode().decode("unicode_escape").encode("latin-1")

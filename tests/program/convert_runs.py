@@ -90,16 +90,12 @@ def check(case: Case, room: Room) -> Iterator[Outcome]:
     yield Outcome(f"convert: {case.name}", found, wanted)
 
 
-BAD_WORDS: list[list[str | bytes]] = [[*words] for words in converter_runs.BAD_WORDS]
-BAD_WORDS += converter_words.BAD
-
-
 def bad_words(room: Room) -> Iterator[Outcome]:
     files = {"a.xml": ONE, "b.xml": TWO, FEED: converter_words.feed_of(HEADER.format(SENDER))}
     for name, data in files.items():
         room.write(name, data)
-    for words in BAD_WORDS:
-        came = room.run("convert", *words, *([] if "a.xml" in words or words == ["-o"] else [FEED]))
+    for words in converter_words.bad():
+        came = room.run("convert", *words, *([] if b"a.xml" in words or words == [b"-o"] else [FEED]))
         yield Outcome(f"convert {words}", (came.status, came.output, came.errors != b""), (2, b"", True))
     left = {path.name: path.read_bytes() for path in room.folder.iterdir()}
     yield Outcome("convert: nothing is written on bad words", left, files)

@@ -60,10 +60,7 @@ def noted(browser: Browser, words: str) -> bool:
 
 def chosen_rows(browser: Browser) -> list[list[str]]:
     """The class of each offer's row, and what is said behind the wholesaler of being chosen."""
-    rows: list[list[str]] = browser.run(
-        """return [...document.querySelectorAll('#offers tbody tr')]
-          .map((row) => [row.className, row.querySelector('.mark')?.textContent ?? ''])"""
-    )
+    rows: list[list[str]] = browser.call("offerMarks")
     return rows
 
 
@@ -180,23 +177,7 @@ def own_type(site: Site, browser: Browser) -> Iterator[Outcome]:
 def one_moment(site: Site, browser: Browser) -> Iterator[Outcome]:
     """A message that comes between the two questions leaves no answer that contradicts itself."""
     browser.open("")
-    browser.run(
-        """
-        const real = window.fetch;
-        window.asked = [];
-        window.fetch = async (url, ...rest) => {
-          window.asked.push(String(url).replace(/.*\\//, '').replace(/\\?.*/, ''));
-          const isLater = window.asked.filter((what) => what === 'price').length > 1;
-          const reply = await real(url, ...rest);
-          if (isLater) return reply;
-          if (!String(url).includes('/price?')) return reply;
-          const text = (await reply.text()).replace('11.500', '11.400');
-          return new Response(text, { status: 200 });
-        };
-        location.hash = arguments[0];
-        """,
-        article(),
-    )
+    browser.call("changePrice", article())
     rows = answered(browser)
     yield Outcome("price and choice of one moment", rows, ONE_COPY)
     # The page may still be fetching files of its own.

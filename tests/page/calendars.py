@@ -92,10 +92,7 @@ def week(site: Site, browser: Browser) -> Iterator[Outcome]:
     names = ["north", "south", "west"]
     came = [[name, *span] for name, lane in zip(names, browser.call("amounts")) for span in lane]
     yield Outcome("the week's calendar: as its document has it", came, SPANS)
-    texts = browser.run(
-        """return [...document.querySelectorAll('#picture svg.lane')].map((lane) =>
-          [...lane.querySelectorAll('.amount')].map((text) => text.textContent))"""
-    )
+    texts = browser.call("laneAmounts")
     wanted = [["12.99", "11.50", "10.75", "11.50"], ["11.80"], ["8.00"]]
     yield Outcome("the week's calendar: the amounts", texts, wanted)
 
@@ -108,15 +105,7 @@ def line(site: Site, browser: Browser) -> Iterator[Outcome]:
     came = browser.call("shapes", "line.day")
     wanted = [[(middle, middle)]] * 3
     yield Outcome(f"the line of the day ({came}, {wanted})", are_near(came, wanted), True)
-    crossed = browser.run(
-        """return [...document.querySelectorAll('#picture svg.lane')].flatMap((lane) => {
-          const line = lane.querySelector('line.day').getBoundingClientRect();
-          return [...lane.querySelectorAll('text')].filter((text) => {
-            const box = text.getBoundingClientRect();
-            return box.left < line.right && line.left < box.right && box.top < line.bottom;
-          }).map((text) => text.textContent);
-        })"""
-    )
+    crossed = browser.call("crossedTexts")
     yield Outcome("the line crosses no amount", crossed, [])
     open_calendar(browser, ISBN, first, last, day="2025-05-01")
     yield Outcome("the line of a day outside", browser.all("#picture line.day"), [])
@@ -204,13 +193,7 @@ def resized(site: Site, browser: Browser) -> Iterator[Outcome]:
     open_calendar(browser, ISBN, date(2025, 3, 25), date(2025, 4, 25))
     for width in (500, 1100):
         browser.size(width, 900)
-        fits = browser.wait(
-            lambda: browser.run(
-                """const place = document.querySelector('#picture');
-                const drawn = Number(place.querySelector('svg').getAttribute('width'));
-                return drawn === Math.floor(place.clientWidth);"""
-            )
-        )
+        fits = browser.wait(lambda: browser.call("fits", "#picture"))
         yield Outcome(f"the picture in a window of {width}", fits, True)
 
 

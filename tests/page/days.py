@@ -134,11 +134,7 @@ def typed_day(site: Site, browser: Browser) -> Iterator[Outcome]:
     stop = with_clock(browser)
     browser.open("")
     browser.wait(lambda: value(browser))
-    browser.run(
-        """const field = document.getElementById('day');
-        field.value = '2025-04-10';
-        field.dispatchEvent(new Event('input', { bubbles: true }))"""
-    )
+    browser.call("put", "day", "2025-04-10", "input")
     yield Outcome("a typed day stands out", browser.run(f"return {OTHER}"), True)
     browser.run(SEEN_AGAIN, 1)
     yield Outcome("a typed day stays over night", value(browser), "2025-04-10")

@@ -251,3 +251,109 @@ function askAndNote(hash) {
   window.askedAt = performance.now();
   location.hash = hash;
 }
+
+// Another price comes with the first question about prices than with all later ones.
+function changePrice(hash) {
+  const real = window.fetch;
+  window.asked = [];
+  window.fetch = async (url, ...rest) => {
+    window.asked.push(String(url).replace(/.*\//, '').replace(/\?.*/, ''));
+    const isLater = window.asked.filter((what) => what === 'price').length > 1;
+    const reply = await real(url, ...rest);
+    if (isLater) return reply;
+    if (!String(url).includes('/price?')) return reply;
+    const text = (await reply.text()).replace('11.500', '11.400');
+    return new Response(text, { status: 200 });
+  };
+  location.hash = hash;
+}
+
+// The class of each offer's row, and what is said behind the wholesaler of being chosen.
+function offerMarks() {
+  return [...document.querySelectorAll('#offers tbody tr')]
+    .map((row) => [row.className, row.querySelector('.mark')?.textContent ?? '']);
+}
+
+function laneAmounts() {
+  return [...document.querySelectorAll('#picture svg.lane')].map((lane) =>
+    [...lane.querySelectorAll('.amount')].map((text) => text.textContent));
+}
+
+// The texts that the line of the day crosses.
+function crossedTexts() {
+  return [...document.querySelectorAll('#picture svg.lane')].flatMap((lane) => {
+    const line = lane.querySelector('line.day').getBoundingClientRect();
+    return [...lane.querySelectorAll('text')].filter((text) => {
+      const box = text.getBoundingClientRect();
+      return box.left < line.right && line.left < box.right && box.top < line.bottom;
+    }).map((text) => text.textContent);
+  });
+}
+
+// Whether the drawing of a place is as wide as that is.
+function fits(place) {
+  const found = document.querySelector(place);
+  return Number(found.querySelector('svg').getAttribute('width')) === Math.floor(found.clientWidth);
+}
+
+// Changes a field as a buyer does.
+function put(id, value, event) {
+  const field = document.getElementById(id);
+  field.value = value;
+  field.dispatchEvent(new Event(event, { bubbles: true }));
+}
+
+// Puts the focus into a text that cannot be changed.
+function focusFixedText() {
+  const area = document.createElement('textarea');
+  area.readOnly = true;
+  document.getElementById('saved').before(area);
+  document.getElementById('sums-part').hidden = false;
+  area.focus();
+}
+
+function unusualTags() {
+  return [...document.querySelectorAll('#offers tbody tr')].map((row) =>
+    [...row.querySelectorAll('.tag.unusual')].map((tag) => tag.textContent));
+}
+
+// The size of the sentence, and the greatest of all else that is seen.
+function sizes() {
+  const size = (found) => parseFloat(getComputedStyle(found).fontSize);
+  const others = [...document.querySelectorAll('body *')].filter((found) =>
+    found.closest('.decision') === null && found.getClientRects().length > 0);
+  return [size(document.querySelector('.sentence')), Math.max(...others.map(size))];
+}
+
+// The texts of what is seen, and what it is.
+function seen(selector) {
+  return [...document.querySelectorAll(selector)].filter((found) => found.getClientRects().length > 0)
+    .map((found) => [found.id || found.localName, found.textContent]);
+}
+
+// A reply in the place of the desk's.
+function replyWith(body, status, hash) {
+  window.fetch = async () => new Response(body, { status });
+  location.hash = hash;
+}
+
+function showNotes() {
+  for (const id of ['down', 'settings-wrong', 'not-looked-for']) {
+    document.getElementById(id).hidden = false;
+    document.getElementById(id).append('words');
+  }
+}
+
+// Which view is open, and whether the line below its link is not seen.
+function linkLines() {
+  const back = getComputedStyle(document.body).backgroundColor;
+  return [...document.querySelectorAll('nav a')].map((link) => [
+    link.getAttribute('aria-current'), getComputedStyle(link).borderBottomColor === back]);
+}
+
+// Whether what a view asked for is there, or what is wrong with it is told.
+function isAnswered() {
+  return !document.querySelector('#calendar').hidden
+    || document.querySelector('#as-of').textContent !== ''
+    || document.querySelector('#isbn-wrong').textContent !== '';
+}

@@ -112,13 +112,7 @@ def scanned_lines(site: Site, browser: Browser) -> Iterator[Outcome]:
     yield Outcome("scanned into lines, what is heard late is no line", lines, f"{ISBN}\n" * 5)
     focus = browser.run("return [document.activeElement.id, location.hash]")
     yield Outcome("scanned into lines: the focus", focus, ["lines", "#order"])
-    browser.run(
-        """const area = document.createElement('textarea');
-        area.readOnly = true;
-        document.getElementById('saved').before(area);
-        document.getElementById('sums-part').hidden = false;
-        area.focus()"""
-    )
+    browser.call("focusFixedText")
     scan(browser, OTHER_ISBN)
     yield Outcome("scanned at a text that cannot be changed", said(browser, OTHER_ISBN), True)
 
@@ -155,12 +149,7 @@ def whole_sentence(site: Site, browser: Browser) -> Iterator[Outcome]:
         yield Outcome("the sum", browser.text("#article-status .sum"), "£188.00")
         quantity = browser.one("#quantity").get_attribute("class")
         yield Outcome("copies above one are marked", quantity, "unusual")
-        sizes = browser.run(
-            """const size = (found) => parseFloat(getComputedStyle(found).fontSize);
-            const others = [...document.querySelectorAll('body *')].filter((found) =>
-              found.closest('.decision') === null && found.getClientRects().length > 0);
-            return [size(document.querySelector('.sentence')), Math.max(...others.map(size))]"""
-        )
+        sizes = browser.call("sizes")
         yield Outcome(f"the largest thing of the page, {sizes}", sizes[0] > sizes[1], True)
         browser.open(article(NET_ISBN, type="05", currency="EUR", country="DE"))
         answered(browser)
@@ -242,10 +231,7 @@ def marked_wholesalers(site: Site, browser: Browser) -> Iterator[Outcome]:
     yield Outcome("at the tab: who is silent", browser.text("#missing-count .tag"), "1 silent")
     name = browser.one("#to-missing").accessible_name
     yield Outcome(f"at the tab: in words, {name}", "5 messages missing" in name, True)
-    tags = browser.run(
-        """return [...document.querySelectorAll('#offers tbody tr')].map((row) =>
-          [...row.querySelectorAll('.tag.unusual')].map((tag) => tag.textContent))"""
-    )
+    tags = browser.call("unusualTags")
     yield Outcome("in the rows", tags, [["5 missing"], ["silent for 8 days"], []])
     notes = browser.text("#notes")
     words = "North Books: 3 to 4, 6 to 8 missing. 2 later messages wait for what is missing. Its prices may be older"

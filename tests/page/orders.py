@@ -398,6 +398,10 @@ def copied(site: Site, browser: Browser) -> Iterator[Outcome]:
     yield Outcome("where copying is not allowed, it is shown", text, f"{isbn_of(0)}\t2\n")
 
 
+def seen_texts(browser: Browser, selector: str) -> list[str]:
+    return [text for _, text in browser.call("seen", selector)]
+
+
 def printed(site: Site, browser: Browser) -> Iterator[Outcome]:
     """On paper there is the order of a wholesaler, with its name and time, and nothing else."""
     open_list(browser)
@@ -406,21 +410,16 @@ def printed(site: Site, browser: Browser) -> Iterator[Outcome]:
     browser.one("#print-beta").click()
     browser.wait(lambda: browser.run("return window.isPrinted"))
     browser.driver.execute_cdp_cmd("Emulation.setEmulatedMedia", {"media": "print"})
-    shown = """return [...document.querySelectorAll('#list tbody tr')]
-      .filter((row) => row.getClientRects().length > 0).map((row) => row.querySelector('.isbn').textContent)"""
     wanted = [isbn_of(number) for number, _, _ in ordered(range(6))["beta"]]
-    yield Outcome("the rows on paper", browser.run(shown), wanted)
-    summed = """return [...document.querySelectorAll('#sums tbody tr')]
-      .filter((row) => row.getClientRects().length > 0).map((row) => row.cells[0].textContent)"""
-    yield Outcome("its sum alone", browser.run(summed), ["Beta & Sons"])
+    yield Outcome("the rows on paper", seen_texts(browser, "#list tbody .isbn"), wanted)
+    yield Outcome("its sum alone", seen_texts(browser, "#sums tbody tr > :first-child"), ["Beta & Sons"])
     yield Outcome("whose order it is", browser.text("#paper-heading"), "Order: Beta & Sons")
     yield Outcome("its time", browser.text("#list-as-of").startswith("As of "), True)
-    fields = """return [...document.querySelectorAll('button, input, select, textarea, nav, summary')]
-      .filter((found) => found.getClientRects().length > 0).map((found) => found.id || found.localName)"""
-    yield Outcome("no fields on paper", browser.run(fields), [])
+    fields = browser.call("seen", "button, input, select, textarea, nav, summary")
+    yield Outcome("no fields on paper", fields, [])
     browser.driver.execute_cdp_cmd("Emulation.setEmulatedMedia", {"media": ""})
     browser.run("window.dispatchEvent(new Event('afterprint'))")
-    yield Outcome("all rows are back", len(browser.run(shown)), 6)
+    yield Outcome("all rows are back", len(seen_texts(browser, "#list tbody .isbn")), 6)
 
 
 def from_a_file(site: Site, browser: Browser) -> Iterator[Outcome]:

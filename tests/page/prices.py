@@ -111,12 +111,7 @@ def order(site: Site, browser: Browser) -> Iterator[Outcome]:
 
 
 def choose(browser: Browser, by: str) -> None:
-    browser.run(
-        """const field = document.getElementById('order');
-        field.value = arguments[0];
-        field.dispatchEvent(new Event('change', { bubbles: true }))""",
-        by,
-    )
+    browser.call("put", "order", by, "change")
 
 
 EURO = {"type": "05", "currency": "EUR", "country": "DE"}

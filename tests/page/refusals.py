@@ -122,14 +122,7 @@ REPLIES = [
 def replies(site: Site, browser: Browser) -> Iterator[Outcome]:
     for body, status, words in REPLIES:
         browser.open("")
-        browser.run(
-            """const [body, status, hash] = arguments;
-            window.fetch = async () => new Response(body, { status });
-            location.hash = hash""",
-            body,
-            status,
-            article(),
-        )
+        browser.call("replyWith", body, status, article())
         came = browser.wait_for_text("#question-wrong", words)
         yield Outcome(f"a reply of {status}, {body}", came, words)
 

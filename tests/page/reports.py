@@ -133,12 +133,7 @@ def kept_in_hand(site: Site, browser: Browser) -> Iterator[Outcome]:
     browser.wait_for_text(f"{NORTH} .copied", "copied")
     for width in (500, 1100):
         browser.size(width, 900)
-        fits = browser.wait(
-            lambda: browser.run(
-                """const place = document.querySelector('#report-north .strip-place');
-                return Number(place.firstChild.getAttribute('width')) === Math.floor(place.clientWidth)"""
-            )
-        )
+        fits = browser.wait(lambda: browser.call("fits", "#report-north .strip-place"))
         yield Outcome(f"the strip in a window of {width}", fits, True)
         told = browser.text(f"{NORTH} .copied")
         yield Outcome(f"copied, in a window of {width}", told.startswith("The request is copied"), True)

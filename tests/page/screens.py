@@ -27,14 +27,7 @@ LEAST_CONTRAST = 4.5
 
 def shown(browser: Browser, address: str) -> None:
     browser.open(address)
-    # Until what the view asked for is there, or what is wrong with it is told.
-    browser.wait(
-        lambda: browser.run(
-            """return !document.querySelector('#calendar').hidden
-              || document.querySelector('#as-of').textContent !== ''
-              || document.querySelector('#isbn-wrong').textContent !== ''"""
-        )
-    )
+    browser.wait(lambda: browser.call("isAnswered"))
     if has_calendar(browser):
         answered(browser)
         unfold(browser)
@@ -56,10 +49,7 @@ def paper(site: Site, browser: Browser) -> Iterator[Outcome]:
     browser.size(700, 1000)
     for name in ("article", "missing"):
         shown(browser, VIEWS[name])
-        seen = browser.run(
-            """return [...document.querySelectorAll('button, input, select, nav, .skip')]
-              .filter((found) => found.getClientRects().length > 0).map((found) => found.id)"""
-        )
+        seen = browser.call("seen", "button, input, select, nav, .skip")
         yield Outcome(f"paper: {name}: no fields", seen, [])
         yield Outcome(f"paper: {name}: nothing beyond", browser.call("beyondWindow"), [False, []])
     shown(browser, VIEWS["article"])
@@ -88,12 +78,7 @@ def contrast(browser: Browser, name: str) -> Iterator[Outcome]:
 def notes(site: Site, browser: Browser) -> Iterator[Outcome]:
     """Fields and notes by day and by night."""
     shown(browser, VIEWS["missing"])
-    browser.run(
-        """for (const id of ['down', 'settings-wrong', 'not-looked-for']) {
-          document.getElementById(id).hidden = false;
-          document.getElementById(id).append('words');
-        }"""
-    )
+    browser.call("showNotes")
     for scheme in SCHEMES:
         with preferring(browser, "prefers-color-scheme", scheme):
             border = browser.call("leastBorder")
@@ -136,11 +121,7 @@ def forced_colours(site: Site, browser: Browser) -> Iterator[Outcome]:
     with preferring(browser, "forced-colors", "active"):
         browser.open("")
         browser.wait(lambda: browser.one("#day").get_attribute("value"))
-        edges = browser.run(
-            """const back = getComputedStyle(document.body).backgroundColor;
-            return [...document.querySelectorAll('nav a')].map((link) => [
-              link.getAttribute('aria-current'), getComputedStyle(link).borderBottomColor === back])"""
-        )
+        edges = browser.call("linkLines")
     yield Outcome("forced colours: the line below a view", edges, [["page", False], [None, True], [None, True]])
 
 

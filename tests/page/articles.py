@@ -49,6 +49,12 @@ def answered(browser: Browser) -> list[list[str]]:
     return browser.wait(rows) or []
 
 
+def ask(browser: Browser, address: str) -> list[list[str]]:
+    """Opens a view anew; the rows of the offers, once all is answered."""
+    browser.open(address)
+    return answered(browser)
+
+
 def said(browser: Browser, words: str) -> bool:
     return words in browser.wait_for_text("#article-status", words)
 
@@ -65,8 +71,7 @@ def chosen_rows(browser: Browser) -> list[list[str]]:
 
 
 def one_copy(site: Site, browser: Browser) -> Iterator[Outcome]:
-    browser.open(article())
-    yield Outcome("one copy: the offers", answered(browser), ONE_COPY)
+    yield Outcome("one copy: the offers", ask(browser, article()), ONE_COPY)
     sentence = "On 10 April 2025: North Books: retail price £11.50"
     details = f"ISBN {ISBN} · in stock · rule 2: “Else whoever has the book”"
     yield Outcome("one copy: the answer", browser.text("#article-status"), f"{sentence}\n{details}")
@@ -74,14 +79,12 @@ def one_copy(site: Site, browser: Browser) -> Iterator[Outcome]:
 
 
 def ten_copies(site: Site, browser: Browser) -> Iterator[Outcome]:
-    browser.open(article(quantity="10"))
-    yield Outcome("ten copies: the offers", answered(browser), TEN_COPIES)
+    yield Outcome("ten copies: the offers", ask(browser, article(quantity="10")), TEN_COPIES)
     yield Outcome("ten copies: the choice", said(browser, "South Books: retail price £9.95"), True)
 
 
 def another_country(site: Site, browser: Browser) -> Iterator[Outcome]:
-    browser.open(article(country="IE", quantity="10"))
-    prices = [row[2] for row in answered(browser)]
+    prices = [row[2] for row in ask(browser, article(country="IE", quantity="10"))]
     yield Outcome("Ireland: South does not sell there", prices, ["£11.50", NONE, "£8.00"])
 
 
@@ -95,8 +98,7 @@ def no_rule(site: Site, browser: Browser) -> Iterator[Outcome]:
 
 def no_offer(site: Site, browser: Browser) -> Iterator[Outcome]:
     """A book without offers leaves nothing of the one before."""
-    browser.open(article())
-    answered(browser)
+    ask(browser, article())
     browser.run("location.hash = arguments[0]", article("9780000000002"))
     yield Outcome("no offer: it is said", said(browser, "No wholesaler offers this book"), True)
     shown = [browser.one(part).is_displayed() for part in ("#answer", "#calendar")]
@@ -123,8 +125,7 @@ def catalogue(site: Site, browser: Browser) -> Iterator[Outcome]:
         height = browser.one("#article-status a").size["height"]
         yield Outcome(f"the catalogue: {isbn}: {height} pixels high", height >= 24, True)
     site.write_settings(catalogue="javascript:alert('{isbn}')")
-    browser.open(article())
-    answered(browser)
+    ask(browser, article())
     yield Outcome("a catalogue that is none: no link", browser.run(links, "#article-status"), [])
     told = browser.texts("#settings-wrong li")
     yield Outcome("a catalogue that is none: it is told", ["“catalogue” is" in words for words in told], [True])
@@ -151,8 +152,7 @@ def typed_question(site: Site, browser: Browser) -> Iterator[Outcome]:
     address = browser.run("return location.hash")
     wanted = f"#article?isbn={ISBN}&quantity=10&country=GB&currency=GBP&type=02"
     yield Outcome("the question's address", address, wanted)
-    browser.open(address)
-    yield Outcome("the address brings the answer back", answered(browser), rows)
+    yield Outcome("the address brings the answer back", ask(browser, address), rows)
     browser.run("location.hash = arguments[0]", article(quantity="10"))
     browser.wait(lambda: "On 10 April 2025" in browser.text("#article-status"))
     browser.driver.back()
@@ -167,8 +167,7 @@ def typed_question(site: Site, browser: Browser) -> Iterator[Outcome]:
 
 def own_type(site: Site, browser: Browser) -> Iterator[Outcome]:
     """A type that has no words here can be asked for by the address."""
-    browser.open(article(type="77"))
-    prices = [row[2] for row in answered(browser)]
+    prices = [row[2] for row in ask(browser, article(type="77"))]
     yield Outcome("a type without words: the answer", prices, ["no price of this type"] * 3)
     shown = browser.run("return document.querySelector('#type').selectedOptions[0].textContent")
     yield Outcome("a type without words: its field", shown, "77 – no words for this code")

@@ -4,7 +4,7 @@ import contextlib
 from collections.abc import Callable, Iterator
 from datetime import date, timedelta
 
-from tests.page.articles import answered
+from tests.page.articles import answered, ask
 from tests.page.browser import Browser
 from tests.page.site import Site
 from tests.page.week import ISBN, article
@@ -107,8 +107,7 @@ def over_night(site: Site, browser: Browser) -> Iterator[Outcome]:
 def set_day(site: Site, browser: Browser) -> Iterator[Outcome]:
     stop = with_clock(browser)
     today = date.today()
-    browser.open(article())
-    answered(browser)
+    ask(browser, article())
     yield Outcome("a set day stands out at its field", browser.run(f"return {OTHER}"), True)
     sentence = browser.text("#article-status .sentence")
     yield Outcome("a set day is said in the sentence", sentence.startswith("On 10 April 2025: "), True)

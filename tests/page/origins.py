@@ -11,7 +11,7 @@ from collections.abc import Iterator
 from typing import Any
 from urllib.parse import urlsplit
 
-from tests.page.articles import answered
+from tests.page.articles import ask
 from tests.page.browser import STRANGER, Browser, browsing
 from tests.page.site import NAME, Site
 from tests.page.week import ISBN, article, empty_message
@@ -259,8 +259,7 @@ def recorded_hosts(site: Site, browser: Browser) -> Iterator[Outcome]:
     browser.requested()
     browser.complaints()
     asked = len(site.requests())
-    browser.open(article())
-    answered(browser)
+    ask(browser, article())
     browser.run("location.hash = '#missing'")
     browser.wait_for_text("#as-of", "As of")
     # Neither an empty page nor an address that is its own data asks a host.

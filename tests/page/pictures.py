@@ -6,7 +6,7 @@ from collections.abc import Iterator
 from datetime import date
 
 from tests.page import order_desk
-from tests.page.articles import answered
+from tests.page.articles import ask
 from tests.page.browser import Browser
 from tests.page.days import with_clock
 from tests.page.order_desk import DEARER, NOBODYS, RISING, isbn_of
@@ -86,8 +86,7 @@ def taken(site: Site, browser: Browser) -> Iterator[Outcome]:
     with on_the_day(browser):
         for told in MESSAGES:
             site.tell_desk(told)
-        browser.open(f"#article?isbn={BOOK}&quantity=10")
-        answered(browser)
+        ask(browser, f"#article?isbn={BOOK}&quantity=10")
         yield shot(browser, "page-article.png", "#calendar")
     site.write_settings()
 

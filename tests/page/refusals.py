@@ -3,7 +3,7 @@
 import shutil
 from collections.abc import Iterator
 
-from tests.page.articles import answered
+from tests.page.articles import answered, ask
 from tests.page.browser import Browser
 from tests.page.site import RULES, Site
 from tests.page.week import ISBN, article
@@ -91,8 +91,7 @@ def ranges(site: Site, browser: Browser) -> Iterator[Outcome]:
     browser.wait(lambda: told(browser))
     yield Outcome("no day", told(browser), {"until": DAY})
     # 3,660 days are the most.
-    browser.open(article(**{"from": "2020-01-01", "until": "2030-01-07"}))
-    answered(browser)
+    ask(browser, article(**{"from": "2020-01-01", "until": "2030-01-07"}))
     yield Outcome("3,660 days", told(browser), {})
 
 
@@ -175,8 +174,7 @@ def without_rules(site: Site, browser: Browser) -> Iterator[Outcome]:
     """Words for rules, numbers of copies and all series are there only if wanted."""
     site.write_settings(f"{{{SERIES}, {REST}}}")
     site.rules.unlink()
-    browser.open(article())
-    rows = answered(browser)
+    rows = ask(browser, article())
     said = browser.wait_for_text("#article-status", "rule")
     wanted = f"On 10 April 2025: North: retail price £11.50\nISBN {ISBN} · in stock · rule 2"
     yield Outcome("without words for rules", said, wanted)

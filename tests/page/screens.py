@@ -5,7 +5,7 @@ from collections.abc import Iterator
 from datetime import date
 from typing import Any
 
-from tests.page.articles import answered, has_calendar
+from tests.page.articles import answered, ask, has_calendar
 from tests.page.browser import Browser
 from tests.page.calendars import unfold
 from tests.page.site import Site
@@ -104,8 +104,7 @@ def first_sight(site: Site, browser: Browser) -> Iterator[Outcome]:
         site.write_settings(language=language)
         for width, height in ((1280, 720), (640, 360), (360, 740)):
             browser.size(width, height)
-            browser.open(article(day=date.today().isoformat()))
-            answered(browser)
+            ask(browser, article(day=date.today().isoformat()))
             top = browser.run("return document.getElementById('verdict').getBoundingClientRect().top")
             name = f"{width} x {height}, {language}"
             yield Outcome(f"{name}: the answer begins at {top}", top <= 200, True)

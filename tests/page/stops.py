@@ -7,7 +7,7 @@ import time
 from collections.abc import Callable, Iterator
 from typing import NamedTuple
 
-from tests.page.articles import ONE_COPY, answered, has_calendar
+from tests.page.articles import ONE_COPY, answered, ask, has_calendar
 from tests.page.browser import Browser
 from tests.page.calendars import unfold
 from tests.page.days import hurrying, with_clock
@@ -191,8 +191,7 @@ def unanswered_later(site: Site, browser: Browser) -> Iterator[Outcome]:
     """So too where the page has been open for a while, and asks each minute; what was answered stays, with its time."""
     stop = with_clock(browser)
     for name, reply, most, words in UNANSWERED:
-        browser.open(article())
-        answered(browser)
+        ask(browser, article())
         time_of = browser.text("#answer-time")
         with standing_in(site, lambda: reply) as asked:
             browser.run("window.daysAhead = 61 / 86400")

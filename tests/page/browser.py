@@ -98,6 +98,12 @@ class Browser:
         """What the function of that name in functions.js returns."""
         return self.run(f"{FUNCTIONS[name]}\nreturn {name}(...arguments);", *given)
 
+    def put(self, name: str, *given: object) -> Callable[[], object]:
+        """Calls that function in each page that is opened from now on; gives what ends that."""
+        script = {"source": f"({FUNCTIONS[name]})(...{json.dumps(given)})"}
+        put = self.driver.execute_cdp_cmd("Page.addScriptToEvaluateOnNewDocument", script)
+        return lambda: self.driver.execute_cdp_cmd("Page.removeScriptToEvaluateOnNewDocument", put)
+
     def wait(self, holds: Callable[[], Found], seconds: float = SECONDS) -> Found | None:
         """Waits until it holds, and gives what it gave; after so many seconds, what it gave last."""
         end = time.monotonic() + seconds

@@ -357,3 +357,31 @@ function isAnswered() {
     || document.querySelector('#as-of').textContent !== ''
     || document.querySelector('#isbn-wrong').textContent !== '';
 }
+
+// The page's clock, moved on by as many days as the tests say.
+function moveClock(ahead) {
+  const Real = Date;
+  window.daysAhead = ahead;
+  const now = () => Real.now() + window.daysAhead * 86400000;
+  window.Date = class extends Real {
+    constructor(...given) { super(...(given.length === 0 ? [now()] : given)); }
+    static now() { return now(); }
+  };
+}
+
+// The page's time goes so many times as fast, so that nobody waits a minute for what it does each minute.
+function hurry(pace) {
+  const [RealDate, later, each] = [Date, window.setTimeout, window.setInterval];
+  const begun = RealDate.now();
+  const now = () => begun + (RealDate.now() - begun) * pace;
+  window.Date = class extends RealDate {
+    constructor(...given) { super(...(given.length === 0 ? [now()] : given)); }
+    static now() { return now(); }
+  };
+  window.setTimeout = (act, wait = 0, ...given) => later(act, wait / pace, ...given);
+  window.setInterval = (act, wait = 0, ...given) => each(act, wait / pace, ...given);
+}
+
+function keepNothing() {
+  Object.defineProperty(window, 'localStorage', { get() { throw new Error('kept'); } });
+}

@@ -187,11 +187,10 @@ def silent(site: Site, browser: Browser) -> Iterator[Outcome]:
 
 def nothing_kept(site: Site, browser: Browser) -> Iterator[Outcome]:
     """A browser that keeps nothing shows all else."""
-    source = "Object.defineProperty(window, 'localStorage', { get() { throw new Error('kept') } })"
-    put = browser.driver.execute_cdp_cmd("Page.addScriptToEvaluateOnNewDocument", {"source": source})
+    stop = browser.put("keepNothing")
     open_missing(browser)
     yield Outcome("without a store", browser.text(f"{NORTH} .since"), SEEN)
-    browser.driver.execute_cdp_cmd("Page.removeScriptToEvaluateOnNewDocument", put)
+    stop()
 
 
 def unknown_series(site: Site, browser: Browser) -> Iterator[Outcome]:

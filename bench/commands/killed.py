@@ -20,23 +20,15 @@ from random import Random
 from bench.figures.program import proved_program
 from bench.kills.desk import Desk, KillFault
 from bench.kills.portions import portion
-from bench.kills.requests import RULES, Maker
+from bench.kills.requests import Maker
+from bench.kills.seeds import RULES
 
 # The first fields of answers, each of which the requests must have met.
 ANSWERS = ["agreed", "applied", "held", "waived", "refused", "gaps", "catalogue", "price", "choice", "calendar"]
 
-REFUSALS = [
-    "name-taken",
-    "series-taken",
-    "malformed",
-    "unnumbered",
-    "unknown-series",
-    "before-first",
-    "waived",
-    "other-contents",
-    "had",
-    "bad-range",
-]
+REFUSALS = """
+    name-taken series-taken malformed unnumbered unknown-series before-first waived other-contents had bad-range
+""".split()
 
 
 def arguments() -> argparse.Namespace:

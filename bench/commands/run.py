@@ -23,7 +23,6 @@ FIGURES = {
     "writing": in_memory.writing,
     "questions": in_memory.questions,
     "prices": in_memory.prices_to_rows,
-    "first-questions": in_memory.first_questions,
     "question-memory": in_memory.memory_of_question,
     "growth": in_memory.growth,
     "file": in_files.new_to_memory,

@@ -90,17 +90,13 @@ def new_to_memory(desk: Desk) -> Iterator[Figure]:
 
 def new_to_rows(desk: Desk) -> Iterator[Figure]:
     """Messages over a new file, to their rows by SQLite alone."""
-    one, other = least_of_each(
-        lambda: over_new_file(desk, offers()), lambda: by_sqlite(desk, OFFERS)
-    )
+    one, other = least_of_each(lambda: over_new_file(desk, offers()), lambda: by_sqlite(desk, OFFERS))
     yield Figure("500 messages over a new file, to their rows by SQLite alone", one, other)
 
 
 def prices_to_rows(desk: Desk) -> Iterator[Figure]:
     """Messages that are nearly all prices over a new file, to their rows by SQLite alone."""
-    one, other = least_of_each(
-        lambda: over_new_file(desk, prices()), lambda: by_sqlite(desk, PRICES)
-    )
+    one, other = least_of_each(lambda: over_new_file(desk, prices()), lambda: by_sqlite(desk, PRICES))
     yield Figure("57,000 prices over a new file, to their rows by SQLite alone", one, other)
 
 
@@ -120,10 +116,7 @@ def growth(desk: Desk) -> Iterator[Figure]:
     wholes = []
     for is_reversed, order in ((False, "in order"), (True, "reversed")):
         few, half, whole = least_of_each(
-            *(
-                lambda count=count: over_new_file(desk, offers(count, is_reversed))
-                for count in (125, 250, 500)
-            )
+            *(lambda count=count: over_new_file(desk, offers(count, is_reversed)) for count in (125, 250, 500))
         )
         yield Figure(f"250 messages {order} over a new file, to 125", half, few)
         yield Figure(f"500 messages {order} over a new file, to 250", whole, half)

@@ -115,15 +115,6 @@ def prices_to_rows(desk: Desk) -> Iterator[Figure]:
     yield Figure("10,000 price questions in memory, to the same by SQLite alone", one, other)
 
 
-def first_questions(desk: Desk) -> Iterator[Figure]:
-    """The first 100 price questions, the listing of the articles of 5,000 new records included, to the intake
-    of these."""
-    plain = desk.batch(desk.text("catalogue", catalogue([])))
-    asked = desk.batch(desk.text("asked", catalogue(list(texts.scattered_questions(RECORDS, 100)))))
-    one, other = least_of_each(lambda: beyond(asked, plain), lambda: beyond(plain, desk.empty()))
-    yield Figure("the first 100 price questions, to the intake of 5,000 records", one, other)
-
-
 def one_question() -> list[str]:
     """A question about the price of one record of many."""
     return list(texts.scattered_questions(MANY_RECORDS, 1))

@@ -19,12 +19,7 @@ import sys
 from tests.running import PROGRAM, choice, command_line, run_side_by_side, why_not
 
 # Debian's packages, each with a command that it brings.
-COMMANDS = {
-    "nginx": "nginx",
-    "openssl": "openssl",
-    "chromium": "chromium",
-    "chromium-driver": "chromedriver",
-}
+COMMANDS = {"nginx": "nginx", "openssl": "openssl", "chromium": "chromium", "chromium-driver": "chromedriver"}
 
 
 def missing_packages() -> list[str]:

@@ -29,11 +29,6 @@ TEN_COPIES = [
     [*WEST, "£8.00", "-£1.95 rule 1 does not take it", SAME_FOR_TEN, ON],
 ]
 
-# The cells of each offer: of the first one the wholesaler, without the marks behind it.
-ROWS = """
-return [...document.querySelectorAll('#offers tbody tr')].map((row) => [...row.children].map((cell) =>
-  (cell.querySelector('.name') ?? cell).textContent));
-"""
 # What is still asked for: other quantities, other types, the calendar.
 WAITING = ("…", "or before")
 
@@ -47,11 +42,17 @@ def answered(browser: Browser) -> list[list[str]]:
     """The rows of the offers, once all that is asked beside their prices is answered too."""
 
     def rows() -> list[list[str]]:
-        found: list[list[str]] = browser.run(ROWS)
+        found: list[list[str]] = browser.call("offerCells")
         waits = any(word in cell for row in found for cell in row for word in WAITING)
         return found if has_calendar(browser) and not waits else []
 
     return browser.wait(rows) or []
+
+
+def ask(browser: Browser, address: str) -> list[list[str]]:
+    """Opens a view anew; the rows of the offers, once all is answered."""
+    browser.open(address)
+    return answered(browser)
 
 
 def said(browser: Browser, words: str) -> bool:
@@ -65,16 +66,12 @@ def noted(browser: Browser, words: str) -> bool:
 
 def chosen_rows(browser: Browser) -> list[list[str]]:
     """The class of each offer's row, and what is said behind the wholesaler of being chosen."""
-    rows: list[list[str]] = browser.run(
-        """return [...document.querySelectorAll('#offers tbody tr')]
-          .map((row) => [row.className, row.querySelector('.mark')?.textContent ?? ''])"""
-    )
+    rows: list[list[str]] = browser.call("offerMarks")
     return rows
 
 
 def one_copy(site: Site, browser: Browser) -> Iterator[Outcome]:
-    browser.open(article())
-    yield Outcome("one copy: the offers", answered(browser), ONE_COPY)
+    yield Outcome("one copy: the offers", ask(browser, article()), ONE_COPY)
     sentence = "On 10 April 2025: North Books: retail price £11.50"
     details = f"ISBN {ISBN} · in stock · rule 2: “Else whoever has the book”"
     yield Outcome("one copy: the answer", browser.text("#article-status"), f"{sentence}\n{details}")
@@ -82,14 +79,12 @@ def one_copy(site: Site, browser: Browser) -> Iterator[Outcome]:
 
 
 def ten_copies(site: Site, browser: Browser) -> Iterator[Outcome]:
-    browser.open(article(quantity="10"))
-    yield Outcome("ten copies: the offers", answered(browser), TEN_COPIES)
+    yield Outcome("ten copies: the offers", ask(browser, article(quantity="10")), TEN_COPIES)
     yield Outcome("ten copies: the choice", said(browser, "South Books: retail price £9.95"), True)
 
 
 def another_country(site: Site, browser: Browser) -> Iterator[Outcome]:
-    browser.open(article(country="IE", quantity="10"))
-    prices = [row[2] for row in answered(browser)]
+    prices = [row[2] for row in ask(browser, article(country="IE", quantity="10"))]
     yield Outcome("Ireland: South does not sell there", prices, ["£11.50", NONE, "£8.00"])
 
 
@@ -103,8 +98,7 @@ def no_rule(site: Site, browser: Browser) -> Iterator[Outcome]:
 
 def no_offer(site: Site, browser: Browser) -> Iterator[Outcome]:
     """A book without offers leaves nothing of the one before."""
-    browser.open(article())
-    answered(browser)
+    ask(browser, article())
     browser.run("location.hash = arguments[0]", article("9780000000002"))
     yield Outcome("no offer: it is said", said(browser, "No wholesaler offers this book"), True)
     shown = [browser.one(part).is_displayed() for part in ("#answer", "#calendar")]
@@ -131,8 +125,7 @@ def catalogue(site: Site, browser: Browser) -> Iterator[Outcome]:
         height = browser.one("#article-status a").size["height"]
         yield Outcome(f"the catalogue: {isbn}: {height} pixels high", height >= 24, True)
     site.write_settings(catalogue="javascript:alert('{isbn}')")
-    browser.open(article())
-    answered(browser)
+    ask(browser, article())
     yield Outcome("a catalogue that is none: no link", browser.run(links, "#article-status"), [])
     told = browser.texts("#settings-wrong li")
     yield Outcome("a catalogue that is none: it is told", ["“catalogue” is" in words for words in told], [True])
@@ -159,8 +152,7 @@ def typed_question(site: Site, browser: Browser) -> Iterator[Outcome]:
     address = browser.run("return location.hash")
     wanted = f"#article?isbn={ISBN}&quantity=10&country=GB&currency=GBP&type=02"
     yield Outcome("the question's address", address, wanted)
-    browser.open(address)
-    yield Outcome("the address brings the answer back", answered(browser), rows)
+    yield Outcome("the address brings the answer back", ask(browser, address), rows)
     browser.run("location.hash = arguments[0]", article(quantity="10"))
     browser.wait(lambda: "On 10 April 2025" in browser.text("#article-status"))
     browser.driver.back()
@@ -175,8 +167,7 @@ def typed_question(site: Site, browser: Browser) -> Iterator[Outcome]:
 
 def own_type(site: Site, browser: Browser) -> Iterator[Outcome]:
     """A type that has no words here can be asked for by the address."""
-    browser.open(article(type="77"))
-    prices = [row[2] for row in answered(browser)]
+    prices = [row[2] for row in ask(browser, article(type="77"))]
     yield Outcome("a type without words: the answer", prices, ["no price of this type"] * 3)
     shown = browser.run("return document.querySelector('#type').selectedOptions[0].textContent")
     yield Outcome("a type without words: its field", shown, "77 – no words for this code")
@@ -185,23 +176,7 @@ def own_type(site: Site, browser: Browser) -> Iterator[Outcome]:
 def one_moment(site: Site, browser: Browser) -> Iterator[Outcome]:
     """A message that comes between the two questions leaves no answer that contradicts itself."""
     browser.open("")
-    browser.run(
-        """
-        const real = window.fetch;
-        window.asked = [];
-        window.fetch = async (url, ...rest) => {
-          window.asked.push(String(url).replace(/.*\\//, '').replace(/\\?.*/, ''));
-          const isLater = window.asked.filter((what) => what === 'price').length > 1;
-          const reply = await real(url, ...rest);
-          if (isLater) return reply;
-          if (!String(url).includes('/price?')) return reply;
-          const text = (await reply.text()).replace('11.500', '11.400');
-          return new Response(text, { status: 200 });
-        };
-        location.hash = arguments[0];
-        """,
-        article(),
-    )
+    browser.call("changePrice", article())
     rows = answered(browser)
     yield Outcome("price and choice of one moment", rows, ONE_COPY)
     # The page may still be fetching files of its own.
@@ -209,32 +184,14 @@ def one_moment(site: Site, browser: Browser) -> Iterator[Outcome]:
     yield Outcome("they are asked for again", asked, 2)
 
 
-# Sixty offers of one book, of which the last one is chosen, in the place of the desk's replies.
-MANY = """
-const real = window.fetch;
-const offers = Array.from({ length: 60 }, (_, at) => (
-  { amount: '5.000', availability: '21', place: 1, reference: `R${at}`, series: 'odd' }));
-const bodies = {
-  price: { answer: 'price', offers },
-  choice: { answer: 'choice', choice: { ...offers[59], rule: 1 } },
-  calendar: { answer: 'calendar', offers: [] },
-};
-window.fetch = async (url, ...rest) => {
-  const what = /\\/desk\\/articles\\/\\d+\\/(\\w+)/.exec(url)?.[1];
-  return what === undefined ? real(url, ...rest) : new Response(JSON.stringify(bodies[what]), { status: 200 });
-};
-location.hash = arguments[0];
-"""
-
-
 def many_offers(site: Site, browser: Browser) -> Iterator[Outcome]:
     """Of very many offers fifty are shown at first, with the chosen one before all others."""
     browser.open("")
-    browser.run(MANY, article(type="05"))
+    browser.call("answerWithManyOffers", article(type="05"))
     rows = answered(browser)
     yield Outcome("many offers: the first of them", (len(rows), rows[0][0]), (50, "odd R59"))
     browser.one("#show-all").click()
-    yield Outcome("many offers: all of them", len(browser.run(ROWS)), 60)
+    yield Outcome("many offers: all of them", len(browser.call("offerCells")), 60)
 
 
 CASES = [

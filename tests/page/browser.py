@@ -2,8 +2,10 @@
 
 import contextlib
 import json
+import re
 import time
 from collections.abc import Callable, Iterator
+from pathlib import Path
 from typing import Any, TypeVar
 
 from selenium import webdriver
@@ -23,6 +25,10 @@ DRIVER = "/usr/bin/chromedriver"
 STRANGER = "stranger.example.net"
 
 WIDE = (1100, 900)
+
+# The texts of the functions that are run in a page.
+SCRIPTS = Path(__file__).with_name("functions.js").read_text(encoding="utf-8")
+FUNCTIONS = {found[1]: found[0] for found in re.finditer(r"^function (\w+)\(.*?^}", SCRIPTS, re.M | re.S)}
 
 Found = TypeVar("Found")
 
@@ -87,6 +93,16 @@ class Browser:
     def run(self, script: str, *given: object) -> Any:
         """What the script returns, in Python's types."""
         return self.driver.execute_script(script, *given)
+
+    def call(self, name: str, *given: object) -> Any:
+        """What the function of that name in functions.js returns."""
+        return self.run(f"{FUNCTIONS[name]}\nreturn {name}(...arguments);", *given)
+
+    def put(self, name: str, *given: object) -> Callable[[], object]:
+        """Calls that function in each page that is opened from now on; gives what ends that."""
+        script = {"source": f"({FUNCTIONS[name]})(...{json.dumps(given)})"}
+        put = self.driver.execute_cdp_cmd("Page.addScriptToEvaluateOnNewDocument", script)
+        return lambda: self.driver.execute_cdp_cmd("Page.removeScriptToEvaluateOnNewDocument", put)
 
     def wait(self, holds: Callable[[], Found], seconds: float = SECONDS) -> Found | None:
         """Waits until it holds, and gives what it gave; after so many seconds, what it gave last."""

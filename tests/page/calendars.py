@@ -19,21 +19,6 @@ SPANS = [
     ["west", "20250325", "20250425", "8.000"],
 ]
 
-# Where the shapes of a lane lie, in the part of its width that each takes.
-SHAPES = """
-return [...document.querySelectorAll('#picture svg.lane')].map((lane) => {
-  const whole = lane.getBoundingClientRect();
-  return [...lane.querySelectorAll(arguments[0])].map((shape) => {
-    const box = shape.getBoundingClientRect();
-    return [(box.left - whole.left) / whole.width, (box.right - whole.left) / whole.width];
-  });
-});
-"""
-AMOUNTS = """
-return [...document.querySelectorAll('#picture svg.lane')].map((lane) =>
-  [...lane.querySelectorAll('.span')].map(({ dataset }) => [dataset.first, dataset.last, dataset.amount]));
-"""
-
 # A span of an offer, as the desk answers it.
 Span = dict[str, str]
 
@@ -94,9 +79,9 @@ def measured(
     priced = [[span for span in offer["spans"] if span["amount"] is not None] for offer in offers]
     empty = [[span for span in offer["spans"] if span["amount"] is None] for offer in offers]
     amounts = [[list(map(span.get, ["first", "last", "amount"])) for span in lane] for lane in priced]
-    yield Outcome(f"{name}: the spans", browser.run(AMOUNTS), amounts)
+    yield Outcome(f"{name}: the spans", browser.call("amounts"), amounts)
     for kind, spans in [(".span", priced), (".gap", empty)]:
-        came = browser.run(SHAPES, kind)
+        came = browser.call("shapes", kind)
         wanted = [parts(lane, first, last) for lane in spans]
         yield Outcome(f"{name}: {kind} to scale ({came}, {wanted})", are_near(came, wanted), True)
 
@@ -105,12 +90,9 @@ def week(site: Site, browser: Browser) -> Iterator[Outcome]:
     first, last = date(2025, 3, 25), date(2025, 4, 25)
     yield from measured(site, browser, "the week's calendar", ISBN, first, last)
     names = ["north", "south", "west"]
-    came = [[name, *span] for name, lane in zip(names, browser.run(AMOUNTS)) for span in lane]
+    came = [[name, *span] for name, lane in zip(names, browser.call("amounts")) for span in lane]
     yield Outcome("the week's calendar: as its document has it", came, SPANS)
-    texts = browser.run(
-        """return [...document.querySelectorAll('#picture svg.lane')].map((lane) =>
-          [...lane.querySelectorAll('.amount')].map((text) => text.textContent))"""
-    )
+    texts = browser.call("laneAmounts")
     wanted = [["12.99", "11.50", "10.75", "11.50"], ["11.80"], ["8.00"]]
     yield Outcome("the week's calendar: the amounts", texts, wanted)
 
@@ -120,18 +102,10 @@ def line(site: Site, browser: Browser) -> Iterator[Outcome]:
     first, last = date(2025, 3, 25), date(2025, 4, 25)
     open_calendar(browser, ISBN, first, last)
     middle = ((date(2025, 4, 10) - first).days + 0.5) / 32
-    came = browser.run(SHAPES, "line.day")
+    came = browser.call("shapes", "line.day")
     wanted = [[(middle, middle)]] * 3
     yield Outcome(f"the line of the day ({came}, {wanted})", are_near(came, wanted), True)
-    crossed = browser.run(
-        """return [...document.querySelectorAll('#picture svg.lane')].flatMap((lane) => {
-          const line = lane.querySelector('line.day').getBoundingClientRect();
-          return [...lane.querySelectorAll('text')].filter((text) => {
-            const box = text.getBoundingClientRect();
-            return box.left < line.right && line.left < box.right && box.top < line.bottom;
-          }).map((text) => text.textContent);
-        })"""
-    )
+    crossed = browser.call("crossedTexts")
     yield Outcome("the line crosses no amount", crossed, [])
     open_calendar(browser, ISBN, first, last, day="2025-05-01")
     yield Outcome("the line of a day outside", browser.all("#picture line.day"), [])
@@ -139,17 +113,12 @@ def line(site: Site, browser: Browser) -> Iterator[Outcome]:
     yield Outcome("a day outside is said", said, True)
 
 
-CHOSEN = """
-return [...document.querySelectorAll('#picture .span.chosen')].map(({ dataset }) => [dataset.first, dataset.last]);
-"""
-
-
 def chosen_span(site: Site, browser: Browser) -> Iterator[Outcome]:
     """Only the time in which the chosen price holds stands out: who is chosen on another day is not said."""
     open_calendar(browser, ISBN, date(2025, 3, 25), date(2025, 4, 25))
-    yield Outcome("the chosen span", browser.run(CHOSEN), [["20250401", "20250414"]])
+    yield Outcome("the chosen span", browser.call("chosenSpans"), [["20250401", "20250414"]])
     open_calendar(browser, ISBN, date(2025, 4, 15), date(2025, 4, 25))
-    yield Outcome("no chosen span where the day lies outside", browser.run(CHOSEN), [])
+    yield Outcome("no chosen span where the day lies outside", browser.call("chosenSpans"), [])
 
 
 def gaps(site: Site, browser: Browser) -> Iterator[Outcome]:
@@ -224,13 +193,7 @@ def resized(site: Site, browser: Browser) -> Iterator[Outcome]:
     open_calendar(browser, ISBN, date(2025, 3, 25), date(2025, 4, 25))
     for width in (500, 1100):
         browser.size(width, 900)
-        fits = browser.wait(
-            lambda: browser.run(
-                """const place = document.querySelector('#picture');
-                const drawn = Number(place.querySelector('svg').getAttribute('width'));
-                return drawn === Math.floor(place.clientWidth);"""
-            )
-        )
+        fits = browser.wait(lambda: browser.call("fits", "#picture"))
         yield Outcome(f"the picture in a window of {width}", fits, True)
 
 

@@ -4,51 +4,26 @@ import contextlib
 from collections.abc import Callable, Iterator
 from datetime import date, timedelta
 
-from tests.page.articles import answered
+from tests.page.articles import answered, ask
 from tests.page.browser import Browser
 from tests.page.site import Site
 from tests.page.week import ISBN, article
 from tests.running import Outcome
 
-# The page's clock, moved on by as many days as the tests say.
-CLOCK = """
-const Real = Date;
-window.daysAhead = AHEAD;
-const now = () => Real.now() + window.daysAhead * 86400000;
-window.Date = class extends Real {
-  constructor(...given) { super(...(given.length === 0 ? [now()] : given)); }
-  static now() { return now(); }
-};
-"""
 # A browser tells a page that it is seen again, as on the morning after.
 SEEN_AGAIN = "window.daysAhead = arguments[0]; document.dispatchEvent(new Event('visibilitychange'))"
 
 OTHER = "document.getElementById('day-shown').classList.contains('unusual')"
 
 
-# The page's time goes faster, so that nobody waits a minute for what it does each minute.
-HURRY = """
-const [RealDate, later, each] = [Date, window.setTimeout, window.setInterval];
-const begun = RealDate.now();
-const now = () => begun + (RealDate.now() - begun) * PACE;
-window.Date = class extends RealDate {
-  constructor(...given) { super(...(given.length === 0 ? [now()] : given)); }
-  static now() { return now(); }
-};
-window.setTimeout = (act, wait = 0, ...given) => later(act, wait / PACE, ...given);
-window.setInterval = (act, wait = 0, ...given) => each(act, wait / PACE, ...given);
-"""
-
-
 @contextlib.contextmanager
 def hurrying(browser: Browser, pace: int) -> Iterator[None]:
     """Lets the time of each page that is opened go so many times as fast."""
-    script = {"source": f"{{{HURRY.replace('PACE', str(pace))}}}"}
-    put = browser.driver.execute_cdp_cmd("Page.addScriptToEvaluateOnNewDocument", script)
+    stop = browser.put("hurry", pace)
     try:
         yield
     finally:
-        browser.driver.execute_cdp_cmd("Page.removeScriptToEvaluateOnNewDocument", put)
+        stop()
 
 
 def in_words(day: date) -> str:
@@ -72,9 +47,7 @@ def shown_day(browser: Browser) -> str:
 
 def with_clock(browser: Browser, ahead: int = 0) -> Callable[[], object]:
     """Puts the clock into each page from now on; gives what takes it out again."""
-    script = {"source": CLOCK.replace("AHEAD", str(ahead))}
-    put = browser.driver.execute_cdp_cmd("Page.addScriptToEvaluateOnNewDocument", script)
-    return lambda: browser.driver.execute_cdp_cmd("Page.removeScriptToEvaluateOnNewDocument", put)
+    return browser.put("moveClock", ahead)
 
 
 def over_night(site: Site, browser: Browser) -> Iterator[Outcome]:
@@ -107,8 +80,7 @@ def over_night(site: Site, browser: Browser) -> Iterator[Outcome]:
 def set_day(site: Site, browser: Browser) -> Iterator[Outcome]:
     stop = with_clock(browser)
     today = date.today()
-    browser.open(article())
-    answered(browser)
+    ask(browser, article())
     yield Outcome("a set day stands out at its field", browser.run(f"return {OTHER}"), True)
     sentence = browser.text("#article-status .sentence")
     yield Outcome("a set day is said in the sentence", sentence.startswith("On 10 April 2025: "), True)
@@ -134,11 +106,7 @@ def typed_day(site: Site, browser: Browser) -> Iterator[Outcome]:
     stop = with_clock(browser)
     browser.open("")
     browser.wait(lambda: value(browser))
-    browser.run(
-        """const field = document.getElementById('day');
-        field.value = '2025-04-10';
-        field.dispatchEvent(new Event('input', { bubbles: true }))"""
-    )
+    browser.call("put", "day", "2025-04-10", "input")
     yield Outcome("a typed day stands out", browser.run(f"return {OTHER}"), True)
     browser.run(SEEN_AGAIN, 1)
     yield Outcome("a typed day stays over night", value(browser), "2025-04-10")

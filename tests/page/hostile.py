@@ -77,23 +77,6 @@ def unknown_names(site: Site, browser: Browser) -> Iterator[Outcome]:
     yield Outcome("unknown names: no fault", browser.complaints(), [])
 
 
-# Where the letters before a reference, and the first letter behind it, begin.
-AROUND = """
-const rows = document.querySelectorAll(arguments[0]);
-const reference = arguments[1];
-return [...rows].filter((row) => row.textContent.includes(reference)).map((row) => {
-  const texts = document.createTreeWalker(row, NodeFilter.SHOW_TEXT);
-  const found = [];
-  while (texts.nextNode()) {
-    const range = document.createRange();
-    range.selectNodeContents(texts.currentNode);
-    if (range.getBoundingClientRect().width > 0) found.push([texts.currentNode.data, range.getBoundingClientRect().left]);
-  }
-  return found.filter(([, left], at) => at > 0 && left <= found[at - 1][1]).map(([text]) => text);
-});
-"""
-
-
 def turning(site: Site, browser: Browser) -> Iterator[Outcome]:
     """A reference in a script from right to left leaves what stands beside it in its place."""
     browser.size(1400, 900)
@@ -102,7 +85,7 @@ def turning(site: Site, browser: Browser) -> Iterator[Outcome]:
     browser.run("document.getElementById('references').open = true")
     for reference in TURNING:
         for place in ("#picture .lane-name", "#spans tbody th"):
-            came = browser.run(AROUND, place, reference)
+            came = browser.call("around", place, reference)
             yield Outcome(f"beside {reference!a} in {place}", came, [[]])
         holders = browser.run(
             """return [...document.querySelectorAll('bdi')].filter((found) => found.textContent === arguments[0])

@@ -3,7 +3,7 @@
 from collections.abc import Iterator
 from selenium.webdriver.common.action_chains import ActionChains
 
-from tests.page.articles import answered
+from tests.page.articles import answered, ask
 from tests.page.browser import Browser
 from tests.page.site import Site
 from tests.page.week import ISBN, OTHER_ISBN, article
@@ -149,8 +149,7 @@ def check_digits(site: Site, browser: Browser) -> Iterator[Outcome]:
         browser.one("#ask-anyway").click()
         yield Outcome(f"{typed}: asked all the same", asked_any(browser, isbn), True)
         yield Outcome(f"{typed}: by the desk", "200" in site.lines_since(before), True)
-    browser.open(article())
-    answered(browser)
+    ask(browser, article())
     yield Outcome("a right ISBN has no remark", browser.text("#isbn-wrong"), "")
 
 

@@ -15,15 +15,8 @@ from tests.running import Outcome
 # A page has fewer places for the focus.
 MOST = 60
 
-# What FOCUS gives.
+# What the function `focus` gives.
 Focus = dict[str, Any]
-
-FOCUS = """
-const found = document.activeElement;
-const style = getComputedStyle(found);
-const [outline, width] = [style.outlineStyle, parseFloat(style.outlineWidth)];
-return { id: found.id, text: found.textContent.trim(), outline, width };
-"""
 
 
 def press(browser: Browser, *keys: str) -> None:
@@ -39,7 +32,7 @@ def tab_to(browser: Browser, holds: Callable[[Focus], bool], is_back: bool = Fal
             keys.key_down(Keys.SHIFT).send_keys(Keys.TAB).key_up(Keys.SHIFT).perform()
         else:
             keys.send_keys(Keys.TAB).perform()
-        found.append(browser.run(FOCUS))
+        found.append(browser.call("focus"))
         if holds(found[-1]):
             return found
     raise AssertionError(f"the tabulator does not come there: {found}")
@@ -62,7 +55,7 @@ def day_keys(browser: Browser, year: str, month: str, date: str) -> str:
 def article(site: Site, browser: Browser) -> Iterator[Outcome]:
     browser.open("")
     browser.wait(lambda: browser.one("#day").get_attribute("value"))
-    yield Outcome("the focus begins at the ISBN", browser.run(FOCUS)["id"], "isbn")
+    yield Outcome("the focus begins at the ISBN", browser.call("focus")["id"], "isbn")
     way = tab_to(browser, has_id("skip"), is_back=True)
     places = [focus["id"] for focus in way]
     yield Outcome("the way back from there", places, ["to-missing", "to-order", "to-article", "skip"])
@@ -73,11 +66,11 @@ def article(site: Site, browser: Browser) -> Iterator[Outcome]:
     press(browser, "10")
     way += tab_to(browser, has_id("change"))
     press(browser, Keys.ENTER)
-    yield Outcome("the day comes behind change", browser.run(FOCUS)["id"], "day")
+    yield Outcome("the day comes behind change", browser.call("focus")["id"], "day")
     press(browser, day_keys(browser, "2025", "04", "10"))
     press(browser, Keys.ENTER)
     yield Outcome("asked by the keyboard", answered(browser)[1], TEN_COPIES[1])
-    yield Outcome("the focus goes back to the ISBN", browser.run(FOCUS)["id"], "isbn")
+    yield Outcome("the focus goes back to the ISBN", browser.call("focus")["id"], "isbn")
     day = browser.one("#day").get_attribute("value")
     yield Outcome("a day by the keyboard", day, "2025-04-10")
     way += tab_to(browser, lambda focus: focus["text"].startswith("Calendar of prices"))
@@ -111,7 +104,7 @@ def skipped(site: Site, browser: Browser) -> Iterator[Outcome]:
     tab_to(browser, has_id("skip"))
     press(browser, Keys.ENTER)
     press(browser, Keys.TAB)
-    text = browser.run(FOCUS)["text"]
+    text = browser.call("focus")["text"]
     yield Outcome("behind the link past the head", text, "Copy a request to send them again")
     address = browser.run("return location.hash")
     yield Outcome("the link past the head keeps the view", address, "#missing")
@@ -126,10 +119,10 @@ def wrong_field(site: Site, browser: Browser) -> Iterator[Outcome]:
     tab_to(browser, has_id("country"))
     press(browser, "X", Keys.ENTER)
     browser.wait_for_text("#isbn-wrong", "ISBN")
-    yield Outcome("the first wrong field", browser.run(FOCUS)["id"], "isbn")
+    yield Outcome("the first wrong field", browser.call("focus")["id"], "isbn")
     press(browser, ISBN, Keys.ENTER)
     browser.wait_for_text("#country-wrong", "letters")
-    yield Outcome("the next wrong field", browser.run(FOCUS)["id"], "country")
+    yield Outcome("the next wrong field", browser.call("focus")["id"], "country")
 
 
 CASES = [article, missing, skipped, wrong_field]

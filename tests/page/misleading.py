@@ -8,7 +8,7 @@ from datetime import date
 from typing import Any
 from urllib.parse import unquote
 
-from tests.page.articles import ROWS, answered, has_calendar, noted, said
+from tests.page.articles import answered, ask, has_calendar, noted, said
 from tests.page.browser import Browser
 from tests.page.days import with_clock
 from tests.page.prices import NET, settings
@@ -56,8 +56,7 @@ PLACES = {
 
 def scans(site: Site, browser: Browser) -> Iterator[Outcome]:
     """A scan asks for its book wherever the focus is, with Enter, Tab or nothing behind, and changes no other field."""
-    browser.open(article(day=date.today().isoformat()))
-    answered(browser)
+    ask(browser, article(day=date.today().isoformat()))
     before = fields(browser)[1:]
     books = [OTHER_ISBN, ISBN]
     for name, script in PLACES.items():
@@ -112,21 +111,14 @@ def scanned_lines(site: Site, browser: Browser) -> Iterator[Outcome]:
     yield Outcome("scanned into lines, what is heard late is no line", lines, f"{ISBN}\n" * 5)
     focus = browser.run("return [document.activeElement.id, location.hash]")
     yield Outcome("scanned into lines: the focus", focus, ["lines", "#order"])
-    browser.run(
-        """const area = document.createElement('textarea');
-        area.readOnly = true;
-        document.getElementById('saved').before(area);
-        document.getElementById('sums-part').hidden = false;
-        area.focus()"""
-    )
+    browser.call("focusFixedText")
     scan(browser, OTHER_ISBN)
     yield Outcome("scanned at a text that cannot be changed", said(browser, OTHER_ISBN), True)
 
 
 def typed_digits(site: Site, browser: Browser) -> Iterator[Outcome]:
     """What a hand types beside the fields begins an ISBN, and an answer of another one is dimmed."""
-    browser.open(article())
-    answered(browser)
+    ask(browser, article())
     for name in ("the page", "a link", "a button"):
         browser.run(PLACES[name])
         scan(browser, OTHER_ISBN[0])
@@ -148,22 +140,15 @@ def typed_digits(site: Site, browser: Browser) -> Iterator[Outcome]:
 def whole_sentence(site: Site, browser: Browser) -> Iterator[Outcome]:
     """The sentence has the copies, the sum, and whatever is not as the shop asks mostly."""
     with settings(site, price_type="05"):
-        browser.open(article(BREAKS_ISBN, type="05", quantity="50"))
-        answered(browser)
+        ask(browser, article(BREAKS_ISBN, type="05", quantity="50"))
         sentence = "On 10 April 2025: Buy 50 from net at £3.76 a copy"
         yield Outcome("copies and day in the sentence", browser.text("#article-status .sentence"), sentence)
         yield Outcome("the sum", browser.text("#article-status .sum"), "£188.00")
         quantity = browser.one("#quantity").get_attribute("class")
         yield Outcome("copies above one are marked", quantity, "unusual")
-        sizes = browser.run(
-            """const size = (found) => parseFloat(getComputedStyle(found).fontSize);
-            const others = [...document.querySelectorAll('body *')].filter((found) =>
-              found.closest('.decision') === null && found.getClientRects().length > 0);
-            return [size(document.querySelector('.sentence')), Math.max(...others.map(size))]"""
-        )
+        sizes = browser.call("sizes")
         yield Outcome(f"the largest thing of the page, {sizes}", sizes[0] > sizes[1], True)
-        browser.open(article(NET_ISBN, type="05", currency="EUR", country="DE"))
-        answered(browser)
+        ask(browser, article(NET_ISBN, type="05", currency="EUR", country="DE"))
         sentence = "On 10 April 2025, in DE, in EUR: Buy 1 from net at €24.00 a copy"
         yield Outcome("country and currency in the sentence", browser.text("#article-status .sentence"), sentence)
         marked = browser.texts("#question span.unusual")
@@ -181,8 +166,7 @@ def back_to_usual(site: Site, browser: Browser) -> Iterator[Outcome]:
     stop = with_clock(browser)
     for minutes, ahead, wanted in [(10, 9, ["50", "2025-04-10"]), (10, 11, ["1", today]), (0, 0, ["1", today])]:
         with settings(site, minutes_to_usual=minutes):
-            browser.open(article(quantity="50"))
-            answered(browser)
+            ask(browser, article(quantity="50"))
             browser.run("window.daysAhead = arguments[0] / 1440", ahead)
             browser.run(PLACES["the page"])
             scan(browser, OTHER_ISBN + "\n")
@@ -235,17 +219,13 @@ def marked_wholesalers(site: Site, browser: Browser) -> Iterator[Outcome]:
     kept = browser.run("return JSON.parse(localStorage.getItem('onixdesk-seen'))")
     kept["south"]["since"] = days_ago(8)
     browser.run("localStorage.setItem('onixdesk-seen', JSON.stringify(arguments[0]))", kept)
-    browser.open(article())
-    answered(browser)
+    ask(browser, article())
     browser.wait_for_text("#missing-count", "silent")
     yield Outcome("at the tab", browser.text("#missing-count .count"), "5")
     yield Outcome("at the tab: who is silent", browser.text("#missing-count .tag"), "1 silent")
     name = browser.one("#to-missing").accessible_name
     yield Outcome(f"at the tab: in words, {name}", "5 messages missing" in name, True)
-    tags = browser.run(
-        """return [...document.querySelectorAll('#offers tbody tr')].map((row) =>
-          [...row.querySelectorAll('.tag.unusual')].map((tag) => tag.textContent))"""
-    )
+    tags = browser.call("unusualTags")
     yield Outcome("in the rows", tags, [["5 missing"], ["silent for 8 days"], []])
     notes = browser.text("#notes")
     words = "North Books: 3 to 4, 6 to 8 missing. 2 later messages wait for what is missing. Its prices may be older"
@@ -257,31 +237,26 @@ def marked_wholesalers(site: Site, browser: Browser) -> Iterator[Outcome]:
 def breaks(site: Site, browser: Browser) -> Iterator[Outcome]:
     """Where prices change with the copies, wherever that is, and what speaks against a number of copies."""
     with settings(site, price_type="05", quantities=[1, 10, 25]):
-        browser.open(article(BREAKS_ISBN, quantity="12", type="05"))
-        answered(browser)
+        ask(browser, article(BREAKS_ISBN, quantity="12", type="05"))
         cell = "1: £4.3610: £4.1412: £4.1450: £3.76"
-        yield Outcome("the asked number among them, and one beyond", browser.run(ROWS)[0][4], cell)
+        yield Outcome("the asked number among them, and one beyond", browser.call("offerCells")[0][4], cell)
         yield Outcome("the asked number is marked", browser.text("#offers .copies strong"), "12: £4.14")
-        browser.open(article(FIVE_ISBN, type="05"))
-        answered(browser)
+        ask(browser, article(FIVE_ISBN, type="05"))
         sentence = "No wholesaler has a price for 1 copy of type 05 – supplier's net price, without tax"
         yield Outcome("from five on only: the sentence", said(browser, sentence), True)
         yield Outcome("from five on only: who sells it", noted(browser, "net sells it from 5 copies on, at £5.00 each."), True)
-        yield Outcome("from five on only: the row", browser.run(ROWS)[0][3], "1: no price5: £5.00")
-        browser.open(article(DEARER_ISBN, quantity="10", type="05"))
-        answered(browser)
+        yield Outcome("from five on only: the row", browser.call("offerCells")[0][3], "1: no price5: £5.00")
+        ask(browser, article(DEARER_ISBN, quantity="10", type="05"))
         told = "Fewer copies cost less each: 9 copies at £8.66 each, £77.94 in all."
         yield Outcome("ten cost more than nine", noted(browser, told), True)
-        browser.open(article(BREAKS_ISBN, quantity="48", type="05"))
-        answered(browser)
+        ask(browser, article(BREAKS_ISBN, quantity="48", type="05"))
         told = "More copies cost less in all: 50 copies at £3.76 each, £188.00 in all."
         yield Outcome("fifty cost less than forty-eight", noted(browser, told), True)
 
 
 def until(site: Site, browser: Browser) -> Iterator[Outcome]:
     """Until when the price holds stands below the answer and in its row."""
-    browser.open(article(BREAKS_ISBN, type="05"))
-    rows = answered(browser)
+    rows = ask(browser, article(BREAKS_ISBN, type="05"))
     told = "Until 30 April 2025. From 1 May 2025 on net takes £4.58 a copy."
     yield Outcome("until when the price holds", noted(browser, told), True)
     yield Outcome("until when the price holds: the row", rows[0][5], "until 30 Apr 2025, then £4.58")
@@ -289,8 +264,7 @@ def until(site: Site, browser: Browser) -> Iterator[Outcome]:
 
 def aliases(site: Site, browser: Browser) -> Iterator[Outcome]:
     """A country's other code is asked for as what it stands for, and it is said."""
-    browser.open(article(country="UK"))
-    rows = answered(browser)
+    rows = ask(browser, article(country="UK"))
     yield Outcome("UK: the prices of GB", [row[2] for row in rows], ["£11.50", "£11.80", "£8.00"])
     asked = [line for line in site.requests() if "/price?" in line][-1]
     yield Outcome("UK: the desk is asked for GB", "country=GB" in asked, True)
@@ -365,11 +339,9 @@ def words_of_rules(site: Site, browser: Browser) -> Iterator[Outcome]:
         yield Outcome("a rule put in front", said(browser, told), True)
     for name, text, told in OTHER_TABLES:
         with rules(site, text or FIRST + table, False):
-            browser.open(article())
-            answered(browser)
+            ask(browser, article())
             yield Outcome(f"a table that is not the desk's: {name}", noted(browser, told), True)
-    browser.open(article())
-    answered(browser)
+    ask(browser, article())
     yield Outcome("the desk's own table", "rules.toml" in browser.text("#notes"), False)
 
 

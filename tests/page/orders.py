@@ -24,12 +24,6 @@ from tests.running import Outcome
 MARK = "\ufeff"
 HEAD = ["ISBN", "Copies", "Wholesaler", "Price", "Sum", "Currency", "Availability", "Reference", "Note"]
 
-PUT = """
-const lines = document.getElementById('lines');
-lines.value = arguments[0];
-lines.dispatchEvent(new Event('input'));
-"""
-
 
 def money(amount: Decimal) -> str:
     """An amount of pounds in English, with a third decimal where it has one."""
@@ -69,7 +63,7 @@ def open_list(browser: Browser) -> None:
 
 def look_up(browser: Browser, text: str) -> None:
     """Looks lines up, and waits until all are answered."""
-    browser.run(PUT, text)
+    browser.call("putLines", text)
     browser.one("#look-up").click()
     browser.wait(lambda: not browser.one("#list-running").is_displayed() and browser.text("#list-status"))
     status(browser, "looked up")
@@ -129,7 +123,7 @@ def begins(site: Site, browser: Browser) -> Iterator[Outcome]:
     browser.one("#look-up").click()
     wrong = browser.wait_for_text("#lines-wrong", "paste")
     yield Outcome("no lines", wrong, "Please paste a list, or open a file.")
-    browser.run(PUT, lines_of(range(3)))
+    browser.call("putLines", lines_of(range(3)))
     yield Outcome("the lines are counted", browser.text("#look-up"), "Look up 3 lines")
 
 
@@ -370,7 +364,7 @@ def in_german(site: Site, browser: Browser) -> Iterator[Outcome]:
     site.write_settings(order_desk.settings("de"))
     open_list(browser)
     yield Outcome("the view in German", browser.text("#to-order"), "Bestellliste")
-    browser.run(PUT, f"{order_desk.BESIDE};2;=1+1\n{isbn_of(1)};1;für Jürgen; groß")
+    browser.call("putLines", f"{order_desk.BESIDE};2;=1+1\n{isbn_of(1)};1;für Jürgen; groß")
     browser.one("#look-up").click()
     status(browser, "2 von 2 nachgesehen")
     browser.one("#csv-all").click()
@@ -404,6 +398,10 @@ def copied(site: Site, browser: Browser) -> Iterator[Outcome]:
     yield Outcome("where copying is not allowed, it is shown", text, f"{isbn_of(0)}\t2\n")
 
 
+def seen_texts(browser: Browser, selector: str) -> list[str]:
+    return [text for _, text in browser.call("seen", selector)]
+
+
 def printed(site: Site, browser: Browser) -> Iterator[Outcome]:
     """On paper there is the order of a wholesaler, with its name and time, and nothing else."""
     open_list(browser)
@@ -412,21 +410,16 @@ def printed(site: Site, browser: Browser) -> Iterator[Outcome]:
     browser.one("#print-beta").click()
     browser.wait(lambda: browser.run("return window.isPrinted"))
     browser.driver.execute_cdp_cmd("Emulation.setEmulatedMedia", {"media": "print"})
-    shown = """return [...document.querySelectorAll('#list tbody tr')]
-      .filter((row) => row.getClientRects().length > 0).map((row) => row.querySelector('.isbn').textContent)"""
     wanted = [isbn_of(number) for number, _, _ in ordered(range(6))["beta"]]
-    yield Outcome("the rows on paper", browser.run(shown), wanted)
-    summed = """return [...document.querySelectorAll('#sums tbody tr')]
-      .filter((row) => row.getClientRects().length > 0).map((row) => row.cells[0].textContent)"""
-    yield Outcome("its sum alone", browser.run(summed), ["Beta & Sons"])
+    yield Outcome("the rows on paper", seen_texts(browser, "#list tbody .isbn"), wanted)
+    yield Outcome("its sum alone", seen_texts(browser, "#sums tbody tr > :first-child"), ["Beta & Sons"])
     yield Outcome("whose order it is", browser.text("#paper-heading"), "Order: Beta & Sons")
     yield Outcome("its time", browser.text("#list-as-of").startswith("As of "), True)
-    fields = """return [...document.querySelectorAll('button, input, select, textarea, nav, summary')]
-      .filter((found) => found.getClientRects().length > 0).map((found) => found.id || found.localName)"""
-    yield Outcome("no fields on paper", browser.run(fields), [])
+    fields = browser.call("seen", "button, input, select, textarea, nav, summary")
+    yield Outcome("no fields on paper", fields, [])
     browser.driver.execute_cdp_cmd("Emulation.setEmulatedMedia", {"media": ""})
     browser.run("window.dispatchEvent(new Event('afterprint'))")
-    yield Outcome("all rows are back", len(browser.run(shown)), 6)
+    yield Outcome("all rows are back", len(seen_texts(browser, "#list tbody .isbn")), 6)
 
 
 def from_a_file(site: Site, browser: Browser) -> Iterator[Outcome]:
@@ -454,25 +447,11 @@ def from_a_file(site: Site, browser: Browser) -> Iterator[Outcome]:
     yield Outcome("what is no text", told, words)
 
 
-# No reply comes to what is asked about a book, as where the desk ends by it.
-LOSING = """
-const [isbn] = arguments;
-const real = window.fetch;
-window.isLosing = true;
-window.lost = 0;
-window.fetch = async (url, ...rest) => {
-  if (!window.isLosing || !String(url).includes(isbn)) return real(url, ...rest);
-  window.lost += 1;
-  return new Response('', { status: 502 });
-};
-"""
-
-
 def without_reply(site: Site, browser: Browser) -> Iterator[Outcome]:
     """A book that the desk gives no reply about is asked for twice, and then where the buyer wants it; others are
     answered."""
     open_list(browser)
-    browser.run(LOSING, isbn_of(1))
+    browser.call("loseReplies", isbn_of(1))
     look_up(browser, lines_of(range(6)))
     yield Outcome("no reply: asked for twice", browser.run("return window.lost"), 2)
     yield Outcome("no reply: the others", browser.text("#list-status"), "6 of 6 looked up. 1 book needs you.")
@@ -498,29 +477,10 @@ WHOLE = range(order_desk.BOOKS)
 PATIENCE = 600
 MOST_SECONDS = 120
 
-# Notes when a list is looked up, and when the last of its books is answered, by the page's own clock.
-TIMED = """
-const status = document.getElementById('list-status');
-performance.setResourceTimingBufferSize(20000);
-performance.clearResourceTimings();
-document.getElementById('look-up').addEventListener(
-  'click', () => { window.pressedAt = performance.now(); }, { capture: true, once: true });
-new MutationObserver(() => {
-  if (status.textContent.startsWith('500 of 500')) window.lookedUpAt ??= performance.now();
-}).observe(status, { childList: true, characterData: true, subtree: true });
-"""
-# The seconds between the two, how many questions were answered meanwhile, and the milliseconds of one.
-TIMES = """
-const asked = performance.getEntriesByType('resource').filter(({ name, responseEnd }) =>
-  name.includes('/desk/articles/') && responseEnd <= window.lookedUpAt);
-const each = asked.reduce((sum, { duration }) => sum + duration, 0) / asked.length;
-return [(window.lookedUpAt - window.pressedAt) / 1000, asked.length, each];
-"""
-
 
 def timed(browser: Browser) -> Iterator[Outcome]:
     """What five hundred lines took, which is printed, since a busy machine takes longer than a shop's."""
-    seconds, count, each = browser.run(TIMES)
+    seconds, count, each = browser.call("lookUpTimes")
     load = os.getloadavg()[0] / (os.cpu_count() or 1)
     print(
         f"page: 500 lines took {seconds:.1f} s, {count} questions of {each:.1f} ms, on a machine with {load:.1f} "
@@ -537,13 +497,13 @@ def whole_list(site: Site, browser: Browser) -> Iterator[Outcome]:
     site.configure(RATE)
     site.start_nginx()
     open_list(browser)
-    browser.run(PUT, lines_of(WHOLE) + f"\n{isbn_of(0)}")
+    browser.call("putLines", lines_of(WHOLE) + f"\n{isbn_of(0)}")
     browser.one("#look-up").click()
     words = "These are 501 lines; a list has 500 at most. Please divide it."
     yield Outcome("one line too many", browser.wait_for_text("#lines-wrong", "501"), words)
-    browser.run(PUT, lines_of(WHOLE))
+    browser.call("putLines", lines_of(WHOLE))
     asked = len(site.requests())
-    browser.run(TIMED)
+    browser.call("noteLookUp")
     begun = time.monotonic()
     browser.one("#look-up").click()
     colleague = []
@@ -566,7 +526,7 @@ def whole_list(site: Site, browser: Browser) -> Iterator[Outcome]:
 def stopped(site: Site, browser: Browser) -> Iterator[Outcome]:
     """A list is stopped and gone on with; a desk that is away is told, and asked again by itself."""
     open_list(browser)
-    browser.run(PUT, lines_of(WHOLE))
+    browser.call("putLines", lines_of(WHOLE))
     browser.one("#look-up").click()
     browser.wait(lambda: browser.run("return document.getElementById('list-progress').value") > 0)
     browser.one("#stop").click()
@@ -575,7 +535,7 @@ def stopped(site: Site, browser: Browser) -> Iterator[Outcome]:
     yield Outcome(f"stopped after {done} books", 0 < done < 500, True)
     go_on = browser.text("#go-on")
     yield Outcome("the others are counted", go_on, f"Go on with the other {500 - done} books")
-    browser.run(PUT, lines_of(range(20)))
+    browser.call("putLines", lines_of(range(20)))
     site.stop_desk()
     browser.one("#look-up").click()
     words = "The desk is not running, or is just being started. The page asks again by itself every 5 seconds."
@@ -585,22 +545,11 @@ def stopped(site: Site, browser: Browser) -> Iterator[Outcome]:
     yield Outcome("the note is gone", browser.one("#down").is_displayed(), False)
 
 
-REFUSING = """
-const real = window.fetch;
-window.refusals = [[429, ''], [503, '{"answer":"fault","reason":"disk"}']];
-window.fetch = async (url, ...rest) => {
-  if (!String(url).includes('/choice?') || window.refusals.length === 0) return real(url, ...rest);
-  const [status, body] = window.refusals.shift();
-  return new Response(body, { status });
-};
-"""
-
-
 def refused(site: Site, browser: Browser) -> Iterator[Outcome]:
     """A server that was asked too often, and a desk with a fault, are told; the line is asked for again."""
     open_list(browser)
-    browser.run(REFUSING)
-    browser.run(PUT, isbn_of(0))
+    browser.call("refuseTwice")
+    browser.call("putLines", isbn_of(0))
     browser.one("#look-up").click()
     again = "The page asks again by itself every 5 seconds."
     often = f"The web server has been asked too often at once. {again}"

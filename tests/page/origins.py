@@ -8,10 +8,12 @@ import ssl
 import threading
 import time
 from collections.abc import Iterator
+from pathlib import Path
+from string import Template
 from typing import Any
 from urllib.parse import urlsplit
 
-from tests.page.articles import answered
+from tests.page.articles import ask
 from tests.page.browser import STRANGER, Browser, browsing
 from tests.page.site import NAME, Site
 from tests.page.week import ISBN, article, empty_message
@@ -159,36 +161,6 @@ def slow_client(site: Site, browser: Browser) -> Iterator[Outcome]:
     yield Outcome("slow buyers are not at the desk", site.lines_since(before), ["200"])
 
 
-STRANGERS_PAGE = """<!doctype html><title>begun</title>
-<iframe name="frame"></iframe><iframe src="{site}/"></iframe>
-<form id="post" method="post" enctype="text/plain" target="frame" action="{site}/desk/messages">
-<textarea name="message">{message}</textarea></form>
-<a id="page" href="{site}/{view}">page</a> <a id="price" href="{site}{price}">price</a>
-<script>
-const settled = (sent) => sent.then(() => 'sent', () => 'refused');
-const loaded = (name, source) => new Promise((resolve) => {{
-  const made = document.createElement(name);
-  made.onload = () => resolve('loaded');
-  made.onerror = () => resolve('refused');
-  made.src = source;
-  document.body.append(made);
-}});
-const read = (name) => settled(fetch('{site}{price}', {{ credentials: 'include' }})
-  .then(async (reply) => {{ window[name] = await reply.text(); }}));
-document.getElementById('post').submit();
-Promise.all([
-  settled(fetch('{site}/desk/messages', {{
-    method: 'POST', mode: 'no-cors', credentials: 'include',
-    headers: {{ 'Content-Type': 'text/plain' }}, body: document.querySelector('textarea').value }})),
-  settled(fetch('{site}{price}', {{ mode: 'no-cors', credentials: 'include' }})),
-  read('stolen'),
-  loaded('img', '{site}{price}'),
-  loaded('script', '{site}{price}'),
-]).then(() => setTimeout(() => {{ document.title = 'done'; }}, 500));
-</script>
-"""
-
-
 class Stranger(http.server.BaseHTTPRequestHandler):
     """A site that is not the shop's."""
 
@@ -219,11 +191,14 @@ def strangers_site(text: str) -> Iterator[str]:
         server.server_close()
 
 
+def page(name: str, **given: str) -> str:
+    """A stranger's page with what is given."""
+    return Template(Path(__file__).with_name(f"{name}.html").read_text(encoding="utf-8")).substitute(given)
+
+
 def another_site(site: Site, browser: Browser) -> Iterator[Outcome]:
     """A page of another origin posts a message and asks for prices; nothing arrives."""
-    text = STRANGERS_PAGE.format(
-        site=site.address(""), message=empty_message(3), price=PRICE, view=article()
-    )
+    text = page("strangers", site=site.address(""), message=empty_message(3), price=PRICE, view=article())
     gaps = site.ask_desk("/series/north/gaps")
     before = site.mark()
     asked = len(site.requests())
@@ -261,8 +236,7 @@ def recorded_hosts(site: Site, browser: Browser) -> Iterator[Outcome]:
     browser.requested()
     browser.complaints()
     asked = len(site.requests())
-    browser.open(article())
-    answered(browser)
+    ask(browser, article())
     browser.run("location.hash = '#missing'")
     browser.wait_for_text("#as-of", "As of")
     # Neither an empty page nor an address that is its own data asks a host.
@@ -281,18 +255,10 @@ def recorded_hosts(site: Site, browser: Browser) -> Iterator[Outcome]:
     yield Outcome("the browser has nothing to complain of", browser.complaints(), [])
 
 
-POSTING_PAGE = """<!doctype html><title>begun</title><script>
-fetch('http://{host}:{port}/messages', {{
-  method: 'POST', mode: 'no-cors', headers: {{ 'Content-Type': 'text/plain' }}, body: `{message}` }})
-  .then(() => {{ document.title = 'sent'; }}, (fault) => {{ document.title = String(fault); }});
-</script>
-"""
-
-
 def bare_port(site: Site, browser: Browser) -> Iterator[Outcome]:
     """What the web server is there for: the desk's own port takes what a stranger's page posts."""
     before = site.mark()
-    text = POSTING_PAGE.format(host=HOST, port=site.desk_port, message=empty_message(10))
+    text = page("posting", host=HOST, port=str(site.desk_port), message=empty_message(10))
     with strangers_site(text) as address:
         browser.driver.get(address)
         browser.wait(lambda: browser.driver.title != "begun")

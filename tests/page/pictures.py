@@ -6,7 +6,7 @@ from collections.abc import Iterator
 from datetime import date
 
 from tests.page import order_desk
-from tests.page.articles import answered
+from tests.page.articles import ask
 from tests.page.browser import Browser
 from tests.page.days import with_clock
 from tests.page.order_desk import DEARER, NOBODYS, RISING, isbn_of
@@ -55,18 +55,11 @@ WIDE = 1040
 MARGIN = 24
 MOST_BYTES = 150_000
 
-# What changes from run to run has no place in a picture that is kept.
-FIXED = """
-document.getElementById('as-of').textContent = 'As of 09:30:00; asked again each minute.';
-document.getElementById('answer-time').textContent = 'as of 09:30:00';
-document.getElementById('list-as-of').textContent = 'As of 09:30:00 to 09:30:01.';
-"""
-
 
 def shot(browser: Browser, name: str, last: str, width: int = WIDTH) -> Outcome:
     """Takes what is shown, down to a last part, as a picture of the documents."""
     browser.size(width, 700)
-    browser.run(FIXED)
+    browser.call("standStill")
     bottom = browser.run("return Math.ceil(arguments[0].getBoundingClientRect().bottom + scrollY)", browser.one(last))
     browser.size(width, bottom + MARGIN)
     browser.run("scrollTo(0, 0)")
@@ -93,8 +86,7 @@ def taken(site: Site, browser: Browser) -> Iterator[Outcome]:
     with on_the_day(browser):
         for told in MESSAGES:
             site.tell_desk(told)
-        browser.open(f"#article?isbn={BOOK}&quantity=10")
-        answered(browser)
+        ask(browser, f"#article?isbn={BOOK}&quantity=10")
         yield shot(browser, "page-article.png", "#calendar")
     site.write_settings()
 

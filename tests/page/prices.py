@@ -5,7 +5,7 @@ import json
 import re
 from collections.abc import Iterator
 
-from tests.page.articles import ROWS, SAME, answered, chosen_rows, noted, said
+from tests.page.articles import SAME, answered, ask, chosen_rows, noted, said
 from tests.page.browser import Browser
 from tests.page.calendars import unfold
 from tests.page.site import Site
@@ -27,15 +27,13 @@ def settings(site: Site, **changes: object) -> Iterator[None]:
 
 def kinds(site: Site, browser: Browser) -> Iterator[Outcome]:
     """To buy at a price is said of a net price alone."""
-    browser.open(article(NET_ISBN, **NET))
-    rows = answered(browser)
+    rows = ask(browser, article(NET_ISBN, **NET))
     yield Outcome("a net price: it is said", said(browser, "Buy 1 from net at £8.125 a copy"), True)
     yield Outcome("a net price: the offers", [row[2] for row in rows], ["£8.49", "£8.125", "no net price"])
     yield Outcome("a net price: its column", browser.texts("#offers thead th")[2], "Net, 1 copy")
     marks = [["", ""], ["chosen", "chosen, rule 2"], ["", ""]]
     yield Outcome("a net price: the chosen offer is marked", chosen_rows(browser), marks)
-    browser.open(article(NET_ISBN, **NET | {"type": "42"}))
-    answered(browser)
+    ask(browser, article(NET_ISBN, **NET | {"type": "42"}))
     yield Outcome("a retail price: it is named", said(browser, "net: retail price £19.99"), True)
     told = "A retail price is not what the shop pays: ask for a net price before you buy."
     yield Outcome("a retail price: it is no reason to buy", noted(browser, told), True)
@@ -52,8 +50,7 @@ def other_types(site: Site, browser: Browser) -> Iterator[Outcome]:
     ]
     browser.open(article(NET_ISBN, **NET))
     yield Outcome("beside net prices: what another offer has", answered(browser)[2][2:5], ["no net price", "", types[2]])
-    browser.open(article(NET_ISBN, **NET | {"type": "02"}))
-    rows = answered(browser)
+    rows = ask(browser, article(NET_ISBN, **NET | {"type": "02"}))
     words = "No wholesaler has a price for 1 copy of type 02 – recommended retail price, with tax"
     yield Outcome("no price of the type: it is said", said(browser, words), True)
     yield Outcome("no price of the type: no rule is blamed", "rule" in browser.text("#article-status"), False)
@@ -71,8 +68,7 @@ def other_types(site: Site, browser: Browser) -> Iterator[Outcome]:
 
 
 def quantities(site: Site, browser: Browser) -> Iterator[Outcome]:
-    browser.open(article(NET_ISBN, **NET))
-    copies = [row[4] for row in answered(browser)]
+    copies = [row[4] for row in ask(browser, article(NET_ISBN, **NET))]
     wanted = ["1: £8.4925: £7.99", SAME]
     yield Outcome("where prices change", copies[:2], wanted)
     link = browser.one("#offers .copies a")
@@ -82,41 +78,33 @@ def quantities(site: Site, browser: Browser) -> Iterator[Outcome]:
     yield Outcome("other copies: the sum", browser.text("#article-status .sum"), "£199.75")
     yield Outcome("other copies: the price", answered(browser)[0][2::2], ["£7.99", wanted[0]])
     with settings(site, quantities=[1, 24]):
-        browser.open(article(NET_ISBN, **NET))
-        answered(browser)
-        came = browser.run(ROWS)[0][4]
+        ask(browser, article(NET_ISBN, **NET))
+        came = browser.call("offerCells")[0][4]
     yield Outcome("a change beyond those of desk.json is found", came, wanted[0])
 
 
 def order(site: Site, browser: Browser) -> Iterator[Outcome]:
-    browser.open(article(NET_ISBN, **NET))
-    answered(browser)
+    ask(browser, article(NET_ISBN, **NET))
     unfold(browser)
     by = browser.one("#order")
     yield Outcome("offers in the desk's order", by.get_attribute("value"), "series")
     choose(browser, "price")
     wanted = ["net K-2", "net K-1", "net K-3"]
-    yield Outcome("offers by price", [row[0] for row in browser.run(ROWS)], wanted)
+    yield Outcome("offers by price", [row[0] for row in browser.call("offerCells")], wanted)
     lanes = [name.split(", ")[0] for name in browser.texts("#picture .lane-name")]
     yield Outcome("the calendar by price", lanes, wanted)
     table = [row[0].split(", ")[0] for row in browser.rows("#spans")]
     yield Outcome("its table by price", table, wanted)
-    browser.open(article())
-    names = [row[0] for row in answered(browser)]
+    names = [row[0] for row in ask(browser, article())]
     wanted = ["Western Wholesale", "North Books", "South Books"]
     yield Outcome("another article is by price too", names, wanted)
     choose(browser, "series")
-    back = [row[0] for row in browser.run(ROWS)]
+    back = [row[0] for row in browser.call("offerCells")]
     yield Outcome("and back", back, ["North Books", "South Books", "Western Wholesale"])
 
 
 def choose(browser: Browser, by: str) -> None:
-    browser.run(
-        """const field = document.getElementById('order');
-        field.value = arguments[0];
-        field.dispatchEvent(new Event('change', { bubbles: true }))""",
-        by,
-    )
+    browser.call("put", "order", by, "change")
 
 
 EURO = {"type": "05", "currency": "EUR", "country": "DE"}
@@ -127,15 +115,13 @@ def german(site: Site, browser: Browser) -> Iterator[Outcome]:
     with settings(site, language="de"):
         yield from in_german(browser)
     with settings(site, language="de-AT"):
-        browser.open(article(NET_ISBN, **EURO))
-        answered(browser)
+        ask(browser, article(NET_ISBN, **EURO))
         words = browser.text("#article-status").replace("\u00a0", " ")
         yield Outcome("Austrian amounts", "zu € 24,00 je Exemplar" in words, True)
 
 
 def in_german(browser: Browser) -> Iterator[Outcome]:
-    browser.open(article(NET_ISBN, **EURO))
-    rows = answered(browser)
+    rows = ask(browser, article(NET_ISBN, **EURO))
     amounts = [row[2].replace("\u00a0", " ") for row in rows]
     yield Outcome("German amounts", amounts, ["1.234,50 €", "24,00 €", "kein Nettopreis"])
     status = browser.text("#article-status").replace("\u00a0", " ")
@@ -170,8 +156,7 @@ def own_words(site: Site, browser: Browser) -> Iterator[Outcome]:
     text = json.dumps(own)
     path.write_text(text, encoding="utf-8")
     site.write_settings(shop="")
-    browser.open(article(quantity="1"))
-    answered(browser)
+    ask(browser, article(quantity="1"))
     site.write_settings()
     yield Outcome("own words: a name", browser.text("header .name"), "Gardeners' buying")
     column = browser.run("return document.querySelector('#offers thead th:nth-child(3)').textContent")
@@ -190,13 +175,11 @@ def own_words(site: Site, browser: Browser) -> Iterator[Outcome]:
     heads = browser.texts("#settings-wrong h2")
     yield Outcome("own words: of which file", heads, ["Something is wrong with words.json"])
     path.write_text("{", encoding="utf-8")
-    browser.open(article())
-    answered(browser)
+    ask(browser, article())
     told = browser.text("#settings-wrong li")
     yield Outcome("own words that are no JSON", told.startswith("words.json is not JSON: "), True)
     path.unlink()
-    browser.open(article())
-    answered(browser)
+    ask(browser, article())
     yield Outcome("without own words nothing is told", browser.texts("#settings-wrong li"), [])
     path.write_text("{}", encoding="utf-8")
     browser.complaints()

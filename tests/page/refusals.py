@@ -3,10 +3,11 @@
 import shutil
 from collections.abc import Iterator
 
-from tests.page.articles import answered
+from tests.page.articles import answered, ask
 from tests.page.browser import Browser
 from tests.page.site import RULES, Site
 from tests.page.week import ISBN, article
+from tests.program.written_cases import TESTS, read_file
 from tests.running import Outcome
 
 DAY = "Please give a whole day: day, month and year."
@@ -90,8 +91,7 @@ def ranges(site: Site, browser: Browser) -> Iterator[Outcome]:
     browser.wait(lambda: told(browser))
     yield Outcome("no day", told(browser), {"until": DAY})
     # 3,660 days are the most.
-    browser.open(article(**{"from": "2020-01-01", "until": "2030-01-07"}))
-    answered(browser)
+    ask(browser, article(**{"from": "2020-01-01", "until": "2030-01-07"}))
     yield Outcome("3,660 days", told(browser), {})
 
 
@@ -121,85 +121,18 @@ REPLIES = [
 def replies(site: Site, browser: Browser) -> Iterator[Outcome]:
     for body, status, words in REPLIES:
         browser.open("")
-        browser.run(
-            """const [body, status, hash] = arguments;
-            window.fetch = async () => new Response(body, { status });
-            location.hash = hash""",
-            body,
-            status,
-            article(),
-        )
+        browser.call("replyWith", body, status, article())
         came = browser.wait_for_text("#question-wrong", words)
         yield Outcome(f"a reply of {status}, {body}", came, words)
 
 
-PRICE_TYPE = '"price_type": "02"'
 SERIES = '"series": [{"name": "north", "words": "North"}]'
-PLACES = '"country": "GB", "currency": "GBP"'
-
-REST = f"{PLACES}, {PRICE_TYPE}"
-TWICE = '{"name": "a", "words": ""}'
-WRONG_SERIES = f'["north", {{"name": "No", "words": ""}}, {TWICE}, {TWICE}]'
-NOT_AN_OBJECT = (
-    "desk.json is not an object: it should begin with { and name “series”, “country”, “currency” and "
-    "“price_type”."
-)
+REST = '"country": "GB", "currency": "GBP", "price_type": "02"'
 
 # What desk.json may be, and what is told of it.
 SETTINGS = [
-    ("{", ["desk.json is not JSON: "]),
-    ("[]", [NOT_AN_OBJECT]),
-    ("{}", [f"“{key}” is not there." for key in ("series", "country", "currency", "price_type")]),
-    (f'{{{SERIES}, {REST}, "colour": 1}}', ["“colour” is no name that the page knows."]),
-    (
-        f'{{{SERIES}, "country": "gb", "currency": "£", "price_type": 2}}',
-        [
-            '“country” is "gb"; it should be two capital letters, such as "GB".',
-            '“currency” is "£"; it should be three capital letters, such as "GBP".',
-            '“price_type” is 2; it should be two digits in quotation marks, such as "02".',
-        ],
-    ),
-    (f'{{"series": "north", {REST}}}', ["“series” is not a list of series."]),
-    (
-        f'{{"series": {WRONG_SERIES}, {REST}}}',
-        [
-            'Series 1 is "north"; it should have a “name” and “words”, both texts.',
-            'The name of series 2 is "No"; it should have 1 to 32 of the signs a to z, 0 to 9 and -.',
-            'Series 4 has the name "a", which another one has.',
-        ],
-    ),
-    (
-        f'{{{SERIES}, {REST}, "rules": ["South first"]}}',
-        ["“rules” does not count any more: the words of a rule are the comment above it in rules.toml."],
-    ),
-    (
-        f'{{{SERIES}, {REST}, "language": "Klingon?"}}',
-        ["“language” is \"Klingon?\"; it should be a language in quotation marks, such as \"en-GB\" or \"de\"."],
-    ),
-    (
-        f'{{{SERIES}, {REST}, "catalogue": "http://catalogue.example.org/{{isbn}}"}}',
-        [
-            '“catalogue” is "http://catalogue.example.org/{isbn}"; it should be an address that begins with https:// '
-            "and has {isbn} once, behind the name of the site."
-        ],
-    ),
-    *[
-        (
-            f'{{{SERIES}, {REST}, "quantities": {wrong}}}',
-            [
-                f"“quantities” is {wrong}; it should be at most eight numbers of copies, each greater than "
-                "the one before, such as [1, 10, 25]."
-            ],
-        )
-        for wrong in ("[10,1]", "[0]", "[1,1]", '["10"]', "10", "[1,2,3,4,5,6,7,8,9]", "[1000000]", "[1.5]")
-    ],
-    (
-        f'{{"series": [{{"name": "north", "words": "N", "days_without_message": 0, "day": 1}}], {REST}}}',
-        [
-            "“day” of series 1 is no name that the page knows.",
-            "“days_without_message” of series 1 is 0; it should be a whole number from 1 to 9999.",
-        ],
-    ),
+    (case.name.replace("SERIES", SERIES).replace("REST", REST), case.text.splitlines())
+    for case in read_file(TESTS / "page/settings.txt")
 ]
 
 
@@ -241,8 +174,7 @@ def without_rules(site: Site, browser: Browser) -> Iterator[Outcome]:
     """Words for rules, numbers of copies and all series are there only if wanted."""
     site.write_settings(f"{{{SERIES}, {REST}}}")
     site.rules.unlink()
-    browser.open(article())
-    rows = answered(browser)
+    rows = ask(browser, article())
     said = browser.wait_for_text("#article-status", "rule")
     wanted = f"On 10 April 2025: North: retail price £11.50\nISBN {ISBN} · in stock · rule 2"
     yield Outcome("without words for rules", said, wanted)

@@ -11,33 +11,6 @@ from tests.running import Outcome
 
 NORTH, SOUTH, WEST = "#report-north", "#report-south", "#report-west"
 
-# Missing numbers are red, and nothing else is.
-RED = """
-return [...document.querySelectorAll('body *')].filter((found) => {
-  if (found.getClientRects().length === 0) return false;
-  const style = getComputedStyle(found);
-  const colours = [style.backgroundColor, style.borderTopColor, style.borderLeftColor];
-  if (found.textContent.trim() !== '') colours.push(style.color);
-  if (found instanceof SVGElement) colours.push(style.fill, style.stroke);
-  return colours.some((colour) => {
-    const [red, green, blue, alpha] = (colour.match(/[\\d.]+/g) ?? [0, 0, 0]).map(Number);
-    return alpha !== 0 && red > 120 && green < red / 3 && blue < red / 3;
-  });
-}).map((found) => found.getAttribute('class') ?? `${found.parentElement.className} ${found.localName}`);
-"""
-STRIP = """
-const strip = document.querySelector(arguments[0] + ' svg.strip');
-const whole = strip.getBoundingClientRect();
-const [from, until] = [...strip.querySelectorAll('.end')].map((text) => Number(text.textContent));
-const scale = whole.width / (until - from + 1);
-return [...strip.querySelectorAll('rect')].map((piece) => {
-  const box = piece.getBoundingClientRect();
-  const ends = [(box.left - whole.left) / scale + from, (box.right - whole.left) / scale + from - 1];
-  return [piece.getAttribute('class'), ...ends.map((end) => Math.round(end * 100) / 100)];
-});
-"""
-
-
 # Nothing is said of a series of which a message has come today, or which the browser sees for the first time.
 SEEN = ""
 
@@ -86,7 +59,7 @@ def strip(site: Site, browser: Browser) -> Iterator[Outcome]:
     open_missing(browser)
     report = site.ask_desk("/series/north/gaps")
     yield Outcome("strip: the desk's answer", report["missing"], MISSING)
-    came = browser.run(STRIP, NORTH)
+    came = browser.call("stripPieces", NORTH)
     missing = [[from_, to] for kind, from_, to in came if kind == "missing"]
     yield Outcome("strip: missing to scale", missing, MISSING)
     others = sorted(piece for piece in came if piece[0] != "missing")
@@ -101,12 +74,12 @@ def strip(site: Site, browser: Browser) -> Iterator[Outcome]:
 def red(site: Site, browser: Browser) -> Iterator[Outcome]:
     open_missing(browser)
     wanted = ["count", "edge", "edge", "lacks", "missing", "missing", "missing", "ranges li", "ranges li"]
-    yield Outcome("red where messages are missing", sorted(browser.run(RED)), wanted)
+    yield Outcome("red where messages are missing", sorted(browser.call("redParts")), wanted)
     browser.open("#article")
     browser.one("#isbn").send_keys("1\n")
     browser.wait_for_text("#isbn-wrong", "digit")
     browser.wait_for_text("#missing-count", "5")
-    yield Outcome("red nowhere else, but for their count at the tab", browser.run(RED), ["count"])
+    yield Outcome("red nowhere else, but for their count at the tab", browser.call("redParts"), ["count"])
 
 
 def request(*parts: str) -> str:
@@ -160,12 +133,7 @@ def kept_in_hand(site: Site, browser: Browser) -> Iterator[Outcome]:
     browser.wait_for_text(f"{NORTH} .copied", "copied")
     for width in (500, 1100):
         browser.size(width, 900)
-        fits = browser.wait(
-            lambda: browser.run(
-                """const place = document.querySelector('#report-north .strip-place');
-                return Number(place.firstChild.getAttribute('width')) === Math.floor(place.clientWidth)"""
-            )
-        )
+        fits = browser.wait(lambda: browser.call("fits", "#report-north .strip-place"))
         yield Outcome(f"the strip in a window of {width}", fits, True)
         told = browser.text(f"{NORTH} .copied")
         yield Outcome(f"copied, in a window of {width}", told.startswith("The request is copied"), True)
@@ -178,9 +146,7 @@ def days_ago(count: int) -> str:
 def since_words(count: int) -> str:
     day = date.today() - timedelta(days=count)
     days = "1 day" if count == 1 else f"{count} days"
-    return (
-        f"No new message for {days}, as far as this browser has seen (since {day.day} {day:%B} {day.year})."
-    )
+    return (f"No new message for {days}, as far as this browser has seen (since {day.day} {day:%B} {day.year}).")
 
 
 REMEMBER = "localStorage.setItem('onixdesk-seen', JSON.stringify(arguments[0]))"
@@ -207,7 +173,7 @@ def silent(site: Site, browser: Browser) -> Iterator[Outcome]:
     yield Outcome("where no number of days is named", browser.text(f"{WEST} .since"), since_words(400))
     said = "5 messages missing from 1 wholesaler: North Books. Silent for longer than usual: North Books."
     yield Outcome("the silent ones in all", browser.text("#missing-status"), said)
-    yield Outcome("silence is not red", "since" in browser.run(RED), False)
+    yield Outcome("silence is not red", "since" in browser.call("redParts"), False)
     kept["south"] = {"state": "3 3 0", "since": days_ago(8)}
     kept["west"] = {"state": 5}
     browser.run(REMEMBER, kept)
@@ -221,11 +187,10 @@ def silent(site: Site, browser: Browser) -> Iterator[Outcome]:
 
 def nothing_kept(site: Site, browser: Browser) -> Iterator[Outcome]:
     """A browser that keeps nothing shows all else."""
-    source = "Object.defineProperty(window, 'localStorage', { get() { throw new Error('kept') } })"
-    put = browser.driver.execute_cdp_cmd("Page.addScriptToEvaluateOnNewDocument", {"source": source})
+    stop = browser.put("keepNothing")
     open_missing(browser)
     yield Outcome("without a store", browser.text(f"{NORTH} .since"), SEEN)
-    browser.driver.execute_cdp_cmd("Page.removeScriptToEvaluateOnNewDocument", put)
+    stop()
 
 
 def unknown_series(site: Site, browser: Browser) -> Iterator[Outcome]:
@@ -276,7 +241,7 @@ def minutes(site: Site, browser: Browser) -> Iterator[Outcome]:
     wanted = "No number is missing from the 3 wholesalers that this page watches."
     yield Outcome("after two minutes", said, wanted)
     browser.run("location.hash = '#article'")
-    yield Outcome("no red where nothing is missing", browser.run(RED), [])
+    yield Outcome("no red where nothing is missing", browser.call("redParts"), [])
 
 
 LATE = """Agree,late,06,7000000000007,06,5012345678900,9000000
@@ -295,7 +260,7 @@ def late_start(site: Site, browser: Browser) -> Iterator[Outcome]:
     begins = "Nothing has come that could be applied; it begins with message 9000000."
     words = f"{begins} 1 later message waits for what is missing."
     yield Outcome("a late start: where it stands", browser.text("#report-late p"), words)
-    came = browser.run(STRIP, "#report-late")
+    came = browser.call("stripPieces", "#report-late")
     wanted = [["waiting", 9000003, 9000003], ["missing", 9000000, 9000002]]
     yield Outcome("a late start: its strip", came, wanted)
 

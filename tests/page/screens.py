@@ -5,7 +5,7 @@ from collections.abc import Iterator
 from datetime import date
 from typing import Any
 
-from tests.page.articles import answered, has_calendar
+from tests.page.articles import answered, ask, has_calendar
 from tests.page.browser import Browser
 from tests.page.calendars import unfold
 from tests.page.site import Site
@@ -22,72 +22,12 @@ VIEWS = {
     "missing": "#missing",
 }
 
-# What goes beyond the window, and what text is cut off.
-BEYOND = """
-const beyond = [...document.querySelectorAll('main *, header *')].filter((found) => {
-  const box = found.getBoundingClientRect();
-  return box.width > 0 && box.left > -1000 && (box.right > innerWidth + 0.5 || box.left < -0.5);
-}).map((found) => found.outerHTML.slice(0, 80));
-return [document.documentElement.scrollWidth > innerWidth, beyond];
-"""
-
-# The contrast of each text that is shown to what is behind it, by WCAG 2's formula.
-CONTRAST = """
-const colour = (text) => {
-  const [red, green, blue, alpha = 1] = text.match(/[\\d.]+/g).map(Number);
-  return { parts: [red, green, blue], alpha };
-};
-const light = ({ parts }) => {
-  const [red, green, blue] = parts.map((part) => {
-    const share = part / 255;
-    return share <= 0.04045 ? share / 12.92 : ((share + 0.055) / 1.055) ** 2.4;
-  });
-  return 0.2126 * red + 0.7152 * green + 0.0722 * blue;
-};
-const behindHtml = (found) => {
-  for (let at = found; at !== null; at = at.parentElement) {
-    const back = colour(getComputedStyle(at).backgroundColor);
-    if (back.alpha === 1) return back;
-  }
-  return colour('rgb(255, 255, 255)');
-};
-const behindDrawing = (text) => {
-  const box = text.getBoundingClientRect();
-  const [x, y] = [(box.left + box.right) / 2, (box.top + box.bottom) / 2];
-  const under = [...text.ownerSVGElement.querySelectorAll('rect')].filter((shape) => {
-    const area = shape.getBoundingClientRect();
-    return area.left <= x && x <= area.right && area.top <= y && y <= area.bottom;
-  }).at(-1);
-  return under === undefined ? behindHtml(text.ownerSVGElement) : colour(getComputedStyle(under).fill);
-};
-const texts = document.createTreeWalker(document.body, NodeFilter.SHOW_TEXT);
-const found = [];
-while (texts.nextNode()) {
-  const holder = texts.currentNode.parentElement;
-  if (texts.currentNode.data.trim() === '' || holder.getClientRects().length === 0) continue;
-  if (['NOSCRIPT', 'SCRIPT', 'title'].includes(holder.nodeName)) continue;
-  const isDrawn = holder.nodeName === 'text';
-  const style = getComputedStyle(holder);
-  const ink = light(colour(isDrawn ? style.fill : style.color));
-  const back = light(isDrawn ? behindDrawing(holder) : behindHtml(holder));
-  const contrast = (Math.max(ink, back) + 0.05) / (Math.min(ink, back) + 0.05);
-  found.push([texts.currentNode.data.trim().slice(0, 40), contrast]);
-}
-return found;
-"""
 LEAST_CONTRAST = 4.5
 
 
 def shown(browser: Browser, address: str) -> None:
     browser.open(address)
-    # Until what the view asked for is there, or what is wrong with it is told.
-    browser.wait(
-        lambda: browser.run(
-            """return !document.querySelector('#calendar').hidden
-              || document.querySelector('#as-of').textContent !== ''
-              || document.querySelector('#isbn-wrong').textContent !== ''"""
-        )
-    )
+    browser.wait(lambda: browser.call("isAnswered"))
     if has_calendar(browser):
         answered(browser)
         unfold(browser)
@@ -109,37 +49,20 @@ def paper(site: Site, browser: Browser) -> Iterator[Outcome]:
     browser.size(700, 1000)
     for name in ("article", "missing"):
         shown(browser, VIEWS[name])
-        seen = browser.run(
-            """return [...document.querySelectorAll('button, input, select, nav, .skip')]
-              .filter((found) => found.getClientRects().length > 0).map((found) => found.id)"""
-        )
+        seen = browser.call("seen", "button, input, select, nav, .skip")
         yield Outcome(f"paper: {name}: no fields", seen, [])
-        yield Outcome(f"paper: {name}: nothing beyond", browser.run(BEYOND), [False, []])
+        yield Outcome(f"paper: {name}: nothing beyond", browser.call("beyondWindow"), [False, []])
     shown(browser, VIEWS["article"])
     parts = ["header .name", "#day-shown", "#article-status", "#answer-time", "#offers", "#picture", "#spans"]
     yield Outcome("paper: the answers", [browser.one(part).is_displayed() for part in parts], [True] * 7)
     browser.driver.execute_cdp_cmd("Emulation.setEmulatedMedia", {"media": ""})
     browser.size(1100, 900)
 
-
-# The least contrast of the borders of fields to what is around them.
-BORDERS = """
-const light = (text) => {
-  const parts = text.match(/[\\d.]+/g).slice(0, 3).map((part) => part / 255);
-  const [red, green, blue] = parts.map((share) => share <= 0.04045 ? share / 12.92 : ((share + 0.055) / 1.055) ** 2.4);
-  return 0.2126 * red + 0.7152 * green + 0.0722 * blue + 0.05;
-};
-const back = light(getComputedStyle(document.body).backgroundColor);
-return Math.min(...[...document.querySelectorAll('input, select, button:not(.link)')].map((field) => {
-  const edge = light(getComputedStyle(field).borderTopColor);
-  return Math.max(edge, back) / Math.min(edge, back);
-}));
-"""
 LEAST_BORDER = 3
 
 
 def weak_texts(browser: Browser) -> list[Any]:
-    return [text for text in browser.run(CONTRAST) if text[1] < LEAST_CONTRAST]
+    return [text for text in browser.call("contrasts") if text[1] < LEAST_CONTRAST]
 
 
 SCHEMES = ("light", "dark")
@@ -148,43 +71,30 @@ SCHEMES = ("light", "dark")
 def contrast(browser: Browser, name: str) -> Iterator[Outcome]:
     for scheme in SCHEMES:
         with preferring(browser, "prefers-color-scheme", scheme):
-            yield Outcome(f"contrast, {scheme}: {name} has texts", len(browser.run(CONTRAST)) > 10, True)
+            yield Outcome(f"contrast, {scheme}: {name} has texts", len(browser.call("contrasts")) > 10, True)
             yield Outcome(f"contrast, {scheme}: {name}", weak_texts(browser), [])
 
 
 def notes(site: Site, browser: Browser) -> Iterator[Outcome]:
     """Fields and notes by day and by night."""
     shown(browser, VIEWS["missing"])
-    browser.run(
-        """for (const id of ['down', 'settings-wrong', 'not-looked-for']) {
-          document.getElementById(id).hidden = false;
-          document.getElementById(id).append('words');
-        }"""
-    )
+    browser.call("showNotes")
     for scheme in SCHEMES:
         with preferring(browser, "prefers-color-scheme", scheme):
-            border = browser.run(BORDERS)
+            border = browser.call("leastBorder")
             yield Outcome(f"contrast, {scheme}: fields, {border}", border >= LEAST_BORDER, True)
             yield Outcome(f"contrast, {scheme}: notes", weak_texts(browser), [])
-
-
-SMALL = """
-return [...document.querySelectorAll('a, button, input, select, summary, textarea')].filter((found) => {
-  const box = found.getBoundingClientRect();
-  return found.getClientRects().length > 0 && box.right > 0 && (box.height < 24 || box.width < 24);
-}).map((found) => found.outerHTML.slice(0, 80));
-"""
 
 
 def widths(browser: Browser, name: str) -> Iterator[Outcome]:
     """Nothing runs out of a narrow window, and what is pressed has room for a finger."""
     browser.size(320, 800)
-    browser.wait(lambda: browser.run(BEYOND) == [False, []], 5)
-    yield Outcome(f"320 pixels: {name}", browser.run(BEYOND), [False, []])
+    browser.wait(lambda: browser.call("beyondWindow") == [False, []], 5)
+    yield Outcome(f"320 pixels: {name}", browser.call("beyondWindow"), [False, []])
     browser.run("document.getElementById('more').hidden = false")
     for width in (360, 1100):
         browser.size(width, 800)
-        yield Outcome(f"targets of 24 pixels, {width}: {name}", browser.run(SMALL), [])
+        yield Outcome(f"targets of 24 pixels, {width}: {name}", browser.call("smallTargets"), [])
 
 
 def first_sight(site: Site, browser: Browser) -> Iterator[Outcome]:
@@ -194,8 +104,7 @@ def first_sight(site: Site, browser: Browser) -> Iterator[Outcome]:
         site.write_settings(language=language)
         for width, height in ((1280, 720), (640, 360), (360, 740)):
             browser.size(width, height)
-            browser.open(article(day=date.today().isoformat()))
-            answered(browser)
+            ask(browser, article(day=date.today().isoformat()))
             top = browser.run("return document.getElementById('verdict').getBoundingClientRect().top")
             name = f"{width} x {height}, {language}"
             yield Outcome(f"{name}: the answer begins at {top}", top <= 200, True)
@@ -211,11 +120,7 @@ def forced_colours(site: Site, browser: Browser) -> Iterator[Outcome]:
     with preferring(browser, "forced-colors", "active"):
         browser.open("")
         browser.wait(lambda: browser.one("#day").get_attribute("value"))
-        edges = browser.run(
-            """const back = getComputedStyle(document.body).backgroundColor;
-            return [...document.querySelectorAll('nav a')].map((link) => [
-              link.getAttribute('aria-current'), getComputedStyle(link).borderBottomColor === back])"""
-        )
+        edges = browser.call("linkLines")
     yield Outcome("forced colours: the line below a view", edges, [["page", False], [None, True], [None, True]])
 
 
@@ -225,27 +130,10 @@ def hyphens(site: Site, browser: Browser) -> Iterator[Outcome]:
     yield Outcome("long words have hyphens", style, "auto")
 
 
-# Holds each answer of the desk back, and notes how many questions wait at once.
-HELD = """
-const real = window.fetch;
-window.most = 0;
-let waiting = 0;
-window.fetch = async (url, ...rest) => {
-  if (!String(url).includes('/desk/articles/')) return real(url, ...rest);
-  waiting += 1;
-  window.most = Math.max(window.most, waiting);
-  await new Promise((resolve) => setTimeout(resolve, 200));
-  waiting -= 1;
-  return real(url, ...rest);
-};
-location.hash = arguments[0];
-"""
-
-
 def at_once(site: Site, browser: Browser) -> Iterator[Outcome]:
     """Questions that do not wait for each other are asked at once."""
     browser.open("")
-    browser.run(HELD, article())
+    browser.call("holdAnswers", article())
     answered(browser)
     yield Outcome("price, choice and calendar at once", browser.run("return window.most") >= 3, True)
 
@@ -273,10 +161,7 @@ def accessible(browser: Browser, name: str) -> Iterator[Outcome]:
     found = nodes(browser)
     nameless = [node for node in found if node[0] in NAMED and not node[1].strip()]
     yield Outcome(f"accessible: {name}: all have names", nameless, [])
-    levels = browser.run(
-        """return [...document.querySelectorAll('h1, h2, h3')]
-          .filter((head) => head.getClientRects().length > 0).map((head) => Number(head.localName[1]))"""
-    )
+    levels = browser.call("headings")
     steps = [after - before for before, after in zip(levels, levels[1:])]
     whole = levels.count(1) == 1 and levels[0] == 1 and all(step <= 1 for step in steps)
     yield Outcome(f"accessible: {name}: headings {levels}", whole, True)

@@ -9,23 +9,8 @@ from pathlib import Path
 from typing import NamedTuple
 
 from tests.page import (
-    articles,
-    calendars,
-    days,
-    hostile,
-    isbns,
-    keyboard,
-    misleading,
-    order_screens,
-    orders,
-    origins,
-    passwords,
-    pictures,
-    prices,
-    refusals,
-    reports,
-    screens,
-    stops,
+    articles, calendars, days, hostile, isbns, keyboard, misleading, order_screens, orders, origins, passwords,
+    pictures, prices, refusals, reports, screens, stops,
 )
 from tests.page.browser import Browser, browsing
 from tests.page.site import Site, running

@@ -165,9 +165,7 @@ class Site:
         words += ["serve", "--port", str(self.desk_port), "--requests", str(CONNECTIONS)]
         starts = self.desk_lines().count(self._listening()) + 1
         with open(self.room.path("lines"), "ab") as lines:
-            self.desk = subprocess.Popen(
-                [self.room.program, *words], cwd=self.room.folder, stdout=lines
-            )
+            self.desk = subprocess.Popen([self.room.program, *words], cwd=self.room.folder, stdout=lines)
         wait_until(lambda: self.desk_lines().count(self._listening()) == starts, self.desk)
 
     def _listening(self) -> str:

@@ -7,7 +7,7 @@ import time
 from collections.abc import Callable, Iterator
 from typing import NamedTuple
 
-from tests.page.articles import ONE_COPY, answered, has_calendar
+from tests.page.articles import ONE_COPY, answered, ask, has_calendar
 from tests.page.browser import Browser
 from tests.page.calendars import unfold
 from tests.page.days import hurrying, with_clock
@@ -47,21 +47,11 @@ def stopped(site: Site, browser: Browser) -> Iterator[Outcome]:
     yield from back(browser, "a stopped desk")
 
 
-# Asks, and notes when, and when the page says that the desk is down.
-TIMED = """
-const note = document.getElementById('down');
-new MutationObserver(() => { if (!note.hidden) window.toldAt ??= performance.now(); })
-  .observe(note, { attributes: true });
-window.askedAt = performance.now();
-location.hash = arguments[0];
-"""
-
-
 def silent(site: Site, browser: Browser) -> Iterator[Outcome]:
     browser.open(article(quantity="10"))
     unfold(browser)
     site.freeze_desk()
-    browser.run(TIMED, article())
+    browser.call("askAndNote", article())
     browser.wait(lambda: "Asking" in browser.text("#article-status"))
     stale = browser.all("#offers tr, #picture svg, #spans tr")
     yield Outcome("a new question leaves nothing of the one before", stale, [])
@@ -153,10 +143,7 @@ class Unanswered(NamedTuple):
     told: str
 
 
-UNANSWERED = [
-    Unanswered("a want of memory", MEMORY, 1, LACKING),
-    Unanswered("no reply", None, 2, LOST),
-]
+UNANSWERED = [Unanswered("a want of memory", MEMORY, 1, LACKING), Unanswered("no reply", None, 2, LOST)]
 
 
 def counts(asked: list[str]) -> dict[str, int]:
@@ -204,8 +191,7 @@ def unanswered_later(site: Site, browser: Browser) -> Iterator[Outcome]:
     """So too where the page has been open for a while, and asks each minute; what was answered stays, with its time."""
     stop = with_clock(browser)
     for name, reply, most, words in UNANSWERED:
-        browser.open(article())
-        answered(browser)
+        ask(browser, article())
         time_of = browser.text("#answer-time")
         with standing_in(site, lambda: reply) as asked:
             browser.run("window.daysAhead = 61 / 86400")

@@ -1,7 +1,8 @@
 """The desk that the page is tried on: the week of the shop, and more messages of its wholesalers."""
 
-from tests.program.room import Room
 from tests.page.site import DATABASE
+from tests.program.room import Room
+from tests.program.written_cases import TESTS, read_file
 from tools.root import ROOT
 
 ISBN = "9781234567897"
@@ -27,91 +28,27 @@ MISSING = [[3, 4], [6, 8]]
 
 # A series that desk.json does not name, with texts that mean something in HTML.
 HOSTILE_SENDER = "06,6000000000006"
-HOSTILE_MESSAGE = f"""Agree,odd,{HOSTILE_SENDER},{SHOP},1
-Message,1,{HOSTILE_SENDER},{SHOP},1,1,20250306,02,GBP
-Product,{HOSTILE},03,15,{HOSTILE_ISBN}
-ProductSupply,GB,,
-SupplyDetail,04,06,6000000000006,<b>Odd</b>,21,
-Price,,7.50,,,,,,
-Product,{LONG},03,15,{HOSTILE_ISBN}
-ProductSupply,GB,,
-SupplyDetail,04,06,6000000000006,Odd,20,
-Price,,7.25,,,,,20250401,20250401
-Price,,7.125,,,,,20250402,20250402
-EndMessage,10
-"""
 
-
-# Net prices, in two currencies, one with a break at 25 copies, one with three decimals.
+# Net prices.
 NET_ISBN = "9783161484100"
 NET_SENDER = "06,8000000000008"
-NET_MESSAGE = f"""Agree,net,{NET_SENDER},{SHOP},1
-Message,2,{NET_SENDER},{SHOP},1,1,20250306,05,GBP
-Product,K-1,03,15,{NET_ISBN}
-ProductSupply,DE GB,,
-SupplyDetail,04,06,8000000000008,Net,21,
-Price,,8.49,,,,,,
-Price,,7.99,,,,,,,25
-Price,,1234.5,EUR,,,,,
-Product,K-2,03,15,{NET_ISBN}
-ProductSupply,DE GB,,
-SupplyDetail,04,06,8000000000008,Net,21,
-Price,,8.125,,,,,,
-Price,,24,EUR,,,,,
-Product,K-3,03,15,{NET_ISBN}
-ProductSupply,DE GB,,
-SupplyDetail,04,06,8000000000008,Net,21,
-Price,42,19.99,,,,,,
-EndMessage,16
-"""
 
-# Prices that fall with the copies, end and rise; of nothing; for five copies at least; and dearer for ten.
+# Prices that change with the copies; one of nothing; one for five copies at least; and one that is dearer for ten.
 BREAKS_ISBN = "9781402037597"
 ZERO_ISBN = "9780804429573"
 FIVE_ISBN = "9780201896855"
 DEARER_ISBN = "9780131103627"
-BREAKS_MESSAGE = f"""Message,2,{NET_SENDER},{SHOP},2,1,20250307,05,GBP
-Product,B-1,03,15,{BREAKS_ISBN}
-ProductSupply,GB,,
-SupplyDetail,04,06,8000000000008,Net,21,
-Price,,4.36,,,,,,20250430
-Price,,4.14,,,,,,20250430,10
-Price,,3.76,,,,,,20250430,50
-Price,,4.58,,,,,20250501,
-Product,B-2,03,15,{ZERO_ISBN}
-ProductSupply,GB,,
-SupplyDetail,04,06,8000000000008,Net,21,
-Price,,0,,,,,,
-Product,B-3,03,15,{FIVE_ISBN}
-ProductSupply,GB,,
-SupplyDetail,04,06,8000000000008,Net,21,
-Price,,5.00,,,,,,,5
-Product,B-4,03,15,{DEARER_ISBN}
-ProductSupply,GB,,
-SupplyDetail,04,06,8000000000008,Net,21,
-Price,,8.66,,,,,,
-Price,,10.59,,,,,,,10
-EndMessage,21
-"""
 
 # References that turn what comes behind them round, unless they are kept apart from it.
 TURNING_ISBN = "9780000000026"
 TURNING = ["one\u202etwo", "\u05d0\u05d1\u05d2"]
-TURNING_MESSAGE = f"""Message,1,{HOSTILE_SENDER},{SHOP},2,1,20250306,02,GBP
-Product,{TURNING[0]},03,15,{TURNING_ISBN}
-ProductSupply,GB,,
-SupplyDetail,04,06,6000000000006,Odd,21,
-Product,{TURNING[1]},03,15,{TURNING_ISBN}
-ProductSupply,GB,,
-SupplyDetail,04,06,6000000000006,Odd,21,
-EndMessage,7
-"""
 
 
 def fill(room: Room) -> None:
     """Makes the database of the week with the gaps, the hostile texts and the net prices."""
     week = (ROOT / "examples/shop/week.csv").read_text(encoding="utf-8")
-    batch = (week + GAPS + HOSTILE_MESSAGE + TURNING_MESSAGE + NET_MESSAGE + BREAKS_MESSAGE).encode()
+    more = "".join(case.text for case in read_file(TESTS / "page/messages.txt")).format_map(globals())
+    batch = (week + GAPS + more).encode()
     rules = ROOT / "examples/shop/rules.toml"
     filled = room.run("--db", DATABASE, "--rules", rules, "batch", given=batch)
     # Some of the week's answers are refusals; of the messages behind it none is.

@@ -11,7 +11,7 @@ from psycopg2.extensions import cursor as Cursor
 
 from bench.figures.cluster import Cluster
 from tests.postgres.follower import follow, kind
-from tests.postgres.seeds import RULES, Maker, agreements
+from bench.kills.seeds import RULES, Maker, agreements
 from tests.program.databases import DATABASE
 from tests.program.room import Room
 from tests.running import Outcome
@@ -80,9 +80,7 @@ def written(name: str, fields: list[str], rows: list[Row]) -> list[list[str]]:
             if offer not in offers:
                 offers.append(offer)
                 records.append(["offer", *texts(offer)])
-            records.append(
-                ["span", *(f"{day:%Y%m%d}".rjust(8, "0") for day in (first, last)), *texts([amount])]
-            )
+            records.append(["span", *(f"{day:%Y%m%d}".rjust(8, "0") for day in (first, last)), *texts([amount])])
         return [["calendar", article, str(len(offers))], *records]
     if not rows:
         return [["refused", "unknown-series"]]

@@ -7,7 +7,7 @@ from functools import partial
 from bench.figures.cluster import Cluster
 from tests.postgres.follower import ask, execute, follow, in_file, in_postgres, kind, state_of
 from tests.postgres.questions import differences
-from tests.postgres.seeds import RULES, Maker, agreements
+from bench.kills.seeds import RULES, Maker, agreements
 from tests.program.databases import DATABASE
 from tests.program.room import SECONDS, Room
 from tests.running import Outcome

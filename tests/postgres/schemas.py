@@ -93,9 +93,7 @@ def role_of_readers(cluster: Cluster, room: Room) -> Iterator[Outcome]:
     words = database.replace("user=desk", "user='buyers of books'")
     for is_let in (False, True):
         if is_let:
-            yield Outcome(
-                "readers are let read", follow(room, database, "--readers", "buyers of books").status, 0
-            )
+            yield Outcome("readers are let read", follow(room, database, "--readers", "buyers of books").status, 0)
         wanted = None if is_let else "42501"
         yield Outcome(f"a reader who is let: {is_let}", state_of(partial(ask, words, ASKED)), wanted)
     yield Outcome("a reader, let", len(ask(words, ASKED)), 1)
@@ -120,9 +118,7 @@ def faults(cluster: Cluster, room: Room) -> Iterator[Outcome]:
     ran = follow(room, database, "--rules", "missing.toml")
     yield Outcome("no table", ran, Ran(3, b"", b"desk-follow: missing.toml: No such file or directory\n"))
     ran = follow(room, database, "--readers", "nobody there")
-    yield Outcome(
-        "no such role", (ran.status, b'role "nobody there" does not exist' in ran.errors), (3, True)
-    )
+    yield Outcome("no such role", (ran.status, b'role "nobody there" does not exist' in ran.errors), (3, True))
     execute_in_file(room, "UPDATE meta SET amount = 3")
     ran = follow(room, database)
     line = b"desk-follow: cases.db: it is of version 3 of a desk's tables, in place of 2\n"
@@ -130,9 +126,7 @@ def faults(cluster: Cluster, room: Room) -> Iterator[Outcome]:
     room.write(DATABASE, b"no database" * 1000)
     yield Outcome("no database", (follow(room, database).status), 3)
     room.path(DATABASE).unlink()
-    yield Outcome(
-        "no file", follow(room, database), Ran(3, b"", b"desk-follow: cases.db: there is no such file\n")
-    )
+    yield Outcome("no file", follow(room, database), Ran(3, b"", b"desk-follow: cases.db: there is no such file\n"))
     yield Outcome("all is as before", in_postgres(database), before)
     left = [each.name for each in room.folder.iterdir() if each.name.startswith(".desk")]
     yield Outcome("no copy is left", left, [])

@@ -15,7 +15,7 @@ from typing import Any
 from tests.running import Cases
 
 # Begun first: one of its clients is waited for.
-FIRST = ["clients", "exchanges", "feed_examples", "hostile_feeds", "hostile_tokens", "mutated_feeds"]
+FIRST = ["clients", "exchanges", "feed_examples", "hostile_feeds", "mutated_feeds"]
 
 
 def groups() -> list[Cases]:

@@ -54,10 +54,7 @@ UNENDED = 40
 def clients_of_a_port(room: Room) -> Iterator[Outcome]:
     """None of them stops the desk. All are connected before the first that is waited for is let go."""
     yield Outcome("the agreement", batch(room, AGREEMENT), Ran(0, AGREED))
-    with (
-        serving(room, ["--db", DATABASE], len(CLIENTS)) as desk,
-        contextlib.ExitStack() as connections,
-    ):
+    with (serving(room, ["--db", DATABASE], len(CLIENTS)) as desk, contextlib.ExitStack() as connections):
         for client in CLIENTS:
             last = connected(desk.port)
             last.sendall(client.sends)

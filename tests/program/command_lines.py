@@ -63,12 +63,7 @@ def seen(ran: Ran) -> dict[str, int | bool]:
 def lines(room: Room) -> Iterator[Outcome]:
     for name, words, status in LINES:
         is_help = status == 0
-        wanted = {
-            "status": status,
-            "printed": is_help,
-            "complained": not is_help,
-            "in its own words": False,
-        }
+        wanted = {"status": status, "printed": is_help, "complained": not is_help, "in its own words": False}
         yield Outcome(f"command line: {name}", seen(room.run(*words.split())), wanted)
     # No database file was made.
     yield Outcome("command line: the folder then", list(room.folder.iterdir()), [])
@@ -88,8 +83,4 @@ def bad_words(room: Room) -> Iterator[Outcome]:
     yield Outcome("command line: a word that is not UTF-8", came, wanted)
 
 
-GROUPS = [
-    Group("command lines", lines),
-    Group("the version", version),
-    Group("bad words", bad_words),
-]
+GROUPS = [Group("command lines", lines), Group("the version", version), Group("bad words", bad_words)]

@@ -46,12 +46,7 @@ DELIVERIES = [
         Ran(1, b"refused,unnumbered\n"),
     ),
     Delivery("an empty file", b"", [FILE], Ran(1, b"refused,malformed,1\n")),
-    Delivery(
-        "two messages in a file",
-        bare(1) * 2,
-        [FILE],
-        Ran(1, b"refused,malformed,3\n"),
-    ),
+    Delivery("two messages in a file", bare(1) * 2, [FILE], Ran(1, b"refused,malformed,3\n")),
     Delivery(
         "a message, and a file that is not there",
         FIRST,
@@ -70,41 +65,19 @@ DELIVERIES = [
         [FILE, FILE],
         Ran(3, b"", b"onixdesk: input: not UTF-8\n"),
     ),
-    Delivery(
-        "a file of 4,194,305 bytes",
-        b"\n" * 4_194_305,
-        [FILE],
-        Ran(3, b"", b"onixdesk: input: too large\n"),
-    ),
-    Delivery(
-        "a file of 4,194,304 bytes",
-        b"\n" * 4_194_304,
-        [FILE],
-        Ran(1, b"refused,malformed,1\n"),
-    ),
+    Delivery("a file of 4,194,305 bytes", b"\n" * 4_194_305, [FILE], Ran(3, b"", b"onixdesk: input: too large\n")),
+    Delivery("a file of 4,194,304 bytes", b"\n" * 4_194_304, [FILE], Ran(1, b"refused,malformed,1\n")),
     Delivery("standard input", b"", ["-"], Ran(0, APPLIED), FIRST),
     Delivery("a file, and standard input", FIRST, [FILE, "-"], Ran(0, APPLIED + SECOND_APPLIED), SECOND),
     Delivery("standard input, and a file", FIRST, ["-", FILE], Ran(0, HELD + APPLIED), SECOND),
-    Delivery(
-        "standard input, twice",
-        b"",
-        ["-", "-"],
-        Ran(1, APPLIED + b"refused,malformed,1\n"),
-        FIRST,
-    ),
+    Delivery("standard input, twice", b"", ["-", "-"], Ran(1, APPLIED + b"refused,malformed,1\n"), FIRST),
     Delivery(
         "a file, and a standard input that cannot be read",
         FIRST,
         [FILE, "-", FILE],
         Ran(3, APPLIED, b"onixdesk: file: -\n"),
     ),
-    Delivery(
-        "a file whose name is a path to -",
-        b"",
-        ["./-"],
-        Ran(3, b"", b"onixdesk: file: ./-\n"),
-        FIRST,
-    ),
+    Delivery("a file whose name is a path to -", b"", ["./-"], Ran(3, b"", b"onixdesk: file: ./-\n"), FIRST),
 ]
 
 

@@ -1,7 +1,6 @@
 """Feeds in XML, and what `onixdesk convert` is to write of them.
 
-The cases stand in tests/conversions. Behind a heading each file has them: a line `== ` with the name, and
-parts that begin with a line `-- `:
+The cases stand in tests/conversions (`written_cases`), and have these parts:
 
     -- PLACE      the XML at that place of a message that is else usual (`FRAMES`), or, where PLACE is
                   `file`, the whole file
@@ -14,7 +13,7 @@ parts that begin with a line `-- `:
     -- summary    the lines behind the notes, where they are not only added up
     -- refused    the place in the file, or `anywhere`, and perhaps a part of the line that says why
 
-A place is a line and a column, as `2:7`, or a line and the first start tag of an element there, as
+In each `(PIECE){N}` is N times the piece. A place is a line and a column, as `2:7`, or a line and the first start tag of an element there, as
 `2:<Price>`. Notes stand in the order of their places. Each case is converted in reference names without a namespace
 and, but for whole files, in short tags in their namespace, in which columns are others.
 """
@@ -23,7 +22,9 @@ import re
 from pathlib import Path
 from typing import NamedTuple
 
-FOLDER = Path(__file__).resolve().parent.parent / "conversions"
+from tests.program.written_cases import TESTS, Written, read_file, repeated
+
+FOLDER = TESTS / "conversions"
 
 WHOLE_FILE = "file"
 
@@ -99,16 +100,9 @@ FRAMES = {
     "supply": SUPPLY,
     "details": DETAILS,
     "detail": within(DETAILS, "<SupplyDetail>", "</SupplyDetail>"),
-    "prices": within(
-        DETAILS,
-        f"<SupplyDetail>{SUPPLIER}",
-        "</SupplyDetail>",
-        "SupplyDetail,04,,,North,21,\n",
-    ),
+    "prices": within(DETAILS, f"<SupplyDetail>{SUPPLIER}", "</SupplyDetail>", "SupplyDetail,04,,,North,21,\n"),
 }
-FRAMES["price"] = within(
-    FRAMES["prices"], "<Price><PriceAmount>12.99</PriceAmount>", "</Price>"
-)
+FRAMES["price"] = within(FRAMES["prices"], "<Price><PriceAmount>12.99</PriceAmount>", "</Price>")
 
 
 PLACE = re.compile("([0-9]+):(?:([0-9]+)|(<[A-Za-z]+))>?(.*)", re.DOTALL)
@@ -213,14 +207,12 @@ def records_of(place: str, text: str) -> str:
     return f"{records}EndMessage,{records.count(chr(10))}\n"
 
 
-def read_case(text: str) -> Case:
-    """The case that is written so, from its name on."""
-    name, *rest = text.split("\n-- ")
+def case_of(written: Written) -> Case:
+    """The case that is written so: of a part that has no more than its head, that is the text."""
     parts = {}
-    for part in rest:
-        head, _, body = part.partition("\n")
+    for head, body in written.parts:
         key, _, value = head.partition(" ")
-        parts[key] = value or (body.rstrip("\n") + "\n" if body.strip() else "")
+        parts[key] = repeated(value or (body.rstrip("\n") + "\n" if body.strip() else ""))
     place = next(key for key in parts if key in FRAMES or key == WHOLE_FILE)
     words = parts.get("words", "").split()
     records = None
@@ -229,9 +221,8 @@ def read_case(text: str) -> Case:
     lines = {key: text.rstrip("\n").split("\n") for key, text in parts.items()}
     summary = lines.get("summary")
     wanted = Converted(records, lines.get("notes", []), lines.get("wrong", []), parts.get("refused", ""))
-    return Case(name, place, parts[place], words, wanted, summary)
+    return Case(written.name, place, parts[place], words, wanted, summary)
 
 
 def read_cases(path: Path) -> list[Case]:
-    _heading, *texts = path.read_text(encoding="utf-8").split("\n== ")
-    return [read_case(text) for text in texts]
+    return [case_of(written) for written in read_file(path)]

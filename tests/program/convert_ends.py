@@ -19,18 +19,11 @@ from tests.program.converter_runs import FRAME, ONE, PRODUCT, TWO, message_of
 from tests.program.converter_words import HEADER, SENDER
 from tests.program.converter_words import feed_of as message_with
 from tests.program.room import SECONDS, Group, Ran, Room
+from tests.program.written_cases import TESTS, read_file, repeated, unescaped
 from tests.running import Outcome
 
-OLD = "; this looks like ONIX 2.1, ask its sender for 3.0 or 3.1"
-ROOTS = "is neither ONIXMessage nor ONIXmessage"
 CUT = "the file ends before </ONIXMessage>"
 NO_XML = "no well-formed XML"
-NO_TEXT = (
-    "a byte that its encoding has not, or a character that no XML has; another encoding may be meant, as windows-1252"
-)
-
-DTD = '<!DOCTYPE ONIXMessage SYSTEM "http://www.editeur.org/onix/{}/reference/onix-international.dtd">\n'
-THIRD = ' xmlns="http://ns.editeur.org/onix/3.0/reference"'
 
 # Longer than what is kept of the beginning of a feed, and than what is read of it at once.
 LONG = f"<!--{' ' * 70_000}-->"
@@ -45,11 +38,6 @@ class Case(NamedTuple):
     words: list[str] = []
 
 
-def root(text: str, why: str) -> Case:
-    """A feed of that text, with a root."""
-    return Case(f"the root of {text[:20]!r} to {text[-50:]!r}", text.encode(), why)
-
-
 def in_utf16(text: str) -> bytes:
     return codecs.BOM_UTF16_LE + text.encode("utf-16-le")
 
@@ -59,56 +47,12 @@ def numbered(number: str, why: str, *words: str) -> Case:
     return Case(f"the number {number[:12]} {' '.join(words)}", message_with(header), why, [*words])
 
 
-ROOT_CASES = [
-    root('<?xml version="1.0"?>\n\n<html release="3.0"/>', f"root html {ROOTS}; this is a web page"),
-    root('<ONIXMESSAGE release="3.0"/>', f"root ONIXMESSAGE {ROOTS}"),
-    root('<o:Feed xmlns:o="urn:o" release="3.0"></o:Feed>', f"root Feed {ROOTS}"),
-    root("<ONIXMessage><Header/></ONIXMessage>", f"no release, not 3.0 or 3.1{OLD}"),
-    root('<ONIXMessage release="2.1"><Header/></ONIXMessage>', f"release 2.1, not 3.0 or 3.1{OLD}"),
-    root("<ONIXmessage release='2.0'/>", f"release 2.0, not 3.0 or 3.1{OLD}"),
-    root('<ONIXMessage release="3.00"/>', "release 3.00, not 3.0 or 3.1"),
-    root(f"{DTD.format('2.1')}<ONIXMessage/>", f"no release, not 3.0 or 3.1{OLD}"),
-    root(f"{DTD.format('3.0')}<ONIXMessage/>", "no release, not 3.0 or 3.1"),
-    root(f"<ONIXMessage{THIRD}/>", "no release, not 3.0 or 3.1"),
-    root(f"<o:ONIXMessage{THIRD.replace('xmlns', 'xmlns:o')}/>", "no release, not 3.0 or 3.1"),
-    Case(
-        "an encoding that is not read",
-        b'<?xml version="1.0" encoding="EBCDIC-CP-FI"?><ONIXMessage release="3.0"/>',
-        'encoding "EBCDIC-CP-FI" is not read; '
-        "read are UTF-8, UTF-16, US-ASCII, ISO-8859-1, ISO-8859-15 and windows-1252",
-    ),
-    root('<ONIXMessage release="3.0"><Note>&foo;&bar;</Note></ONIXMessage>', "&foo; stands for nothing"),
-    root(f"{LONG}<ONIXMessage release='2.1'/>", f"release 2.1, not 3.0 or 3.1{OLD}"),
-    root(f"{LONG}<Feed/>", f"root Feed {ROOTS}"),
-    Case(
-        "a root in UTF-16",
-        in_utf16('<ONIXMessage release="2.1"/>'),
-        f"release 2.1, not 3.0 or 3.1{OLD}",
-    ),
-]
+def feeds() -> Iterator[Case]:
+    """Those of tests/refusals/feeds.txt: the name of a case says why its feeds are refused, which have escapes."""
+    for case in read_file(TESTS / "refusals/feeds.txt"):
+        for text in case.text.removesuffix("\n").splitlines():
+            yield Case(f"the feed {text}", unescaped(repeated(text)), case.name)
 
-KINDS = [
-    Case("nothing", b"", "no XML, but an empty file"),
-    Case("a PDF", b"%PDF-1.4\n", "no XML, but a PDF"),
-    *(
-        Case(f"a web page {page!r}", page.encode(), "no XML, but a web page")
-        for page in (
-            "<!-- from the proxy -->\n<!doctype HTML>\n<title>Log in</title><p>You have to log in",
-            "\ufeff<html lang=en><body>",
-            "<!---->  <HEAD\nid=a>",
-            "<body class=x>",
-        )
-    ),
-    *(
-        root(f"<{name}><p>Log in", f"root {name} {ROOTS}; this is a web page")
-        for name in ("html", "HTML", "Head", "body")
-    ),
-    Case("words", b"Message,1,06,S,,,1,,,,\n", NO_XML),
-    Case("a byte that UTF-8 has not", b'<ONIXMessage release="3.0">\xe9</ONIXMessage>', NO_TEXT),
-    Case("a character that XML has not", b'<ONIXMessage release="3.0">\x0b</ONIXMessage>', NO_TEXT),
-    Case("a root whose name begins as that of a web page", b"<htmlx><y></htmlx>", f"root htmlx {ROOTS}"),
-    Case("a tag whose name begins as that of a web page", b"<htmlx y=1>", NO_XML),
-]
 
 # Of as many bytes a feed is that is begun: fewer than tell its encoding, as many as are kept of it, and so on.
 SIZES = [512, 1_023, 1_024, 2_000, 65_535, 65_536, 65_537, 200_000]
@@ -332,8 +276,7 @@ def strangers(room: Room) -> Iterator[Outcome]:
 
 
 GROUPS = [
-    Group("convert: roots and releases that are refused", partial(refused, ROOT_CASES)),
-    Group("convert: files that are no XML", partial(refused, KINDS)),
+    Group("convert: files that are no message", partial(refused, [*feeds()])),
     Group("convert: files that end too early", partial(refused, ENDS)),
     Group("convert: numbers that are refused", partial(refused, NUMBERS)),
     Group("convert: what cannot be read", unread),

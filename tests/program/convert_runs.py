@@ -7,9 +7,11 @@ from collections.abc import Iterator
 from functools import partial
 
 from tests.program import converter_runs, converter_words
-from tests.program.conversions import SUPPLIER, in_short_tags
+from tests.program.conversions import in_short_tags
 from tests.program.converter import FEED
-from tests.program.converter_runs import BAD, FRAME, ISBN, ONE, PRODUCT, TWO, WRONG, Case, encoded, message_of
+from tests.program.converter_runs import (
+    BAD, DETAIL, FRAME, ISBN, ONE, PRICE, TWO, WRONG, Case, encoded, message_of, supplied,
+)
 from tests.program.converter_words import HEADER, SENDER
 from tests.program.room import Group, Ran, Room
 from tests.running import Outcome
@@ -18,19 +20,8 @@ NAMES = {"a.xml": "a", "b.c.onix": "b.c", "d": "d", "j.gz.xml": "j.gz"}
 
 # Two products that have together more records than a message may have.
 PRICES = 10_000
-LARGE = in_short_tags(
-    "\n".join(
-        [
-            FRAME.before,
-            *(
-                f"{PRODUCT.format(reference).removesuffix('</Product>')}<ProductSupply><SupplyDetail>{SUPPLIER}"
-                f"{'<Price><PriceAmount>1</PriceAmount></Price>' * PRICES}</SupplyDetail></ProductSupply></Product>"
-                for reference in ("R1", "R2")
-            ),
-            FRAME.behind,
-        ]
-    )
-).encode()
+PRODUCTS = [supplied(reference, DETAIL.format(PRICE * PRICES)) for reference in ("R1", "R2")]
+LARGE = in_short_tags("\n".join([FRAME.before, *PRODUCTS, FRAME.behind])).encode()
 
 
 def large_part(number: int, *references: str) -> bytes:
@@ -99,16 +90,12 @@ def check(case: Case, room: Room) -> Iterator[Outcome]:
     yield Outcome(f"convert: {case.name}", found, wanted)
 
 
-BAD_WORDS: list[list[str | bytes]] = [[*words] for words in converter_runs.BAD_WORDS]
-BAD_WORDS += converter_words.BAD
-
-
 def bad_words(room: Room) -> Iterator[Outcome]:
     files = {"a.xml": ONE, "b.xml": TWO, FEED: converter_words.feed_of(HEADER.format(SENDER))}
     for name, data in files.items():
         room.write(name, data)
-    for words in BAD_WORDS:
-        came = room.run("convert", *words, *([] if "a.xml" in words or words == ["-o"] else [FEED]))
+    for words in converter_words.bad():
+        came = room.run("convert", *words, *([] if b"a.xml" in words or words == [b"-o"] else [FEED]))
         yield Outcome(f"convert {words}", (came.status, came.output, came.errors != b""), (2, b"", True))
     left = {path.name: path.read_bytes() for path in room.folder.iterdir()}
     yield Outcome("convert: nothing is written on bad words", left, files)

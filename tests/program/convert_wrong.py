@@ -1,150 +1,18 @@
 """What `onixdesk convert` makes of products that the desk would not take as they stand: how many it lets through, what it
-says of a FILE of too many, and fields too long for the files of tests/conversions."""
+says of a FILE of too many."""
 
 from collections.abc import Iterator
 from functools import partial
-from typing import NamedTuple
 
-from tests.program.conversions import FRAMES, SUPPLIER, said
+from tests.program.conversions import FRAMES, said
 from tests.program.converter import FEED, convert
-from tests.program.converter_limits import DETAIL, MOST, PRICE
-from tests.program.converter_notes import COUNTRIES, FIELD_BYTES
-from tests.program.converter_runs import ISBN, PRODUCT
+from tests.program.converter_limits import MOST
+from tests.program.converter_runs import DETAIL, ISBN, PRICE, PRODUCT, supplied
 from tests.program.feed_notes import count_line
 from tests.program.room import Group, Ran, Room
 from tests.running import Outcome
 
 FRAME = FRAMES["products"]
-
-LONG = "x" * (FIELD_BYTES + 1)
-TOO_LONG = f"has more than {FIELD_BYTES} bytes"
-
-
-def element(name: str, text: str) -> str:
-    return f"<{name}>{text}</{name}>"
-
-
-def identifier(value: str = ISBN) -> str:
-    return element("ProductIdentifier", element("ProductIDType", "15") + element("IDValue", value))
-
-
-def product(below: str = "", notification: str = "03", identifiers: str = identifier(), reference: str = "R1") -> str:
-    kind = element("NotificationType", notification)
-    return element("Product", element("RecordReference", reference) + kind + identifiers + below)
-
-
-def supply(inside: str, *countries: str) -> str:
-    markets = "".join(element("Market", element("Territory", element("CountriesIncluded", each))) for each in countries)
-    return element("ProductSupply", markets + element("SupplyDetail", inside))
-
-
-GOOD = supply(SUPPLIER)
-GOOD_RECORDS = "ProductSupply,,,\nSupplyDetail,04,,,North,21,\n"
-WHOLE = f"Product,R1,03,15,{ISBN}\n{GOOD_RECORDS}"
-
-
-class Case(NamedTuple):
-    """A product with a field that is too long, the tag of what is left out or emptied for that, the line on it, and the
-    records that are left."""
-
-    name: str
-    product: str
-    tag: str
-    line: str
-    records: str
-    is_wrong: bool = True
-
-
-def with_supplier(name: str) -> str:
-    return element("Supplier", element("SupplierRole", "04") + name) + element("ProductAvailability", "21")
-
-
-def behind_a_right_one(name: str) -> str:
-    """A product of two SupplyDetails, of which the second, on a line of its own, has this name or identifier."""
-    second = element("SupplyDetail", with_supplier(name))
-    return product(element("ProductSupply", element("SupplyDetail", SUPPLIER) + "\n" + second))
-
-
-CASES = [
-    Case(
-        "a long reference",
-        product(reference=LONG),
-        "<Product>",
-        f"{LONG[:100]}..: Product left out: RecordReference {TOO_LONG}",
-        "",
-    ),
-    Case(
-        "a long type",
-        product(GOOD, notification=LONG),
-        "<Product>",
-        f"R1: Product emptied: NotificationType {TOO_LONG}",
-        f"Product,R1,03,15,{ISBN}\n",
-    ),
-    Case(
-        "a long identifier",
-        product(GOOD, identifiers=identifier(LONG) + identifier()),
-        "<ProductIdentifier>",
-        f"R1: ProductIdentifier left out: IDValue of ProductIdentifier {TOO_LONG}",
-        WHOLE,
-    ),
-    Case(
-        "a long name of a supplier",
-        behind_a_right_one(element("SupplierName", LONG)),
-        "\n<SupplyDetail>",
-        f"R1: SupplyDetail left out: SupplierName {TOO_LONG}",
-        WHOLE,
-    ),
-    Case(
-        "a name of a supplier with a control character",
-        behind_a_right_one(element("SupplierName", "North\x7f")),
-        "\n<SupplyDetail>",
-        "R1: SupplyDetail left out: SupplierName has the control character U+007F",
-        WHOLE,
-    ),
-    Case(
-        "a long identifier of a supplier",
-        behind_a_right_one(
-            element("SupplierIdentifier", element("SupplierIDType", "06") + element("IDValue", LONG))
-        ),
-        "\n<SupplyDetail>",
-        f"R1: SupplyDetail left out: IDValue of SupplierIdentifier {TOO_LONG}",
-        WHOLE,
-    ),
-    Case(
-        "a long list of countries",
-        product(supply(SUPPLIER, " ".join(COUNTRIES[:400]), "GB")),
-        "<Market>",
-        f"R1: Market left out: CountriesIncluded or CountriesExcluded {TOO_LONG} or a control character",
-        WHOLE.replace("ProductSupply,,,", "ProductSupply,GB,,"),
-    ),
-    Case(
-        "Markets whose countries together are a long list",
-        product(GOOD + "\n" + supply(SUPPLIER, " ".join(COUNTRIES[:200]), " ".join(COUNTRIES[200:400]))),
-        "\n<ProductSupply>",
-        f"R1: ProductSupply left out: its Markets together have more than {FIELD_BYTES} bytes",
-        WHOLE,
-        is_wrong=False,
-    ),
-]
-
-
-def place_of(case: Case) -> str:
-    """The line and the column of the thing that the note speaks of; the product begins on line 2."""
-    before = case.product[: case.product.index(case.tag) + case.tag.index("<")]
-    return f"{2 + before.count(chr(10))}:{len(before) - before.rfind(chr(10))}"
-
-
-def check(case: Case, room: Room) -> Iterator[Outcome]:
-    room.write(FEED, f"{FRAME.before}\n{case.product}{FRAME.behind}".encode())
-    came = convert(room, FEED)
-    records = FRAME.records + case.records
-    first = f"{FEED}:{place_of(case)}: {case.line}"
-    last = count_line(1, 1 if case.is_wrong else 0)
-    lines = came.errors.decode().splitlines()
-    found = came.status, came.output.decode(), lines[:1], lines[-1:]
-    whole = f"{records}EndMessage,{records.count(chr(10))}\n"
-    wanted = 1 if case.is_wrong else 0, whole, [f"onixdesk: {first}"], [f"onixdesk: {last}"]
-    yield Outcome(f"convert: {case.name}", found, wanted)
 
 
 # How many of how many products are wrong, and whether `--wrong few`, and `--wrong none`, lets them through.
@@ -195,6 +63,10 @@ FOREIGN_PRICE = "<Price><PriceQualifier>05</PriceQualifier><PriceAmount>1</Price
 WRONG_PRICE = "<Price><PriceAmount>1,00</PriceAmount></Price>"
 
 
+def priced(reference: str, prices: str) -> str:
+    return supplied(reference, DETAIL.format(prices))
+
+
 def before_refusal(products: list[str], room: Room) -> tuple[int, bytes, list[str]]:
     """What comes of these products, each on a line of its own, where none may be wrong: the status, what is written,
     and of each line on standard error the place and what follows it, up to the reason."""
@@ -207,14 +79,13 @@ def before_refusal(products: list[str], room: Room) -> tuple[int, bytes, list[st
 def others_notes(room: Room) -> Iterator[Outcome]:
     """Before the refusal stand all notes on wrong products, and none on others: also where those have the reference of
     a wrong one, or more notes than lines are written."""
-    right = product(supply(SUPPLIER + FOREIGN_PRICE))
-    wrong = product(supply(SUPPLIER + FOREIGN_PRICE + "\n" + WRONG_PRICE), reference="W")
-    namesake = product(supply(SUPPLIER + FOREIGN_PRICE), reference="W")
+    right, namesake = priced("R1", FOREIGN_PRICE), priced("W", FOREIGN_PRICE)
+    wrong = priced("W", FOREIGN_PRICE + "\n" + WRONG_PRICE)
     column = wrong.index("<Price>") + 1
     cases = {
         "one behind a right one": [right, wrong],
         "one behind and before one of its name": [namesake, wrong, namesake],
-        "one behind one of 1001 notes": [product(supply(SUPPLIER + FOREIGN_PRICE * 1001)), wrong],
+        "one behind one of 1001 notes": [priced("R1", FOREIGN_PRICE * 1001), wrong],
     }
     for name, products in cases.items():
         line = 2 + products.index(wrong)
@@ -224,9 +95,7 @@ def others_notes(room: Room) -> Iterator[Outcome]:
 
 def before_parts(room: Room) -> Iterator[Outcome]:
     """Of a message of too many wrong products that needs more parts too, the products are told."""
-    large = PRODUCT.format("R1").replace(
-        "</Product>", f"<ProductSupply>{DETAIL.format(PRICE * (MOST - 3))}</ProductSupply></Product>"
-    )
+    large = supplied("R1", DETAIL.format(PRICE * (MOST - 3)))
     texts = [WRONG.format("W1"), large, WRONG.format("W2")]
     room.write(FEED, "\n".join([FRAME.before, *texts, FRAME.behind]).encode())
     cases: list[tuple[list[str], str]] = [([], "2 of 3 products"), (["--wrong", "all"], " 3 parts")]
@@ -237,7 +106,6 @@ def before_parts(room: Room) -> Iterator[Outcome]:
 
 
 GROUPS = [
-    *(Group(f"convert: {case.name}", partial(check, case)) for case in CASES),
     *(Group(f"convert: {wrong} wrong products of {products}", partial(few, wrong, products, few_go, none_go))
       for wrong, products, few_go, none_go in COUNTS),
     Group("convert: the notes before a refusal", others_notes),

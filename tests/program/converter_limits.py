@@ -5,7 +5,7 @@ from collections.abc import Iterator
 
 from tests.program.conversions import FRAMES, said
 from tests.program.converter import FEED, convert
-from tests.program.converter_runs import ISBN, PRODUCT, feed_of, message_of
+from tests.program.converter_runs import DETAIL, ISBN, PRICE, PRODUCT, feed_of, message_of, supplied
 from tests.program.room import Group, Ran, Room
 from tests.running import Outcome
 
@@ -16,12 +16,6 @@ BYTES = 4_194_304
 MOST = RECORDS - 2
 
 FRAME = FRAMES["products"]
-DETAIL = (
-    "<SupplyDetail><Supplier><SupplierRole>04</SupplierRole><SupplierName>North</SupplierName></Supplier>"
-    "<ProductAvailability>21</ProductAvailability>{}</SupplyDetail>"
-)
-PRICE = "<Price><PriceAmount>1</PriceAmount></Price>"
-
 
 # What is said of parts to the person who has to act.
 AGREED = (
@@ -94,9 +88,7 @@ def size(room: Room) -> Iterator[Outcome]:
 def product_of(details: int, prices: int) -> str:
     """A product of 2 records, one for each supply detail, and so many prices of the first."""
     supply = DETAIL.format(PRICE * prices) + DETAIL.format("") * (details - 1)
-    return PRODUCT.format("R1").replace(
-        "</Product>", f"<ProductSupply>{supply}</ProductSupply></Product>"
-    )
+    return supplied("R1", supply)
 
 
 def between_others(product: str) -> bytes:
@@ -180,9 +172,7 @@ def prefixes(room: Room) -> Iterator[Outcome]:
 def a_whole_product_in_the_next_part(room: Room) -> Iterator[Outcome]:
     """A product that does not fit into what is left of a part begins the next."""
     names = references(MOST - 1)
-    feed = feed_of(*names).replace(
-        FRAME.behind.encode(), (product_of(1, 0) + FRAME.behind).encode()
-    )
+    feed = feed_of(*names).replace(FRAME.behind.encode(), (product_of(1, 0) + FRAME.behind).encode())
     room.write(FEED, feed)
     came = convert(room, "--parts", "2", FEED)
     second = (

@@ -48,11 +48,7 @@ def bounded(room: Room) -> Iterator[Outcome]:
     room.write("b.xml", prices(LINES + 1, "05"))
     room.write("c.xml", prices(LINES + 500, "07"))
     came = convert(room, "-o", ".", "a.xml", "b.xml", "c.xml")
-    summary = [
-        "Price left out: PriceQualifier 05: 2001",
-        "Price left out: PriceQualifier 07: 1500",
-        "3501 notes",
-    ]
+    summary = ["Price left out: PriceQualifier 05: 2001", "Price left out: PriceQualifier 07: 1500", "3501 notes"]
     lines = notes_on("a.xml", LINES, "05") + notes_on("b.xml", LINES, "05") + notes_on("c.xml", LINES, "07")
     found = came.status, came.errors.decode().splitlines()
     yield Outcome("files of many notes", found, (0, said(lines + summary).decode().splitlines()))

@@ -4,7 +4,7 @@ import io
 import zipfile
 from typing import NamedTuple
 
-from tests.program.conversions import FRAMES, said
+from tests.program.conversions import FRAMES, SUPPLIER, said
 from tests.program.converter import FEED
 from tests.program.room import Ran
 
@@ -16,6 +16,16 @@ PRODUCT = (
     "<Product><RecordReference>{}</RecordReference><NotificationType>03</NotificationType>"
     f"<ProductIdentifier><ProductIDType>15</ProductIDType><IDValue>{ISBN}</IDValue></ProductIdentifier></Product>"
 )
+
+
+# A SupplyDetail without its Prices, and a Price.
+DETAIL = f"<SupplyDetail>{SUPPLIER}{{}}</SupplyDetail>"
+PRICE = "<Price><PriceAmount>1</PriceAmount></Price>"
+
+
+def supplied(reference: str, details: str) -> str:
+    """A product with these SupplyDetails."""
+    return PRODUCT.format(reference).replace("</Product>", f"<ProductSupply>{details}</ProductSupply></Product>")
 
 
 def feed_of(*references: str) -> bytes:
@@ -49,6 +59,11 @@ def zipped(entries: dict[str, bytes], method: int = zipfile.ZIP_DEFLATED) -> byt
     return made.getvalue()
 
 
+def ends(status: int, *lines: str) -> Ran:
+    """A run without records that ends so and says this."""
+    return Ran(status, b"", said([*lines]))
+
+
 class Case(NamedTuple):
     """Files that are there, words, how the run ends, and the files that it leaves beside those."""
 
@@ -63,39 +78,20 @@ class Case(NamedTuple):
 CASES = [
     Case("standard input", {}, [], Ran(0, message_of("R1")), given=ONE),
     Case("standard input by its name", {}, ["-"], Ran(0, message_of("R1")), given=ONE),
-    Case(
-        "standard input, refused",
-        {},
-        ["-"],
-        Ran(1, b"", said([f"-:{BAD_SAID}"])),
-        given=BAD,
-    ),
-    Case(
-        "standard input into a folder",
-        {},
-        ["-o", "."],
-        Ran(0),
-        {"message.csv": message_of("R1")},
-        given=ONE,
-    ),
+    Case("standard input, refused", {}, ["-"], ends(1, f"-:{BAD_SAID}"), given=BAD),
+    Case("standard input into a folder", {}, ["-o", "."], Ran(0), {"message.csv": message_of("R1")}, given=ONE),
     Case(
         "parts on standard output follow each other",
         {FEED: TWO},
         ["--parts", "3", "--number", "5", FEED],
-        Ran(
-            0,
-            message_of("R1", "R2", number=13) + message_of(number=14) + message_of(number=15),
-        ),
+        Ran(0, message_of("R1", "R2", number=13) + message_of(number=14) + message_of(number=15)),
     ),
     Case(
         "parts in files",
         {FEED: TWO},
         ["--parts", "2", "-o", ".", FEED],
         Ran(0),
-        {
-            "feed.part-01.csv": message_of("R1", "R2", number=1),
-            "feed.part-02.csv": message_of(number=2),
-        },
+        {"feed.part-01.csv": message_of("R1", "R2", number=1), "feed.part-02.csv": message_of(number=2)},
     ),
     Case(
         "a hundred parts have three digits",
@@ -111,41 +107,25 @@ CASES = [
         "a refused file among others",
         {"a.xml": ONE, "b.xml": BAD, "c.xml": TWO},
         ["-o", ".", "a.xml", "b.xml", "c.xml"],
-        Ran(1, b"", said([f"b.xml:{BAD_SAID}"])),
+        ends(1, f"b.xml:{BAD_SAID}"),
         {"a.csv": message_of("R1"), "c.csv": message_of("R1", "R2")},
     ),
     Case(
         "a file that is not there outweighs one that is refused",
         {"b.xml": BAD, "c.xml": TWO},
         ["-o", ".", "absent.xml", "b.xml", ".", "c.xml"],
-        Ran(
-            3,
-            b"",
-            said(
-                [
-                    "absent.xml: No such file or directory",
-                    f"b.xml:{BAD_SAID}",
-                    ".: Is a directory",
-                ]
-            ),
-        ),
+        ends(3, "absent.xml: No such file or directory", f"b.xml:{BAD_SAID}", ".: Is a directory"),
         {"c.csv": message_of("R1", "R2")},
     ),
     Case(
         "a wrong product left out",
         {FEED: WRONG},
         ["--wrong", "few", FEED],
-        Ran(
-            1,
-            message_of("R2"),
-            said(
-                [
-                    f"{FEED}:2:1: no RecordReference: Product left out: no RecordReference",
-                    "Product left out: no RecordReference: 1",
-                    "1 note, 1 product wrong",
-                ]
-            ),
-        ),
+        Ran(1, message_of("R2"), said([
+            f"{FEED}:2:1: no RecordReference: Product left out: no RecordReference",
+            "Product left out: no RecordReference: 1",
+            "1 note, 1 product wrong",
+        ])),
     ),
     Case(
         "a file is there that has the same bytes",
@@ -157,33 +137,23 @@ CASES = [
         "a file is there that has other bytes",
         {"a.xml": ONE, "a.csv": message_of("R2")},
         ["-o", ".", "a.xml"],
-        Ran(3, b"", said(["a.csv: is there, with other bytes"])),
+        ends(3, "a.csv: is there, with other bytes"),
     ),
     Case(
         "the file of a later part is there with other bytes, and no part is written",
         {"a.xml": ONE, "a.part-02.csv": b""},
         ["--parts", "2", "-o", ".", "a.xml"],
-        Ran(3, b"", said(["a.part-02.csv: is there, with other bytes"])),
+        ends(3, "a.part-02.csv: is there, with other bytes"),
     ),
     Case(
         "a file that becomes the same as another",
         {"a.xml": ONE, "a.onix": TWO},
         ["-o", ".", "a.xml", "a.onix"],
-        Ran(3, b"", said(["a.csv: is there, with other bytes"])),
+        ends(3, "a.csv: is there, with other bytes"),
         {"a.csv": message_of("R1")},
     ),
-    Case(
-        "a folder that is not there",
-        {"a.xml": ONE},
-        ["-o", "absent", "a.xml"],
-        Ran(3, b"", said(["absent: no folder"])),
-    ),
-    Case(
-        "a folder that is a file",
-        {"a.xml": ONE},
-        ["-o", "a.xml", "a.xml"],
-        Ran(3, b"", said(["a.xml: no folder"])),
-    ),
+    Case("a folder that is not there", {"a.xml": ONE}, ["-o", "absent", "a.xml"], ends(3, "absent: no folder")),
+    Case("a folder that is a file", {"a.xml": ONE}, ["-o", "a.xml", "a.xml"], ends(3, "a.xml: no folder")),
 ]
 
 
@@ -194,30 +164,3 @@ def encoded(declared: str, codec: str, mark: bytes = b"", between: str = "", sen
     """A feed that declares an encoding, with this between its declaration and its root."""
     text = feed_of("R1").decode().replace("<IDValue>S<", f"<IDValue>{sender}<")
     return mark + f'<?xml version="1.0" encoding="{declared}"?>{between}{text}'.encode(codec)
-
-
-BAD_WORDS = [
-    ["--unknown"],
-    ["--part", "2"],
-    ["--parts"],
-    ["--parts", "0"],
-    ["--parts", "-1"],
-    ["--parts", "1000000000"],
-    ["--parts", "two"],
-    ["--number", "0"],
-    ["--number", "0000000001"],
-    ["--number", "٧"],
-    ["--wrong"],
-    ["--wrong", ""],
-    ["--wrong", "some"],
-    ["--wrong", "All"],
-    ["--leave-out-wrong"],
-    ["--id-type", "6"],
-    ["--id-type", "GL"],
-    ["--addressee", "06"],
-    ["--addressee", "06,"],
-    ["--addressee", "6,A"],
-    ["-o"],
-    ["a.xml", "b.xml"],
-    ["-o", ".", "--number", "1", "a.xml", "b.xml"],
-]

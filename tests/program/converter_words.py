@@ -1,6 +1,9 @@
 """What a converter takes for the words of a sender, of numbers and of parts, and what it does not."""
 
+import shlex
+
 from tests.program.conversions import FRAMES
+from tests.program.written_cases import TESTS, read_file, repeated, unescaped
 
 HEADER = "<Header>{}<MessageNumber>1</MessageNumber></Header>"
 SENDER = (
@@ -15,33 +18,10 @@ def feed_of(inside: str) -> bytes:
     return f"{frame.before}{inside}{frame.behind}".encode()
 
 
-BAD: list[list[str | bytes]] = [
-    ["--parts", "10000"],
-    ["--parts", "0000000001x"],
-    ["--number-offset"],
-    ["--number-offset", ""],
-    ["--number-offset", "999999999"],
-    ["--number-offset", "0000000001"],
-    ["--number-offset", "-1"],
-    ["--number-offset", "+1"],
-    ["--number-offset", "1.0"],
-    ["--number-offset", "٧"],
-    ["--number", "1", "--number-offset", "1"],
-    ["--number", "1", "--number-offset", "0"],
-    ["--number-offset", "0", "--number", "1"],
-    ["--sender"],
-    ["--sender", "06"],
-    ["--sender", "06,"],
-    ["--sender", "6,S"],
-    ["--sender", "٠٦,S"],
-    ["--sender", "GLN,S"],
-    ["--sender", "06,S\n"],
-    ["--sender", "06,S\tT"],
-    ["--sender", "06,\x7f"],
-    ["--sender", b"06,\xff"],
-    ["--sender", "06," + "s" * (FIELD_BYTES + 1)],
-    ["--sender", "06," + "é" * (FIELD_BYTES // 2) + "s"],
-]
+def bad() -> list[list[bytes]]:
+    """The command lines of tests/refusals/words.txt, which have escapes."""
+    [case] = read_file(TESTS / "refusals/words.txt")
+    return [[unescaped(repeated(word)) for word in shlex.split(line)] for line in case.text.splitlines()]
 
 
 # Words, and the fields of the sender and the number that they give a message without a sender.

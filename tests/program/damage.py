@@ -6,9 +6,10 @@ from collections.abc import Iterator
 from contextlib import closing
 from functools import partial
 
-from tests.program.databases import DATABASE, batch, execute
+from tests.program.databases import DATABASE, FOLDER, batch, execute
 from tests.program.messages import AGREED, AGREEMENT, applied, bare, held, priced
 from tests.program.room import Group, Ran, Room
+from tests.program.written_cases import read_file
 from tests.running import Outcome
 
 # What the desk is asked before, and what it answers.
@@ -17,125 +18,20 @@ BEFORE = (
     AGREED + applied(1, 1) + held(3, 2) + held(4, 2),
 )
 
-# Message 2, after which 3 and 4 are applied, and then a report.
-SECOND = (
-    bare(2) + b"AskGaps,north\n",
-    b"""\
-applied,north,2,replaced=0,updated=0,deleted=0,unknown=0,ignored=0
-gaps,north,first=1,next=5,greatest=4,held=0,missing=0
-""",
-)
-
-GAPS = (
-    b"""\
-AskGaps,north
-""",
-    b"""\
-gaps,north,first=1,next=2,greatest=4,held=2,missing=1
-missing,2,2
-""",
-)
-
-CATALOGUE = (
-    b"""\
-AskCatalogue,north
-""",
-    b"""\
-catalogue,north,1
-record,R1,15,9781234567897
-ProductSupply,GB IE,,
-SupplyDetail,04,06,4012345000009,North Books,21,
-Price,02,12.990,GBP,,WORLD,,,
-""",
-)
-
-PRICE = (
-    b"""\
-AskPrice,9781234567897,20250301,GB,GBP,02
-""",
-    b"""\
-price,9781234567897,1
-offer,north,R1,1,21,12.990
-""",
-)
-
 # Message 1 again.
-REPEAT = priced(1, "R1", "12.99"), applied(1, 1)
+REPEAT = priced(1, "R1", "12.99")
 
-# A statement that leaves a bad value, one that puts it right, what is asked, and what is answered once it
-# is right.
-CASES = [
-    (
-        "UPDATE held SET contents = 'Product' WHERE number = 4",
-        "UPDATE held SET contents = '' WHERE number = 4",
-        SECOND,
-    ),
-    (
-        "UPDATE held SET contents = 'Product,R1,03,15,9781234567897,' WHERE number = 3",
-        "UPDATE held SET contents = '' WHERE number = 3",
-        SECOND,
-    ),
-    (
-        "UPDATE series SET next_number = -1",
-        "UPDATE series SET next_number = 2",
-        GAPS,
-    ),
-    (
-        "UPDATE series SET first_number = 0",
-        "UPDATE series SET first_number = 1",
-        GAPS,
-    ),
-    (
-        "UPDATE held SET number = 1000000000 WHERE number = 4",
-        "UPDATE held SET number = 4 WHERE number = 1000000000",
-        GAPS,
-    ),
-    (
-        "UPDATE article SET id_type = '153'",
-        "UPDATE article SET id_type = '15'",
-        CATALOGUE,
-    ),
-    (
-        "UPDATE offer SET availability = '2'",
-        "UPDATE offer SET availability = '21'",
-        CATALOGUE,
-    ),
-    (
-        "UPDATE offer SET included = 'gb'",
-        "UPDATE offer SET included = 'GB IE'",
-        CATALOGUE,
-    ),
-    (
-        "UPDATE offer SET world = 2",
-        "UPDATE offer SET world = 0",
-        CATALOGUE,
-    ),
-    (
-        "UPDATE offer SET place = -1",
-        "UPDATE offer SET place = 1",
-        CATALOGUE,
-    ),
-    (
-        "UPDATE price SET currency = 'gbp'",
-        "UPDATE price SET currency = 'GBP'",
-        PRICE,
-    ),
-    (
-        "UPDATE price SET amount = -1",
-        "UPDATE price SET amount = 12990",
-        PRICE,
-    ),
-    (
-        "UPDATE price SET from_day = 3000000",
-        "UPDATE price SET from_day = NULL",
-        PRICE,
-    ),
-    (
-        "UPDATE applied SET replaced = -1",
-        "UPDATE applied SET replaced = 1",
-        REPEAT,
-    ),
-]
+# What is asked, and what is answered where no value is bad, by the name of the case.
+QUESTIONS: dict[str, tuple[bytes, bytes]] = {}
+
+# A statement that leaves a bad value, one that puts it right, and the name of the case.
+CASES: list[tuple[str, str, str]] = []
+
+for case in read_file(FOLDER / "damage.txt"):
+    (_, asked), (_, answers) = case.parts
+    QUESTIONS[case.name] = asked.encode(), answers.strip("\n").encode() + b"\n"
+    statements = case.text.splitlines()
+    CASES += [(damage, repair, case.name) for damage, repair in zip(statements[::2], statements[1::2], strict=True)]
 
 FAULT = Ran(3, b"", b"onixdesk: storage: unusable\n")
 
@@ -149,7 +45,7 @@ REQUESTS = [
     AGREEMENT,
     b"Waive,north,1\n",
     b"Waive,north,5\n",
-    SECOND[0],
+    QUESTIONS["the message behind which held ones are applied"][0],
 ]
 
 
@@ -186,7 +82,7 @@ def an_applied_text_that_is_none(room: Room) -> Iterator[Outcome]:
 
     execute(room, "UPDATE applied SET contents = 'x' WHERE number = 1")
     other_contents = Ran(1, b"refused,other-contents,north,1\n")
-    for asked in REPEAT[0], bare(1):
+    for asked in REPEAT, bare(1):
         came = batch(room, asked)
         is_refused = came in [other_contents, FAULT]
         yield Outcome(f"an applied text that is none: {asked!r}", is_refused or came, True)
@@ -213,7 +109,7 @@ def most_offers(room: Room) -> Iterator[Outcome]:
     first, first_answers = BEFORE
     yield Outcome("before many offers", batch(room, first), Ran(0, first_answers))
 
-    asked, answers = CATALOGUE
+    asked, answers = QUESTIONS["the catalogue"]
     offer = b"SupplyDetail,04,06,4012345000009,North Books,21,\n"
     most = answers + offer * (MOST - 1)
     execute(room, OFFERS.format(first=2, last=MOST))
@@ -224,7 +120,7 @@ def most_offers(room: Room) -> Iterator[Outcome]:
 
 
 GROUPS = [
-    *(Group(damage, partial(check, damage, repair, *question)) for damage, repair, question in CASES),
+    *(Group(damage, partial(check, damage, repair, *QUESTIONS[name])) for damage, repair, name in CASES),
     Group("an applied text that is none", an_applied_text_that_is_none),
     Group("most offers", most_offers),
 ]

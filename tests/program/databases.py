@@ -5,15 +5,22 @@ import sqlite3
 from collections.abc import Iterator
 from contextlib import closing
 from functools import partial
-from typing import NamedTuple
 
-from tests.program.messages import AGREED, AGREEMENT, applied, bare, held, priced
+from tests.program.messages import AGREED, AGREEMENT, applied, bare, held
 from tests.program.room import UNREADABLE, Group, Ran, Room
+from tests.program.written_cases import TESTS, Written, read_file
 from tests.running import Outcome
 from tools.words import Row
 
 # The database of each room.
 DATABASE = "cases.db"
+
+FOLDER = TESTS / "databases"
+
+# The tables of version 1, the table that version 2 has beside them, and the rows of messages of a price.
+TABLES, MINIMUM, PRICED = (
+    FOLDER.joinpath(f"{name}.sql").read_text(encoding="utf-8") for name in ("version-1", "version-2", "priced")
+)
 
 
 def execute(room: Room, statements: str, file: str = DATABASE) -> None:
@@ -36,9 +43,22 @@ def table_names(room: Room, file: str = DATABASE) -> list[str]:
     return [name for (name,) in rows(room, query, file)]
 
 
-def all_rows(room: Room) -> dict[str, list[Row]]:
+def all_rows(room: Room, file: str = DATABASE) -> dict[str, list[Row]]:
     """The rows of each table, in order of their columns."""
-    return {table: sorted(rows(room, f"SELECT * FROM {table}")) for table in table_names(room)}
+    return {table: sorted(rows(room, f"SELECT * FROM {table}", file)) for table in table_names(room, file)}
+
+
+def made(statements: str, tables: str = TABLES) -> str:
+    """The statements that make tables, of version 1 if no others are given, with rows: those of statements, and those of
+    messages of the series `north` that these put into `priced`, each of which puts a record at a price of some pounds."""
+    return f"{tables} CREATE TEMP TABLE priced (number INTEGER, amount INTEGER); {statements} {PRICED}"
+
+
+def rows_made(room: Room, statements: str) -> dict[str, list[Row]]:
+    """The rows of the tables of version 2 with those of the statements."""
+    room.path("wanted.db").unlink(missing_ok=True)
+    execute(room, made(statements, f"{TABLES} {MINIMUM} UPDATE meta SET amount = 2;"), "wanted.db")
+    return all_rows(room, "wanted.db")
 
 
 def complaints(room: Room) -> list[Row]:
@@ -47,135 +67,7 @@ def complaints(room: Room) -> list[Row]:
     return [row for row in found if row != ("ok",)]
 
 
-APPLIED = """\
-SELECT number, contents, replaced, updated, deleted, unknown, ignored FROM applied ORDER BY number"""
-
-HELD = "SELECT number, contents FROM held ORDER BY number"
-
-NEXT = "SELECT next_number FROM series"
-
 VERSION = "SELECT amount FROM meta"
-
-
-class Kept(NamedTuple):
-    """A batch and its answers, the rows of the numbers that are applied and held and the next number
-    after it, and the report on gaps that the program then gives."""
-
-    name: str
-    batch: bytes
-    status: int
-    answers: bytes
-    applied: list[Row]
-    held: list[Row]
-    next: int
-    gaps: bytes
-
-
-def contents(reference: str, amount: str) -> str:
-    """The text that is kept of a message that puts one record at a price."""
-    return f"""\
-Product,{reference},03,15,9781234567897
-ProductSupply,GB IE,,
-SupplyDetail,04,06,4012345000009,North Books,21,
-Price,02,{amount},GBP,,WORLD,,,
-"""
-
-
-def put_row(number: int, reference: str, amount: str) -> Row:
-    """The row of such a message that was applied."""
-    return (number, contents(reference, amount), 1, 0, 0, 0, 0)
-
-
-def bare_row(number: int) -> Row:
-    """The row of a message without products that was applied."""
-    return (number, "", 0, 0, 0, 0, 0)
-
-
-KEPT = [
-    Kept(
-        "late messages",
-        AGREEMENT
-        + priced(3, "R3", "3")
-        + priced(4, "R4", "4")
-        + priced(1, "R1", "1")
-        + priced(2, "R2", "2")
-        + priced(3, "R3", "3"),
-        0,
-        AGREED + held(3, 1) + held(4, 1) + applied(1, 1) + applied(2, 1) + applied(3, 1),
-        [
-            put_row(1, "R1", "1.000"),
-            put_row(2, "R2", "2.000"),
-            put_row(3, "R3", "3.000"),
-            put_row(4, "R4", "4.000"),
-        ],
-        [],
-        5,
-        b"gaps,north,first=1,next=5,greatest=4,held=0,missing=0\n",
-    ),
-    Kept(
-        "a message behind the next gap stays held",
-        AGREEMENT + bare(1) + bare(3) + bare(5) + bare(2),
-        0,
-        AGREED + applied(1) + held(3, 2) + held(5, 2) + applied(2),
-        [bare_row(1), bare_row(2), bare_row(3)],
-        [(5, "")],
-        4,
-        b"gaps,north,first=1,next=4,greatest=5,held=1,missing=1\nmissing,4,4\n",
-    ),
-    Kept(
-        "other contents of a number that is held",
-        AGREEMENT
-        + priced(3, "R3", "5.00")
-        + priced(3, "R3", "6.00")
-        + priced(3, "R3", "5")
-        + priced(1, "R1", "1.00")
-        + priced(2, "R2", "2.00"),
-        1,
-        b"""\
-agreed,north,1
-held,north,3,waiting-for=1
-refused,other-contents,north,3
-held,north,3,waiting-for=1
-applied,north,1,replaced=1,updated=0,deleted=0,unknown=0,ignored=0
-applied,north,2,replaced=1,updated=0,deleted=0,unknown=0,ignored=0
-""",
-        [put_row(1, "R1", "1.000"), put_row(2, "R2", "2.000"), put_row(3, "R3", "5.000")],
-        [],
-        4,
-        b"gaps,north,first=1,next=4,greatest=3,held=0,missing=0\n",
-    ),
-    Kept(
-        "a waiver closes the gap",
-        AGREEMENT + bare(1) + bare(3) + b"Waive,north,2\n",
-        0,
-        b"""\
-agreed,north,1
-applied,north,1,replaced=0,updated=0,deleted=0,unknown=0,ignored=0
-held,north,3,waiting-for=2
-waived,north,2
-""",
-        [bare_row(1), (2, "waived", 0, 0, 0, 0, 0), bare_row(3)],
-        [],
-        4,
-        b"gaps,north,first=1,next=4,greatest=3,held=0,missing=0\n",
-    ),
-    Kept(
-        "a waiver waits behind the gap",
-        b"""\
-Agree,north,06,4012345000009,06,5012345678900,1
-Waive,north,2
-""",
-        0,
-        b"""\
-agreed,north,1
-waived,north,2
-""",
-        [],
-        [(2, "waived")],
-        1,
-        b"gaps,north,first=1,next=1,greatest=2,held=1,missing=1\nmissing,1,1\n",
-    ),
-]
 
 
 def batch(room: Room, text: bytes) -> Ran:
@@ -186,158 +78,42 @@ def gaps(room: Room) -> Ran:
     return room.run("--db", DATABASE, "gaps", "north")
 
 
-def tables(room: Room) -> dict[str, list[Row] | list[int]]:
-    """What the file holds of the one series."""
-    return {
-        "applied": rows(room, APPLIED),
-        "held": rows(room, HELD),
-        "next": numbers(room, NEXT),
-        "version": numbers(room, VERSION),
-        "complaints": complaints(room),
-    }
+def after_batches(case: Written, room: Room) -> Iterator[Outcome]:
+    """The parts of a case are answers, rows, a report on gaps, which leaves the rows, and a further batch."""
+    asked = wanted_rows = None
+    for number, (head, text) in enumerate([("batch", case.text), *case.parts]):
+        name = f"tables after a batch: {case.name}, {number}"
+        kind, _, status = head.partition(" ")
+        if kind == "batch":
+            asked = text.encode()
+        if kind == "status":
+            yield Outcome(name, batch(room, asked or b""), Ran(int(status), text.encode()))
+        if kind == "rows":
+            wanted_rows = rows_made(room, text)
+        if kind == "gaps":
+            yield Outcome(name, gaps(room), Ran(0, text.encode()))
+        if kind in ("rows", "gaps"):
+            yield Outcome(f"{name}, rows", (all_rows(room), complaints(room)), (wanted_rows, []))
 
 
-def tables_after_a_batch(case: Kept, room: Room) -> Iterator[Outcome]:
-    """They stay so where the file is opened again and asked for its gaps."""
-    wanted = {
-        "applied": case.applied,
-        "held": case.held,
-        "next": [case.next],
-        "version": [2],
-        "complaints": [],
-    }
-    came = batch(room, case.batch), tables(room)
-    name = f"tables after a batch: {case.name}"
-    yield Outcome(name, came, (Ran(case.status, case.answers), wanted))
-    came = gaps(room), tables(room)
-    yield Outcome(f"{name}, opened again", came, (Ran(0, case.gaps), wanted))
+# The row of the series before a number.
+SERIES = "INSERT INTO series VALUES ('north', '06', '4012345000009', '06', '5012345678900', 1, {});"
 
 
 def forty_messages_backwards(room: Room) -> Iterator[Outcome]:
     """Two days of a shop, each batch a run of the program."""
-    came = batch(room, AGREEMENT)
-    yield Outcome("forty messages: the agreement", came, Ran(0, AGREED))
-
+    yield Outcome("forty messages: the agreement", batch(room, AGREEMENT), Ran(0, AGREED))
     backwards = range(41, 1, -1)
-    ran = batch(room, b"".join(map(bare, backwards)))
-    came = ran, rows(room, APPLIED), rows(room, HELD), numbers(room, NEXT)
-    answers = b"".join(held(number, 1) for number in backwards)
-    wanted: Row = Ran(0, answers), [], [(number, "") for number in range(2, 42)], [1]
-    yield Outcome("forty messages: the first day", came, wanted)
-
-    ran = batch(room, bare(1))
-    came = ran, rows(room, APPLIED), rows(room, HELD), numbers(room, NEXT)
-    wanted: Row = Ran(0, applied(1)), [bare_row(number) for number in range(1, 42)], [], [42]
-    yield Outcome("forty messages: the second day", came, wanted)
-
+    waiting = "".join(f"INSERT INTO held VALUES ('north', {number}, '');" for number in backwards)
+    done = "".join(f"INSERT INTO applied VALUES ('north', {number}, '', 0, 0, 0, 0, 0);" for number in range(1, 42))
+    for numbers, answers, statements in [
+        (backwards, b"".join(held(number, 1) for number in backwards), SERIES.format(1) + waiting),
+        (range(1, 2), applied(1), SERIES.format(42) + done),
+    ]:
+        came = batch(room, b"".join(map(bare, numbers))), all_rows(room)
+        yield Outcome(f"forty messages: {numbers}", came, (Ran(0, answers), rows_made(room, statements)))
     report = b"gaps,north,first=1,next=42,greatest=41,held=0,missing=0\n"
     yield Outcome("forty messages: the gaps", gaps(room), Ran(0, report))
-
-
-# A batch and its answers, and then another.
-FIRST = (
-    '''\
-Agree,south,06,5000000000005,,,5
-Message,2,06,5000000000005,,,5,,,02,GBP
-Product,S1,03,03,9780000000019,15,9780000000019
-ProductSupply,FR,WORLD,IE FR
-SupplyDetail,01,,,"Süd ""Books""",20,01
-Price,,10,,GB,,,20250401,20250430
-Price,05,9.5,EUR,,WORLD,IE,,,10
-ProductSupply,,,
-SupplyDetail,04,06,5000000000005,,40,
-EndMessage,8
-Waive,south,6
-Message,1,06,5000000000005,,,8,,,,
-EndMessage,1
-'''.encode(),
-    b"""\
-agreed,south,5
-applied,south,5,replaced=1,updated=0,deleted=0,unknown=0,ignored=0
-waived,south,6
-held,south,8,waiting-for=7
-""",
-)
-
-SECOND = (
-    b"""\
-Message,1,06,5000000000005,,,7,,,,
-Product,S1,05,15,9780000000019
-EndMessage,2
-""",
-    b"""\
-applied,south,7,replaced=0,updated=0,deleted=1,unknown=0,ignored=0
-""",
-)
-
-# The rows of each table after the first batch, in order of its key. The 1st of April 2025 is the day
-# 20,179, counted from 1970.
-AFTER_FIRST: dict[str, list[Row]] = {
-    "meta": [("version", 2)],
-    "series": [("south", "06", "5000000000005", "", "", 5, 7)],
-    "held": [("south", 8, "")],
-    "applied": [
-        (
-            "south",
-            5,
-            '''\
-Product,S1,03,03,9780000000019,15,9780000000019
-ProductSupply,FR,WORLD,FR IE
-SupplyDetail,01,,,"Süd ""Books""",20,01
-Price,02,10.000,GBP,GB,,,20250401,20250430
-Price,05,9.500,EUR,,WORLD,IE,,,10
-ProductSupply,,WORLD,
-SupplyDetail,04,06,5000000000005,,40,
-''',
-            1,
-            0,
-            0,
-            0,
-            0,
-        ),
-        ("south", 6, "waived", 0, 0, 0, 0, 0),
-    ],
-    "record": [("south", "S1")],
-    "article": [
-        ("south", "S1", 1, "03", "9780000000019"),
-        ("south", "S1", 2, "15", "9780000000019"),
-    ],
-    "offer": [
-        ("south", "S1", 1, 1, "FR", 1, "FR IE", "01", "", "", 'Süd "Books"', "20", "01"),
-        ("south", "S1", 2, 2, "", 1, "", "04", "06", "5000000000005", "", "40", ""),
-    ],
-    "price": [
-        ("south", "S1", 1, 1, "02", 10_000, "GBP", "GB", 0, "", 20_179, 20_208),
-        ("south", "S1", 1, 2, "05", 9_500, "EUR", "", 1, "IE", None, None),
-    ],
-    "price_minimum": [("south", "S1", 1, 2, 10)],
-}
-
-# And after the second, which deletes the record and lets the number that waits be applied.
-AFTER_SECOND: dict[str, list[Row]] = {
-    "meta": [("version", 2)],
-    "series": [("south", "06", "5000000000005", "", "", 5, 9)],
-    "held": [],
-    "applied": [
-        *AFTER_FIRST["applied"],
-        ("south", 7, "Product,S1,05,15,9780000000019\n", 0, 0, 1, 0, 0),
-        ("south", 8, "", 0, 0, 0, 0, 0),
-    ],
-    "record": [],
-    "article": [],
-    "offer": [],
-    "price": [],
-    "price_minimum": [],
-}
-
-
-def rows_of_every_table(room: Room) -> Iterator[Outcome]:
-    for name, (asked, answers), wanted in [
-        ("a record with all that it may have", FIRST, AFTER_FIRST),
-        ("a record that is deleted", SECOND, AFTER_SECOND),
-    ]:
-        came = batch(room, asked), all_rows(room), complaints(room)
-        yield Outcome(f"rows of every table: {name}", came, (Ran(0, answers), wanted, []))
 
 
 def an_empty_file(room: Room) -> Iterator[Outcome]:
@@ -378,14 +154,8 @@ META = "CREATE TABLE meta (item TEXT PRIMARY KEY, amount INTEGER);"
 
 # Statements that make a database, and what the program says of it.
 REFUSED = [
-    (
-        f"{META} INSERT INTO meta VALUES ('version', 7);",
-        b"onixdesk: storage: other version 7\n",
-    ),
-    (
-        f"{META} INSERT INTO meta VALUES ('version', 1);",
-        b"onixdesk: storage: other version 1\n",
-    ),
+    (f"{META} INSERT INTO meta VALUES ('version', 7);", b"onixdesk: storage: other version 7\n"),
+    (f"{META} INSERT INTO meta VALUES ('version', 1);", b"onixdesk: storage: other version 1\n"),
     (META, b"onixdesk: storage: unusable\n"),
     (
         "CREATE TABLE meta (item TEXT, amount TEXT); INSERT INTO meta VALUES ('version', 'two');",
@@ -448,9 +218,8 @@ def refused_migrations(room: Room) -> Iterator[Outcome]:
 
 
 GROUPS = [
-    *(Group(case.name, partial(tables_after_a_batch, case)) for case in KEPT),
+    *(Group(case.name, partial(after_batches, case)) for case in read_file(FOLDER / "batches.txt")),
     Group("forty messages backwards", forty_messages_backwards),
-    Group("rows of every table", rows_of_every_table),
     Group("a batch over an empty file", an_empty_file),
     Group("a desk beside another table", beside_another_table),
     *(Group(sql, partial(is_refused, sql, line)) for sql, line in REFUSED),

@@ -12,7 +12,7 @@ from desk_follow.rules import BadRules, Rule, rules_of
 from desk_follow.source import TABLES, opened, references_of
 from tests.program.databases import DATABASE, batch
 from tests.program.room import Group, Ran, Room
-from tests.program.rules_files import TEXTS
+from tests.program.rules_files import files, said_by_desk
 from tests.running import Outcome
 from tools.root import ROOT
 from tools.words import Word
@@ -81,8 +81,8 @@ def said_of_rules(text: bytes) -> bytes:
 
 
 def precedence_tables(room: Room) -> Iterator[Outcome]:
-    for name, text, line in TEXTS:
-        yield Outcome(f"desk-follow: rules: {name}", said_of_rules(text), line)
+    for name, text, fault in files("desk"):
+        yield Outcome(f"desk-follow: rules: {name}", said_of_rules(text), said_by_desk(fault))
     for text in MORE:
         room.write("rules.toml", text)
         yield Outcome(

@@ -135,9 +135,7 @@ def page_of_http(room: Room) -> Iterator[Outcome]:
 
 def script(room: Room, name: str, *words: str) -> Ran:
     """How a script of the examples ends that runs the program of the room."""
-    return room.call(
-        [ROOT / "examples" / name, *words], environment={**os.environ, "ONIXDESK": str(room.program)}
-    )
+    return room.call([ROOT / "examples" / name, *words], environment={**os.environ, "ONIXDESK": str(room.program)})
 
 
 def gaps_script(room: Room, *words: str) -> Ran:

@@ -6,30 +6,10 @@ from functools import partial
 
 from tests.program.databases import DATABASE, batch, execute
 from tests.program.exchange_cases import (
-    AFTER_A_WAIVER,
-    AGREEMENTS,
-    APPLIED,
-    BAD_QUERIES,
-    BEFORE_A_WAIVER,
-    DELIVERIES,
-    DELIVERY,
-    INPUTS,
-    LONG_INPUTS,
-    LongInput,
-    MOST_INPUT,
-    NO_NUMBERS,
-    NO_PATHS,
-    NO_SERIES,
-    NOT_ALLOWED,
-    ONE_NUMBER,
-    OPEN_INPUTS,
-    QUESTIONS,
-    RULES,
-    WITHOUT_AGREEMENTS,
-    refusal,
+    AGREEMENTS, APPLIED, DELIVERY, NO_NUMBERS, NOT_ALLOWED, ONE_NUMBER, OPEN_INPUTS, RULES, exchanges, inputs, refusal,
 )
 from tests.program.room import Group, Ran, Room
-from tests.program.serving import Exchange, Serving, got, in_pieces, serving
+from tests.program.serving import Exchange, Serving, in_pieces, serving
 from tests.running import Outcome
 
 WORDS = ["--db", DATABASE, "--rules", "rules.toml"]
@@ -65,44 +45,6 @@ def all_replied(exchanges: list[Exchange], ways: list[Way], room: Room) -> Itera
         yield Outcome("the lines of exchanges", desk.ended(), desk.wanted(lines))
 
 
-def refused_targets() -> list[Exchange]:
-    return [
-        got(target, line, refusal(reason))
-        for targets, line, reason in [
-            (BAD_QUERIES, "400 Bad Request", "bad-query"),
-            (NO_PATHS, "404 Not Found", "not-found"),
-            (NO_SERIES, "404 Not Found", "unknown-series"),
-        ]
-        for target in targets
-    ]
-
-
-def whole_inputs() -> list[Exchange]:
-    return [Exchange(f"input: {text!r}", text, line, body) for text, line, body in INPUTS]
-
-
-def long_input(case: LongInput) -> Exchange:
-    (before, letters, end, more), line, body = case
-    text = before + b"a" * letters + end + b"a" * more
-    return Exchange(f"a long input: {before!r}, {letters}, {end!r}, {more}", text, line, body)
-
-
-def many_fields(count: int, line: str, body: str) -> Exchange:
-    """A head with so many fields of three bytes."""
-    head = b"GET / HTTP/1.1\n" + b"A:\n" * count + b"\n"
-    return Exchange(f"a head with {count} fields", head, line, body)
-
-
-def long_inputs() -> list[Exchange]:
-    """The most fields that a head may have make 16,384 bytes with its first and its last line."""
-    return [
-        *map(long_input, LONG_INPUTS),
-        Exchange("line ends", b"\r" * 16384, "414 URI Too Long", refusal("target-too-long")),
-        many_fields(5456, "404 Not Found", refusal("not-found")),
-        many_fields(5457, "431 Request Header Fields Too Large", refusal("head-too-large")),
-    ]
-
-
 def cut_inputs() -> list[Exchange]:
     """A delivery that is cut off behind each of its bytes. Nothing is delivered."""
     text = DELIVERY.input
@@ -121,7 +63,7 @@ def cut_inputs() -> list[Exchange]:
 
 def most_input(room: Room) -> Iterator[Outcome]:
     """A head and a body at their limits, in many pieces."""
-    exchange = long_input(MOST_INPUT)
+    [exchange] = [each for each in inputs("limits") if each.line.startswith("422")]
     yield agreed(room)
     with serving(room, WORDS, 1) as desk:
         came = desk.reply(in_pieces(exchange.input, 1_000))
@@ -150,18 +92,21 @@ def in_turn(desk: Serving, exchanges: list[Exchange]) -> Iterator[Outcome]:
 def a_waived_number(room: Room) -> Iterator[Outcome]:
     """It is waived by a batch, since no request over HTTP waives one."""
     yield agreed(room)
-    with serving(room, WORDS, len(BEFORE_A_WAIVER)) as desk:
-        yield from in_turn(desk, BEFORE_A_WAIVER)
+    before, after = [DELIVERY, *exchanges("before-a-waiver")], [*exchanges("after-a-waiver")]
+    with serving(room, WORDS, len(before)) as desk:
+        yield from in_turn(desk, before)
     came = batch(room, b"Waive,north,2\nWaive,north,2\n")
     yield Outcome("the waiver", came, Ran(0, b"waived,north,2\nwaived,north,2\n"))
-    with serving(room, WORDS, len(AFTER_A_WAIVER)) as desk:
-        yield from in_turn(desk, AFTER_A_WAIVER)
+    with serving(room, WORDS, len(after)) as desk:
+        yield from in_turn(desk, after)
 
 
 def a_desk_in_memory(room: Room) -> Iterator[Outcome]:
     """Without a database the desk has no agreements."""
-    with serving(room, [], len(WITHOUT_AGREEMENTS)) as desk:
-        yield from in_turn(desk, WITHOUT_AGREEMENTS)
+    delivery = DELIVERY._replace(line="422 Unprocessable Content", body=refusal("unknown-series"))
+    asked = [delivery, *exchanges("no-agreements")]
+    with serving(room, [], len(asked)) as desk:
+        yield from in_turn(desk, asked)
 
 
 def open_inputs(room: Room) -> Iterator[Outcome]:
@@ -195,10 +140,10 @@ def faults_of_storage(room: Room) -> Iterator[Outcome]:
 BOTH_WAYS = [at_once, byte_by_byte]
 
 GROUPS = [
-    Group("deliveries and questions", partial(all_replied, DELIVERIES + QUESTIONS, BOTH_WAYS)),
-    Group("refused targets", partial(all_replied, refused_targets(), BOTH_WAYS)),
-    Group("whole inputs", partial(all_replied, whole_inputs(), BOTH_WAYS)),
-    Group("inputs at the limits", partial(all_replied, long_inputs(), [at_once])),
+    Group("deliveries and questions", partial(all_replied, [*exchanges("deliveries")], BOTH_WAYS)),
+    Group("refused targets", partial(all_replied, [*exchanges("refused-targets")], BOTH_WAYS)),
+    Group("whole inputs", partial(all_replied, [*inputs("inputs")], BOTH_WAYS)),
+    Group("inputs at the limits", partial(all_replied, [*inputs("limits")], [at_once])),
     Group("cut inputs", partial(all_replied, cut_inputs(), BOTH_WAYS)),
     Group("most input", most_input),
     Group("whole replies", whole_replies),

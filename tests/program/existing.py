@@ -13,14 +13,7 @@ from tests.running import Outcome
 UNUSABLE = Ran(3, b"", b"onixdesk: storage: unusable\n")
 
 # The commands, each over a database that is missing. None of them meets what it would meet first itself.
-COMMANDS = [
-    "batch",
-    "deliver absent.csv",
-    "gaps north",
-    "migrate",
-    "serve --port 1 --requests 1",
-    "serve --port 1",
-]
+COMMANDS = ["batch", "deliver absent.csv", "gaps north", "migrate", "serve --port 1 --requests 1", "serve --port 1"]
 
 EXISTING = ["--db", DATABASE, "--existing"]
 

@@ -6,16 +6,7 @@ from typing import TypeVar
 
 from tests.program.feed_prices import DISCOUNTS
 from tests.program.feed_trees import (
-    Detail,
-    Identifier,
-    Market,
-    Message,
-    Price,
-    PriceDate,
-    Product,
-    Stranger,
-    Supply,
-    Territory,
+    Detail, Identifier, Market, Message, Price, PriceDate, Product, Stranger, Supply, Territory,
 )
 
 # What a text of a feed may be made of: letters, what CSV and XML quote, and characters of one to four bytes.
@@ -45,9 +36,7 @@ ODD_PRICES = ["text", "condition", "constraint", "coded", "licence", "old", "def
 
 # What a price can be changed to so that it is left out, by element.
 BAD_TEXTS = {
-    "amount": [
-        *("12,99", ".99", "12.", "1234567890", "-1", "1 000", "12.9910", ".12345", "1e3", "9" + CONTROL),
-    ],
+    "amount": [*("12,99", ".99", "12.", "1234567890", "-1", "1 000", "12.9910", ".12345", "1e3", "9" + CONTROL)],
     "currency": ["gbp", "EURO", "€", "GB"],
     "quantity": ["1234567", "1.5", "-1", "7" * 1025],
     "price_type": BAD_CODES,

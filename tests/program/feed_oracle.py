@@ -7,12 +7,7 @@ from dataclasses import dataclass, field
 from tests.program.feed_prices import REGION, foreign_reasons, gives_nothing, price_record, wrong_reasons
 from tests.program.feed_terms import is_code, is_currency, is_empty_or, is_field, is_filled, is_number, is_repeat, matches
 from tests.program.feed_territories import (
-    are_taken,
-    read_as_others,
-    regions_in_the_way,
-    regions_left_out,
-    territory_fields,
-    union_fields,
+    are_taken, read_as_others, regions_in_the_way, regions_left_out, territory_fields, union_fields,
 )
 from tests.program.feed_trees import Detail, Identifier, Market, Message, Price, Product, Supply, Territory, Words
 
@@ -143,9 +138,7 @@ def addressee_of(message: Message, words: Words) -> list[str]:
     addressees = message.addressees
     if len(addressees) > 1:
         wanted = words.addressee
-        addressees = [
-            each for each in addressees if wanted in [(one.id_type, one.value) for one in each]
-        ]
+        addressees = [each for each in addressees if wanted in [(one.id_type, one.value) for one in each]]
         if not addressees:
             raise Refused
     addressee = chosen(addressees[0] if addressees else [], words)

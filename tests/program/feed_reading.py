@@ -15,16 +15,7 @@ from xml.parsers import expat
 from tests.program.conversions import SHORT_TAGS
 from tests.program.feed_prices import DISCOUNTS
 from tests.program.feed_trees import (
-    Detail,
-    Identifier,
-    Market,
-    Message,
-    Price,
-    PriceDate,
-    Product,
-    Stranger,
-    Supply,
-    Territory,
+    Detail, Identifier, Market, Message, Price, PriceDate, Product, Stranger, Supply, Territory,
 )
 from tests.program.feed_writing import COUNTED, Place
 

@@ -12,16 +12,7 @@ from xml.sax.saxutils import escape, quoteattr
 from tests.program.conversions import SHORT_TAGS
 from tests.program.feed_names import Names
 from tests.program.feed_trees import (
-    Detail,
-    Identifier,
-    Market,
-    Message,
-    Price,
-    PriceDate,
-    Product,
-    Stranger,
-    Supply,
-    Territory,
+    Detail, Identifier, Market, Message, Price, PriceDate, Product, Stranger, Supply, Territory,
 )
 
 # What stands for a namespace of ONIX: reference names and short tags have one each.

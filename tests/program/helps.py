@@ -3,24 +3,17 @@ written by hand: clap's layout, and sentences that say what docs/FORMATS.md and 
 
 import os
 from collections.abc import Iterator
-from pathlib import Path
 
 from tests.program.room import Group, Ran, Room
+from tests.program.written_cases import TESTS, read_file
 from tests.running import Outcome
 
-FILE = Path(__file__).resolve().parent.parent / "help/commands.txt"
+FILE = TESTS / "help/commands.txt"
 
 
 def texts() -> list[tuple[list[str], bytes]]:
-    """The words of each command line of the file, and what it is to write. Behind a heading each begins
-    with a line `== ` and its words."""
-    _, *cases = FILE.read_text(encoding="utf-8").split("\n== ")
-    found = []
-    for number, case in enumerate(cases, 1):
-        line, _, text = case.partition("\n")
-        # The line end before the next case was taken off.
-        found.append((line.split(), (text if number == len(cases) else f"{text}\n").encode()))
-    return found
+    """The words of each command line of the file, and what it is to write."""
+    return [(case.name.split(), case.text.encode()) for case in read_file(FILE)]
 
 
 def helps(room: Room) -> Iterator[Outcome]:

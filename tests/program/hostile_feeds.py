@@ -1,6 +1,7 @@
 """Feeds that are made to harm: `onixdesk convert` refuses each by one line, and writes nothing, or passes over what
 is in it, within a bound on memory and time; no other file and no address is opened."""
 
+import codecs
 import contextlib
 import os
 import re
@@ -13,6 +14,7 @@ from tests.program.conversions import FRAMES
 from tests.program.converter import convert, measured
 from tests.program.converter_runs import PRODUCT, message_of
 from tests.program.room import SECONDS, Group, Ran, Room
+from tests.program.written_cases import REPEATED, TESTS, Written, read_file, unescaped
 from tests.running import Outcome
 
 # More than a message takes of memory, and far less than these feeds have.
@@ -24,47 +26,44 @@ PLACE = re.compile("onixdesk: -:[12]:[0-9]+: refused: .+\n")
 BOMB_SECONDS = 1
 
 FRAME = FRAMES["products"]
-ROOT = '<ONIXMessage release="3.0">'
 
-def nested(first: str, reference: str = "&") -> str:
-    """Declarations of entities, each ten times the one before, of which the last is e11."""
-    sign, mark = ("% ", "&#37;") if reference == "%" else ("", "&")
-    declarations = [f'<!ENTITY {sign}e0 "{first}">']
-    for number in range(1, 12):
-        inner = f"{mark}e{number - 1};" * 10
-        declarations.append(f'<!ENTITY {sign}e{number} "{inner}">')
-    return "".join(declarations)
+# Words of the cases of tests/hostile: the beginning of a feed up to its products, what follows these, a product, and the
+# beginning of a feed that is so long that its entities may give a gigabyte.
+ENTITIES = '<!DOCTYPE ONIXMessage [<!ENTITY e "(x){100000}"><!ENTITY f "(&e;){100}">]>'
+WORDS = {
+    "MUCH": f"{ENTITIES}BEFORE{'<x>(x){1000000}</x>' * 12}",
+    "BEFORE": FRAME.before,
+    "BEHIND": FRAME.behind,
+    "PRODUCT": PRODUCT.format("R1"),
+}
 
-
-def encoded(name: str) -> Iterator[bytes]:
-    """The beginning of a feed that says it is of that encoding."""
-    yield f'<?xml version="1.0" encoding="{name}"?>{ROOT}'.encode()
+# How much of what is repeated is made at once.
+AT_ONCE = 1_000_000
 
 
-def typed(declarations: str, within: str) -> Iterator[bytes]:
-    """A feed with a document type of these declarations and this beside its products."""
-    document_type = f"<!DOCTYPE ONIXMessage [{declarations}]>"
-    yield (document_type + FRAME.before + within + FRAME.behind).encode()
+def numbered(piece: str, number: int) -> str:
+    return piece.replace("{n}", str(number)).replace("{n+1}", str(number + 1))
 
 
-def repeated(before: str, piece: str, count: int, behind: str = "") -> Iterator[bytes]:
-    yield (FRAME.before + before).encode()
-    for _ in range(count):
-        yield piece.encode()
-    yield (behind + FRAME.behind).encode()
-
-
-def numbered(text: str, count: int) -> Iterator[bytes]:
-    """A feed with this text for each number, a thousand in each piece."""
-    yield FRAME.before.encode()
-    for thousand in range(count // 1000):
-        yield "".join(text.format(thousand * 1000 + number) for number in range(1000)).encode()
-    yield FRAME.behind.encode()
+def pieces(text: str) -> Iterator[bytes]:
+    """The bytes of a text with the escapes of Python. In what is repeated {n} is how many went before, {n+1} one
+    more."""
+    at = 0
+    for found in REPEATED.finditer(text):
+        piece, count = found[1], int(found[2])
+        yield unescaped(text[at : found.start()])
+        size = max(AT_ONCE // len(piece), 1)
+        for begin in range(0, count, size):
+            numbers = range(begin, min(begin + size, count))
+            is_numbered = "{n" in piece
+            yield unescaped("".join(numbered(piece, each) for each in numbers) if is_numbered else piece * len(numbers))
+        at = found.end()
+    yield unescaped(text[at:])
 
 
 class Case(NamedTuple):
-    """A feed, the words with which it is converted, and of one that is taken all the same, since what it has too much of
-    is passed over, the references of its products."""
+    """A feed, the words with which it is converted, and of one that is taken all the same, since what it has too much
+    of is passed over, the references of its products."""
 
     name: str
     pieces: Callable[[], Iterator[bytes]]
@@ -72,141 +71,42 @@ class Case(NamedTuple):
     taken: list[str] | None = None
 
 
-MEGABYTE = "x" * 1_000_000
+def case_of(written: Written) -> Case:
+    """A feed stands between BEFORE and BEHIND, if neither they nor a declaration of XML are there."""
+    text = written.text.strip("\n")
+    if not any(word in text for word in ("<?xml", "MUCH", "BEFORE")):
+        text = f"BEFORE{text}BEHIND"
+    for word, meant in WORDS.items():
+        text = text.replace(word, meant)
+    parts = {head.partition(" ")[0]: head.split()[1:] for head, _ in written.parts}
+    return Case(written.name, partial(pieces, text), parts.get("words", []), parts.get("taken"))
 
-BOMBS = [
-    Case("nested entities in a text", lambda: typed(nested("lol"), PRODUCT.format("&e11;"))),
-    Case("nested entities in what is passed over", lambda: typed(nested("lol"), "<x>&e11;</x>")),
-    Case("nested entities in an attribute", lambda: typed(nested("lol"), '<x y="&e11;"/>'), taken=[]),
-    Case("nested entities of elements", lambda: typed(nested("<x/><x/>"), "&e11;")),
-    Case(
-        "nested entities of wrong products",
-        lambda: typed(nested("<Product/><Product/>"), "&e11;"),
-        ["--wrong", "all"],
-    ),
-    Case(
-        "nested entities of declarations",
-        lambda: typed(nested("<!ENTITY x 'y'>", "%") + "%e11;", ""),
-        taken=[],
-    ),
-    Case(
-        "one long entity many times",
-        lambda: typed(f'<!ENTITY e "{"x" * 100_000}">', PRODUCT.format("&e;" * 10_000)),
-    ),
-    Case(
-        "an entity within itself",
-        lambda: typed('<!ENTITY e "&f;"><!ENTITY f "&e;">', "<x>&e;</x>"),
-    ),
-]
+
+def read(name: str) -> list[Case]:
+    return [case_of(written) for written in read_file(TESTS / f"hostile/{name}.txt")]
+
+
+def in_utf16() -> Iterator[bytes]:
+    """A start tag of very many attributes. The bytes of their letter hold that of a `<`."""
+    yield codecs.BOM_UTF16_LE
+    for text in (FRAME.before, "<x ", *(f"\u013c{number}='' " for number in range(300_000)), "/>", FRAME.behind):
+        yield text.encode("utf-16-le")
+
+
+def wide_identifiers() -> Iterator[bytes]:
+    yield f"{FRAME.before}{PRODUCT.format('R1').partition('<ProductIdentifier>')[0]}".encode()
+    identifier = f"<ProductIDType>15</ProductIDType><IDValue>{chr(0x1F600) * 256}</IDValue>"
+    for _ in range(16_000):
+        yield f"<ProductIdentifier>{identifier}</ProductIdentifier>".encode()
+    yield f"</Product>{FRAME.behind}".encode()
+
 
 LARGE = [
-    Case(
-        "a depth of 100,000 elements",
-        lambda: repeated("<x>" * 100_000, "", 0, "</x>" * 100_000),
-    ),
-    Case(
-        "a depth of 100,000 products",
-        lambda: repeated("<Product>" * 100_000, "", 0, "</Product>" * 100_000),
-    ),
-    Case(
-        "a text of 100 MB that counts",
-        lambda: repeated("<Product><RecordReference>", MEGABYTE, 100, "</RecordReference></Product>"),
-    ),
-    Case(
-        "a text of 100 MB with elements in it",
-        lambda: repeated("<Product><RecordReference>", "x<b/>" * 200_000, 100, "</RecordReference>"),
-    ),
-    Case("a text of 100 MB that does not count", lambda: repeated("<x>", MEGABYTE, 100, "</x>"), taken=[]),
-    Case("a comment of 100 MB", lambda: repeated("<!--", MEGABYTE, 100, "-->")),
-    Case("an attribute of 100 MB", lambda: repeated('<x y="', MEGABYTE, 100, '"/>')),
-    Case("a name of 100 MB", lambda: repeated("<", MEGABYTE, 100, "/>")),
-    Case("a section of 100 MB", lambda: repeated("<x><![CDATA[", MEGABYTE, 100, "]]></x>")),
-    Case("names without end", lambda: numbered("<x{0}/>", 1_000_000), taken=[]),
-    Case("names of attributes without end", lambda: numbered('<x y{0}=""/>', 1_000_000), taken=[]),
-    Case("prefixes without end", lambda: numbered('<x xmlns:p{0}="p"/>', 1_000_000), taken=[]),
-    Case(
-        "identifiers without end",
-        lambda: repeated(
-            "<Product><RecordReference>R1</RecordReference>",
-            "<ProductIdentifier><ProductIDType>15</ProductIDType><IDValue>9</IDValue></ProductIdentifier>"
-            * 1000,
-            100,
-            "</Product>",
-        ),
-    ),
-    Case(
-        "identifiers of characters that have four bytes",
-        lambda: repeated(
-            "<Product><RecordReference>R1</RecordReference><NotificationType>03</NotificationType>",
-            "<ProductIdentifier><ProductIDType>15</ProductIDType>"
-            f"<IDValue>{chr(0x1F600) * 256}</IDValue></ProductIdentifier>",
-            16_000,
-            "</Product>",
-        ),
-    ),
-    Case(
-        "prices without end",
-        lambda: repeated(
-            "<Product><RecordReference>R1</RecordReference><ProductSupply><SupplyDetail>",
-            "<Price><PriceQualifier>05</PriceQualifier><PriceAmount>1</PriceAmount></Price>" * 1000,
-            100,
-            "</SupplyDetail></ProductSupply></Product>",
-        ),
-    ),
-    Case(
-        "ten thousand markets of twenty thousand supply details",
-        lambda: repeated(
-            PRODUCT.format("R1").removesuffix("</Product>")
-            + "<ProductSupply>"
-            + "<Market/>" * 10_000
-            + (
-                "<SupplyDetail><Supplier><SupplierRole>01</SupplierRole><SupplierName>N</SupplierName>"
-                "</Supplier><ProductAvailability>20</ProductAvailability></SupplyDetail>"
-            )
-            * 20_000,
-            "",
-            0,
-            "</ProductSupply></Product>",
-        ),
-    ),
-]
-
-CUT = [
-    Case("a cut file", lambda: iter([FRAME.before.encode()])),
-    Case(
-        "a file that is cut in a tag",
-        lambda: iter([f"{FRAME.before}\n<Product".encode()]),
-    ),
-    Case(
-        "bytes that are not UTF-8",
-        lambda: iter([f"{FRAME.before}\n<x>".encode(), b"\xe9</x>", FRAME.behind.encode()]),
-    ),
-    Case(
-        "a surrogate in UTF-8",
-        lambda: iter([f"{FRAME.before}\n<x>".encode(), b"\xed\xa0\x80</x>", FRAME.behind.encode()]),
-    ),
-    Case(
-        "a byte that Windows-1252 has not",
-        lambda: iter([b'<?xml version="1.0" encoding="windows-1252"?>', ROOT.encode(), b"\x81"]),
-    ),
-    Case(
-        "a byte that US-ASCII has not",
-        lambda: iter([b'<?xml version="1.0" encoding="US-ASCII"?>', ROOT.encode(), b"<x>\xe9</x>"]),
-    ),
-    Case(
-        "the second half of a character in UTF-16",
-        lambda: iter([f"{FRAME.before}<x>".encode("utf-16"), b"\x00\xdc"]),
-    ),
-    *(
-        Case(
-            f"the encoding {encoding}",
-            partial(encoded, encoding),
-        )
-        for encoding in [
-            *("shift_jis", "gbk", "iso2022_jp", "utf-7", "utf_8", "utf_8_sig", "utf-32", "unicode_escape"),
-            *("punycode", "hex", "nonsense", "undefined"),
-        ]
-    ),
+    *read("large"),
+    *read("tokens"),
+    Case("identifiers of characters that have four bytes", wide_identifiers),
+    Case("a start tag of 300,000 attributes in UTF-16", in_utf16),
+    Case("the second half of a character in UTF-16", lambda: iter([f"{FRAME.before}<x>".encode("utf-16") + b"\x00\xdc"])),
 ]
 
 
@@ -258,7 +158,7 @@ def nothing_else_is_opened(room: Room) -> Iterator[Outcome]:
 
 
 GROUPS = [
-    *(Group(case.name, partial(check, case, BOMB_SECONDS)) for case in BOMBS),
-    *(Group(case.name, partial(check, case, SECONDS)) for case in LARGE + CUT),
+    *(Group(case.name, partial(check, case, BOMB_SECONDS)) for case in read("bombs")),
+    *(Group(case.name, partial(check, case, SECONDS)) for case in LARGE),
     Group("addresses in a feed", nothing_else_is_opened),
 ]

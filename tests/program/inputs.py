@@ -16,16 +16,8 @@ PRODUCT = b"Product,R1,03,15,9781234567897\n"
 MESSAGES = bare(1) + bare(2)
 
 INPUTS = [
-    (
-        "a text of 4,194,304 bytes",
-        AGREEMENT + b"\n" * 4_194_256,
-        Ran(0, AGREED),
-    ),
-    (
-        "a text of 4,194,305 bytes",
-        AGREEMENT + b"\n" * 4_194_257,
-        Ran(3, b"", b"onixdesk: input: too large\n"),
-    ),
+    ("a text of 4,194,304 bytes", AGREEMENT + b"\n" * 4_194_256, Ran(0, AGREED)),
+    ("a text of 4,194,305 bytes", AGREEMENT + b"\n" * 4_194_257, Ran(3, b"", b"onixdesk: input: too large\n")),
     (
         "a message of 20,000 records",
         AGREEMENT + OPENING + PRODUCT * 19_998 + b"EndMessage,19999\n",
@@ -40,11 +32,7 @@ INPUTS = [
         OPENING + PRODUCT * 19_999 + b"EndMessage,20000\n",
         Ran(1, b"refused,malformed,20001\n"),
     ),
-    (
-        "a text that is not UTF-8",
-        AGREEMENT + b"\xff",
-        Ran(3, b"", b"onixdesk: input: not UTF-8\n"),
-    ),
+    ("a text that is not UTF-8", AGREEMENT + b"\xff", Ran(3, b"", b"onixdesk: input: not UTF-8\n")),
 ]
 
 

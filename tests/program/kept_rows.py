@@ -10,7 +10,7 @@ from typing import NamedTuple
 from tests.program.commands import FIRST
 from tests.program.databases import DATABASE, all_rows, batch, complaints, execute
 from tests.program.messages import AGREEMENT
-from tests.program.migrations import CASES, Case, made
+from tests.program.migrations import CASES, Case
 from tests.program.room import UNREADABLE, Group, Ran, Room
 from tests.program.serving import HOST, free_port
 from tests.running import Outcome
@@ -71,7 +71,7 @@ def behind_a_file_in_the_way(room: Room) -> Iterator[Outcome]:
 
 def migrated_unwritten(case: Case, room: Room) -> Iterator[Outcome]:
     """The file is migrated, and what stood in it stands in version 2."""
-    execute(room, made(case))
+    execute(room, case.made)
     kept = all_rows(room) | {"meta": [("version", 2)], "price_minimum": []}
     for name in "unwritten", "unwritten again":
         came = room.run("--db", DATABASE, "migrate", given=UNREADABLE, is_full=True)

@@ -59,7 +59,4 @@ def elsewhere(room: Room) -> Iterator[Outcome]:
     yield Outcome("a large file where standard error is no terminal", came, [UNUSABLE])
 
 
-GROUPS = [
-    Group("large files on a terminal", on_a_terminal),
-    Group("a large file elsewhere", elsewhere),
-]
+GROUPS = [Group("large files on a terminal", on_a_terminal), Group("a large file elsewhere", elsewhere)]

@@ -67,10 +67,7 @@ NOT_OF_THESE = "no program is built of these sources; 'make build' builds it"
 BATCH = b"AskGaps,north\nAskGaps,south\n"
 
 # What wants the built program.
-WANTING: list[list[str]] = [
-    [], ["--help"], ["gaps", "north"], ["--db", "shop.db", "batch"], ["--rules", "rules.toml", "--db", "shop.db", "batch"],
-    ["batch", "--db", "shop.db"], ["--", "batch"], ["deliver", "batch"], ["--rules", "batch"], ["serve", "--port", "8080"],
-]  # fmt: skip
+WANTING = ["", "--help", "gaps north", "--db shop.db batch", "--rules batch", "serve --port 8080"]
 
 
 def told(*lines: str) -> bytes:
@@ -155,17 +152,14 @@ def a_batch_without_a_program(room: Room) -> Iterator[Outcome]:
         yield Outcome(f"launcher: {words}", (came.status, came.output), (0, by_rules))
     came = launch(room, "--rules", "none", "batch")
     yield Outcome("launcher: no rules file", came, Ran(2, b"", unproved() + told("file: none")))
-    for words in WANTING:
-        yield Outcome(f"launcher: unbuilt, {words}", launch(room, *words), wanting())
+    for line in WANTING:
+        yield Outcome(f"launcher: unbuilt, {line}", launch(room, *line.split()), wanting())
     came = launch(room, "batch", given=UNREADABLE)
     yield Outcome("launcher: an input that fails", came, Ran(3, b"", unproved() + told("input: read")))
     for stream, line in (("<&-", "input: read"), ("</dev/null >/dev/full", "output")):
         came = room.call(["sh", "-c", f"bin/onixdesk batch {stream}"], environment=environment(room))
         found = came.status, came.output, came.errors.splitlines(keepends=True)[-1]
         yield Outcome(f"launcher: a batch {stream}", found, (3, b"", told(line)))
-    slow = "(echo first; sleep 2.5; echo second) | bin/onixdesk batch"
-    came = room.call(["sh", "-c", slow], environment=environment(room))
-    yield Outcome("launcher: an input that pauses", came, answered(given=b"first\nsecond\n"))
     yield Outcome("launcher: its temporary files", os.listdir(room.path("tmp")), [])
     yield Outcome("launcher: it builds nothing", calls(room, "ci"), [])
 
@@ -228,27 +222,11 @@ def refused(room: Room) -> tuple[int, bool]:
 
 
 def a_program_that_is_being_built(room: Room) -> Iterator[Outcome]:
-    """A second build waits for the first; a source that changes meanwhile is noticed; a build that is ended ends the
-    toolchain."""
+    """A build that is ended ends the toolchain."""
     lay_out(room)
     build = building(room)
     yield Outcome("launcher: being built, a batch", launch(room, "batch"), answered(BEING_BUILT))
     yield Outcome("launcher: being built, a question", launch(room, "gaps", "north"), wanting(BEING_BUILT))
-    second = subprocess.Popen([room.path("tools/build")], env=environment(room), stderr=subprocess.PIPE)
-    assert second.stderr
-    waits = told("the program is being built here already; waiting for that build")
-    yield Outcome("tools/build: a second one waits", second.stderr.readline(), waits)
-    room.path("waits").unlink()
-    ended = [process.communicate(timeout=SECONDS) and process.returncode for process in (build, second)]
-    yield Outcome("tools/build: both prove once", (ended, calls(room, "ci")), ([0, 0], ["rt ci"]))
-    room.path(SOURCE).write_text("fn main() { }\n")
-    build = building(room)
-    room.path(SOURCE).write_text("fn main() {  }\n")
-    room.path("waits").unlink()
-    build.communicate(timeout=SECONDS)
-    came = command(room, "tools/build", "sources").status
-    yield Outcome("tools/build: a source changed meanwhile", (build.returncode, came), (0, 1))
-    build = building(room)
     build.terminate()
     build.communicate(timeout=SECONDS)
     yield Outcome("tools/build: ended", (build.returncode, os.listdir(room.path("tmp"))), (143, []))
@@ -258,7 +236,7 @@ def a_program_that_is_being_built(room: Room) -> Iterator[Outcome]:
     goal = f"{room.path('crates/low/src/lib.rt')}: a goal is left"
     last = f"onixdesk: the build failed; all of its output is in {room.path(PROGRAM)}.log"
     yield Outcome("tools/build: it fails", (came.status, came.errors.decode().splitlines()[-2:]), (1, [goal, last]))
-    yield Outcome("launcher: after a build that fails", launch(room, "gaps", "north"), wanting(CHANGED))
+    yield Outcome("launcher: after a build that fails", launch(room, "gaps", "north"), wanting())
 
 
 def the_program_of_the_gate(room: Room) -> Iterator[Outcome]:

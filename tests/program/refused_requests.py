@@ -49,6 +49,4 @@ def by_each_compiler(room: Room) -> Iterator[Outcome]:
         yield Outcome(f"refused memory: by {' '.join(compiler)}", came, wanted)
 
 
-GROUPS = [
-    Group("refused memory: by each compiler", by_each_compiler),
-]
+GROUPS = [Group("refused memory: by each compiler", by_each_compiler)]

@@ -4,128 +4,31 @@ line of a fault or nothing; the command `rules` says which line is wrong, and wh
 from collections.abc import Iterator
 
 from tests.program.room import UNREADABLE, Group, Ran, Room
+from tests.program.written_cases import TESTS, read_file, repeated, unescaped
 from tests.running import Outcome
 
 RULE = b'[[rule]]\nseries="*"\ncodes=["20"]\n'
 
-NOT_TOML = b"onixdesk: rules: not TOML\n"
 
-# Name, text, line of the fault. Without a fault the status is 0, else 2.
-TEXTS = [
-    ("no TOML", b"rule = ", NOT_TOML),
-    ("an array without rules", b"rule = []\n", b""),
-    ("a key that is no array", b"rule = 1\n", NOT_TOML),
-    ("another key", b'shop = "north"\n', NOT_TOML),
-    ("another key beside rules", b"other = 1\n[[rule]]\n", NOT_TOML),
-    ("not UTF-8", b"# \xff\n", NOT_TOML),
-    ("4,194,304 bytes", b"#" * 4_194_303 + b"\n", b""),
-    ("4,194,305 bytes", b"#" * 4_194_304 + b"\n", NOT_TOML),
-    (
-        "a code of one digit",
-        b'[[rule]]\nseries = "*"\ncodes = ["2"]\n',
-        b"onixdesk: rules: bad rule 1\n",
-    ),
-    (
-        "a name outside its grammar",
-        b'[[rule]]\nseries = "North"\ncodes = ["20"]\n',
-        b"onixdesk: rules: bad rule 1\n",
-    ),
-    (
-        "no codes",
-        b'[[rule]]\nseries = "north"\ncodes = []\n',
-        b"onixdesk: rules: bad rule 1\n",
-    ),
-    (
-        "a rule without a series",
-        b'[[rule]]\ncodes = ["20"]\n',
-        b"onixdesk: rules: bad rule 1\n",
-    ),
-    (
-        "a second rule that is no table",
-        b'rule = [{ series = "*", codes = ["20"] }, 1]\n',
-        b"onixdesk: rules: bad rule 2\n",
-    ),
-    (
-        "a rule with all its keys",
-        b'[[rule]]\nseries = "north"\ncodes = ["20", "21"]\nmax = "12.99"\n',
-        b"",
-    ),
-    (
-        "a second rule without codes",
-        b'[[rule]]\nseries = "*"\ncodes = ["20"]\n[[rule]]\nseries = "north"\n',
-        b"onixdesk: rules: bad rule 2\n",
-    ),
-    (
-        "a greatest amount that is a number",
-        b'[[rule]]\nseries = "*"\ncodes = ["20"]\nmax = 12.99\n',
-        b"onixdesk: rules: bad rule 1\n",
-    ),
-    (
-        "a rule with another key",
-        b'[[rule]]\nseries = "*"\ncodes = ["20"]\nmin = "1"\n',
-        b"onixdesk: rules: bad rule 1\n",
-    ),
-    ("1,000 rules", RULE * 1_000, b""),
-    ("1,001 rules", RULE * 1_001, b"onixdesk: rules: bad rule 1001\n"),
-]
+def files(part: str) -> Iterator[tuple[str, bytes, str]]:
+    """Those of tests/rules/files.txt, which have escapes, that have such a part: the name, the text, and what is said of
+    it: by a desk that is started with it, or by the command `rules`."""
+    for case in read_file(TESTS / "rules/files.txt"):
+        parts = dict(head.partition(" ")[::2] for head, _ in case.parts)
+        if part in parts:
+            yield case.name, unescaped(repeated(case.text)), parts[part]
+
+
+def said_by_desk(fault: str) -> bytes:
+    return f"onixdesk: {fault}\n".encode() if fault else b""
 
 
 def texts(room: Room) -> Iterator[Outcome]:
-    for name, text, errors in TEXTS:
+    for name, text, fault in files("desk"):
         room.write("rules.toml", text)
         came = room.run("--rules", "rules.toml", "batch")
-        yield Outcome(f"a rules file: {name}", came, Ran(2 if errors else 0, b"", errors))
+        yield Outcome(f"a rules file: {name}", came, Ran(2 if fault else 0, b"", said_by_desk(fault)))
 
-
-# Name, text, what the command `rules` writes of it: how many rules, or behind `rules: ` what is wrong.
-TRIED = [
-    ("no rules", b"", b"rules 0\n"),
-    ("an array without rules", b"rule = []\n", b"rules 0\n"),
-    ("4,194,304 bytes", b"#" * 4_194_303 + b"\n", b"rules 0\n"),
-    ("4,194,305 bytes", b"#" * 4_194_304 + b"\n", b"more than 4,194,304 bytes\n"),
-    ("1,000 rules", RULE * 1_000, b"rules 1000\n"),
-    ("1,001 rules", RULE * 1_001, b"line 3001: rule 1001 is past number 1000\n"),
-    ("a rule with all its keys", b'[[rule]]\nseries="north"\ncodes=["20"]\nmax="12.99"\n', b"rules 1\n"),
-    ("another key", b'# The shop\n\nshop = "north"\n', b"line 3: another key than rule\n"),
-    ("another key behind a rule", RULE + b"[shop]\n", b"line 4: another key than rule\n"),
-    ("a key that is no array", b"\nrule = 1\n", b"line 2: rule is no array\n"),
-    ("a table", b"[rule]\n", b"line 1: rule is no array\n"),
-    ("no table", b"rule = [1]\n", b"line 1: rule 1 is no table\n"),
-    (
-        "no table in several lines",
-        b'# All\nrule = [\n  { series = "*", codes = ["20"] },\n  1,\n]\n',
-        b"line 2: rule 2 is no table\n",
-    ),
-    ("no series", RULE + b'[[rule]]\ncodes = ["20"]\n', b"line 4: rule 2 has no series\n"),
-    (
-        "a series outside its grammar",
-        RULE + b'\n[[rule]]\nseries = "North"\ncodes = ["20"]\n' + RULE,
-        b'line 5: rule 2 has a series that is neither the name of one nor "*"\n',
-    ),
-    ("no codes", RULE + RULE + b'[[rule]]\nseries = "*"', b"line 7: rule 3 has no codes\n"),
-    ("an array of no codes", b'[[rule]]\nseries = "*"\ncodes = []\n', b"line 1: rule 1 has no code in codes\n"),
-    (
-        "a code that is a number",
-        b'[[rule]]\nseries = "*"\ncodes = ["20", 21]\n',
-        b"line 1: rule 1 has a code that is no text of two digits\n",
-    ),
-    ("a code alone", b'[[rule]]\nseries="*"\ncodes="20"\n', b"line 1: rule 1 has codes that are no array\n"),
-    (
-        "a greatest amount that is a number",
-        RULE + b"max = 12.99\n",
-        b"line 1: rule 1 has a max that is no amount in quotation marks\n",
-    ),
-    (
-        "a rule with another key",
-        RULE + b'min = "1"\n',
-        b"line 1: rule 1 has another key than series, codes and max\n",
-    ),
-    (
-        "a text of several lines before",
-        b'[[rule]]\nseries = """*"""\ncodes = ["""\\\n  20"""]\n[[rule]]\n',
-        b"line 5: rule 2 has no series\n",
-    ),
-]
 
 # Name, text that is no TOML, and the line that is wrong.
 UNREAD = [
@@ -138,9 +41,10 @@ UNREAD = [
 
 def tried(room: Room) -> Iterator[Outcome]:
     """By the command `rules`, which reads a file as a desk does that is started with it."""
-    for name, text, line in TRIED:
+    for name, text, line in files("rules"):
         room.write("rules.toml", text)
-        wanted = Ran(0, line) if line.startswith(b"rules ") else Ran(2, b"", b"onixdesk: rules: " + line)
+        is_read = line.startswith("rules ")
+        wanted = Ran(0, f"{line}\n".encode()) if is_read else Ran(2, b"", said_by_desk(f"rules: {line}"))
         yield Outcome(f"rules: {name}", room.run("rules", "rules.toml", given=UNREADABLE), wanted)
         status = room.run("--rules", "rules.toml", "batch").status
         yield Outcome(f"rules: {name}: as a desk reads it", status, wanted.status)

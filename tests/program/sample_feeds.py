@@ -65,6 +65,4 @@ def delivered(room: Room) -> Iterator[Outcome]:
     yield Outcome("the samples, delivered", answers[1], (0, wanted))
 
 
-GROUPS = [
-    Group("the samples, delivered", delivered),
-]
+GROUPS = [Group("the samples, delivered", delivered)]

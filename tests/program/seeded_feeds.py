@@ -15,14 +15,7 @@ from typing import NamedTuple
 from tests.program.converter import convert
 from tests.program.feed_makers import BAD_CODES, NO_PARTS, PARTS, REGIONS, Maker
 from tests.program.feed_notes import (
-    Errors,
-    Said,
-    compared,
-    count_line,
-    is_named,
-    miscounted,
-    read_errors,
-    read_summary,
+    Errors, Said, compared, count_line, is_named, miscounted, read_errors, read_summary,
 )
 from tests.program.feed_prices import DISCOUNTS
 from tests.program.feed_territories import WORLD

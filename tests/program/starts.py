@@ -81,9 +81,7 @@ def in_vain(room: Room) -> Iterator[Outcome]:
     )
     # A process of root, asked after by another user.
     ran = wait(room, port, "empty.db", 1, process=1, user=None if os.geteuid() else 65534)
-    yield Outcome(
-        "wait-for-desk.sh: a process of another user", ran, Ran(1, b"", line.format(port, 1).encode())
-    )
+    yield Outcome("wait-for-desk.sh: a process of another user", ran, Ran(1, b"", line.format(port, 1).encode()))
     with socket.create_server((HOST, 0)) as other:
         taken = other.getsockname()[1]
         ran = wait(room, taken, "empty.db", process=ended.pid)
@@ -109,8 +107,4 @@ def unit(_room: Room) -> Iterator[Outcome]:
         yield Outcome(f"{name} waits for the desk", "\nAfter=onixdesk.service" in text, True)
 
 
-GROUPS = [
-    Group("starts: a desk", for_a_desk),
-    Group("starts: in vain", in_vain),
-    Group("starts: the unit", unit),
-]
+GROUPS = [Group("starts: a desk", for_a_desk), Group("starts: in vain", in_vain), Group("starts: the unit", unit)]

@@ -16,13 +16,7 @@ PAGE = 4096
 
 MESSAGE = "message.csv"
 
-COMMANDS = [
-    "batch",
-    f"deliver {MESSAGE}",
-    "gaps north",
-    "serve --port 1 --requests 1",
-    "migrate",
-]
+COMMANDS = ["batch", f"deliver {MESSAGE}", "gaps north", "serve --port 1 --requests 1", "migrate"]
 
 
 def random_bytes(room: Room) -> bytes:

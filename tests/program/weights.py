@@ -1,8 +1,8 @@
-"""`bench/weight`, under which the gate is run: which part of it a process is, the lines, and the status."""
+"""`bench/weight`, under which the gate is run: which part of it a process is, and the status."""
 
 from collections.abc import Iterator
 
-from bench.commands.weight import Sampler, part_named
+from bench.commands.weight import part_named
 from tests.program.room import Group, Room
 from tests.running import Outcome
 from tools.root import ROOT
@@ -19,20 +19,6 @@ PARTS = [
     ("rattle", "/a", ("others", "all else")),
 ]
 
-# What processes took, in seconds, and the lines of it.
-TAKEN = [
-    (("proofs", "csv_records"), 20.0),
-    (("proofs", "onix_terms"), 40.0),
-    (("proofs", "desk_store"), 90.0),
-    (("edits", "desk_store"), 75.0),
-    (("edits", "desk_store"), 15.0),
-]
-LINES = """edits: 1.50 = desk_store 1.50
-proofs: 2.50 = desk_store 1.50, onix_terms 0.67, csv_records 0.33
-all: 4.00 times the proofs of csv_records and onix_terms
-these took 1.0 min, and all 2.0 min on the clock
-"""
-
 # A run that takes some of the processor's time.
 BUSY = ["python3", "-c", "import time\nwhile time.process_time() < 1.5: pass\nraise SystemExit(3)"]
 
@@ -40,9 +26,6 @@ BUSY = ["python3", "-c", "import time\nwhile time.process_time() < 1.5: pass\nra
 def parts(room: Room) -> Iterator[Outcome]:
     for words, folder, part in PARTS:
         yield Outcome(f"bench/weight: {words}", part_named(words.split(" "), folder), part)
-    sampler = Sampler(1)
-    sampler.found = {(str(number), "0"): taken for number, taken in enumerate(TAKEN)}
-    yield Outcome("bench/weight: the lines", sampler.report(120), LINES)
 
 
 def a_run(room: Room) -> Iterator[Outcome]:

@@ -27,15 +27,7 @@ LAYERS = {
     ),
     "Feeds": (
         "from XML to messages",
-        [
-            "named_files",
-            "xml_text",
-            "onix_outline",
-            "onix_mapping",
-            "feed_tests",
-            "onix_conversion",
-            "onix_files",
-        ],
+        ["named_files", "xml_text", "onix_outline", "onix_mapping", "feed_tests", "onix_conversion", "onix_files"],
     ),
     "Tables": ("a desk in a file", ["desk_tables", "catalogue_store", "desk_store"]),
     "Rules": ("what is answered", ["price_rules", "catalogue_rules", "series_rules", "desk_memory"]),

@@ -32,11 +32,7 @@ def crates(root: Path) -> list[str]:
 
 def reached(cited: set[Name], files: list[File]) -> set[Name]:
     """What is cited, and what the definitions of that take from other files."""
-    uses = {
-        Name(file.crate, file.name, word): names
-        for file in files
-        for word, names in file.cited.items()
-    }
+    uses = {Name(file.crate, file.name, word): names for file in files for word, names in file.cited.items()}
     found, left = set(), [name for name in cited if name in uses]
     while left:
         name = left.pop()

@@ -8,20 +8,7 @@ TYPES = ["01", "02"]
 CODES = ["10", "20", "21", "31"]
 ARTICLES = [f"978000000000{digit}" for digit in range(4)]
 SERIES = {"north": "4012345000009", "south": 'S,"1"', "west-2": "\\N", "0": "本屋 𝄞"}
-REFERENCES = [
-    "R1",
-    "R2",
-    "a,b",
-    'say "hi"',
-    "\\.",
-    "\\N",
-    "null",
-    " spaced ",
-    "Bücher",
-    "本屋 𝄞",
-    "'; --",
-    "%s",
-]
+REFERENCES = ["R1", "R2", "a,b", 'say "hi"', "\\.", "\\N", "null", " spaced ", "Bücher", "本屋 𝄞", "'; --", "%s"]
 FIRST = {"north": 1, "south": 7, "west-2": 999_999_970, "0": 1}
 
 # Earlier rules admit dearer offers than later ones.
@@ -47,9 +34,7 @@ codes = ["31", "20", "10"]
 """
 
 # The days are those around the turn of a year, and the first and the last ones.
-DAYS = (
-    [f"2024123{day}" for day in (0, 1)] + [f"2025010{day}" for day in range(1, 8)] + ["00010101", "99991231"]
-)
+DAYS = ([f"2024123{day}" for day in (0, 1)] + [f"2025010{day}" for day in range(1, 8)] + ["00010101", "99991231"])
 
 
 def field(text: str) -> str:
@@ -119,9 +104,7 @@ class Maker:
                 number = self.next[series]
                 self.next[series] += 1
             if number <= 999_999_999:
-                requests.append(
-                    f"Waive,{series},{number}\n" if self.one_in(12) else self.message(series, number)
-                )
+                requests.append(f"Waive,{series},{number}\n" if self.one_in(12) else self.message(series, number))
         return "".join(requests)
 
     def question(self) -> str:

@@ -1,0 +1,1 @@
+CREATE TABLE price_minimum (series TEXT NOT NULL, reference TEXT NOT NULL, place INTEGER NOT NULL, price_place INTEGER NOT NULL, minimum INTEGER NOT NULL, PRIMARY KEY (series, reference, place, price_place), FOREIGN KEY (series, reference, place, price_place) REFERENCES price (series, reference, place, price_place) ON DELETE CASCADE) STRICT;

@@ -21,6 +21,7 @@ LAYERS = {
             "desk_commands",
             "rules_file",
             "database_files",
+            "desk_program",
             "onixdesk",
             "library_tests",
         ],

@@ -1,21 +1,14 @@
-//! The program `onixdesk`: the intake of a bookshop's buying desk on the command line. The crate
-//! `command_line` reads its arguments, `rules_file` the precedence table, and `program_lines` has
-//! the texts of what can go wrong, `help` those of clap. `database_files` opens the database file
-//! by its path. The commands over a desk are in `desk_commands`; `program` gives them one in a
-//! database file, or in memory, and `migrate` brings a database file of an earlier version to the
-//! one that is kept now. What each request is answered is proved in `series_rules`.
+//! The program `onixdesk`: the intake of a bookshop's buying desk on the command line. `desk_program`
+//! does what its words ask for, here over the machine's files, streams and sockets. What each
+//! request is answered is proved in `series_rules`.
 #![tactic(auto)]
-
-mod help;
-mod migrate;
-mod program;
 
 ghost use Rattle.std.specs.Prelude.{◌≤◌, IfOk};
 
-use crate::help::print_wrong;
-use crate::program::run;
 use database_files::paths::Paths;
 use desk_clients::sockets::Sockets;
+use desk_program::help::print_wrong;
+use desk_program::program::run;
 use named_files::HostFiles;
 use program_lines::fault::{Fault, report};
 use sqlite::Unknown;

@@ -1,5 +1,5 @@
-use Rattle.onixdesk.proofs.RulesLemmas.{ruled, unruled}
-use Rattle.onixdesk.proofs.program.rules_of.Goals as goal
+use Rattle.desk_program.proofs.RulesLemmas.{ruled, unruled}
+use Rattle.desk_program.proofs.program.rules_of.Goals as goal
 
 pub returns-in-Some-clause-ok : goal.returns-in-Some-clause-ok
 returns-in-Some-clause-ok g = ruled _ _ g.in-Some.is g.open_table.result g.open_table.ensures

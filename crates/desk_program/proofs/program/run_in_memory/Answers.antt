@@ -2,8 +2,8 @@ use Rattle.std.specs.Io.KnownBytes.{Appends}
 use Rattle.desk_memory.specs.contracts.desk.MemoryDeskDesk.TheImpl.{ghosts}
 use Rattle.series_rules.proofs.StepLemmas.{traces_lead}
 use Rattle.series_rules.specs.Steps.{Asked, Leads}
-use Rattle.onixdesk.proofs.EndLemmas.{task_as}
-use Rattle.onixdesk.proofs.program.run_in_memory.Goals as goal
+use Rattle.desk_program.proofs.EndLemmas.{task_as}
+use Rattle.desk_program.proofs.program.run_in_memory.Goals as goal
 
 pub returns-clause-end : goal.returns-clause-end
 returns-clause-end g c =

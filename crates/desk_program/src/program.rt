@@ -3,10 +3,10 @@
 ghost use Rattle.std.specs.Prelude.{◌≡◌, ◌≤◌, IfErr, IfOk, IsTrue, map};
 ghost use Rattle.std.specs.Io.KnownBytes.{Appends};
 ghost use Rattle.sqlite_wal.specs.Recovery.{Image};
-ghost use Rattle.onixdesk.specs.Closings.{RunsAndCloses};
+ghost use Rattle.desk_program.specs.Closings.{RunsAndCloses};
 ghost use Rattle.database_files.specs.Databases.{AreSettled};
-ghost use Rattle.onixdesk.specs.FileEnds.{ActionEnds, AreRulesOf, FileEnds, InvocationEnds, IsUnruled, NewDeskEnds, RunEnds};
-ghost use Rattle.onixdesk.specs.MigrationEnd.{MigrateEnds};
+ghost use Rattle.desk_program.specs.FileEnds.{ActionEnds, AreRulesOf, FileEnds, InvocationEnds, IsUnruled, NewDeskEnds, RunEnds};
+ghost use Rattle.desk_program.specs.MigrationEnd.{MigrateEnds};
 
 use crate::{help, migrate};
 use command_line::invocation::{self, Action, Database, Invocation, Reading, Task};

@@ -1,7 +1,7 @@
 use Rattle.std.proofs.KnownBytes.{Appends-nil}
 use Rattle.std.specs.Io.KnownBytes.{Appends}
-use Rattle.onixdesk.proofs.ClosingLemmas.{file_unopened}
-use Rattle.onixdesk.proofs.program.run_in_file.Goals as goal
+use Rattle.desk_program.proofs.ClosingLemmas.{file_unopened}
+use Rattle.desk_program.proofs.program.run_in_file.Goals as goal
 
 pub returns-in-Ok-clause-end : goal.returns-in-Ok-clause-end
 returns-in-Ok-clause-end g c = c.run_over_files.ensures.end (g.O.Databases.held c.args.databases c.args.db.now.name.now) c.in-Ok.ensures.settled

@@ -1,6 +1,6 @@
 use Rattle.std.proofs.Common.{inl, inr}
 use Rattle.std.proofs.KnownBytes.{Appends-nil}
-use Rattle.onixdesk.proofs.program.run_invocation.Goals as goal
+use Rattle.desk_program.proofs.program.run_invocation.Goals as goal
 
 pub returns-in-Err-clause-end : goal.returns-in-Err-clause-end
 returns-in-Err-clause-end g c = inr (c.in-Err.fault, c.in-Err.ensures.err, (c.report_rules-status.ensures, Appends-nil (g.W.Write.contents c.args.output.now), tt))

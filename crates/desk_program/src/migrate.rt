@@ -4,7 +4,7 @@ ghost use Rattle.std.specs.Prelude.{◌≡◌, ◌≤◌, IsTrue};
 ghost use Rattle.std.specs.Io.KnownBytes.{Appends};
 ghost use Rattle.sqlite_wal.specs.Recovery.{Image};
 ghost use Rattle.database_files.specs.Databases.{AreSettled};
-ghost use Rattle.onixdesk.specs.MigrationEnd.{MigrateEnds, migration_line};
+ghost use Rattle.desk_program.specs.MigrationEnd.{MigrateEnds, migration_line};
 
 use csv_records::streams::{WriteFault, write_whole};
 use database_files::files::{FilesLeft, fault_of};

@@ -4,10 +4,10 @@ use Rattle.std.specs.Io.KnownBytes.{Appends}
 use Rattle.sqlite.specs.Files.{file_state}
 use Rattle.desk_store.specs.Openings.{MakesNothing}
 use Rattle.desk_store.specs.Seen.{seen_in}
-use Rattle.onixdesk.proofs.ClosingLemmas.{closed_ended, opened_comes, spares_settled}
-use Rattle.onixdesk.proofs.EndLemmas.{ComesTo}
-use Rattle.onixdesk.specs.FileViews.{seen_image}
-use Rattle.onixdesk.proofs.program.run_over_files.Goals as goal
+use Rattle.desk_program.proofs.ClosingLemmas.{closed_ended, opened_comes, spares_settled}
+use Rattle.desk_program.proofs.EndLemmas.{ComesTo}
+use Rattle.desk_program.specs.FileViews.{seen_image}
+use Rattle.desk_program.proofs.program.run_over_files.Goals as goal
 
 pub returns-in-Ok-clause-end : goal.returns-in-Ok-clause-end
 returns-in-Ok-clause-end g c = λ image settled.

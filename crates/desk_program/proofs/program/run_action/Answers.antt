@@ -2,7 +2,7 @@ use Rattle.std.proofs.Common.{List, map, subst, ℕ}
 use Rattle.std.specs.Borrow.{Bor}
 use Rattle.std.specs.Io.KnownBytes.{Appends}
 use Rattle.onix_files.specs.Runs.{RunEnds, run_asking}
-use Rattle.onixdesk.proofs.program.run_action.Goals as goal
+use Rattle.desk_program.proofs.program.run_action.Goals as goal
 
 pub returns-in-InMemory-clause-end : goal.returns-in-InMemory-clause-end
 returns-in-InMemory-clause-end g c = rw c.in-InMemory.is (tt, c.run_in_memory-status.ensures.end)

@@ -28,13 +28,13 @@ use Rattle.desk_store.proofs.ComesTo.{come_rows, rows_come}
 use Rattle.desk_store.specs.Desks.{AreRowsOf, KeepsRequests}
 use Rattle.desk_store.specs.Openings.{AreFilesOf, AreFoundAs, HoldRowsOf, KeepsFiles, TakesFound}
 use Rattle.desk_store.specs.Seen.{in_tables, seen_in}
-use Rattle.onixdesk.proofs.EndLemmas.{ComesOf, ComesTo, leads_between, same_refl, task_as}
-use Rattle.onixdesk.specs.Closings.{Closes, RunsAndCloses}
+use Rattle.desk_program.proofs.EndLemmas.{ComesOf, ComesTo, leads_between, same_refl, task_as}
+use Rattle.desk_program.specs.Closings.{Closes, RunsAndCloses}
 use Rattle.database_files.specs.Databases.{AreSettled}
-use Rattle.onixdesk.specs.FileEnds.{FileEnds}
-use Rattle.onixdesk.specs.FileViews.{HoldMeta, seen_files, seen_image, seen_store}
+use Rattle.desk_program.specs.FileEnds.{FileEnds}
+use Rattle.desk_program.specs.FileViews.{HoldMeta, seen_files, seen_image, seen_store}
 use Rattle.database_files.specs.Leftovers.{HasNoFiles}
-use Rattle.onixdesk.specs.MigrationEnd.{MigrateEnds}
+use Rattle.desk_program.specs.MigrationEnd.{MigrateEnds}
 use Rattle.desk_commands.specs.TaskEnds.{TaskEnds}
 use Rattle.command_line.specs.declared.invocation.Task.{Task}
 use Rattle.database_files.specs.declared.files.FilesLeft.{FilesLeft}

@@ -4,8 +4,8 @@ use Rattle.sqlite.specs.Files.{file_state}
 use Rattle.series_rules.proofs.StepLemmas.{traces_lead}
 use Rattle.series_rules.specs.Steps.{Leads}
 use Rattle.desk_store.specs.Seen.{seen_in}
-use Rattle.onixdesk.proofs.EndLemmas.{task_as}
-use Rattle.onixdesk.proofs.program.run_and_close.Goals as goal
+use Rattle.desk_program.proofs.EndLemmas.{task_as}
+use Rattle.desk_program.proofs.program.run_and_close.Goals as goal
 
 pub returns-in-Ok-clause-end : goal.returns-in-Ok-clause-end
 returns-in-Ok-clause-end g c =

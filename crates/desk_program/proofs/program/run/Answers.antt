@@ -6,7 +6,7 @@ use Rattle.std.specs.String.{string_bytes}
 use Rattle.command_line.specs.Asked.{Reads}
 use Rattle.program_lines.specs.Printing.{PrintEnds}
 use Rattle.command_line.specs.declared.invocation.Reading.TheVariants as reading
-use Rattle.onixdesk.proofs.program.run.Goals as goal
+use Rattle.desk_program.proofs.program.run.Goals as goal
 
 abbrev words_of : List (Bor (List ℕ)) → List (List ℕ)
 words_of = map (λ word. word.now)

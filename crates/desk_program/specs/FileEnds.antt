@@ -10,10 +10,10 @@ use Rattle.desk_store.specs.ClosedFiles.{HoldOneDatabase}
 use Rattle.desk_store.specs.Openings.{MakesNothing}
 use Rattle.named_files.specs.Holdings.{Holdings}
 use Rattle.command_line.specs.Asked.{Reads}
-use Rattle.onixdesk.specs.ConvertEnds.{ConvertEnds}
-use Rattle.onixdesk.specs.FileViews.{seen_files, seen_image, seen_store}
+use Rattle.desk_program.specs.ConvertEnds.{ConvertEnds}
+use Rattle.desk_program.specs.FileViews.{seen_files, seen_image, seen_store}
 use Rattle.database_files.specs.Leftovers.{IsUntouched, LeavesUndone}
-use Rattle.onixdesk.specs.MigrationEnd.{MigrateEnds}
+use Rattle.desk_program.specs.MigrationEnd.{MigrateEnds}
 use Rattle.program_lines.specs.Printing.{PrintEnds}
 use Rattle.rules_file.specs.RulesFile.{CheckEnds, RulesFit, status_of}
 use Rattle.desk_commands.specs.Sending.{SendEnds}

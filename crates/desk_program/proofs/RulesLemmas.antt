@@ -2,7 +2,7 @@
 use Rattle.std.proofs.Common.{◌≡◌, ℕ, List, Option, Some, Result, Ok, Err, subst, sym}
 use Rattle.std.specs.Prelude.{IfErr, IfOk}
 use Rattle.price_rules.specs.declared.precedence.Rule.{Rule}
-use Rattle.onixdesk.specs.FileEnds.{AreRulesOf, IsUnruled}
+use Rattle.desk_program.specs.FileEnds.{AreRulesOf, IsUnruled}
 use Rattle.rules_file.specs.RulesFile.{RulesFit}
 use Rattle.rules_file.specs.declared.rules.RulesFault.{RulesFault}
 

@@ -1,0 +1,8 @@
+//! The program run on its words: `program` reads the command line and does what it asks, over
+//! databases, FILEs and open desks that it is given. `migrate` brings a database file of an earlier
+//! version to the one that is kept now; `help` has the texts of clap.
+#![tactic(auto)]
+
+pub mod help;
+pub mod migrate;
+pub mod program;

@@ -12,6 +12,7 @@ use Rattle.std.specs.Str.{bytes_eq}
 use Rattle.std.proofs.lemmas.Cmp.{nat_list_cmp_total}
 use Rattle.std.proofs.lemmas.List.Elements.{All-head, All-tail}
 use Rattle.std.proofs.lemmas.Slice.Eq.{bytes_eq-Decides}
+use Rattle.onix_message.specs.Product.{is_article_type}
 use Rattle.onix_message.specs.declared.parts.Product.{Product}
 use Rattle.onix_message.specs.declared.parts.ProductIdentifier.{ProductIdentifier}
 use Rattle.onix_message.specs.declared.parts.ProductSupply.{ProductSupply}
@@ -19,7 +20,7 @@ use Rattle.price_rules.specs.declared.offer.Offer.{Offer}
 use Rattle.catalogue_rules.specs.ArticleIndex.{ListsAll, ListsArticles, ListsAsBefore, is_listed, is_of_article, offers_there}
 use Rattle.catalogue_rules.specs.Effects.{after, after_product, change_of, entry_after, updated}
 use Rattle.catalogue_rules.specs.Listings.{listing_cmp}
-use Rattle.catalogue_rules.specs.Offers.{entry_offers, has_article, has_article_type, is_article, offers_in}
+use Rattle.catalogue_rules.specs.Offers.{entry_offers, has_article, is_article, offers_in}
 use Rattle.catalogue_rules.specs.Records.{ByReference, records_of}
 use Rattle.catalogue_rules.specs.declared.change.Change.{Change}
 use Rattle.catalogue_rules.specs.declared.change.Change.TheVariants.{Replace, Update, Delete, Ignore}
@@ -80,15 +81,15 @@ either_any test [] x h = elim (test x) as (λ b. (b || false) ≡ true → (fals
 either_any test (y ∷ xs) x h =
     elim (test y) as (λ b. (b || list_any test (xs ++ x ∷ [])) ≡ true → ((b || list_any test xs) ≡ true) ⊎ (test x ≡ true)) [ true ↦ λ _. inl refl | false ↦ λ e. either_any test xs x e ] h
 
-of_type_and_value : (isbn : List ℕ) (id : ProductIdentifier) → is_article isbn id ≡ true → (has_article_type id ≡ true) × (id.id_value ≡ isbn)
+of_type_and_value : (isbn : List ℕ) (id : ProductIdentifier) → is_article isbn id ≡ true → (is_article_type id.id_type ≡ true) × (id.id_value ≡ isbn)
 of_type_and_value isbn id h =
-    elim (has_article_type id) as (λ b. (b && bytes_eq id.id_value isbn) ≡ true → (b ≡ true) × (id.id_value ≡ isbn)) [
+    elim (is_article_type id.id_type) as (λ b. (b && bytes_eq id.id_value isbn) ≡ true → (b ≡ true) × (id.id_value ≡ isbn)) [
       | true ↦ λ e. (refl, (bytes_eq-Decides id.id_value isbn).0 e)
       | false ↦ λ e. absurd cc
     ] h
 
 pub articles_more : (was now : BTreeSet Listing) (reference : List ℕ) (ids : List ProductIdentifier) (id : ProductIdentifier) → ListsAsBefore was now → ListsArticles was reference ids
-    → (has_article_type id ≡ true → is_listed now id.id_value reference ≡ true) → ListsArticles now reference (ids ++ id ∷ [])
+    → (is_article_type id.id_type ≡ true → is_listed now id.id_value reference ≡ true) → ListsArticles now reference (ids ++ id ∷ [])
 articles_more was now reference ids id as_before listed here isbn h =
     ⊎_elim
     (λ before. as_before isbn reference (listed isbn before))

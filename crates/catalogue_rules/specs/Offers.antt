@@ -1,7 +1,8 @@
 -- The offers of an article in the catalogue of a series.
-use Rattle.std.specs.Prelude.{ℕ, Bool, ◌&&◌, ◌||◌, List, [], map, codes, if◌then◌else◌}
+use Rattle.std.specs.Prelude.{ℕ, Bool, ◌&&◌, List, [], map, if◌then◌else◌}
 use Rattle.std.specs.List.{enumerate_from, flat_map, list_any}
 use Rattle.std.specs.Str.{bytes_eq}
+use Rattle.onix_message.specs.Product.{is_article_type}
 use Rattle.onix_message.specs.declared.parts.ProductIdentifier.{ProductIdentifier}
 use Rattle.onix_message.specs.declared.parts.ProductSupply.{ProductSupply}
 use Rattle.onix_message.specs.declared.parts.SupplyDetail.{SupplyDetail}
@@ -10,13 +11,9 @@ use Rattle.price_rules.specs.declared.offer.Offer.{Offer}
 use Rattle.catalogue_rules.specs.Records.{ByReference, records_of}
 use Rattle.catalogue_rules.specs.declared.entry.Entry.{Entry}
 
--- whether an identifier is a GTIN-13 (type 03) or an ISBN-13 (type 15)
-abbrev pub has_article_type : ProductIdentifier → Bool
-has_article_type id = bytes_eq id.id_type (codes "03") || bytes_eq id.id_type (codes "15")
-
--- whether it is one with this value
+-- whether an identifier names the article: a GTIN-13 or an ISBN-13 with this value
 abbrev pub is_article : List ℕ → ProductIdentifier → Bool
-is_article isbn id = has_article_type id && bytes_eq id.id_value isbn
+is_article isbn id = is_article_type id.id_type && bytes_eq id.id_value isbn
 
 -- whether a record has such an identifier
 abbrev pub has_article : List ℕ → Entry → Bool

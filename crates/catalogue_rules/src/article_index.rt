@@ -2,16 +2,17 @@
 
 ghost use Rattle.std.specs.Prelude.{◌≡◌, ◌++◌, ℕ, List, IfOk, OnOk, OnErr, true};
 ghost use Rattle.std.specs.FinMap as map;
+ghost use Rattle.onix_message.specs.Product as product;
 ghost use Rattle.catalogue_rules.specs.ArticleIndex.{IsIndexOf, ListsArticles, ListsAsBefore, is_listed, offers_there};
 ghost use Rattle.catalogue_rules.specs.Effects.{after};
-ghost use Rattle.catalogue_rules.specs.Offers.{has_article_type, offers_in};
+ghost use Rattle.catalogue_rules.specs.Offers.{offers_in};
 ghost use Rattle.catalogue_rules.specs.Records.{ByReference};
 
 use crate::catalogue::Catalogue;
 use crate::listing::Listing;
-use crate::offers::{add_record, has_article_type};
+use crate::offers::add_record;
 use onix_message::contents::Contents;
-use onix_message::parts::{Product, ProductIdentifier};
+use onix_message::parts::{Product, ProductIdentifier, is_article_type};
 use onix_terms::isbn13::Isbn13;
 use onix_terms::items::Items;
 use onix_terms::series_name::SeriesName;
@@ -75,10 +76,10 @@ impl ArticleIndex {
     fn list_identifier(&mut self, id: &ProductIdentifier, reference: &str) -> Result<(), AllocError>
         ensures kept { ListsAsBefore self.old.listings self.new.listings }
         ensures ok { OnOk result
-            (has_article_type id.now ≡ true
+            (product.is_article_type id.now.id_type ≡ true
             → is_listed self.new.listings id.now.id_value reference.now ≡ true) }
     {
-        if !has_article_type(id) {
+        if !is_article_type(&id.id_type) {
             return Ok(());
         }
         self.list_reference(id.id_value.as_str(), reference)

@@ -3,10 +3,10 @@
 ghost use Rattle.std.specs.Prelude.{◌≡◌, ◌+◌, ◌<◌, ◌^◌, ◌++◌, IfOk, OnOk, length};
 ghost use Rattle.onix_message.specs.DetailCount.{detail_count};
 ghost use Rattle.catalogue_rules.specs.Records.{HasFewDetails};
-ghost use Rattle.catalogue_rules.specs.Offers.{entry_offers, has_article, has_article_type, is_article, offer_of, offers_from, record_offers, supply_details};
+ghost use Rattle.catalogue_rules.specs.Offers.{entry_offers, has_article, is_article, offer_of, offers_from, record_offers, supply_details};
 
 use crate::entry::Entry;
-use onix_message::parts::{ProductIdentifier, ProductSupply, SupplyDetail};
+use onix_message::parts::{ProductIdentifier, ProductSupply, SupplyDetail, is_article_type};
 use onix_terms::isbn13::Isbn13;
 use onix_terms::items::Items;
 use onix_terms::plain::Plain;
@@ -16,22 +16,14 @@ use onix_terms::text::Text;
 use price_rules::offer::Offer;
 use std::alloc::{AllocError, Global};
 
-/// Whether an identifier is a GTIN-13 or an ISBN-13.
-pub(crate) fn has_article_type(id: &ProductIdentifier) -> bool
-    ensures { result ≡ has_article_type id.now }
-{
-    id.id_type.as_str() == "03" || id.id_type.as_str() == "15"
-}
-
-// Whether an identifier is a GTIN-13 or an ISBN-13 with this value.
+// Whether an identifier names the article.
 fn is_article(id: &ProductIdentifier, isbn: &Isbn13) -> bool
     ensures { result ≡ is_article isbn.now id.now }
 {
-    let id_type = id.id_type.as_str();
-    (id_type == "03" || id_type == "15") && id.id_value.as_str() == isbn.as_str()
+    is_article_type(&id.id_type) && id.id_value.as_str() == isbn.as_str()
 }
 
-// Whether a record has an identifier of type 03 or 15 with this value.
+// Whether a record has an identifier that names the article.
 fn has_article(entry: &Entry, isbn: &Isbn13) -> bool
     ensures { result ≡ has_article isbn.now entry.now }
 {

@@ -1,4 +1,5 @@
--- The fold of a series: the catalogue of what stands at its first numbers, the counts of each message there, and articles of some of them.
+-- The fold of a series: the catalogue of what stands at its first numbers, the counts of each
+-- message there, and articles of some of them.
 use Rattle.std.specs.Prelude.{◌≡◌, ◌<◌, ◌+◌, ℕ, List, Option, Some, length, slice_get}
 use Rattle.std.specs.FinMap as map
 use Rattle.series_rules.specs.Series.{BeginsWith, after_all, kept_of}
@@ -6,7 +7,8 @@ use Rattle.desk_memory.specs.Listed.{IsListed}
 use Rattle.desk_memory.specs.declared.fold.Fold.{Fold}
 use Rattle.series_rules.specs.declared.requests.Standing.{Standing}
 
--- it is the fold of hs: the number after it, its catalogue, what each did, and the articles of the first of them
+-- it is the fold of hs: the number after it, its catalogue, what each did, and the articles of the
+-- first of them
 pub record IsFold (from : ℕ) (hs : List Standing) (fold : Fold) : Type 0 where
   pub next : fold.next ≡ from + length hs
   pub catalogue : fold.catalogue ≡ after_all map.empty hs

@@ -39,21 +39,26 @@ with_standing f n h k = option_or (f k) (if nat_eq n k then Some h else None)
 
 -- where a series of that name goes in order of name: before the first of a later name
 abbrev pub place_in_order : List Series → List ℕ → ℕ
-place_in_order kept name = position_or_len (λ s. is_lt (slice_cmp nat_cmp name s.agreement.name)) kept
+place_in_order kept name =
+    position_or_len (λ s. is_lt (slice_cmp nat_cmp name s.agreement.name)) kept
 
 -- their names are in ascending order
 abbrev pub AreInOrder : List Series → Type 0
 AreInOrder kept = T (is_sorted (slice_cmp nat_cmp) (with_names (kept_agreements kept)))
 
--- the series that are kept are what those requests come to: the same agreement under each name, and the same at each number
+-- the series that are kept are what those requests come to: the same agreement under each name, and
+-- the same at each number
 pub record StandsFor (kept : List Series) (L : List Request) : Type 0 where
   pub agreed : (name : List ℕ) → named (kept_agreements kept) name ≡ named (agreements_of L) name
   pub distinct : AreDistinct (kept_agreements kept)
   pub in_order : AreInOrder kept
-  pub firsts : (series : List ℕ) (number : ℕ) → standing_of kept series number ≡ first_at L series number
+  pub firsts : (series : List ℕ) (number : ℕ)
+      → standing_of kept series number ≡ first_at L series number
 
 -- what is kept stands for every list that comes to the same
-pub stands_by_content : (kept : List Series) (L M : List Request) → SameContent L M → StandsFor kept L → StandsFor kept M
+pub stands_by_content : (kept : List Series) (L M : List Request) → SameContent L M
+    → StandsFor kept L
+    → StandsFor kept M
 stands_by_content kept L M same stands = record {
   agreed = λ name. stands.agreed name ∙ same.agreements name;
   distinct = stands.distinct;

@@ -1,4 +1,5 @@
--- The desk in a SQLite file, as a desk whose runs have stops: a connection, by what it shows and by what an open after a crash may find.
+-- The desk in a SQLite file, as a desk whose runs have stops: a connection, by what it shows and by
+-- what an open after a crash may find.
 use Rattle.std.specs.Prelude.{◌≡◌, Bool, true, false, List}
 use Rattle.sqlite.specs.Effect.{Database}
 use Rattle.sqlite.specs.Held.{Held, state}
@@ -20,12 +21,15 @@ use Rattle.desk_store.specs.Runs.{Storage}
 abbrev pub HaveNoTable : Trees → Type 0
 HaveNoTable trees = (db : Database) × (db.trees ≡ trees) × HasNoRows schema_0 db
 
--- a database with no table holds the rows of no list of requests, so that it can be told from one that does
+-- a database with no table holds the rows of no list of requests, so that it can be told from one
+-- that does
 abbrev pub EmptyHoldsNoRows : Type 0
 EmptyHoldsNoRows = (trees : Trees) (L : List Request) → HaveNoTable trees → AreRowsOf trees L → ⊥
 
 -- connections to a store, with the answers under the rules of a precedence table
-abbrev pub storage : {Store : Type 0} → Ghosts Store → List Rule → Storage Request Answer Trees (Held Store)
+abbrev pub storage : {Store : Type 0} → Ghosts Store
+    → List Rule
+    → Storage Request Answer Trees (Held Store)
 storage g rules = record {
   IsSound = λ c. HasCleanDisk (state g c);
   StandsFor = λ c L. KeepsRequests (state g c) L;

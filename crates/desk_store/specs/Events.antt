@@ -1,6 +1,7 @@
 -- What happens to a desk that keeps its tables in a database.
 
--- what may happen: an opening, with or without a desk; a request answered, faulted or stopped inside; a stop between calls; a closing
+-- what may happen: an opening, with or without a desk; a request answered, faulted or stopped
+-- inside; a stop between calls; a closing
 pub data Event (R A : Type 0) : Type 0 where
   -- a request was answered
   Answered : R → A → Event R A

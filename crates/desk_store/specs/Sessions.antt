@@ -24,26 +24,46 @@ use Rattle.desk_store.specs.Events.{Closing, Event, Open, Opening}
 use Rattle.desk_store.specs.Files.{AreFilesAt}
 use Rattle.desk_store.specs.Runs.{Runs}
 
--- What was asked of a desk one after the other goes on with a run, as a batch was and what a connection asked for (the field `asked` of the clauses of `run_batch` and `serve_routed`). At: the connection that a desk is over
-abbrev pub AskedAreRuns : {Store D : Type 0} → (g : Ghosts Store) → (D → Held Store) → List Rule → Type 0
+-- What was asked of a desk one after the other goes on with a run, as a batch was and what a
+-- connection asked for (the field `asked` of the clauses of `run_batch` and `serve_routed`). At:
+-- the connection that a desk is over
+abbrev pub AskedAreRuns : {Store D : Type 0} → (g : Ghosts Store) → (D → Held Store) → List Rule
+    → Type 0
 AskedAreRuns {D = D} g at rules =
-    (steps : List (Request × Result Answer StoreFault)) (old new : D) → Trace (λ d. seen g rules (at d)) rules steps old new
-    → (found : Trees) (h : List (Event Request Answer)) → Runs (storage g rules) found h (Open (at old)) → HasCleanDisk (state g (at new))
+    (steps : List (Request × Result Answer StoreFault)) (old new : D)
+    → Trace (λ d. seen g rules (at d)) rules steps old new
+    → (found : Trees) (h : List (Event Request Answer))
+    → Runs (storage g rules) found h (Open (at old))
+    → HasCleanDisk (state g (at new))
     → Runs (storage g rules) found (events_after g rules h steps) (Open (at new))
 
 module _ {D : Type 0} (g : disk.Ghosts D) (rules : List Rule) where
   -- what the clause `stands` of an opening says
   abbrev pub Stands : Image → Held (FileStore D g) → Type 0
-  Stands image c = HasCleanDisk (file_state c) → (L : List Request) → AreFilesOf image L → KeepsRequests (file_state c) L
+  Stands image c =
+      HasCleanDisk (file_state c) → (L : List Request) → AreFilesOf image L
+      → KeepsRequests (file_state c) L
 
   -- and its clause `alone`
   abbrev pub LeavesAlone : Image → Held (FileStore D g) → Type 0
-  LeavesAlone image c = HasCleanDisk (file_state c) → (L : List Request) → AreFilesOf image L → (left : Trees) → (file_state c).may_leave left → AreRowsOf left L
+  LeavesAlone image c =
+      HasCleanDisk (file_state c) → (L : List Request) → AreFilesOf image L → (left : Trees)
+      → (file_state c).may_leave left → AreRowsOf left L
 
-  -- A desk that is opened, asked, closed and opened again is a run: by the clauses `stands` and `alone` of both openings, what was asked of it between them, and the clause `copied` of the closing
+  -- A desk that is opened, asked, closed and opened again is a run: by the clauses `stands` and
+  -- `alone` of both openings, what was asked of it between them, and the clause `copied` of the
+  -- closing
   pub record SessionsAreRuns : Type 0 where
-    pub session : (image : Image) (found : Trees) → AreFilesAt image found → (opened last again : Held (FileStore D g)) (files : Files D) (steps : List (Request × Result Answer StoreFault))
-        → Stands image opened → LeavesAlone image opened → Trace (seen (over_files {g = g}) rules) rules steps opened last
+    pub session : (image : Image) (found : Trees) → AreFilesAt image found
+        → (opened last again : Held (FileStore D g)) (files : Files D)
+        (steps : List (Request × Result Answer StoreFault))
+        → Stands image opened
+        → LeavesAlone image opened
+        → Trace (seen (over_files {g = g}) rules) rules steps opened last
         → (AreClean g files.log files.db → IsCopied last files) → AreClean g files.log files.db
-        → Stands (image_of g files) again → LeavesAlone (image_of g files) again → HasCleanDisk (file_state again)
-        → Runs (storage (over_files {g = g}) rules) found (Opening ∷ Closing ∷ events_after (over_files {g = g}) rules (Opening ∷ []) steps) (Open again)
+        → Stands (image_of g files) again
+        → LeavesAlone (image_of g files) again
+        → HasCleanDisk (file_state again)
+        → Runs (storage (over_files {g = g}) rules) found
+        (Opening ∷ Closing ∷ events_after (over_files {g = g}) rules (Opening ∷ []) steps)
+        (Open again)

@@ -64,15 +64,23 @@ abbrev pub many_of : Bool → ℕ
 many_of eight = if eight then 8 else 1
 
 -- each row of that place up to another is put, where the values are those of rows
-abbrev pub InsertsEach : {S A : Type 0} → Ghosts S → CatalogueTable → Bool → ℕ → ℕ → Row → Work S → Work S → Result A StoreFault → Type 0
+abbrev pub InsertsEach : {S A : Type 0} → Ghosts S → CatalogueTable → Bool → ℕ → ℕ → Row → Work S
+    → Work S → Result A StoreFault → Type 0
 InsertsEach store t eight from to values old new result =
     (xs : List (RowOf t)) → values ≡ flat_map (columns_of t) xs → many_of eight * to ≤ length xs
-    → AddsBetween store (with_rows t (take (many_of eight * from) xs)) (with_rows t (take (many_of eight * to) xs)) old new result
+    → AddsBetween store (with_rows t (take (many_of eight * from) xs))
+    (with_rows t (take (many_of eight * to) xs)) old new result
 
 -- the rows of the values are put
-abbrev pub InsertsRows : {S A : Type 0} → Ghosts S → CatalogueTable → Row → Work S → Work S → Result A StoreFault → Type 0
-InsertsRows store t values old new result = (xs : List (RowOf t)) → values ≡ flat_map (columns_of t) xs → AddsAll store (with_rows t xs) old new result
+abbrev pub InsertsRows : {S A : Type 0} → Ghosts S → CatalogueTable → Row → Work S → Work S
+    → Result A StoreFault → Type 0
+InsertsRows store t values old new result =
+    (xs : List (RowOf t)) → values ≡ flat_map (columns_of t) xs
+    → AddsAll store (with_rows t xs) old new result
 
 -- the same where memory sufficed for the values
-abbrev pub InsertsValues : {S A V E : Type 0} → Ghosts S → CatalogueTable → Result V E → (V → Row) → Work S → Work S → Result A StoreFault → Type 0
-InsertsValues store t values row_of old new result = (xs : List (RowOf t)) → IfOk values (λ v. row_of v ≡ flat_map (columns_of t) xs) → AddsAll store (with_rows t xs) old new result
+abbrev pub InsertsValues : {S A V E : Type 0} → Ghosts S → CatalogueTable → Result V E → (V → Row)
+    → Work S → Work S → Result A StoreFault → Type 0
+InsertsValues store t values row_of old new result =
+    (xs : List (RowOf t)) → IfOk values (λ v. row_of v ≡ flat_map (columns_of t) xs)
+    → AddsAll store (with_rows t xs) old new result

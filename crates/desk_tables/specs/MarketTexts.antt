@@ -7,7 +7,8 @@ use Rattle.desk_tables.specs.declared.prices.PriceRow as typed_price
 use Rattle.desk_tables.specs.declared.rows.written.TerritoryTexts.{TerritoryTexts}
 
 abbrev pub texts_of : Territory → TerritoryTexts
-texts_of territory = record { included = countries_text territory.included; excluded = countries_text territory.excluded }
+texts_of territory = record
+    { included = countries_text territory.included; excluded = countries_text territory.excluded }
 
 -- one for each row
 abbrev pub AreOfferTexts : List typed.OfferRow → List TerritoryTexts → Type 0

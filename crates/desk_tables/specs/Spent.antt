@@ -9,6 +9,7 @@ spent_by work (Ok value) = work
 spent_by work (Err fault) = record work { spent = true }
 
 -- what was read is handed on, and a fault of it spends the transaction
-pub record HandsOn {S A : Type 0} (old new : Work S) (read result : Result A StoreFault) : Type 0 where
+pub record HandsOn {S A : Type 0} (old new : Work S) (read result : Result A StoreFault)
+    : Type 0 where
   pub spends : new ≡ spent_by old read
   pub same : result ≡ read

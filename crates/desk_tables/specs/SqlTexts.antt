@@ -24,11 +24,15 @@ on_delete_text Cascade = codes " ON DELETE CASCADE"
 on_delete_text _ = []
 
 abbrev pub references_text : ForeignKey → List ℕ
-references_text k = codes " REFERENCES " ++ k.parent ++ codes " " ++ in_brackets (listed k.columns) ++ on_delete_text k.on_delete
+references_text k =
+    codes " REFERENCES " ++ k.parent ++ codes " " ++ in_brackets (listed k.columns)
+    ++ on_delete_text k.on_delete
 
 -- the name and the type of a column
 abbrev pub column_text : {A : Type 0} → Column A → List ℕ
-column_text c = name_of c ++ (if is_text c then codes " TEXT" else codes " INTEGER") ++ (if may_be_null c then [] else codes " NOT NULL")
+column_text c =
+    name_of c ++ (if is_text c then codes " TEXT" else codes " INTEGER")
+    ++ (if may_be_null c then [] else codes " NOT NULL")
 
 -- a key of one column, and a reference of one column, stand behind the first
 abbrev pub primary_behind : ℕ → List ℕ
@@ -41,30 +45,42 @@ foreign_behind (k ∷ more) = if nat_lt 1 (length k.columns) then [] else refere
 
 abbrev pub column_texts : {A : Type 0} → ℕ → List ForeignKey → List (Column A) → List (List ℕ)
 column_texts key foreign [] = []
-column_texts key foreign (c ∷ more) = (column_text c ++ foreign_behind foreign ++ primary_behind key) ∷ map column_text more
+column_texts key foreign (c ∷ more) =
+    (column_text c ++ foreign_behind foreign ++ primary_behind key) ∷ map column_text more
 
 -- those of more columns stand behind all columns
 abbrev pub primary_texts : ℕ → List (List ℕ) → List (List ℕ)
-primary_texts key names = if nat_lt 1 key then (codes "PRIMARY KEY " ++ in_brackets (listed (take key names))) ∷ [] else []
+primary_texts key names =
+    if nat_lt 1 key
+    then (codes "PRIMARY KEY " ++ in_brackets (listed (take key names))) ∷ []
+    else []
 
 abbrev pub foreign_texts : List ForeignKey → List (List ℕ) → List (List ℕ)
 foreign_texts [] names = []
-foreign_texts (k ∷ more) names = if nat_lt 1 (length k.columns) then (codes "FOREIGN KEY " ++ in_brackets (listed (take (length k.columns) names)) ++ references_text k) ∷ [] else []
+foreign_texts (k ∷ more) names =
+    if nat_lt 1 (length k.columns)
+    then (codes "FOREIGN KEY " ++ in_brackets (listed (take (length k.columns) names))
+    ++ references_text k) ∷ []
+    else []
 
 abbrev pub unique_text : List (List ℕ) → List ℕ → List ℕ
-unique_text names places = codes "UNIQUE " ++ in_brackets (listed (map (λ place. get_or ([] ∷ names) place []) places))
+unique_text names places =
+    codes "UNIQUE " ++ in_brackets (listed (map (λ place. get_or ([] ∷ names) place []) places))
 
 -- the text that makes the table
 abbrev pub create_text : {A : Type 0} → TableDefinition A → List ℕ
 create_text d =
     codes "CREATE TABLE " ++ d.name ++ codes " "
-    ++ in_brackets (listed (column_texts d.key d.foreign d.columns ++ map (unique_text (names_of d)) d.uniques ++ primary_texts d.key (names_of d) ++ foreign_texts d.foreign (names_of d))) ++ codes " STRICT"
+    ++ in_brackets (listed (column_texts d.key d.foreign d.columns
+    ++ map (unique_text (names_of d)) d.uniques ++ primary_texts d.key (names_of d)
+    ++ foreign_texts d.foreign (names_of d))) ++ codes " STRICT"
 
 -- ---- INSERT, SELECT and DELETE
 
 -- the parameter of a number below 100
 abbrev pub parameter_text : ℕ → List ℕ
-parameter_text n = codes "?" ++ (if nat_lt n 10 then [] else (48 + n / 10) ∷ []) ++ (48 + n % 10) ∷ []
+parameter_text n =
+    codes "?" ++ (if nat_lt n 10 then [] else (48 + n / 10) ∷ []) ++ (48 + n % 10) ∷ []
 
 -- the parameters of that many columns, numbered from one on
 abbrev pub parameters_from : ℕ → ℕ → List (List ℕ)
@@ -77,7 +93,9 @@ repeated (suc n) text = text ∷ repeated n text
 
 -- the text of an INSERT up to its values
 abbrev pub into_text : {A : Type 0} → TableDefinition A → List ℕ
-into_text d = codes "INSERT INTO " ++ d.name ++ codes " " ++ in_brackets (listed (names_of d)) ++ codes " VALUES "
+into_text d =
+    codes "INSERT INTO " ++ d.name ++ codes " " ++ in_brackets (listed (names_of d))
+    ++ codes " VALUES "
 
 -- the text that puts a row
 abbrev pub insert_text : {A : Type 0} → TableDefinition A → List ℕ
@@ -85,12 +103,15 @@ insert_text d = into_text d ++ in_brackets (listed (parameters_from 1 (length d.
 
 -- the text that puts that many rows
 abbrev pub insert_rows_text : {A : Type 0} → ℕ → TableDefinition A → List ℕ
-insert_rows_text n d = into_text d ++ listed (repeated n (in_brackets (listed (repeated (length d.columns) (codes "?")))))
+insert_rows_text n d =
+    into_text d
+    ++ listed (repeated n (in_brackets (listed (repeated (length d.columns) (codes "?")))))
 
 -- each of these columns is a parameter
 abbrev pub equal_from : ℕ → List (List ℕ) → List (List ℕ)
 equal_from first [] = []
-equal_from first (name ∷ more) = (name ++ codes " = " ++ parameter_text first) ∷ equal_from (first + 1) more
+equal_from first (name ∷ more) =
+    (name ++ codes " = " ++ parameter_text first) ∷ equal_from (first + 1) more
 
 -- no columns: all rows
 abbrev pub where_text : List (List ℕ) → List ℕ
@@ -102,9 +123,12 @@ abbrev pub order_text : List (List ℕ) → List ℕ
 order_text [] = []
 order_text (name ∷ more) = codes " ORDER BY " ++ listed (name ∷ more)
 
--- the text that asks for these columns of the rows whose columns `by` are the parameters, in the order of others
-abbrev pub select_text : {A : Type 0} → TableDefinition A → List (List ℕ) → List (List ℕ) → List (List ℕ) → List ℕ
-select_text d shown by order = codes "SELECT " ++ listed shown ++ codes " FROM " ++ d.name ++ where_text by ++ order_text order
+-- the text that asks for these columns of the rows whose columns `by` are the parameters, in the
+-- order of others
+abbrev pub select_text : {A : Type 0} → TableDefinition A → List (List ℕ) → List (List ℕ)
+    → List (List ℕ) → List ℕ
+select_text d shown by order =
+    codes "SELECT " ++ listed shown ++ codes " FROM " ++ d.name ++ where_text by ++ order_text order
 
 -- the text that removes the rows whose columns `by` are the parameters
 abbrev pub delete_text : {A : Type 0} → TableDefinition A → List (List ℕ) → List ℕ
@@ -114,7 +138,8 @@ delete_text d by = codes "DELETE FROM " ++ d.name ++ where_text by
 abbrev pub key_of : {A : Type 0} → TableDefinition A → List (List ℕ)
 key_of d = take d.key (names_of d)
 
--- the text that asks for all columns of the rows whose first columns of the key, so many, are the parameters, in the order of the others of the key
+-- the text that asks for all columns of the rows whose first columns of the key, so many, are the
+-- parameters, in the order of the others of the key
 abbrev pub rows_text : {A : Type 0} → TableDefinition A → ℕ → List ℕ
 rows_text d n = select_text d (names_of d) (take n (key_of d)) (drop n (key_of d))
 

@@ -7,7 +7,8 @@ use Rattle.onix_terms.specs.Territory.{countries_text, world_text}
 use Rattle.onix_terms.specs.declared.party.Party.{Party}
 use Rattle.onix_terms.specs.declared.territory.Territory.{Territory}
 
--- a byte below the space, or the delete: in UTF-8 each stands for the character of its number, and for nothing else
+-- a byte below the space, or the delete: in UTF-8 each stands for the character of its number, and
+-- for nothing else
 abbrev pub is_control : ℕ → Bool
 is_control b = nat_lt b 32 || (b == 127)
 

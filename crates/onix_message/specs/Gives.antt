@@ -11,5 +11,7 @@ Gives (Err fault.Wrong) read = read ≡ None
 Gives (Err fault.Memory) read = Unit {0}
 
 -- a call gave what reading makes of a value that a text may be parsed to, unless memory ran out
-abbrev pub GivesOfParsed : {A B E : Type 0} → (List ℕ → Result A E → Type 0) → List ℕ → (Option A → Option B) → Result B RowFault → Type 0
-GivesOfParsed {A = A} {E = E} parses text reading result = ((parsed : Result A E) × parses text parsed × Gives result (reading (result_ok parsed)))
+abbrev pub GivesOfParsed : {A B E : Type 0} → (List ℕ → Result A E → Type 0) → List ℕ
+    → (Option A → Option B) → Result B RowFault → Type 0
+GivesOfParsed {A = A} {E = E} parses text reading result =
+    ((parsed : Result A E) × parses text parsed × Gives result (reading (result_ok parsed)))

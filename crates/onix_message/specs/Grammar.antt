@@ -1,4 +1,5 @@
--- The grammar of messages: which records are a message, with which header and contents; and which a message may begin with.
+-- The grammar of messages: which records are a message, with which header and contents; and which a
+-- message may begin with.
 use Rattle.std.specs.Prelude.{ℕ, List, [], ◌∷◌, ◌++◌, ◌≡◌, ◌≤◌, ◌+◌, ◌⊎◌, ◌==◌, ⊤, Bool, true, false, suc, Some, map, take, length}
 use Rattle.std.specs.List.{AllByRecursion}
 use Rattle.onix_message.specs.PartRows.{SuppliesHaveDetails, rows_after}
@@ -15,7 +16,8 @@ use Rattle.onix_message.specs.declared.row.Row.TheVariants as row
 abbrev pub most_records : ℕ
 most_records = 20000
 
--- these records are a message with this header and these contents: the first is its Message row, and each later one, read by itself, is the row that the contents have there
+-- these records are a message with this header and these contents: the first is its Message row,
+-- and each later one, read by itself, is the row that the contents have there
 pub record IsMessage (records : List (List (List ℕ))) (h : Header) (c : List Product) : Type 0 where
   pub within : length records ≤ most_records
   pub first : List (List ℕ)
@@ -62,7 +64,8 @@ abbrev pub CountsAfter : ℕ → List Row → Type 0
 CountsAfter before [] = ⊤
 CountsAfter before (r ∷ rows) = (is_counted r before ≡ true) × CountsAfter (suc before) rows
 
--- records that a message may begin with: a Message row, and then rows each of which may follow the one before it
+-- records that a message may begin with: a Message row, and then rows each of which may follow the
+-- one before it
 pub record BeginsMessage (records : List (List (List ℕ))) : Type 0 where
   pub within : length records ≤ most_records
   pub first : List (List ℕ)
@@ -83,7 +86,8 @@ EndsMessage rows = (before : List Row) × (count : ℕ) × (rows ≡ before ++ r
 abbrev pub IsFront : List (List (List ℕ)) → Type 0
 IsFront records = (records ≡ []) ⊎ BeginsMessage records
 
--- the number of the row at which a list of records stops being a front: one more than the length of its longest prefix that is one
+-- the number of the row at which a list of records stops being a front: one more than the length of
+-- its longest prefix that is one
 pub record IsBadRow (records : List (List (List ℕ))) (number : ℕ) : Type 0 where
   pub before : ℕ
   pub at : number ≡ before + 1

@@ -1,5 +1,5 @@
 -- A product: the row Product, as it is read and as it is written, and the records of products.
-use Rattle.std.specs.Prelude.{ℕ, List, [], ◌∷◌, Option, Some, None, codes}
+use Rattle.std.specs.Prelude.{ℕ, Bool, ◌||◌, bytes_eq, List, [], ◌∷◌, Option, Some, None, codes}
 use Rattle.std.specs.List.{flat_map}
 use Rattle.onix_terms.specs.Code.{code2_of}
 use Rattle.onix_terms.specs.Options.{◌>>=◌, nonempty}
@@ -13,6 +13,10 @@ identifier_of kind value = do
   k ← code2_of kind
   v ← nonempty value
   Some (record { id_type = k; id_value = v })
+
+-- whether a type of code list 5 is one by which an article is found: GTIN-13 (03) or ISBN-13 (15)
+abbrev pub is_article_type : List ℕ → Bool
+is_article_type id_type = bytes_eq id_type (codes "03") || bytes_eq id_type (codes "15")
 
 -- pairs of a type and a value
 unfoldable pub pairs_of : List (List ℕ) → Option (List ProductIdentifier)

@@ -1,4 +1,5 @@
--- Contents that are equal in all parts, as a test. The tests of products and parties are those of `==`, and the laws of plain data say that just equal values pass them.
+-- Contents that are equal in all parts, as a test. The tests of products and parties are those of
+-- `==`, and the laws of plain data say that just equal values pass them.
 use Rattle.std.specs.Prelude.{◌≡◌, List, Bool}
 use Rattle.std.specs.Bool.{Decides}
 use Rattle.std.specs.Cmp.Lexicographic.{pointwise}

@@ -1,4 +1,5 @@
--- The supply of a product to a market: the row ProductSupply, as it is read and as it is written, and the records of supplies.
+-- The supply of a product to a market: the row ProductSupply, as it is read and as it is written,
+-- and the records of supplies.
 use Rattle.std.specs.Prelude.{ℕ, List, [], ◌∷◌, Option, Some, None, codes}
 use Rattle.std.specs.List.{flat_map}
 use Rattle.onix_terms.specs.Options.{◌>>=◌}

@@ -1,5 +1,8 @@
 //! The parts of a message.
 
+ghost use Rattle.std.specs.Prelude.{◌≡◌};
+ghost use Rattle.onix_message.specs.Product as spec;
+
 use onix_terms::amount::Amount;
 use onix_terms::code::{Code2, Currency};
 use onix_terms::day::Day;
@@ -27,6 +30,14 @@ pub struct Header {
 pub struct ProductIdentifier {
     pub id_type: Code2,
     pub id_value: Text,
+}
+
+/// Whether identifiers of this type name an article: GTIN-13, 03, and ISBN-13, 15.
+pub fn is_article_type(id_type: &Code2) -> bool
+    ensures { result ≡ spec.is_article_type id_type.now }
+{
+    let code = id_type.as_str();
+    code == "03" || code == "15"
 }
 
 /// Who supplies a product, by an identifier, a name or both.

@@ -13,12 +13,15 @@ Breaks prices day =
     (p : Price) × Contains prices p
     × ((p.from ≡ Some day) ⊎ ((until : ℤ) × (p.until ≡ Some until) × (day ≡ until +ℤ pos 1)))
 
--- the break days of a range, in order without repeats: its first day, and each later one on which a price begins or the day before which one ended
+-- the break days of a range, in order without repeats: its first day, and each later one on which a
+-- price begins or the day before which one ended
 pub record IsBreakDays (offer : Offer) (from to : ℤ) (days : List ℤ) : Type 0 where
   pub ascending : AllPairs (λ a b. a <ℤ b) days
-  pub each : (day : ℤ) → Contains days day ↔ ((day ≡ from) ⊎ ((from <ℤ day) × (day ≤ℤ to) × Breaks offer.prices day))
+  pub each : (day : ℤ)
+      → Contains days day ↔ ((day ≡ from) ⊎ ((from <ℤ day) × (day ≤ℤ to) × Breaks offer.prices day))
 
--- from each break day up to the day before the next one, or to the end of the range, no current price changes
+-- from each break day up to the day before the next one, or to the end of the range, no current
+-- price changes
 abbrev pub IsSteady : Offer → ℤ → List ℤ → Type 0
 IsSteady offer to days =
     (first day : ℤ) → Contains days first → first ≤ℤ day → day ≤ℤ to

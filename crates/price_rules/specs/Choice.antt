@@ -26,7 +26,8 @@ IsWithin (Some most) amount = amount ≤ most
 
 -- the rule takes the offer, whose current price is this amount
 abbrev pub Fits : Rule → Offer → PriceQuery → ℕ → Type 0
-Fits rule offer q amount = Admits rule offer × IsCurrent offer q (Some amount) × IsWithin rule.max amount
+Fits rule offer q amount =
+    Admits rule offer × IsCurrent offer q (Some amount) × IsWithin rule.max amount
 
 -- a pair of a rule and an offer: the choice that it makes, and the offer
 abbrev pub Pair : Type 0
@@ -40,7 +41,8 @@ IsRuleCandidate rule number offers q c =
 -- the pair is one of some rule of the table; rules count from 1
 abbrev pub IsCandidate : List Rule → List Offer → PriceQuery → Pair → Type 0
 IsCandidate rules offers q c =
-    (rule : Rule) × (k : ℕ) × (slice_get rules k ≡ Some rule) × IsRuleCandidate rule (k + 1) offers q c
+    (rule : Rule) × (k : ℕ) × (slice_get rules k ≡ Some rule)
+    × IsRuleCandidate rule (k + 1) offers q c
 
 -- a text comes before another in the order of bytes
 abbrev pub IsTextLess : List ℕ → List ℕ → Type 0
@@ -63,13 +65,18 @@ Precedes =
     (ByThen (λ c. c.1.reference) IsTextLess
     (ByThen (λ c. c.1.place) IsLess (λ c d. c.0.offer_index < d.0.offer_index)))))
 
--- the choice is among the pairs, and no other one among them precedes it; none where there are no pairs
+-- the choice is among the pairs, and no other one among them precedes it; none where there are no
+-- pairs
 abbrev pub IsLeast : (Pair → Type 0) → Option Choice → Type 0
 IsLeast Among None = (c : Pair) → Among c → ⊥
 IsLeast Among (Some choice) =
-    (offer : Offer) × Among (choice, offer) × ((c : Pair) → Among c → Precedes c (choice, offer) → ⊥)
+    (offer : Offer) × Among (choice, offer)
+    × ((c : Pair) → Among c → Precedes c (choice, offer) → ⊥)
 
--- the choice is a candidate that no candidate precedes; none where there is no candidate. A candidate (`IsCandidate`) is a rule and an offer that it admits by series and availability, with a current price that is not above the greatest amount of the rule; one precedes another (`Precedes`) by rule, amount, series, reference, place and index
+-- the choice is a candidate that no candidate precedes; none where there is no candidate. A
+-- candidate (`IsCandidate`) is a rule and an offer that it admits by series and availability, with
+-- a current price that is not above the greatest amount of the rule; one precedes another
+-- (`Precedes`) by rule, amount, series, reference, place and index
 abbrev pub IsChoice : List Rule → List Offer → PriceQuery → Option Choice → Type 0
 IsChoice rules offers q choice = IsLeast (IsCandidate rules offers q) choice
 

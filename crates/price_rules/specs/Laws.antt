@@ -1,4 +1,5 @@
--- The laws of the definitions: what is computed is what the definitions in words allow, and nothing else.
+-- The laws of the definitions: what is computed is what the definitions in words allow, and nothing
+-- else.
 use Rattle.std.specs.Prelude.{◌≡◌, ◌↔◌, ℕ, ◌≤ℤ◌, ◌≤◌, List, Option, Err}
 use Rattle.price_rules.specs.Price.{IsCurrent}
 use Rattle.price_rules.specs.Calendar.{IsCalendar}
@@ -28,7 +29,8 @@ CalendarIsUnique =
     (offer : Offer) (q : CalendarQuery) (spans others : List Span)
     → IsCalendar offer q spans → IsCalendar offer q others → spans ≡ others
 
--- in a range that has a day, spans are the calendar exactly where they are what `calendar_spans` gives
+-- in a range that has a day, spans are the calendar exactly where they are what `calendar_spans`
+-- gives
 abbrev pub CalendarIsExact : Type 0
 CalendarIsExact =
     (offer : Offer) (q : CalendarQuery) (spans : List Span) → q.from ≤ℤ q.to

@@ -33,11 +33,17 @@ IsLater None b = ⊥
 IsLater (Some a) None = Unit {0}
 IsLater (Some a) (Some b) = b <ℤ a
 
--- the price counts before the other: by the greater minimum, then the later first day, then the lesser amount
+-- the price counts before the other: by the greater minimum, then the later first day, then the
+-- lesser amount
 abbrev pub Outranks : Price → Price → Type 0
-Outranks = ByThen (λ p. p.minimum) IsGreater (ByThen (λ p. p.from) IsLater (λ p r. p.amount < r.amount))
+Outranks =
+    ByThen (λ p. p.minimum) IsGreater (ByThen (λ p. p.from) IsLater (λ p r. p.amount < r.amount))
 
--- the current price of the offer: the amount of a price that holds and that no price that holds outranks, none where none holds. A price holds (`Holds`) where its type and currency are those asked for, the country is in the market and in its territory, it has begun and not ended, and its minimum is not above the quantity; it outranks another (`Outranks`) by the greater minimum, then the later first day, then the lesser amount
+-- the current price of the offer: the amount of a price that holds and that no price that holds
+-- outranks, none where none holds. A price holds (`Holds`) where its type and currency are those
+-- asked for, the country is in the market and in its territory, it has begun and not ended, and its
+-- minimum is not above the quantity; it outranks another (`Outranks`) by the greater minimum, then
+-- the later first day, then the lesser amount
 abbrev pub IsCurrent : Offer → PriceQuery → Option ℕ → Type 0
 IsCurrent o q None = IsBest (Holds o.market q) Outranks o.prices None
 IsCurrent o q (Some amount) =

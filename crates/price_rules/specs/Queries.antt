@@ -34,8 +34,8 @@ until q last = record {
   quantity = q.quantity;
 }
 
--- a calendar from one day to another: of prices for sale in a country, in a currency, of a type, for
--- a quantity
+-- a calendar from one day to another: of prices for sale in a country, in a currency, of a type,
+-- for a quantity
 abbrev pub calendar_query : ℤ → ℤ → List ℕ → List ℕ → List ℕ → ℕ → CalendarQuery
 calendar_query from to country currency price_type quantity = record {
   from = from;

@@ -5,13 +5,17 @@ use Rattle.price_rules.specs.declared.calendar.Span.{Span}
 use Rattle.price_rules.specs.declared.choice.Choice.{Choice}
 use Rattle.price_rules.specs.declared.offer.Offer.{Offer}
 
--- one turn of a scan for the best: the item takes the place of the best so far where it passes and comes before it
-abbrev pub IsTurn : {X : Type 0} → (X → Type 0) → (X → X → Type 0) → X → Option X → Option X → Type 0
+-- one turn of a scan for the best: the item takes the place of the best so far where it passes and
+-- comes before it
+abbrev pub IsTurn : {X : Type 0} → (X → Type 0) → (X → X → Type 0) → X → Option X → Option X
+    → Type 0
 IsTurn Passes Before x None new = (Passes x × (new ≡ Some x)) ⊎ ((Passes x → ⊥) × (new ≡ None))
 IsTurn Passes Before x (Some best) new =
-    (Passes x × Before x best × (new ≡ Some x)) ⊎ ((Passes x → Before x best → ⊥) × (new ≡ Some best))
+    (Passes x × Before x best × (new ≡ Some x))
+    ⊎ ((Passes x → Before x best → ⊥) × (new ≡ Some best))
 
--- a span goes on where the open one ends: the two are joined where their amounts are equal, else the open one is pushed
+-- a span goes on where the open one ends: the two are joined where their amounts are equal, else
+-- the open one is pushed
 abbrev pub IsJoined : Span → Span → List Span → List Span → Span → Type 0
 IsJoined before span old new after =
     ((before.amount ≡ span.amount) × (new ≡ old) × (after ≡ record before { last = span.last }))
@@ -21,4 +25,5 @@ IsJoined before span old new after =
 abbrev pub Undercuts : Option Choice → List Offer → ℕ → Offer → Type 0
 Undercuts None offers amount offer = Unit {0}
 Undercuts (Some best) offers amount offer =
-    (other : Offer) × (slice_get offers best.offer_index ≡ Some other) × IsCheaper (amount, offer) (best.amount, other)
+    (other : Offer) × (slice_get offers best.offer_index ≡ Some other)
+    × IsCheaper (amount, offer) (best.amount, other)

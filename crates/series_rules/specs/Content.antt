@@ -5,7 +5,8 @@ use Rattle.series_rules.specs.Agreements.{agreements_of, named}
 use Rattle.series_rules.specs.Firsts.{first_at}
 use Rattle.series_rules.specs.declared.requests.Request.{Request}
 
--- two lists of requests come to the same: the same agreement under each name, and the same at each number of each series
+-- two lists of requests come to the same: the same agreement under each name, and the same at each
+-- number of each series
 pub record SameContent (L M : List Request) : Type 0 where
   pub agreements : (name : List ℕ) → named (agreements_of L) name ≡ named (agreements_of M) name
   pub firsts : (series : List ℕ) (number : ℕ) → first_at L series number ≡ first_at M series number

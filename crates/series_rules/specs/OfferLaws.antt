@@ -19,7 +19,8 @@ use Rattle.series_rules.specs.declared.requests.Request.{Request}
 abbrev pub IsArticle : List ℕ → ProductIdentifier → Type 0
 IsArticle isbn id = ((id.id_type ≡ codes "03") ⊎ (id.id_type ≡ codes "15")) × (id.id_value ≡ isbn)
 
--- After L, an offer of the article is a SupplyDetail of a record that has the article, in the catalogue of an agreed series
+-- After L, an offer of the article is a SupplyDetail of a record that has the article, in the
+-- catalogue of an agreed series
 pub record IsOffer (L : List Request) (isbn : List ℕ) (o : Offer) : Type 0 where
   pub agreement : Agreement
   pub agreed : named (agreements_of L) o.series ≡ Some agreement
@@ -42,9 +43,13 @@ AreInOrder xs ys = slice_cmp nat_cmp xs ys ≡ Less
 abbrev pub ComesBefore : Offer → Offer → Type 0
 ComesBefore o p =
     AreInOrder o.series p.series
-    ⊎ ((o.series ≡ p.series) × (AreInOrder o.reference p.reference ⊎ ((o.reference ≡ p.reference) × (o.place < p.place))))
+    ⊎ ((o.series ≡ p.series)
+    × (AreInOrder o.reference p.reference
+    ⊎ ((o.reference ≡ p.reference) × (o.place < p.place))))
 
--- the offers of an article are each SupplyDetail of each record that has it, and nothing else, each before all that come later: so once
+-- the offers of an article are each SupplyDetail of each record that has it, and nothing else, each
+-- before all that come later: so once
 pub record OffersAreTrue : Type 0 where
-  pub each : (L : List Request) (isbn : List ℕ) (o : Offer) → Contains (offers_after L isbn) o ↔ IsOffer L isbn o
+  pub each : (L : List Request) (isbn : List ℕ) (o : Offer)
+      → Contains (offers_after L isbn) o ↔ IsOffer L isbn o
   pub in_order : (L : List Request) (isbn : List ℕ) → AllPairs ComesBefore (offers_after L isbn)

@@ -35,7 +35,8 @@ pub record IsNext (f : ℕ → Option Standing) (from n : ℕ) : Type 0 where
   pub below : (k : ℕ) → from ≤ k → k < n → IsSome (f k)
   pub lacks : f n ≡ None
 
--- what stands in the agreed series from its first number on, up to the first number that has nothing. No more numbers have something than there are requests
+-- what stands in the agreed series from its first number on, up to the first number that has
+-- nothing. No more numbers have something than there are requests
 abbrev pub front_of : List Request → Agreement → List Standing
 front_of L a = without_gap (length L) (first_at L a.name) a.first
 
@@ -67,7 +68,8 @@ effect_at m (Some h) = effect_of_standing m h
 abbrev pub kept_of : List Standing → ℕ → Effect
 kept_of hs k = effect_at (after_all map.empty (take k hs)) (slice_get hs k)
 
--- the catalogue of the agreed series: what stands up to its first gap, applied in order to no records
+-- the catalogue of the agreed series: what stands up to its first gap, applied in order to no
+-- records
 abbrev pub catalogue_of : List Request → Agreement → ByReference
 catalogue_of L a = after_all map.empty (front_of L a)
 

@@ -34,10 +34,6 @@ pub record View (k : DeskKind) : Type 1 where
 abbrev pub LeavesOnly : {k : DeskKind} → View k → List Request → Type 0
 LeavesOnly {k} desk L = (x : k.Left) → desk.may_leave x → k.comes_to x L
 
--- a crash leaves what L comes to or what M comes to
-abbrev pub LeavesEither : {k : DeskKind} → View k → List Request → List Request → Type 0
-LeavesEither {k} desk L M = (x : k.Left) → desk.may_leave x → k.comes_to x L ⊎ k.comes_to x M
-
 -- nothing changed, whatever it holds: what it held it holds, and a crash leaves nothing more
 abbrev pub Stays : {k : DeskKind} → View k → View k → Type 0
 Stays {k} old new = (x : k.Left) → (old.holds x → new.holds x) × (new.may_leave x → old.may_leave x)
@@ -46,8 +42,10 @@ Stays {k} old new = (x : k.Left) → (old.holds x → new.holds x) × (new.may_l
 abbrev pub IsFaultOf : DeskKind → StoreFault → Type 0
 IsFaultOf k f = (f ≡ fault.Memory) ⊎ k.may_give f
 
--- A desk was asked the request r, with that answer after each list. With `Ok` it stands for the list with r, and after a fault for what it did.
-pub record Asks {A : Type 0} {k : DeskKind} (r : Request) (answer : List Request → A) (old new : View k)
+-- A desk was asked the request r, with that answer after each list. With `Ok` it stands for the
+-- list with r, and after a fault for what it did.
+pub record Asks {A : Type 0} {k : DeskKind} (r : Request) (answer : List Request → A)
+    (old new : View k)
     (result : Result A StoreFault) : Type 0 where
   pub premise : new.sound → old.sound
   pub ok : (L : List Request) → old.stands_for L → new.sound
@@ -65,7 +63,8 @@ pub record Asks {A : Type 0} {k : DeskKind} (r : Request) (answer : List Request
   pub undone : new.sound → OnErr result ((x : k.Left) → old.holds x → new.holds x)
   pub fault : IfErr result (IsFaultOf k)
 
--- A desk was asked a question, with that answer after each list. It stands for what it did, and nothing changed
+-- A desk was asked a question, with that answer after each list. It stands for what it did, and
+-- nothing changed
 pub record Tells {A : Type 0} {k : DeskKind} (answer : List Request → A) (old new : View k)
     (result : Result A StoreFault) : Type 0 where
   pub premise : new.sound → old.sound

@@ -1,4 +1,5 @@
--- The part of a message that was read so far, and how a row is added: what private functions say to one another.
+-- The part of a message that was read so far, and how a row is added: what private functions say to
+-- one another.
 use Rattle.std.specs.Prelude.{ℕ, List, [], ◌∷◌, ◌++◌, ◌≡◌, Bool, true, false, ⊤, Option, None, Some, Result, Ok, Err}
 use Rattle.std.specs.List.{AllByRecursion, flat_map}
 use Rattle.onix_message.specs.Grammar.{is_counted, may_follow}
@@ -88,12 +89,16 @@ RefusesSupply o fault.Memory = ⊤
 
 -- closing all products is refused where neither a product nor the end may come
 abbrev pub RefusesProduct : Part → StepFault → Type 0
-RefusesProduct o fault.OutOfOrder = ((p : Product) → allows o (row.Product p) ≡ false) × ((n : ℕ) → allows o (row.EndMessage n) ≡ false)
+RefusesProduct o fault.OutOfOrder =
+    ((p : Product) → allows o (row.Product p) ≡ false)
+    × ((n : ℕ) → allows o (row.EndMessage n) ≡ false)
 RefusesProduct o fault.Memory = ⊤
 
 -- a product or the end may come
 abbrev pub AllowsProduct : Part → Type 0
-AllowsProduct o = ((p : Product) → allows o (row.Product p) ≡ true) × ((n : ℕ) → allows o (row.EndMessage n) ≡ true)
+AllowsProduct o =
+    ((p : Product) → allows o (row.Product p) ≡ true)
+    × ((n : ℕ) → allows o (row.EndMessage n) ≡ true)
 
 -- a record that is no row may not come next
 abbrev pub step_fault : RowFault → StepFault
@@ -109,7 +114,8 @@ pub record Takes (found : Option Row) (old : Draft) (before : ℕ) (new : Draft)
 
 -- why no row was added
 abbrev pub Stops : Option Row → Draft → ℕ → StepFault → Type 0
-Stops found old before fault.OutOfOrder = (r : Row) → found ≡ Some r → is_counted r before ≡ true → allows old.part r ≡ true → ⊥
+Stops found old before fault.OutOfOrder =
+    (r : Row) → found ≡ Some r → is_counted r before ≡ true → allows old.part r ≡ true → ⊥
 Stops found old before fault.Memory = ⊤
 
 -- a row was added where one was found that may come next

@@ -120,26 +120,24 @@ module _ (a : Asking) (name : List ℕ) where
       (e.after ≡ e.before)
       × (AreTold a.is_told parts → (rest : List ℕ) × (e.output ++ rest ≡ concat parts))
 
-module _ (a : Asking) (name : List ℕ) (bytes : Option (List ℕ)) (e : FileEnd) where
-  -- how a FILE of this name and of these bytes, where they are told, ends so
-  abbrev pub EndsAs : Ended → Type 0
-  EndsAs ended.Done =
-      (made : Converted) × Says bytes a.options (Ok made) × (made.wrong ≡ 0)
-      × WritesTo a name a.folder made.parts e
-  EndsAs ended.LeftOut =
-      (made : Converted) × Says bytes a.options (Ok made) × (0 < made.wrong)
-      × WritesTo a name a.folder made.parts e
-  EndsAs ended.Refused =
-      LeavesNothing e × ((f : Fault) × IsRefusal f × ExplainsFault bytes a.options f)
-  EndsAs ended.Packed = LeavesNothing e × (is_packed name ≡ true)
-  EndsAs ended.Fault =
-      LeavesNothing e
-      ⊎ ((made : Converted) × Says bytes a.options (Ok made)
-      × MayWriteTo a name a.folder made.parts e)
+-- how a FILE of this name and of these bytes, where they are told, ends so
+abbrev pub EndsAs : Ended → Asking → List ℕ → Option (List ℕ) → FileEnd → Type 0
+EndsAs ended.Done a name bytes e =
+    (made : Converted) × Says bytes a.options (Ok made) × (made.wrong ≡ 0)
+    × WritesTo a name a.folder made.parts e
+EndsAs ended.LeftOut a name bytes e =
+    (made : Converted) × Says bytes a.options (Ok made) × (0 < made.wrong)
+    × WritesTo a name a.folder made.parts e
+EndsAs ended.Refused a name bytes e =
+    LeavesNothing e × ((f : Fault) × IsRefusal f × ExplainsFault bytes a.options f)
+EndsAs ended.Packed a name bytes e = LeavesNothing e × (is_packed name ≡ true)
+EndsAs ended.Fault a name bytes e =
+    LeavesNothing e
+    ⊎ ((made : Converted) × Says bytes a.options (Ok made)
+    × MayWriteTo a name a.folder made.parts e)
 
-  -- How a FILE of this name and of these bytes, where they are told, ends: its messages are
-  -- written, where it was converted, with or without wrong products; nothing is, where it was
-  -- refused for what its bytes say, or since it is packed by its name; after a fault at most a part
-  -- of them is.
-  abbrev pub IsEnd : Type 0
-  IsEnd = EndsAs e.ended
+-- How a FILE of this name and of these bytes, where they are told, ends: its messages are written,
+-- where it was converted, with or without wrong products; nothing is, where it was refused for what
+-- its bytes say, or since it is packed by its name; after a fault at most a part of them is.
+abbrev pub IsEnd : Asking → List ℕ → Option (List ℕ) → FileEnd → Type 0
+IsEnd a name bytes e = EndsAs e.ended a name bytes e

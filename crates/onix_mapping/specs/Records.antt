@@ -11,10 +11,11 @@ use Rattle.onix_message.specs.declared.row.RowFault.TheVariants as fault
 use Rattle.onix_mapping.specs.Notes.{Reason, wrong}
 use Rattle.onix_mapping.specs.declared.notes.Wrong.{Wrong}
 
--- the fields of a record, and several records
+-- the fields of a record
 abbrev pub Fields : Type 0
 Fields = List (List ℕ)
 
+-- several records, each by its fields
 abbrev pub Records : Type 0
 Records = List Fields
 
